@@ -1,0 +1,11 @@
+use Rattle.std.proofs.Common.{◌≡◌, ◌+◌, ◌*◌, ◌≤◌, ◌∷◌, ◌++◌, length, take}
+use Rattle.std.specs.Prelude.{decimal}
+use Rattle.std.specs.List.{flat_map}
+use Rattle.report_text.proofs.put.listed.Given as goal
+
+-- so many numbers are listed
+abbrev pub invariant-loop-number : goal.invariant-loop-number
+invariant-loop-number l = record {
+  text : l.text ≡ l.initial.text ++ flat_map (λ n. 32 ∷ decimal n) (take l.number-index l.numbers);
+  room : length l.text ≤ 64 + 21 * l.number-index;
+}

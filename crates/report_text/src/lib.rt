@@ -1,0 +1,9 @@
+//! The lines of a report, each put on the screen as a whole (docs/FORMATS.md, "Report").
+#![tactic(auto)]
+
+mod line;
+mod put;
+mod text;
+
+pub use line::Line;
+pub use put::put_line;

@@ -1,0 +1,93 @@
+// The text of one line, in a fixed room.
+ghost use Rattle.std.specs.Prelude.{◌≡◌, ◌+◌, ◌*◌, ◌≤◌, List, ℕ, [], ◌∷◌, ◌++◌, length, decimal};
+ghost use Rattle.hex.specs.Hex.{encode_lower};
+
+use arrayvec::ArrayVec;
+use itoa::Buffer;
+use std::marker::Model;
+
+/// Room for the longest line, a commit with 4,096 printed bytes.
+pub const ROOM: usize = 8320;
+
+/// The bytes of a line so far.
+#[derive(Drop)]
+pub struct Text {
+    bytes: ArrayVec<u8, ROOM>,
+}
+
+impl Model for Text {
+    ghost use Rattle.std.specs.Prelude.{List, ℕ};
+
+    ghost Value = { List ℕ };
+
+    ghost view = { λ text. text.bytes.items };
+}
+
+impl Text {
+    /// A line that begins with this word.
+    pub fn new(word: &[u8]) -> Self
+        requires { length word.now ≤ 16 }
+        ensures value { result ≡ word.now }
+    {
+        let mut bytes = ArrayVec::new();
+        let _ = bytes.try_extend_from_slice(word);
+        Text { bytes }
+    }
+
+    pub fn as_slice(&self) -> &[u8]
+        ensures { result.now ≡ self.now }
+    {
+        self.bytes.as_slice()
+    }
+
+    /// A space and a word.
+    pub fn word(&mut self, word: &[u8])
+        requires { length self.old + (length word.now + 1) ≤ ROOM }
+        ensures value { self.new ≡ self.old ++ 32 ∷ word.now }
+        ensures longer { length self.new ≡ length self.old + (length word.now + 1) }
+    {
+        self.bytes.push(b' ');
+        let _ = self.bytes.try_extend_from_slice(word);
+    }
+
+    /// A space and a number.
+    pub fn number(&mut self, number: u64)
+        requires { length self.old + 21 ≤ ROOM }
+        ensures value { self.new ≡ self.old ++ 32 ∷ decimal number }
+        ensures longer { length self.new ≤ length self.old + 21 }
+    {
+        let mut buffer = Buffer::new();
+        self.word(buffer.format(number).as_bytes());
+    }
+
+    /// A space and a word, and a space and a number.
+    pub fn part(&mut self, word: &[u8], number: u64)
+        requires { length self.old + (length word.now + 22) ≤ ROOM }
+        ensures value { self.new ≡ self.old ++ 32 ∷ word.now ++ 32 ∷ decimal number }
+        ensures longer { length self.new ≤ length self.old + (length word.now + 22) }
+    {
+        self.word(word);
+        self.number(number);
+    }
+
+    /// A space and bytes in hexadecimal.
+    pub fn hex(&mut self, bytes: &[u8])
+        requires few { length bytes.now ≤ 4096 }
+        requires room { length self.old + (2 * length bytes.now + 1) ≤ ROOM }
+        ensures value { self.new ≡ self.old ++ 32 ∷ encode_lower bytes.now }
+        ensures longer { length self.new ≡ length self.old + (2 * length bytes.now + 1) }
+    {
+        let mut digits = [0; 8192];
+        let used = &mut digits[..2 * bytes.len()];
+        let _ = hex::encode_to_slice(bytes, used);
+        self.word(used);
+    }
+
+    /// The line feed.
+    pub fn end(&mut self)
+        requires { length self.old + 1 ≤ ROOM }
+        ensures { self.new ≡ self.old ++ 10 ∷ [] }
+    {
+        self.bytes.push(b'\n');
+    }
+}
