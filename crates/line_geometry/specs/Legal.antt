@@ -1,0 +1,24 @@
+-- Which lists of segments a directory has.
+use Rattle.std.specs.Prelude.{ℕ, ◌+◌, nat_lt, nat_le, ◌==◌, ◌||◌, if◌then◌else◌, Bool, List, [], ◌∷◌, length, Option, Some, None}
+use Rattle.line_geometry.specs.declared.directory.DirectoryFault.{DirectoryFault}
+use Rattle.line_geometry.specs.declared.directory.DirectoryFault.TheVariants.{Order, Range, TooMany}
+
+-- whether a number isn't one of those from a least to a greatest
+abbrev pub is_outside : ℕ → ℕ → ℕ → Bool
+is_outside least greatest n = nat_lt n least || nat_lt greatest n
+
+-- the first fault of these segments, behind others with a last identifier and so many pages
+abbrev pub fault_after : ℕ → ℕ → List (ℕ × ℕ) → Option DirectoryFault
+fault_after last pages [] = None
+fault_after last pages (segment ∷ rest) =
+    if is_outside 1 3839 segment.0 || is_outside 1 128 segment.1 then Some Range
+    else if nat_le segment.0 last then Some Order
+    else if nat_lt 1024 (pages + segment.1) then Some TooMany
+    else fault_after segment.0 (pages + segment.1) rest
+
+-- the first fault of a list of segments: too many, none at all, and then segment by segment
+abbrev pub fault_of : List (ℕ × ℕ) → Option DirectoryFault
+fault_of segments =
+    if nat_lt 15 (length segments) then Some TooMany
+    else if length segments == 0 then Some Range
+    else fault_after 0 0 segments
