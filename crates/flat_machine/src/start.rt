@@ -1,0 +1,105 @@
+ghost use Rattle.std.specs.Prelude.{◌≡◌, ◌<◌, ◌≤◌, ◌%◌, ◌-◌, ◌++◌, replicate, length, IfOk};
+ghost use Rattle.line_geometry.specs.Directory.{Layout, byte_count};
+ghost use Rattle.flat_machine.specs.After.{start, first_registers, clear};
+
+use super::machine::{Cs, Plain, Program, Window};
+use super::printed::Printed;
+use line_geometry::Directory;
+use owned_list::OwnedList;
+use std::alloc::{AllocError, Global};
+
+impl Program {
+    /// The program of these parts.
+    pub fn new(image: OwnedList<u8>, entry: u16, windows: [Option<Window>; 15]) -> Self
+        requires image { length image ≤ 16384 }
+        requires entry { entry < 16384 }
+        requires even { entry % 2 ≡ 0 }
+        ensures image { result.image ≡ image }
+        ensures entry { result.entry ≡ entry }
+        ensures windows { result.windows ≡ windows }
+    {
+        Program {
+            image,
+            entry,
+            windows,
+        }
+    }
+}
+
+impl Plain {
+    /// A program as it begins on these bytes of the store, with four values in registers 2 to 5. It takes the room for
+    /// all that the program will do, 4,096 printed bytes too, or fails for want of memory (docs/MODEL.md).
+    pub fn start(
+        alloc: Global,
+        program: &Program,
+        args: [u32; 4],
+        directory: &Directory,
+        store: &[u8],
+    ) -> Result<Plain, AllocError>
+        requires { length store.now ≡ byte_count directory.now }
+        ensures { IfOk result (λ plain. plain ≡ start program.now args (record { directory = directory.now; bytes = store.now })) }
+    {
+        Ok(Plain {
+            regs: registers(args),
+            cs: unset(),
+            iar: u32::from(program.entry),
+            private: padded(alloc, program.image.as_slice(), 16384)?,
+            store: OwnedList::from_vec(Vec::from_slice(alloc, store)?),
+            out: Printed::new(alloc)?,
+        })
+    }
+
+    /// Begins a program anew in the room of this one, on these bytes of a store of the same length. It takes no memory.
+    pub fn restart(&mut self, program: &Program, args: [u32; 4], store: &[u8])
+        requires private { length self.old.private ≡ 16384 }
+        requires store { length store.now ≡ length self.old.store }
+        ensures { (directory : Layout) → self.new ≡ start program.now args (record { directory = directory; bytes = store.now }) }
+    {
+        self.regs = registers(args);
+        self.cs = unset();
+        self.iar = u32::from(program.entry);
+        lay(&mut self.private, program.image.as_slice());
+        self.store.write(0, store);
+        self.out.clear();
+    }
+}
+
+/// The registers of a program that begins.
+fn registers(args: [u32; 4]) -> [u32; 16]
+    ensures { result ≡ first_registers args }
+{
+    let [a, b, c, d] = args;
+    [0, 0, a, b, c, d, 0, 0, 0, 0, 0, 0, 0, 0, 0, 0]
+}
+
+/// No condition.
+fn unset() -> Cs
+    ensures { result ≡ clear }
+{
+    Cs {
+        lt: false,
+        eq: false,
+        gt: false,
+        c0: false,
+        ov: false,
+    }
+}
+
+/// Lays bytes over the first of a list, and zeros over the others.
+fn lay(list: &mut OwnedList<u8>, bytes: &[u8])
+    requires { length bytes.now ≤ length list.old }
+    ensures { list.new ≡ bytes.now ++ replicate (length list.old - length bytes.now) 0 }
+{
+    list.write(0, bytes);
+    list.fill_from(bytes.len(), 0);
+}
+
+/// Bytes and zeros after them, so many in all.
+fn padded(alloc: Global, bytes: &[u8], size: usize) -> Result<OwnedList<u8>, AllocError>
+    requires { length bytes.now ≤ size }
+    ensures { IfOk result (λ list. list ≡ bytes.now ++ replicate (size - length bytes.now) 0) }
+{
+    let mut list = Vec::from_slice(alloc, bytes)?;
+    list.resize(size, 0)?;
+    Ok(OwnedList::from_vec(list))
+}
