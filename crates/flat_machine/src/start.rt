@@ -1,30 +1,12 @@
-ghost use Rattle.std.specs.Prelude.{◌≡◌, ◌<◌, ◌≤◌, ◌%◌, ◌-◌, ◌++◌, replicate, length, IfOk};
+ghost use Rattle.std.specs.Prelude.{◌≡◌, ◌≤◌, ◌-◌, ◌++◌, replicate, length, IfOk};
 ghost use Rattle.line_geometry.specs.Directory.{Layout, byte_count};
 ghost use Rattle.flat_machine.specs.After.{start, first_registers, clear};
 
-use super::machine::{Cs, Plain, Program, Window};
+use super::machine::{Cs, Plain, Program};
 use super::printed::Printed;
 use line_geometry::Directory;
 use owned_list::OwnedList;
 use std::alloc::{AllocError, Global};
-
-impl Program {
-    /// The program of these parts.
-    pub fn new(image: OwnedList<u8>, entry: u16, windows: [Option<Window>; 15]) -> Self
-        requires image { length image ≤ 16384 }
-        requires entry { entry < 16384 }
-        requires even { entry % 2 ≡ 0 }
-        ensures image { result.image ≡ image }
-        ensures entry { result.entry ≡ entry }
-        ensures windows { result.windows ≡ windows }
-    {
-        Program {
-            image,
-            entry,
-            windows,
-        }
-    }
-}
 
 impl Plain {
     /// A program as it begins on these bytes of the store, with four values in registers 2 to 5. It takes the room for

@@ -124,7 +124,11 @@ fn programs_end_as_worked_out(rt: HostRuntime) -> Result<(), Fail> {
     for case in &CASES {
         assert!(rt; case.image.len() <= 16384);
         let image = OwnedList::from_vec(Vec::from_slice(rt.alloc(), case.image)?);
-        let program = Program::new(image, 0, windows());
+        let program = Program {
+            image,
+            entry: 0,
+            windows: windows(),
+        };
         let mut plain = Plain::start(rt.alloc(), &program, [0; 4], &directory, &store)?;
         assert_eq!(rt;
             run(&mut plain, &program, &directory),
