@@ -1,30 +1,12 @@
-ghost use Rattle.std.specs.Prelude.{◌≡◌, ◌<◌, ◌≤◌, ◌%◌, ◌-◌, ◌++◌, replicate, length, IfOk};
+ghost use Rattle.std.specs.Prelude.{◌≡◌, ◌≤◌, ◌-◌, ◌++◌, replicate, length, IfOk};
 ghost use Rattle.line_geometry.specs.Directory.{Layout, byte_count};
 ghost use Rattle.flat_machine.specs.After.{start, first_registers, clear};
 
-use super::machine::{Cs, Plain, Program, Window};
+use super::machine::{Cs, Plain, Program};
 use super::printed::Printed;
 use line_geometry::Directory;
 use owned_list::OwnedList;
 use std::alloc::{AllocError, Global};
-
-impl Program {
-    /// The program of these parts.
-    pub fn new(image: OwnedList<u8>, entry: u16, windows: [Option<Window>; 15]) -> Self
-        requires image { length image ≤ 16384 }
-        requires entry { entry < 16384 }
-        requires even { entry % 2 ≡ 0 }
-        ensures image { result.image ≡ image }
-        ensures entry { result.entry ≡ entry }
-        ensures windows { result.windows ≡ windows }
-    {
-        Program {
-            image,
-            entry,
-            windows,
-        }
-    }
-}
 
 impl Plain {
     /// A program as it begins on these bytes of the store, with four values in registers 2 to 5. It takes the room for
@@ -37,7 +19,9 @@ impl Plain {
         store: &[u8],
     ) -> Result<Plain, AllocError>
         requires { length store.now ≡ byte_count directory.now }
-        ensures { IfOk result (λ plain. plain ≡ start program.now args (record { directory = directory.now; bytes = store.now })) }
+        ensures value { IfOk result (λ plain. plain ≡ start program.now args (record { directory = directory.now; bytes = store.now })) }
+        ensures private_length { IfOk result (λ plain. length plain.private ≡ 16384) }
+        ensures store_length { IfOk result (λ plain. length plain.store ≡ byte_count directory.now) }
     {
         Ok(Plain {
             regs: registers(args),
@@ -53,7 +37,9 @@ impl Plain {
     pub fn restart(&mut self, program: &Program, args: [u32; 4], store: &[u8])
         requires private { length self.old.private ≡ 16384 }
         requires store { length store.now ≡ length self.old.store }
-        ensures { (directory : Layout) → self.new ≡ start program.now args (record { directory = directory; bytes = store.now }) }
+        ensures value { (directory : Layout) → self.new ≡ start program.now args (record { directory = directory; bytes = store.now }) }
+        ensures private_length { length self.new.private ≡ 16384 }
+        ensures store_length { length self.new.store ≡ length self.old.store }
     {
         self.regs = registers(args);
         self.cs = unset();
@@ -88,7 +74,8 @@ fn unset() -> Cs
 /// Lays bytes over the first of a list, and zeros over the others.
 fn lay(list: &mut OwnedList<u8>, bytes: &[u8])
     requires { length bytes.now ≤ length list.old }
-    ensures { list.new ≡ bytes.now ++ replicate (length list.old - length bytes.now) 0 }
+    ensures value { list.new ≡ bytes.now ++ replicate (length list.old - length bytes.now) 0 }
+    ensures len { length list.new ≡ length list.old }
 {
     list.write(0, bytes);
     list.fill_from(bytes.len(), 0);
@@ -97,7 +84,8 @@ fn lay(list: &mut OwnedList<u8>, bytes: &[u8])
 /// Bytes and zeros after them, so many in all.
 fn padded(alloc: Global, bytes: &[u8], size: usize) -> Result<OwnedList<u8>, AllocError>
     requires { length bytes.now ≤ size }
-    ensures { IfOk result (λ list. list ≡ bytes.now ++ replicate (size - length bytes.now) 0) }
+    ensures value { IfOk result (λ list. list ≡ bytes.now ++ replicate (size - length bytes.now) 0) }
+    ensures len { IfOk result (λ list. length list ≡ size) }
 {
     let mut list = Vec::from_slice(alloc, bytes)?;
     list.resize(size, 0)?;

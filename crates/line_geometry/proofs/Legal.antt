@@ -1,70 +1,208 @@
--- What is known of segments without a fault.
-use Rattle.std.specs.Prelude.{◌≡◌, ℕ, ◌+◌, ◌*◌, ◌/◌, ◌<◌, ◌≤◌, ◌==◌, ◌||◌, nat_lt, nat_le, Bool, true, false, List, [], ◌∷◌, length, sum_by, Some, None, cond}
-use Rattle.std.proofs.Common.{arith, refl}
+-- Segments have no fault exactly where they are a directory's.
+use Rattle.std.specs.Prelude.{◌≡◌, ℕ, zero, suc, ◌+◌, ◌*◌, ◌/◌, ◌<◌, ◌≤◌, ◌==◌, nat_lt, nat_le, Bool, true, false, List, [], ◌∷◌, length, map, sum_by, slice_index, All, Option, Some, None, cond}
+use Rattle.std.specs.List.Sorted.{IsStrictlyIncreasing}
+use Rattle.std.proofs.Common.{arith, refl, ap, sym, ◌∙◌, add-one}
 use Rattle.std.proofs.lemmas.List.Sums.{sum_by-cons}
+use Rattle.std.proofs.lemmas.List.Elements.{All-nil, All-cons, All-head, All-tail}
 use Rattle.std.proofs.lemmas.Bool.Decides.{nat_tests}
 use Rattle.std.proofs.lemmas.Nat.{div_below}
+use Rattle.line_geometry.specs.declared.directory.DirectoryFault.{DirectoryFault}
 use Rattle.line_geometry.specs.declared.directory.DirectoryFault.TheVariants.{Order, Range, TooMany}
 use Rattle.line_geometry.specs.declared.directory.PageSize.{PageSize}
 use Rattle.line_geometry.specs.declared.directory.PageSize.TheVariants.{Two, Four}
 use Rattle.line_geometry.specs.Segments.{page_bytes}
 use Rattle.line_geometry.specs.Directory.{Layout, page_count, byte_count}
-use Rattle.line_geometry.specs.Legal.{fault_of, fault_after, is_outside}
+use Rattle.line_geometry.specs.Legal.{fault_of, fault_after, is_strange, IsInRange, IsLegal}
 use Rattle.line_geometry.proofs.Within.{byte_count-pages, page-bytes-pos}
 
--- segments without a fault behind others have at most 1,024 pages with them
-pages-after :
-    (last pages : ℕ) (segments : List (ℕ × ℕ)) → pages ≤ 1024 → fault_after last pages segments ≡ None
-    → pages + sum_by (λ segment. segment.1) segments ≤ 1024
-pages-after last pages [] few fine = omega (arith, few)
-pages-after last pages (segment ∷ rest) few fine =
+-- the identifiers of segments
+abbrev identifiers : List (ℕ × ℕ) → List ℕ
+identifiers segments = map (λ segment. segment.0) segments
+
+-- what segments are behind others with a last identifier and so many pages
+record IsLegalAfter (last pages : ℕ) (segments : List (ℕ × ℕ)) : Type 0 where
+  pub in_range : All IsInRange segments
+  pub ascending : IsStrictlyIncreasing (last ∷ identifiers segments)
+  pub few_pages : pages + sum_by (λ segment. segment.1) segments ≤ 1024
+
+-- the elements behind the first
+behind : (x : ℕ) (xs : List ℕ) (k : ℕ) → slice_index (x ∷ xs) (k + 1) ≡ slice_index xs k
+behind x xs k = ap (slice_index (x ∷ xs)) (add-one k)
+
+increasing-one : (x : ℕ) → IsStrictlyIncreasing (x ∷ [])
+increasing-one x k inside = absurd (omega arith)
+
+increasing-cons : (x y : ℕ) (ys : List ℕ) → x < y → IsStrictlyIncreasing (y ∷ ys) → IsStrictlyIncreasing (x ∷ y ∷ ys)
+increasing-cons x y ys low rest zero inside = low
+increasing-cons x y ys low rest (suc k) inside =
+    omega (arith, rest k (omega arith), behind x (y ∷ ys) (suc k), behind y ys k, behind x (y ∷ ys) k)
+
+increasing-head : (x y : ℕ) (ys : List ℕ) → IsStrictlyIncreasing (x ∷ y ∷ ys) → x < y
+increasing-head x y ys all = all 0 (omega arith)
+
+increasing-tail : (x : ℕ) (ys : List ℕ) → IsStrictlyIncreasing (x ∷ ys) → IsStrictlyIncreasing ys
+increasing-tail x ys all k inside = omega (arith, all (k + 1) (omega arith), behind x ys k, behind x ys (k + 1))
+
+-- the first fault, by three tests of the first segment
+abbrev fault_by : Bool → Bool → Bool → Option DirectoryFault → Option DirectoryFault
+fault_by strange low many later = cond strange (Some Range) (cond low (Some Order) (cond many (Some TooMany) later))
+
+-- without a fault they are legal
+legal-after :
+    (last pages : ℕ) (segments : List (ℕ × ℕ)) → pages ≤ 1024 → fault_after last pages segments ≡ None → IsLegalAfter last pages segments
+legal-after last pages [] few fine =
+    record { in_range = All-nil IsInRange; ascending = increasing-one last; few_pages = omega (arith, few) }
+legal-after last pages (segment ∷ rest) few fine =
     by_tests
-    (is_outside 1 3839 segment.0 || is_outside 1 128 segment.1)
+    (is_strange segment)
     (nat_le segment.0 last)
     (nat_lt 1024 (pages + segment.1))
     refl
-    (pages-after segment.0 (pages + segment.1) rest)
+    refl
+    refl
+    (legal-after segment.0 (pages + segment.1) rest)
     fine
   where
     by_tests :
-        (outside low many : Bool) → nat_lt 1024 (pages + segment.1) ≡ many
-        → (pages + segment.1 ≤ 1024 → fault_after segment.0 (pages + segment.1) rest ≡ None → pages + segment.1 + sum_by (λ segment. segment.1) rest ≤ 1024)
-        → cond outside (Some Range) (cond low (Some Order) (cond many (Some TooMany) (fault_after segment.0 (pages + segment.1) rest))) ≡ None
-        → pages + sum_by (λ segment. segment.1) (segment ∷ rest) ≤ 1024
-    by_tests true low many is inner fine = absurd (cc)
-    by_tests false true many is inner fine = absurd (cc)
-    by_tests false false true is inner fine = absurd (cc)
-    by_tests false false false is inner fine =
+        (strange low many : Bool) → is_strange segment ≡ strange → nat_le segment.0 last ≡ low → nat_lt 1024 (pages + segment.1) ≡ many
+        → (pages + segment.1 ≤ 1024 → fault_after segment.0 (pages + segment.1) rest ≡ None → IsLegalAfter segment.0 (pages + segment.1) rest)
+        → fault_by strange low many (fault_after segment.0 (pages + segment.1) rest) ≡ None
+        → IsLegalAfter last pages (segment ∷ rest)
+    by_tests true low many is is' is'' inner fine = absurd (cc)
+    by_tests false true many is is' is'' inner fine = absurd (cc)
+    by_tests false false true is is' is'' inner fine = absurd (cc)
+    by_tests false false false is is' is'' inner fine =
         let fits : pages + segment.1 ≤ 1024 = grind (arith, nat_tests) in
-        omega (arith, inner fits fine, sum_by-cons (λ segment. segment.1) segment rest)
+        let above : last < segment.0 = grind (arith, nat_tests) in
+        let least : 1 ≤ segment.0 = grind (arith, nat_tests) in
+        let most : segment.0 ≤ 3839 = grind (arith, nat_tests) in
+        let fewest : 1 ≤ segment.1 = grind (arith, nat_tests) in
+        let largest : segment.1 ≤ 128 = grind (arith, nat_tests) in
+        let later : IsLegalAfter segment.0 (pages + segment.1) rest = inner fits fine in
+        record {
+          in_range = All-cons IsInRange segment rest (least, most, fewest, largest) later.in_range;
+          ascending = increasing-cons last segment.0 (identifiers rest) above later.ascending;
+          few_pages = omega (arith, later.few_pages, sum_by-cons (λ segment. segment.1) segment rest);
+        }
 
--- a list without a fault has at most 1,024 pages
-pub legal-pages : (segments : List (ℕ × ℕ)) → fault_of segments ≡ None → sum_by (λ segment. segment.1) segments ≤ 1024
-legal-pages segments fine = by_tests (nat_lt 15 (length segments)) (length segments == 0) fine
+-- legal segments have no fault
+fine-after :
+    (last pages : ℕ) (segments : List (ℕ × ℕ)) → IsLegalAfter last pages segments → fault_after last pages segments ≡ None
+fine-after last pages [] legal = refl
+fine-after last pages (segment ∷ rest) legal =
+    by_tests
+    (is_strange segment)
+    (nat_le segment.0 last)
+    (nat_lt 1024 (pages + segment.1))
+    strange
+    low
+    many
+    (fine-after segment.0 (pages + segment.1) rest later)
+  where
+    own : IsInRange segment
+    own = All-head IsInRange segment rest legal.in_range
+
+    strange : is_strange segment ≡ false
+    strange = grind (arith, nat_tests, own.0, own.1, own.2, own.3)
+
+    low : nat_le segment.0 last ≡ false
+    low = grind (arith, nat_tests, increasing-head last segment.0 (identifiers rest) legal.ascending)
+
+    sums : pages + (segment.1 + sum_by (λ segment. segment.1) rest) ≤ 1024
+    sums = omega (arith, legal.few_pages, sum_by-cons (λ segment. segment.1) segment rest)
+
+    many : nat_lt 1024 (pages + segment.1) ≡ false
+    many = grind (arith, nat_tests, sums)
+
+    later : IsLegalAfter segment.0 (pages + segment.1) rest
+    later =
+        record {
+          in_range = All-tail IsInRange segment rest legal.in_range;
+          ascending = increasing-tail last (segment.0 ∷ identifiers rest) legal.ascending;
+          few_pages = omega (arith, sums);
+        }
+
+    by_tests :
+        (strange low many : Bool) → strange ≡ false → low ≡ false → many ≡ false
+        → fault_after segment.0 (pages + segment.1) rest ≡ None
+        → fault_by strange low many (fault_after segment.0 (pages + segment.1) rest) ≡ None
+    by_tests true low many is is' is'' fine = absurd (cc)
+    by_tests false true many is is' is'' fine = absurd (cc)
+    by_tests false false true is is' is'' fine = absurd (cc)
+    by_tests false false false is is' is'' fine = fine
+
+-- a list without a fault is legal
+pub legal-none : (segments : List (ℕ × ℕ)) → fault_of segments ≡ None → IsLegal segments
+legal-none segments fine = by_tests (nat_lt 15 (length segments)) (length segments == 0) refl refl fine
   where
     by_tests :
-        (many none : Bool) → cond many (Some TooMany) (cond none (Some Range) (fault_after 0 0 segments)) ≡ None
-        → sum_by (λ segment. segment.1) segments ≤ 1024
-    by_tests true none fine = absurd (cc)
-    by_tests false true fine = absurd (cc)
-    by_tests false false fine = omega (arith, pages-after 0 0 segments (omega arith) fine)
+        (many none : Bool) → nat_lt 15 (length segments) ≡ many → (length segments == 0) ≡ none
+        → cond many (Some TooMany) (cond none (Some Range) (fault_after 0 0 segments)) ≡ None
+        → IsLegal segments
+    by_tests true none is is' fine = absurd (cc)
+    by_tests false true is is' fine = absurd (cc)
+    by_tests false false is is' fine =
+        let legal : IsLegalAfter 0 0 segments = legal-after 0 0 segments (omega arith) fine in
+        record {
+          some = grind (arith, nat_tests);
+          few = grind (arith, nat_tests);
+          in_range = legal.in_range;
+          ascending = increasing-tail 0 (identifiers segments) legal.ascending;
+          pages = omega (arith, legal.few_pages);
+        }
+
+-- a legal list has no fault
+pub none-legal : (segments : List (ℕ × ℕ)) → IsLegal segments → fault_of segments ≡ None
+none-legal [] legal = absurd (omega (arith, legal.some))
+none-legal (segment ∷ rest) legal =
+    by_tests (nat_lt 15 (length (segment ∷ rest))) (length (segment ∷ rest) == 0) few some (fine-after 0 0 (segment ∷ rest) after)
+  where
+    above : 0 < segment.0
+    above = omega (arith, (All-head IsInRange segment rest legal.in_range).0)
+
+    after : IsLegalAfter 0 0 (segment ∷ rest)
+    after =
+        record {
+          in_range = legal.in_range;
+          ascending = increasing-cons 0 segment.0 (identifiers rest) above legal.ascending;
+          few_pages = omega (arith, legal.pages);
+        }
+
+    few : nat_lt 15 (length (segment ∷ rest)) ≡ false
+    few = grind (arith, nat_tests, legal.few)
+
+    some : (length (segment ∷ rest) == 0) ≡ false
+    some = grind (arith, nat_tests, legal.some)
+
+    by_tests :
+        (many none : Bool) → many ≡ false → none ≡ false → fault_after 0 0 (segment ∷ rest) ≡ None
+        → cond many (Some TooMany) (cond none (Some Range) (fault_after 0 0 (segment ∷ rest))) ≡ None
+    by_tests true none is is' fine = absurd (cc)
+    by_tests false true is is' fine = absurd (cc)
+    by_tests false false is is' fine = fine
+
+-- a list with a fault isn't
+pub fault-not_legal : (segments : List (ℕ × ℕ)) (fault : DirectoryFault) → fault_of segments ≡ Some fault → IsLegal segments → ⊥
+fault-not_legal segments fault found legal =
+    let none : None ≡ Some fault = sym (none-legal segments legal) ∙ found in
+    absurd (cc)
 
 page-bound : (page : PageSize) (n : ℕ) → n ≤ 1024 → n * page_bytes page ≤ 4194304
 page-bound Two n few = omega (arith, few)
 page-bound Four n few = omega (arith, few)
 
--- and at most 4 MiB
-pub legal-bytes : (directory : Layout) → fault_of directory.segments ≡ None → byte_count directory ≤ 4194304
-legal-bytes directory fine =
+-- a legal store has at most 4 MiB
+pub legal-bytes : (directory : Layout) → IsLegal directory.segments → byte_count directory ≤ 4194304
+legal-bytes directory legal =
     let bound : page_count directory * page_bytes directory.page ≤ 4194304 =
-    page-bound directory.page (page_count directory) (legal-pages directory.segments fine) in
+    page-bound directory.page (page_count directory) legal.pages in
     omega (arith, bound, byte_count-pages directory)
 
 -- a place of such a store lies in one of 1,024 pages
 pub legal-page :
-    (directory : Layout) (at : ℕ) → fault_of directory.segments ≡ None → at < byte_count directory → at / page_bytes directory.page < 1024
-legal-page directory at fine below =
+    (directory : Layout) (at : ℕ) → IsLegal directory.segments → at < byte_count directory → at / page_bytes directory.page < 1024
+legal-page directory at legal below =
     let inside : at < page_count directory * page_bytes directory.page = omega (arith, below, byte_count-pages directory) in
     let lies : at / page_bytes directory.page < page_count directory =
     div_below at (page_bytes directory.page) (page_count directory) (page-bytes-pos directory.page) inside in
-    omega (arith, lies, legal-pages directory.segments fine)
+    omega (arith, lies, legal.pages)

@@ -1,16 +1,16 @@
 -- The fields of a directory: fifteen places for segments, of which the first are in use.
-use Rattle.std.specs.Prelude.{◌≡◌, ℕ, ◌≤◌, List, ◌++◌, length, take, drop, replicate, None}
+use Rattle.std.specs.Prelude.{◌≡◌, ℕ, ◌≤◌, List, ◌++◌, length, take, drop, replicate}
 use Rattle.std.proofs.Common.{arith, ap, ◌∙◌, sym}
 use Rattle.std.proofs.lemmas.List.{length-take-le, take-append-drop}
 use Rattle.line_geometry.specs.declared.directory.Directory.TheInside.{Inside}
-use Rattle.line_geometry.specs.Legal.{fault_of}
+use Rattle.line_geometry.specs.Legal.{IsLegal}
 
--- so many of fifteen segments are in use and have no fault; the others are zero
+-- so many of fifteen segments are in use and are a directory's; the others are zero
 pub record IsKept (count : ℕ) (segments : List (ℕ × ℕ)) : Type 0 where
   pub few : count ≤ 15
   pub room : length segments ≡ 15
   pub rest : drop count segments ≡ drop count (replicate 15 (0, 0))
-  pub legal : fault_of (take count segments) ≡ None
+  pub legal : IsLegal (take count segments)
 
 -- how many segments are in use
 kept-count : (count : ℕ) (segments : List (ℕ × ℕ)) → IsKept count segments → length (take count segments) ≡ count
