@@ -39,11 +39,13 @@ pub ops_computed : map (λ place. position_or_len (is_row_at place) TABLE) (rang
 ops_computed = refl
 
 -- the mnemonics stand in the order of the operations
-pub names_ordered : map (λ place. position_or_len (λ entry. place_of entry.0 == place) NAMES) (range_with_len 0 85) ≡ range_with_len 0 85
+pub names_ordered : map (λ name. name.now) NAMES ≡ map (λ row. mnemonic row.op) TABLE
+unfolding mnemonic
 names_ordered = refl
 
 -- each mnemonic is that of its own operation alone
 pub names_computed : map (λ row. op_named (mnemonic row.op)) TABLE ≡ map (λ row. Some row.op) TABLE
+unfolding mnemonic
 names_computed = refl
 
 -- each number has the width of its format

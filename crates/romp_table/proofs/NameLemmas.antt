@@ -4,8 +4,6 @@ use Rattle.std.specs.Prelude.{IfSome, IfNone}
 use Rattle.std.specs.List.{range_with_len, position_or_len, slice_get}
 use Rattle.std.specs.Option.{option_map, option_map_or}
 use Rattle.std.specs.Str.{bytes_eq}
-use Rattle.std.proofs.lemmas.List.FromFn.{get_or-range_with_len}
-use Rattle.std.proofs.lemmas.List.Folds.{find_at}
 use Rattle.std.proofs.lemmas.Option.{slice_get-map}
 use Rattle.std.proofs.lemmas.Slice.Eq.{bytes_eq-Decides}
 use Rattle.romp_table.specs.Rows.{place_of}
@@ -17,33 +15,28 @@ use Rattle.romp_table.proofs.Computed.{names_ordered, names_computed}
 use Rattle.romp_table.proofs.Lists.{find_passes, value_at, found_within}
 use Rattle.romp_table.proofs.TableLemmas.{place_below, op_at_place}
 
-or_value : {A B : Type 0} (f : A → B) (o : Option A) (d x : B) → option_map f o ≡ Some x → x ≡ option_map_or f o d
-or_value f None d x e = grind arith
-or_value f (Some a) d x e = grind arith
-
--- the mnemonic at the place of an operation is its own
-pub mnemonic_at_place : (op : Op) (name : List ℕ) → slice_get (map (λ entry. entry.1.now) NAMES) (place_of op) ≡ Some name → name ≡ mnemonic op
-mnemonic_at_place op name e =
-    let place = value_at (λ place. position_or_len (λ entry. place_of entry.0 == place) NAMES) 85 (range_with_len 0 85) names_ordered (place_of op) (place_below op)
-    ∙ get_or-range_with_len 0 85 (place_of op) 0 (place_below op) ∙ zero-add (place_of op) in
-    let found = find_at (λ entry. place_of entry.0 == place_of op) NAMES ∙ ap (slice_get NAMES) place in
-    or_value (λ entry. entry.1.now) _ [] name (ap (option_map (λ entry. entry.1.now)) found ∙ sym (slice_get-map (λ entry. entry.1.now) NAMES (place_of op)) ∙ e)
-
 some_told : {A : Type 0} (x y : A) → Some x ≡ Some y → x ≡ y
 some_told x y e = grind arith
+
+-- what a list made of the rows has at the place of an operation
+made_at : {A : Type 0} (f : Op → A) (op : Op) → slice_get (map (λ row. f row.op) TABLE) (place_of op) ≡ Some (f op)
+made_at f op =
+    let (row, e) = found_within TABLE (place_of op) (place_below op) in
+    slice_get-map (λ row. f row.op) TABLE (place_of op)
+    ∙ ap (option_map (λ row. f row.op)) e
+    ∙ ap (λ op. Some (f op)) (op_at_place op row e)
+
+-- the mnemonic at the place of an operation is its own
+pub mnemonic_at_place : (op : Op) (name : List ℕ) → slice_get (map (λ name. name.now) NAMES) (place_of op) ≡ Some name → name ≡ mnemonic op
+mnemonic_at_place op name e =
+    some_told _ _ (sym e ∙ ap (λ names. slice_get names (place_of op)) names_ordered ∙ made_at mnemonic op)
 
 -- the operation of its mnemonic is an operation itself
 pub named_back : (op : Op) → op_named (mnemonic op) ≡ Some op
 named_back op =
-    let (row, e) = found_within TABLE (place_of op) (place_below op) in
-    let same = op_at_place op row e in
-    let back : op_named (mnemonic row.op) ≡ Some row.op =
-    some_told _ _ (ap (option_map (λ row. op_named (mnemonic row.op))) (sym e)
-    ∙ sym (slice_get-map (λ row. op_named (mnemonic row.op)) TABLE (place_of op))
-    ∙ ap (λ names. slice_get names (place_of op)) names_computed
-    ∙ slice_get-map (λ row. Some row.op) TABLE (place_of op)
-    ∙ ap (option_map (λ row. Some row.op)) e) in
-    subst (λ op. op_named (mnemonic op) ≡ Some op) same back
+    some_told _ _ (sym (made_at (λ op. op_named (mnemonic op)) op)
+      ∙ ap (λ names. slice_get names (place_of op)) names_computed
+      ∙ made_at Some op)
 
 same_bytes : (xs ys : List ℕ) → bytes_eq xs ys ≡ true → xs ≡ ys
 same_bytes xs ys e = grind (arith, bytes_eq-Decides)
