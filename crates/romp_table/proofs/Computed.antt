@@ -45,7 +45,7 @@ names_ordered = refl
 
 -- each mnemonic is that of its own operation alone
 pub names_computed : map (λ row. op_named (mnemonic row.op)) TABLE ≡ map (λ row. Some row.op) TABLE
-unfolding mnemonic
+unfolding mnemonic op_named
 names_computed = refl
 
 -- each number has the width of its format

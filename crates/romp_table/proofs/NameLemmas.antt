@@ -1,8 +1,8 @@
 -- The mnemonics, from what was computed of them.
-use Rattle.std.proofs.Common.{◌≡◌, ◌≢◌, ℕ, ◌==◌, true, List, [], Option, Some, None, map, sym, ap, ◌∙◌, subst, zero-add, arith}
+use Rattle.std.proofs.Common.{◌≡◌, ◌≢◌, ℕ, true, List, Option, Some, None, map, sym, ap, ◌∙◌, subst, arith}
 use Rattle.std.specs.Prelude.{IfSome, IfNone}
-use Rattle.std.specs.List.{range_with_len, position_or_len, slice_get}
-use Rattle.std.specs.Option.{option_map, option_map_or}
+use Rattle.std.specs.List.{slice_get}
+use Rattle.std.specs.Option.{option_map}
 use Rattle.std.specs.Str.{bytes_eq}
 use Rattle.std.proofs.lemmas.Option.{slice_get-map}
 use Rattle.std.proofs.lemmas.Slice.Eq.{bytes_eq-Decides}
@@ -12,7 +12,7 @@ use Rattle.romp_table.specs.declared.inst.Op.{Op}
 use Rattle.romp_table.specs.declared.table.TheConstants.{TABLE}
 use Rattle.romp_table.specs.declared.names.TheConstants.{NAMES}
 use Rattle.romp_table.proofs.Computed.{names_ordered, names_computed}
-use Rattle.romp_table.proofs.Lists.{find_passes, value_at, found_within}
+use Rattle.romp_table.proofs.Lists.{find_passes, found_within}
 use Rattle.romp_table.proofs.TableLemmas.{place_below, op_at_place}
 
 some_told : {A : Type 0} (x y : A) → Some x ≡ Some y → x ≡ y
@@ -35,14 +35,15 @@ mnemonic_at_place op name e =
 pub named_back : (op : Op) → op_named (mnemonic op) ≡ Some op
 named_back op =
     some_told _ _ (sym (made_at (λ op. op_named (mnemonic op)) op)
-      ∙ ap (λ names. slice_get names (place_of op)) names_computed
-      ∙ made_at Some op)
+    ∙ ap (λ names. slice_get names (place_of op)) names_computed
+    ∙ made_at Some op)
 
 same_bytes : (xs ys : List ℕ) → bytes_eq xs ys ≡ true → xs ≡ ys
 same_bytes xs ys e = grind (arith, bytes_eq-Decides)
 
 -- what a word names has the word for its mnemonic, and a word that names nothing is no mnemonic
 pub named_some : (word : List ℕ) (o : Option Op) → o ≡ op_named word → IfSome o (λ op. mnemonic op ≡ word)
+unfolding op_named
 named_some word None e = tt
 named_some word (Some op) e = same_bytes (mnemonic op) word (find_passes (λ op. bytes_eq (mnemonic op) word) (map (λ row. row.op) TABLE) op (sym e))
 

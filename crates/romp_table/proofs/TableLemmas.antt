@@ -45,6 +45,7 @@ numbered_in rows places computed first small =
 
 -- one look-up finds the row whose number a halfword has
 pub row_by_place : (first : ℕ) → first < 2 ^ 16 → row_numbered first ≡ slice_get TABLE (slice_index PLACES (first / 2 ^ 8))
+unfolding row_numbered
 row_by_place first small = numbered_in TABLE PLACES places_computed first small
 
 pub place_below : (op : Op) → place_of op < 85
@@ -59,6 +60,7 @@ own_place i row e =
 
 -- one look-up finds the row of an operation
 pub row_of_place : (op : Op) → row_of op ≡ slice_get TABLE (place_of op)
+unfolding row_of
 row_of_place op =
     find_at (is_row_at (place_of op)) TABLE
     ∙ ap (slice_get TABLE) (value_at (λ place. position_or_len (is_row_at place) TABLE) 85 (range_with_len 0 85) ops_computed (place_of op) (place_below op)
@@ -106,6 +108,7 @@ row_unique first small i row e numbered =
 
 -- a row that is found is that of its operation, and has its number in the halfword
 pub row_found : (first : ℕ) → first < 2 ^ 16 → (row : Row) → row_numbered first ≡ Some row → (row_of row.op ≡ Some row) × (first / number_unit row.format ≡ row.number)
+unfolding row_numbered
 row_found first small row e =
     (row_of_own (slice_index PLACES (first / 2 ^ 8)) row (sym (row_by_place first small) ∙ e), ==-same _ _ (find_passes (has_number first) TABLE row e))
 

@@ -93,5 +93,5 @@ mnemonic Op.St = codes "st"
 mnemonic Op.Ti = codes "ti"
 
 -- the operation whose mnemonic a word is
-abbrev pub op_named : List ℕ → Option Op
+unfoldable pub op_named : List ℕ → Option Op
 op_named word = find (λ op. bytes_eq (mnemonic op) word) (map (λ row. row.op) TABLE)

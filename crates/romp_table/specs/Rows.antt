@@ -15,5 +15,5 @@ abbrev pub is_row_at : ℕ → Row → Bool
 is_row_at place row = place_of row.op == place
 
 -- the row of an operation
-abbrev pub row_of : Op → Option Row
+unfoldable pub row_of : Op → Option Row
 row_of op = find (is_row_at (place_of op)) TABLE
