@@ -1,4 +1,5 @@
 use super::{Code, Format, Inst, Op, by_name, decode, encode, length_of, name_of, row_of};
+use std::process::Abort;
 use std::test::Fail;
 
 /// Encodings worked by hand: two halfwords, how many bytes count, and the instruction.
@@ -213,11 +214,14 @@ const ENCODINGS: [(u16, u16, u8, Inst); 20] = [
     ),
 ];
 
-/// Each mnemonic with its operation number, by formats.
-const ROWS: [(Format, &[(&str, u16)]); 7] = [
-    (Format::J, &[("jb", 1), ("jnb", 0)]),
+/// The formats, each with what its operation number counts for in the first halfword, how many bytes it has, and its
+/// mnemonics with their operation numbers.
+const ROWS: [(Format, u16, u8, &[(&str, u16)]); 7] = [
+    (Format::J, 0x800, 2, &[("jb", 1), ("jnb", 0)]),
     (
         Format::S,
+        0x1000,
+        2,
         &[
             ("stcs", 1),
             ("sths", 2),
@@ -227,9 +231,11 @@ const ROWS: [(Format, &[(&str, u16)]); 7] = [
             ("ls", 7),
         ],
     ),
-    (Format::X, &[("cas", 6)]),
+    (Format::X, 0x1000, 2, &[("cas", 6)]),
     (
         Format::R,
+        0x100,
+        2,
         &[
             ("ais", 0x90),
             ("inc", 0x91),
@@ -277,6 +283,8 @@ const ROWS: [(Format, &[(&str, u16)]); 7] = [
     ),
     (
         Format::BI,
+        0x100,
+        4,
         &[
             ("bnb", 0x88),
             ("bnbx", 0x89),
@@ -286,9 +294,11 @@ const ROWS: [(Format, &[(&str, u16)]); 7] = [
             ("bbx", 0x8F),
         ],
     ),
-    (Format::BA, &[("bala", 0x8A), ("balax", 0x8B)]),
+    (Format::BA, 0x100, 4, &[("bala", 0x8A), ("balax", 0x8B)]),
     (
         Format::D,
+        0x100,
+        4,
         &[
             ("svc", 0xC0),
             ("ai", 0xC1),
@@ -358,59 +368,61 @@ const REFUSED: [(u8, u8, u8, u8); 23] = [
 #[test]
 fn encodings_are_read_and_written(rt: HostRuntime) -> Result<(), Fail> {
     for (first, second, len, inst) in ENCODINGS {
-        assert_eq!(rt; length_of(first), len, "{first:04x}");
-        let read = decode(first, second).ok_or("no row")?;
-        assert_eq!(rt; read, inst);
         let [a, b] = first.to_be_bytes();
         let [c, d] = second.to_be_bytes();
         let bytes = [a, b, c, d];
-        assert_eq!(rt; encode(&read), Code { bytes, len });
-        if len == 2 {
-            assert_eq!(rt;
-                decode(first, 0xFFFF),
-                Some(inst),
-                "the second halfword doesn't count"
-            );
-        }
+        let read = decode(first, second).ok_or("no row")?;
+        assert_eq!(rt;
+            (read, encode(&read), length_of(first)),
+            (inst, Code { bytes, len }, len)
+        );
+        assert!(rt;
+            len == 4 || decode(first, 0xFFFF) == Some(inst),
+            "{first:04x}"
+        );
     }
     Ok(())
+}
+
+/// The operation and the format of an instruction.
+fn kind_of(inst: &Inst) -> (Op, Format) {
+    match *inst {
+        Inst::J { op, .. } => (op, Format::J),
+        Inst::S { op, .. } => (op, Format::S),
+        Inst::X { op, .. } => (op, Format::X),
+        Inst::R { op, .. } => (op, Format::R),
+        Inst::D { op, .. } => (op, Format::D),
+        Inst::BI { op, .. } => (op, Format::BI),
+        Inst::BA { op, .. } => (op, Format::BA),
+    }
+}
+
+/// Looks at one row, with its fields zero.
+fn look_at(rt: &impl Abort, name: &str, format: Format, first: u16, len: u8) -> Result<Op, Fail> {
+    let op = by_name(name.as_bytes()).ok_or("no such mnemonic")?;
+    let read = decode(first, 0).ok_or("no row")?;
+    let [high, low] = first.to_be_bytes();
+    let code = Code {
+        bytes: [high, low, 0, 0],
+        len,
+    };
+    assert_eq!(rt;
+        (kind_of(&read), encode(&read), length_of(first)),
+        ((op, format), code, len),
+        "{name}"
+    );
+    Ok(op)
 }
 
 #[test]
 fn every_row_has_its_name_and_number(rt: HostRuntime) -> Result<(), Fail> {
     let mut count = 0_u32;
-    for (format, rows) in ROWS {
+    for (format, unit, len, rows) in ROWS {
         for (name, number) in rows {
-            let op = by_name(name.as_bytes()).ok_or("no such mnemonic")?;
-            assert_eq!(rt; name_of(op), *name);
-            let (unit, len) = match format {
-                Format::J => (0x800, 2),
-                Format::S | Format::X => (0x1000, 2),
-                Format::R => (0x100, 2),
-                Format::D | Format::BI | Format::BA => (0x100, 4),
-            };
             let first = number.checked_mul(unit).ok_or("too wide")?;
-            let read = decode(first, 0).ok_or("no row")?;
-            let (shown, own) = match read {
-                Inst::J { op, .. } => (op, Format::J),
-                Inst::S { op, .. } => (op, Format::S),
-                Inst::X { op, .. } => (op, Format::X),
-                Inst::R { op, .. } => (op, Format::R),
-                Inst::D { op, .. } => (op, Format::D),
-                Inst::BI { op, .. } => (op, Format::BI),
-                Inst::BA { op, .. } => (op, Format::BA),
-            };
-            assert_eq!(rt; shown, op, "{name}");
-            assert_eq!(rt; own, format, "{name}");
-            assert_eq!(rt; row_of(op).number, *number, "{name}");
-            assert_eq!(rt; length_of(first), len, "{name}");
-            let [high, low] = first.to_be_bytes();
-            assert_eq!(rt;
-                encode(&read),
-                Code {
-                    bytes: [high, low, 0, 0],
-                    len
-                },
+            let op = look_at(&rt, name, format, first, len)?;
+            assert!(rt;
+                name_of(op) == *name && row_of(op).number == *number,
                 "{name}"
             );
             count = count.wrapping_add(1);
@@ -418,7 +430,7 @@ fn every_row_has_its_name_and_number(rt: HostRuntime) -> Result<(), Fail> {
     }
     assert_eq!(rt; count, 85);
     for word in ["", "ax", "CAU", "stcs ", "sri1", "lis0"] {
-        assert_eq!(rt; by_name(word.as_bytes()), None, "{word}");
+        assert!(rt; by_name(word.as_bytes()).is_none(), "{word}");
     }
     Ok(())
 }
@@ -428,16 +440,19 @@ fn other_bits_have_no_row(rt: HostRuntime) {
     for high in FREE {
         for low in 0..=0xFF_u8 {
             let first = u16::from_be_bytes([high, low]);
-            assert_eq!(rt; decode(first, 0), None, "{first:04x}");
-            assert_eq!(rt; length_of(first), 2, "{first:04x}");
+            assert!(rt;
+                decode(first, 0).is_none() && length_of(first) == 2,
+                "{first:04x}"
+            );
         }
     }
     for (high, from, to, c) in REFUSED {
         for b in from..=to {
-            assert!(rt; b < 16 && c < 16);
-            let first = u16::from_be_bytes([high, b * 16 + c]);
-            assert_eq!(rt; decode(first, 0), None, "{first:04x}");
-            assert_eq!(rt; decode(first, 0xFFFF), None, "{first:04x}");
+            let first = u16::from_be_bytes([high, (b << 4) | c]);
+            assert!(rt;
+                decode(first, 0).is_none() && decode(first, 0xFFFF).is_none(),
+                "{first:04x}"
+            );
         }
     }
 }
