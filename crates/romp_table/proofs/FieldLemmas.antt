@@ -1,0 +1,132 @@
+-- The fields of each format, written and read again.
+use Rattle.std.proofs.Common.{◌≡◌, ℕ, ◌+◌, ◌*◌, ◌/◌, ◌%◌, ◌^◌, ◌<◌, List, ◌∷◌, [], take, get_or, refl, ap, ◌∙◌, arith}
+use Rattle.romp_table.specs.Decode.{number_unit, instruction_by, signed, nibble}
+use Rattle.romp_table.specs.Legal.{HasWidths, op_of, format_of}
+use Rattle.romp_table.specs.Encode.{bits_of, first_with, second_of, bytes_in, bytes_of}
+use Rattle.romp_table.specs.declared.inst.Op.{Op}
+use Rattle.romp_table.specs.declared.inst.Inst.{Inst}
+use Rattle.romp_table.specs.declared.table.Format.{Format}
+use Rattle.romp_table.proofs.SignLemmas.{bits-signed_8, bits-signed_20, bits_small_8, bits_small_20, signed-bits_8, signed-bits_20}
+
+-- the number of a first halfword is that of its row
+pub numbered : (inst : Inst) (number : ℕ) → HasWidths inst → first_with number inst / number_unit (format_of inst) ≡ number
+numbered (Inst.J op cond disp) number w = let h = bits_small_8 disp w.1 in omega arith
+numbered (Inst.S op k b c) number w = omega arith
+numbered (Inst.X op a b c) number w = omega arith
+numbered (Inst.R op b c) number w = omega arith
+numbered (Inst.D op b c i) number w = omega arith
+numbered (Inst.BI op b disp) number w = let h = bits_small_20 disp w.1 in omega arith
+numbered (Inst.BA op to) number w = omega arith
+
+-- what is read from the halfwords of an instruction is the instruction
+pub read-written : (inst : Inst) (number : ℕ) → HasWidths inst → instruction_by (op_of inst) (format_of inst) (first_with number inst) (second_of inst) ≡ inst
+read-written (Inst.J op cond disp) number w =
+    let small = bits_small_8 disp w.1 in
+    let e : (number * 2 ^ 11 + cond * 2 ^ 8 + bits_of 8 disp) / 2 ^ 8 % 8 ≡ cond = omega arith in
+    let f : (number * 2 ^ 11 + cond * 2 ^ 8 + bits_of 8 disp) % 2 ^ 8 ≡ bits_of 8 disp = omega arith in
+    λ i. Inst.J op (e i) ((ap (signed 8) f ∙ signed-bits_8 disp w.1) i)
+read-written (Inst.S op k b c) number w =
+    let first = number * 2 ^ 12 + k * 2 ^ 8 + b * 2 ^ 4 + c in
+    let e : nibble first 8 ≡ k = omega arith in
+    let f : nibble first 4 ≡ b = omega arith in
+    let g : nibble first 0 ≡ c = omega arith in
+    λ i. Inst.S op (e i) (f i) (g i)
+read-written (Inst.X op k b c) number w =
+    let first = number * 2 ^ 12 + k * 2 ^ 8 + b * 2 ^ 4 + c in
+    let e : nibble first 8 ≡ k = omega arith in
+    let f : nibble first 4 ≡ b = omega arith in
+    let g : nibble first 0 ≡ c = omega arith in
+    λ i. Inst.X op (e i) (f i) (g i)
+read-written (Inst.R op b c) number w =
+    let first = number * 2 ^ 8 + b * 2 ^ 4 + c in
+    let f : nibble first 4 ≡ b = omega arith in
+    let g : nibble first 0 ≡ c = omega arith in
+    λ i. Inst.R op (f i) (g i)
+read-written (Inst.D op b c d) number w =
+    let first = number * 2 ^ 8 + b * 2 ^ 4 + c in
+    let f : nibble first 4 ≡ b = omega arith in
+    let g : nibble first 0 ≡ c = omega arith in
+    λ i. Inst.D op (f i) (g i) d
+read-written (Inst.BI op b disp) number w =
+    let small = bits_small_20 disp w.1 in
+    let first = number * 2 ^ 8 + b * 2 ^ 4 + bits_of 20 disp / 2 ^ 16 in
+    let f : nibble first 4 ≡ b = omega arith in
+    let g : nibble first 0 * 2 ^ 16 + bits_of 20 disp % 2 ^ 16 ≡ bits_of 20 disp = omega arith in
+    λ i. Inst.BI op (f i) ((ap (signed 20) g ∙ signed-bits_20 disp w.1) i)
+read-written (Inst.BA op to) number w =
+    let e : (number * 2 ^ 8 + to / 2 ^ 16) % 2 ^ 8 * 2 ^ 16 + to % 2 ^ 16 ≡ to = omega arith in
+    ap (Inst.BA op) e
+
+two_bytes : (first first' second second' : ℕ) → first ≡ first' → take 2 (bytes_of first second) ≡ take 2 (bytes_of first' second')
+two_bytes first first' second second' e = ap (λ n. n / 2 ^ 8 ∷ n % 2 ^ 8 ∷ []) e
+
+four_bytes : (first first' second second' : ℕ) → first ≡ first' → second ≡ second' → bytes_of first second ≡ bytes_of first' second'
+four_bytes first first' second second' e f = λ i. bytes_of (e i) (f i)
+
+-- what is written of an instruction that was read is what was read
+pub written-read : (op : Op) (format : Format) (first second number : ℕ) → second < 2 ^ 16 → first / number_unit format ≡ number → let inst = instruction_by op format first second in take (bytes_in inst) (bytes_of first second) ≡ take (bytes_in inst) (bytes_of (first_with number inst) (second_of inst))
+written-read op Format.J first second number small e =
+    let back = bits-signed_8 (first % 2 ^ 8) (omega arith) in
+    two_bytes first (number * 2 ^ 11 + first / 2 ^ 8 % 8 * 2 ^ 8 + bits_of 8 (signed 8 (first % 2 ^ 8))) second 0 (omega arith)
+written-read op Format.S first second number small e = two_bytes first (number * 2 ^ 12 + nibble first 8 * 2 ^ 8 + nibble first 4 * 2 ^ 4 + nibble first 0) second 0 (omega arith)
+written-read op Format.X first second number small e = two_bytes first (number * 2 ^ 12 + nibble first 8 * 2 ^ 8 + nibble first 4 * 2 ^ 4 + nibble first 0) second 0 (omega arith)
+written-read op Format.R first second number small e = two_bytes first (number * 2 ^ 8 + nibble first 4 * 2 ^ 4 + nibble first 0) second 0 (omega arith)
+written-read op Format.D first second number small e = four_bytes first (number * 2 ^ 8 + nibble first 4 * 2 ^ 4 + nibble first 0) second second (omega arith) refl
+written-read op Format.BI first second number small e =
+    let bits = nibble first 0 * 2 ^ 16 + second in
+    let back = bits-signed_20 bits (omega arith) in
+    four_bytes first (number * 2 ^ 8 + nibble first 4 * 2 ^ 4 + bits_of 20 (signed 20 bits) / 2 ^ 16) second (bits_of 20 (signed 20 bits) % 2 ^ 16) (omega arith) (omega arith)
+written-read op Format.BA first second number small e =
+    let to = first % 2 ^ 8 * 2 ^ 16 + second in
+    four_bytes first (number * 2 ^ 8 + to / 2 ^ 16) second (to % 2 ^ 16) (omega arith) (omega arith)
+
+byte_told : (xs ys : List ℕ) (i : ℕ) → xs ≡ ys → get_or xs i 0 ≡ get_or ys i 0
+byte_told xs ys i e = ap (λ zs. get_or zs i 0) e
+
+told_2 : (first first' second second' : ℕ) → take 2 (bytes_of first second) ≡ take 2 (bytes_of first' second') → first ≡ first'
+told_2 first first' second second' e =
+    let high : first / 2 ^ 8 ≡ first' / 2 ^ 8 = byte_told _ _ 0 e in
+    let low : first % 2 ^ 8 ≡ first' % 2 ^ 8 = byte_told _ _ 1 e in
+    omega arith
+
+told_4 : (first first' second second' : ℕ) → bytes_of first second ≡ bytes_of first' second' → (first ≡ first') × (second ≡ second')
+told_4 first first' second second' e =
+    (told_2 first first' second second' (ap (take 2) e), told_2 second second' 0 0 (ap (λ zs. get_or zs 2 0 ∷ get_or zs 3 0 ∷ []) e))
+
+-- the first halfword is told by the bytes of an instruction
+pub first_told : (inst : Inst) (first first' second second' : ℕ) → take (bytes_in inst) (bytes_of first second) ≡ take (bytes_in inst) (bytes_of first' second') → first ≡ first'
+first_told (Inst.J op cond disp) f g s t e = told_2 f g s t e
+first_told (Inst.S op k b c) f g s t e = told_2 f g s t e
+first_told (Inst.X op k b c) f g s t e = told_2 f g s t e
+first_told (Inst.R op b c) f g s t e = told_2 f g s t e
+first_told (Inst.D op b c i) f g s t e = (told_4 f g s t e).0
+first_told (Inst.BI op b disp) f g s t e = (told_4 f g s t e).0
+first_told (Inst.BA op to) f g s t e = (told_4 f g s t e).0
+
+-- halfwords with the same bytes of an instruction are read alike
+pub read_alike : (inst : Inst) (op : Op) (first first' second second' : ℕ) → take (bytes_in inst) (bytes_of first second) ≡ take (bytes_in inst) (bytes_of first' second') → instruction_by op (format_of inst) first second ≡ instruction_by op (format_of inst) first' second'
+read_alike (Inst.J _ cond disp) op f g s t e = ap (λ n. instruction_by op Format.J n s) (told_2 f g s t e)
+read_alike (Inst.S _ k b c) op f g s t e = ap (λ n. instruction_by op Format.S n s) (told_2 f g s t e)
+read_alike (Inst.X _ k b c) op f g s t e = ap (λ n. instruction_by op Format.X n s) (told_2 f g s t e)
+read_alike (Inst.R _ b c) op f g s t e = ap (λ n. instruction_by op Format.R n s) (told_2 f g s t e)
+read_alike (Inst.D _ b c i) op f g s t e = let (d, h) = told_4 f g s t e in λ i. instruction_by op Format.D (d i) (h i)
+read_alike (Inst.BI _ b disp) op f g s t e = let (d, h) = told_4 f g s t e in λ i. instruction_by op Format.BI (d i) (h i)
+read_alike (Inst.BA _ to) op f g s t e = let (d, h) = told_4 f g s t e in λ i. instruction_by op Format.BA (d i) (h i)
+
+pub op_kept : (op : Op) (format : Format) (first second : ℕ) → op_of (instruction_by op format first second) ≡ op
+op_kept op Format.J first second = refl
+op_kept op Format.S first second = refl
+op_kept op Format.X first second = refl
+op_kept op Format.R first second = refl
+op_kept op Format.D first second = refl
+op_kept op Format.BI first second = refl
+op_kept op Format.BA first second = refl
+
+pub format_kept : (op : Op) (format : Format) (first second : ℕ) → format_of (instruction_by op format first second) ≡ format
+format_kept op Format.J first second = refl
+format_kept op Format.S first second = refl
+format_kept op Format.X first second = refl
+format_kept op Format.R first second = refl
+format_kept op Format.D first second = refl
+format_kept op Format.BI first second = refl
+format_kept op Format.BA first second = refl
