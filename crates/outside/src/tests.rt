@@ -217,8 +217,10 @@ fn a_file_is_opened_once_and_never_cut(rt: HostRuntime) -> Result<(), Fail> {
 
 #[test]
 fn the_standard_streams_are_a_screen_and_a_source(rt: HostRuntime) -> Result<(), Fail> {
-    let mut screen = StdScreen::new(rt);
-    assert_eq!(rt; screen.put(b"printed\n", 0), Ok(()));
+    let disk = FileDisk::new(rt, String::from_str(rt.alloc(), "store")?, false);
+    let mut joint = Joint::new(disk, StdScreen::new(rt));
+    assert_eq!(rt; joint.put(b"printed\n"), Ok(()));
+    assert_eq!(rt; joint.length(), Err(Failed));
     let mut into = [0; 4];
     let mut input = StdSource::new(rt.stdin());
     assert_eq!(rt; input.read(&mut into[..0]), Ok(0));
