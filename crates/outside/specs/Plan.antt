@@ -37,6 +37,7 @@ abbrev pub is_last : Option (ℕ × List ℕ) → ℕ → Bool
 is_last None number = false
 is_last (Some fuse) number = fuse.0 == number
 
+-- what it then leaves there, from the front of the range
 abbrev pub outcome_of : Option (ℕ × List ℕ) → List ℕ
 outcome_of None = []
 outcome_of (Some fuse) = fuse.1
@@ -53,10 +54,12 @@ held_by_fate Cut outcome at bytes held = written held at (take (length bytes) ou
 held_by_fate Refused outcome at bytes held = held
 held_by_fate Stopped outcome at bytes held = held
 
+-- only a whole write succeeds
 abbrev pub is_failed : Fate → Bool
 is_failed Whole = false
 is_failed _ = true
 
+-- after it the disk has stopped
 abbrev pub stops : Fate → Bool
 stops Cut = true
 stops Stopped = true

@@ -21,6 +21,7 @@ concerns call start end refusal = is_met refusal.call call (nat_lt (max refusal.
 abbrev pub is_due : Call → ℕ → ℕ → Refusal → Bool
 is_due call start end refusal = concerns call start end refusal && refusal.skip == 0
 
+-- some refusal is due
 abbrev pub is_refused : Call → ℕ → ℕ → List Refusal → Bool
 is_refused call start end refusals = list_any (is_due call start end) refusals
 

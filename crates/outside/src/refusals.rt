@@ -2,7 +2,7 @@
 ghost use Rattle.std.specs.Prelude.{◌≡◌, not};
 ghost use Rattle.outside.specs.Refusals as spec;
 
-/// The kinds of a disk's calls.
+/// The kinds of a disk's calls, for a `Refusal`.
 #[derive(Clone, Copy, Debug, PartialEq, Eq)]
 pub enum Call {
     Length,
@@ -15,9 +15,13 @@ pub enum Call {
 /// For a length and a sync the range isn't looked at.
 #[derive(Clone, Copy, Debug, PartialEq, Eq)]
 pub struct Refusal {
+    /// The kind of the call.
     pub call: Call,
+    /// The first byte of the range.
     pub from: u64,
+    /// The end of the range, which is behind its last byte.
     pub to: u64,
+    /// How many such calls pass before it.
     pub skip: u32,
 }
 
