@@ -1,5 +1,5 @@
 -- What the answers to events tell of.
-use Rattle.std.specs.Prelude.{ℕ, List, map, Some, None}
+use Rattle.std.specs.Prelude.{◌≡◌, ℕ, List, map, Some, None}
 use Rattle.desk.specs.declared.answers.Begun.{Begun}
 use Rattle.desk.specs.declared.answers.Begun.TheVariants as begun
 use Rattle.desk.specs.declared.answers.Turn.{Turn}
@@ -41,6 +41,21 @@ ending_told end.Disk printed = turn.Disk
 ending_told (end.Closed None number) printed = turn.CommitUnwritten
 ending_told (end.Closed (Some activation) number) printed = turn.CommitDoubted
 ending_told end.Shut printed = turn.Idle
+
+-- the happening that the answer to a turn tells of
+abbrev pub turn_told : (activation : ℕ) → Turn → (printed : List ℕ) → Happening
+turn_told activation answer printed = turned_by answer.end
+  where
+    turned_by : TurnEnd → Happening
+    turned_by end.Shut = run.Nothing
+    turned_by _ = run.Turned activation (counts_told answer) (ending_told answer.end printed)
+
+-- the numbers in a turn's end are those of the activation and of the store after it
+abbrev pub HasNumbers : TurnEnd → (activation number : ℕ) → Type 0
+HasNumbers (end.Committed told steps) activation number = told ≡ number
+HasNumbers (end.Waits told holders) activation number = told ≡ activation
+HasNumbers (end.Closed (Some told) after) activation number = (told ≡ activation) × (after ≡ number)
+HasNumbers _ activation number = Unit {0}
 
 -- the order that a list of commits tells
 abbrev pub order_told : List Committed → List (ℕ × ℕ)

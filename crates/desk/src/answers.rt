@@ -14,7 +14,7 @@ pub enum Begun {
 }
 
 /// The members of a shown cycle of waits; the first stands again at the end.
-#[derive(Debug, Drop)]
+#[derive(Debug, Default, Drop)]
 pub struct Cycle {
     pub members: ArrayVec<u32, 17>,
 }

@@ -1,0 +1,1 @@
+-- A job of the small form can be run.

@@ -1,0 +1,11 @@
+//! The console: the one call that does all that the program does (docs/MODEL.md).
+#![tactic(auto)]
+
+mod commands;
+mod opening;
+mod source_text;
+mod status;
+
+pub use commands::console;
+pub use opening::try_store;
+pub use status::{Ended, Status, status_text};

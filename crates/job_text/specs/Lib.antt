@@ -1,0 +1,5 @@
+pub mod SmallJob
+pub mod Parts
+pub mod Means
+pub mod Ready
+pub mod Answers

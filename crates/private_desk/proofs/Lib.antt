@@ -1,0 +1,6 @@
+pub mod MarkLemmas
+pub mod FetchLemmas
+pub mod PageLemmas
+pub mod SizeLemmas
+pub mod EntryLemmas
+pub mod CallLemmas

@@ -1,0 +1,44 @@
+-- What an attempt of one instruction leaves.
+use Rattle.std.specs.Prelude.{◌≡◌, ℕ, ◌+◌, ◌*◌, ◌<◌, ◌≤◌, ◌^◌, Option, Some, None}
+use Rattle.private_desk.specs.declared.single.Active.{Active}
+use Rattle.private_desk.specs.declared.single.Attempt.{Attempt}
+use Rattle.private_desk.specs.declared.single.Attempt.TheVariants as attempt
+use Rattle.private_desk.specs.declared.single.Stop.{Stop}
+use Rattle.private_desk.specs.declared.single.Stop.TheVariants as stop
+use Rattle.private_desk.specs.declared.single.Tally.{Tally}
+use Rattle.private_desk.specs.declared.single.PrivateDesk.{PrivateDesk}
+
+-- the parts that only an opening or a begin sets are as before
+pub record KeepsParts (old new : PrivateDesk) : Type 0 where
+  pub header : new.header ≡ old.header
+  pub programs : new.programs.items ≡ old.programs.items
+  pub opened : new.opened ≡ old.opened
+  pub begins : new.begins ≡ old.begins
+  pub turns : new.turns ≡ old.turns
+  pub next : new.next ≡ old.next
+
+-- one instruction more was counted at most, with two pages and two refusals
+pub record TalliesMore (old new : Tally) : Type 0 where
+  pub ran : new.ran ≤ old.ran + 1
+  pub pages : new.pages ≤ old.pages + 2
+  pub locks : new.locks ≤ old.locks + 2
+
+-- an attempt that goes on leaves the activation with one row more; one at the commit call leaves it, and its record fits
+abbrev pub HasAttempted : Attempt → Active → PrivateDesk → Type 0
+HasAttempted attempt.On active new = new.active ≡ Some (record active { rows = active.rows + 1 })
+HasAttempted attempt.Commit active new = (new.active ≡ Some active) × (new.used + (132 * new.marks.written + 12) ≤ new.header.bank_bytes)
+HasAttempted (attempt.Over end) active new = Unit {0}
+
+-- the one that is active has done at most so many rows
+abbrev pub HaveRowsWithin : Option Active → ℕ → Type 0
+HaveRowsWithin None rows = Unit {0}
+HaveRowsWithin (Some active) rows = active.rows ≤ rows
+
+-- the instructions stopped at the commit call of the active one, whose record fits, or the turn is over
+abbrev pub HasStopped : Stop → PrivateDesk → Tally → Type 0
+HasStopped (stop.Over end) new tally = Unit {0}
+HasStopped (stop.Commit active) new tally =
+    (new.active ≡ Some active)
+    × (new.used + (132 * new.marks.written + 12) ≤ new.header.bank_bytes)
+    × (active.rows < 2 ^ 63)
+    × (tally.ran ≤ 1000000)

@@ -1,0 +1,59 @@
+// One record added to a bank: its body behind the closed gate, a sync, the open gate, and a sync.
+ghost use Rattle.std.specs.Prelude.{◌≡◌, ◌+◌, ◌<◌, ◌≤◌, ◌^◌, length};
+ghost use Rattle.std.specs.Option.{ForSome};
+ghost use Rattle.outside.specs.Causes.{Rose, HasCause};
+ghost use Rattle.outside.specs.Runs.{CallsDisk};
+ghost use Rattle.store_format.specs.Header.{total};
+
+use outside::{Failed, Outside};
+use store_format::Header;
+
+/// The byte of an open gate.
+const OPEN: u8 = 0xA5;
+
+/// What an append came to.
+#[derive(Debug, Clone, Copy, PartialEq, Eq)]
+pub enum Appended {
+    /// The record stands.
+    Done,
+    /// The disk failed before the gate's write began: the record doesn't stand.
+    Unwritten,
+    /// The disk failed after the gate's write began: the record may stand.
+    Doubt,
+}
+
+/// Writes a body behind the gate at this place of a store with this header, and then opens the gate.
+pub fn append<W: Outside>(outside: &mut W, header: &Header, gate: u64, body: &[u8]) -> Appended
+    requires fits { gate < 2 ^ 32 }
+    requires within { gate + 1 ≤ total header.now }
+    requires bytes { ForSome (W.held outside.old) (λ bytes. total header.now ≤ length bytes) }
+    ensures calls { CallsDisk W.Outside outside.old outside.new }
+    ensures bytes { ForSome (W.held outside.new) (λ bytes. total header.now ≤ length bytes) }
+    ensures unwritten { result ≡ Appended.Unwritten → Rose (W.disk_faults outside.old) (W.disk_faults outside.new) }
+    ensures doubt { result ≡ Appended.Doubt → Rose (W.disk_faults outside.old) (W.disk_faults outside.new) }
+{
+    if write_and_sync(outside, header, gate + 1, body).is_err() {
+        return Appended::Unwritten;
+    }
+    match write_and_sync(outside, header, gate, &[OPEN]) {
+        Ok(()) => Appended::Done,
+        Err(Failed) => Appended::Doubt,
+    }
+}
+
+/// A write within a store with this header, and a sync.
+fn write_and_sync<W: Outside>(
+    outside: &mut W,
+    header: &Header,
+    at: u64,
+    bytes: &[u8],
+) -> Result<(), Failed>
+    requires within { at ≤ total header.now }
+    requires bytes { ForSome (W.held outside.old) (λ bytes. total header.now ≤ length bytes) }
+    ensures calls { CallsDisk W.Outside outside.old outside.new }
+    ensures bytes { ForSome (W.held outside.new) (λ bytes. total header.now ≤ length bytes) }
+    ensures cause { HasCause (W.disk_faults outside.old) (W.disk_faults outside.new) result }
+{
+    outside.write_at(at, bytes)?;
+    outside.sync()
+}

@@ -1,0 +1,10 @@
+//! The desk of `try`: at most one activation at a time, over a store that is whole in memory (docs/MODEL.md, "The desk").
+#![tactic(auto)]
+
+mod append;
+mod line_marks;
+mod page_entries;
+mod resident_pages;
+mod single;
+
+pub use single::PrivateDesk;

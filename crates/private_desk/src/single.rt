@@ -1,0 +1,500 @@
+// The desk of `try`: at most one activation at a time, over a store that is whole in memory.
+ghost use Rattle.std.specs.Prelude.{◌≡◌, ◌+◌, ◌*◌, ◌<◌, ◌≤◌, ◌^◌, ◌-◌, ℕ, length, vec_len, vec_capacity, IfOk, IfNone, IsSome, Some, All};
+ghost use Rattle.std.specs.Option.{ForSome};
+ghost use Rattle.outside.specs.Runs.{CallsDisk};
+ghost use Rattle.line_geometry.specs.Directory.{Layout, byte_count};
+ghost use Rattle.line_geometry.specs.Lines.{line_count};
+ghost use Rattle.lock_rules.specs.Sets.{size};
+ghost use Rattle.lock_rules.specs.Lines.{Lines, both};
+ghost use Rattle.flat_machine.specs.Touched.{AreSome, touch_lines};
+ghost use Rattle.store_format.specs.Header.{total};
+ghost use Rattle.arrayvec.specs.ArrayVec.{array_vec_len};
+
+use super::append::{Appended, append};
+use super::line_marks::LineMarks;
+use super::page_entries::PageEntries;
+use super::resident_pages::{ResidentPages, Touched};
+use arrayvec::ArrayVec;
+use byteorder::{BigEndian, ByteOrder};
+use desk::{Begun, Committed, Supervisor, Turn, TurnEnd};
+use flat_machine::{Plain, Program, Touch, Went, Window};
+use line_geometry::Directory;
+use outside::Outside;
+use owned_list::OwnedList;
+use std::alloc::{AllocError, Global};
+use store_format::{Header, Which};
+
+/// The one activation that is active.
+#[derive(Debug, Clone, Copy, PartialEq, Eq)]
+struct Active {
+    number: u32,
+    program: u16,
+    args: [u32; 4],
+    rows: u64,
+}
+
+/// What a turn has counted.
+#[derive(Debug, Clone, Copy, PartialEq, Eq)]
+struct Tally {
+    ran: u32,
+    pages: u32,
+    locks: u32,
+}
+
+/// How one instruction of a turn went.
+enum Attempt {
+    /// It took effect.
+    On,
+    /// It is the commit call.
+    Commit,
+    /// It ended the turn.
+    Over(TurnEnd),
+}
+
+/// Where the instructions of a turn stopped.
+enum Stop {
+    /// The turn is over.
+    Over(TurnEnd),
+    /// The activation is at its commit call.
+    Commit(Active),
+}
+
+/// A desk with at most one activation. It takes all its memory when it is made.
+#[derive(Drop)]
+pub struct PrivateDesk {
+    header: Header,
+    programs: Vec<Program>,
+    committed: OwnedList<u8>,
+    number: u64,
+    used: u32,
+    order: Vec<Committed>,
+    active: Option<Active>,
+    live: Plain,
+    marks: LineMarks,
+    entries: PageEntries,
+    resident: ResidentPages,
+    body: Vec<u8>,
+    next: u32,
+    opened: u64,
+    begins: u32,
+    turns: u64,
+    closed: bool,
+}
+
+impl PrivateDesk {
+    ghost use Rattle.private_desk.specs.PrivateDesk.{desk_of, header_told, programs_told, begins_told, turns_told, IsSound};
+    ghost use Rattle.desk.specs.Desk.{opened};
+    ghost use Rattle.private_desk.specs.Marks.{Show};
+    ghost use Rattle.private_desk.specs.Attempts.{KeepsParts, HasAttempted, HasStopped, HaveRowsWithin, TalliesMore};
+
+    /// A desk over a store with these bytes and no record in its bank, for so many begins of these programs.
+    ///
+    /// # Errors
+    ///
+    /// Only where there is no memory.
+    pub fn open(
+        alloc: Global,
+        header: Header,
+        store: &[u8],
+        programs: Vec<Program>,
+        frames: u16,
+        begins: u32,
+    ) -> Result<Self, AllocError>
+        requires store { length store.now ≡ byte_count header.directory }
+        requires programs { 0 < vec_len programs }
+        requires frames { 0 < frames }
+        requires begins { begins < 2 ^ 32 - 1 }
+        ensures sound { IfOk result IsSound }
+        ensures desk { IfOk result (λ desk. desk_of desk ≡ opened frames 1 header.bank_bytes 0 (record { directory = header.directory; bytes = store.now })) }
+        ensures header { IfOk result (λ desk. header_told desk ≡ header) }
+        ensures programs { IfOk result (λ desk. programs_told desk ≡ programs.items) }
+        ensures begins { IfOk result (λ desk. begins_told desk ≡ begins) }
+        ensures turns { IfOk result (λ desk. turns_told desk ≡ 0) }
+    {
+        let directory = header.directory();
+        let committed = OwnedList::from_vec(Vec::from_slice(alloc, store)?);
+        let live = Plain::start(alloc, &programs[0], [0; 4], directory, store)?;
+        let marks = LineMarks::new(alloc, directory.line_count())?;
+        let entries = PageEntries::new(alloc, directory.pages())?;
+        let body = Vec::with_capacity(alloc, header.bank_bytes() as usize)?;
+        let order = Vec::with_capacity(alloc, begins as usize)?;
+        let resident = ResidentPages::new(alloc, frames)?;
+        Ok(PrivateDesk {
+            header,
+            programs,
+            committed,
+            number: 0,
+            used: 0,
+            order,
+            active: None,
+            live,
+            marks,
+            entries,
+            resident,
+            body,
+            next: 1,
+            opened: 0,
+            begins,
+            turns: 0,
+            closed: false,
+        })
+    }
+
+    /// The commits whose gate write began.
+    pub fn into_order(self) -> Vec<Committed> {
+        self.order
+    }
+
+    /// A turn of an activation, in which nothing is counted yet.
+    fn run<W: Outside>(
+        &mut self,
+        outside: &mut W,
+        activation: u32,
+        limit: u32,
+        tally: &mut Tally,
+    ) -> TurnEnd
+        requires sound { IsSound self.old }
+        requires limit { limit ≤ 1000000 }
+        requires rows { HaveRowsWithin self.old.active ((self.old.turns - 1) * 1000000) }
+        requires turns { 0 < self.old.turns }
+        requires bytes { ForSome (W.held outside.old) (λ bytes. total self.old.header ≤ length bytes) }
+        requires tally { tally.old.ran + tally.old.pages + tally.old.locks ≡ 0 }
+        ensures sound { IsSound self.new }
+        ensures parts { KeepsParts self.old self.new }
+        ensures calls { CallsDisk W.Outside outside.old outside.new }
+        ensures bytes { ForSome (W.held outside.new) (λ bytes. total self.new.header ≤ length bytes) }
+    {
+        if self.closed {
+            return TurnEnd::Shut;
+        }
+        match self.run_to_commit(activation, limit, tally) {
+            Stop::Over(end) => end,
+            Stop::Commit(active) => self.commit(outside, active, tally),
+        }
+    }
+
+    /// The instructions of a turn, to its end or to the commit call.
+    fn run_to_commit(&mut self, activation: u32, limit: u32, tally: &mut Tally) -> Stop
+        requires sound { IsSound self.old }
+        requires limit { limit ≤ 1000000 }
+        requires rows { HaveRowsWithin self.old.active ((self.old.turns - 1) * 1000000) }
+        requires turns { 0 < self.old.turns }
+        requires tally { tally.old.ran + tally.old.pages + tally.old.locks ≡ 0 }
+        ensures sound { IsSound self.new }
+        ensures parts { KeepsParts self.old self.new }
+        ensures stopped { HasStopped result self.new tally.new }
+    {
+        for _ in 0..limit {
+            let active = match self.active {
+                Some(active) if active.number == activation => active,
+                _ => return Stop::Over(TurnEnd::Idle),
+            };
+            match self.attempt(active, tally) {
+                Attempt::On => {}
+                Attempt::Commit => return Stop::Commit(active),
+                Attempt::Over(end) => return Stop::Over(end),
+            }
+        }
+        Stop::Over(TurnEnd::Limit)
+    }
+
+    /// The most lines that a record may have now, if one fits the bank.
+    fn room(&self) -> Option<u32>
+        requires { self.now.used ≤ self.now.header.bank_bytes }
+        ensures room { ForSome result (λ most. (self.now.used + (132 * most + 12) ≤ self.now.header.bank_bytes) × (most ≤ 992)) }
+    {
+        let rest = self.header.bank_bytes() - self.used;
+        if rest < 12 {
+            None
+        } else {
+            Some((rest - 12) / 132)
+        }
+    }
+
+    /// The activation ends, and the pages that it wrote into go out.
+    fn roll_back(&mut self, number: u32)
+        requires sound { IsSound self.old }
+        ensures sound { IsSound self.new }
+        ensures parts { KeepsParts self.old self.new }
+    {
+        self.active = None;
+        self.entries.release(number);
+        self.resident.take_out(&self.marks.writes);
+    }
+
+    /// One instruction of the active activation, but for the commit's record.
+    fn attempt(&mut self, active: Active, tally: &mut Tally) -> Attempt
+        requires sound { IsSound self.old }
+        requires active { self.old.active ≡ Some active }
+        requires rows { active.rows < self.old.turns * 1000000 }
+        requires tally { (tally.old.ran < 1000000) × (tally.old.pages < 2000000) × (tally.old.locks < 2000000) }
+        ensures sound { IsSound self.new }
+        ensures parts { KeepsParts self.old self.new }
+        ensures tally { TalliesMore tally.old tally.new }
+        ensures attempted { HasAttempted result active self.new }
+    {
+        let program = &self.programs[usize::from(active.program)];
+        let directory = self.header.directory();
+        let iar = self.live.iar;
+        let touch = self.live.touches(program, directory);
+        let went = self.live.step(program, directory);
+        if let Went::Check(code) = went {
+            self.roll_back(active.number);
+            return Attempt::Over(TurnEnd::Checked(code, iar));
+        }
+        let lines = self.marks.written_with(touch);
+        if let Some(most) = self.limit_passed(lines) {
+            self.roll_back(active.number);
+            return Attempt::Over(TurnEnd::Journal(lines, most));
+        }
+        if went == Went::Commit {
+            return Attempt::Commit;
+        }
+        self.reach(active.number, touch, lines, tally);
+        self.active = Some(Active {
+            rows: active.rows + 1,
+            ..active
+        });
+        tally.ran += 1;
+        Attempt::On
+    }
+
+    /// The limit that so many written lines pass, if they do.
+    fn limit_passed(&self, lines: u32) -> Option<u32>
+        requires { self.now.used ≤ self.now.header.bank_bytes }
+        ensures none { IfNone result ((self.now.used + (132 * lines + 12) ≤ self.now.header.bank_bytes) × (lines ≤ 992)) }
+    {
+        match self.room() {
+            None => Some(0),
+            Some(most) if lines > most => Some(most),
+            Some(_) => None,
+        }
+    }
+
+    /// The touched pages come in and are granted where their entry refuses; both are counted.
+    fn reach(&mut self, number: u32, touch: Touch, lines: u32, tally: &mut Tally)
+        requires sound { IsSound self.old }
+        requires lines { lines ≤ 992 }
+        requires touch { AreSome touch (line_count self.old.header.directory) }
+        requires counted { (set : Lines) → Show self.old.marks set → lines ≡ size (both set (touch_lines touch)).writes }
+        requires tally { (tally.old.pages < 2000000) × (tally.old.locks < 2000000) }
+        ensures sound { IsSound self.new }
+        ensures parts { KeepsParts self.old self.new }
+        ensures active { self.new.active ≡ self.old.active }
+        ensures ran { tally.new.ran ≡ tally.old.ran }
+        ensures pages { tally.new.pages ≤ tally.old.pages + 2 }
+        ensures locks { tally.new.locks ≤ tally.old.locks + 2 }
+    {
+        let pages = pages_of(touch);
+        tally.pages += self.resident.fetch(pages.as_slice());
+        self.marks.add(touch, lines);
+        tally.locks += self
+            .entries
+            .request(pages.as_slice(), number, touch, &self.marks);
+    }
+
+    /// The commit call of the active activation: its record, and the end of the turn.
+    fn commit<W: Outside>(&mut self, outside: &mut W, active: Active, tally: &mut Tally) -> TurnEnd
+        requires sound { IsSound self.old }
+        requires active { self.old.active ≡ Some active }
+        requires room { self.old.used + (132 * self.old.marks.written + 12) ≤ self.old.header.bank_bytes }
+        requires rows { active.rows < 2 ^ 63 }
+        requires tally { tally.old.ran ≤ 1000000 }
+        requires bytes { ForSome (W.held outside.old) (λ bytes. total self.old.header ≤ length bytes) }
+        ensures sound { IsSound self.new }
+        ensures parts { KeepsParts self.old self.new }
+        ensures calls { CallsDisk W.Outside outside.old outside.new }
+        ensures bytes { ForSome (W.held outside.new) (λ bytes. total self.new.header ≤ length bytes) }
+    {
+        let number = self.number.wrapping_add(1);
+        fill_body(
+            &mut self.body,
+            number,
+            &self.marks,
+            self.live.store.as_slice(),
+        );
+        let gate = self.header.bank_at(Which::A) + 8 + u64::from(self.used);
+        let appended = append(outside, &self.header, gate, &self.body);
+        let doubt = match appended {
+            Appended::Done => {
+                self.settle(number, active);
+                tally.ran += 1;
+                return TurnEnd::Committed(number, active.rows + 1);
+            }
+            Appended::Doubt => {
+                self.enter_order(active);
+                Some(active.number)
+            }
+            Appended::Unwritten => None,
+        };
+        self.closed = true;
+        TurnEnd::Closed { doubt, number }
+    }
+
+    /// The commit of the active activation enters the order.
+    fn enter_order(&mut self, active: Active)
+        requires rows { active.rows < 2 ^ 63 }
+        ensures sound { IsSound self.old → IsSound self.new }
+        ensures parts { KeepsParts self.old self.new }
+        ensures used { self.new.used ≡ self.old.used }
+        ensures written { self.new.marks.written ≡ self.old.marks.written }
+        ensures active { self.new.active ≡ self.old.active }
+    {
+        let _ = self.order.push(Committed {
+            activation: active.number,
+            steps: active.rows + 1,
+        });
+    }
+
+    /// The active activation ends with its commit.
+    fn settle(&mut self, number: u64, active: Active)
+        requires sound { IsSound self.old }
+        requires rows { active.rows < 2 ^ 63 }
+        requires room { self.old.used + (132 * self.old.marks.written + 12) ≤ self.old.header.bank_bytes }
+        ensures sound { IsSound self.new }
+        ensures parts { KeepsParts self.old self.new }
+    {
+        self.enter_order(active);
+        self.used += 11 + 132 * self.marks.written;
+        self.committed.write(0, self.live.store.as_slice());
+        self.number = number;
+        self.active = None;
+        self.entries.release(active.number);
+    }
+}
+
+/// The body of the record with this number: count, number, the written lines, and a closed gate.
+fn fill_body(body: &mut Vec<u8>, number: u64, marks: &LineMarks, store: &[u8])
+    requires few { marks.now.written < 2 ^ 16 }
+    requires store { vec_len marks.now.writes * 128 ≤ length store.now }
+    ensures room { vec_capacity body.old ≤ vec_capacity body.new }
+{
+    body.clear();
+    let mut head = [0; 10];
+    BigEndian::write_u16(&mut head[..2], marks.written as u16);
+    BigEndian::write_u64(&mut head[2..], number);
+    let _ = body.extend_from_slice(&head);
+    for line in 0..marks.writes.len() {
+        if marks.writes[line] {
+            add_line(body, line, &store[line * 128..line * 128 + 128]);
+        }
+    }
+    let _ = body.push(0);
+}
+
+/// Adds a line to a body: its number, and its bytes.
+fn add_line(body: &mut Vec<u8>, line: usize, bytes: &[u8])
+    requires { line < 2 ^ 14 }
+    ensures room { vec_capacity body.old ≤ vec_capacity body.new }
+{
+    let mut number = [0; 4];
+    BigEndian::write_u32(&mut number, line as u32);
+    let _ = body.extend_from_slice(&number);
+    let _ = body.extend_from_slice(bytes);
+}
+
+/// The segment of the first window whose segment the directory lacks.
+fn absent_segment(directory: &Directory, windows: &[Option<Window>]) -> Option<u16> {
+    windows
+        .iter()
+        .flatten()
+        .map(|window| window.segment)
+        .find(|segment| directory.length_of(*segment).is_none())
+}
+
+/// The pages of the lines that are touched, ascending.
+fn pages_of(touch: Touch) -> Touched
+    ensures few { array_vec_len result ≤ 2 }
+    ensures below { (lines : ℕ) → AreSome touch lines → All (λ page. page * 16 < lines) result.items }
+{
+    let mut pages = Touched::new();
+    match touch {
+        Touch::Nothing => {}
+        Touch::Reads { first, last } | Touch::Writes { first, last } => {
+            pages.push(first / 16);
+            if last / 16 > first / 16 {
+                pages.push(last / 16);
+            }
+        }
+    }
+    pages
+}
+
+impl Supervisor for PrivateDesk {
+    ghost use Rattle.private_desk.specs.PrivateDesk.{desk_of, IsSound};
+    ghost use Rattle.store_format.specs.Header.{total};
+
+    ghost desk = { desk_of };
+
+    ghost sound = { IsSound };
+
+    ghost programs = { λ d. d.programs.items };
+
+    ghost opened = { λ d. d.opened };
+
+    ghost begins = { λ d. d.begins };
+
+    ghost turns = { λ d. d.turns };
+
+    ghost store_bytes = { λ d. total d.header };
+
+    ghost printed = { λ d. d.live.out };
+
+    fn begin(&mut self, program: u16, args: [u32; 4]) -> Begun {
+        if self.closed {
+            return Begun::Shut;
+        }
+        let number = self.next;
+        self.next += 1;
+        if self.active.is_some() {
+            return Begun::Busy(number);
+        }
+        let code = &self.programs[usize::from(program)];
+        let directory = self.header.directory();
+        if let Some(segment) = absent_segment(directory, &code.windows) {
+            return Begun::NoSegment(number, segment);
+        }
+        self.live.restart(code, args, self.committed.as_slice());
+        self.marks.clear();
+        self.active = Some(Active {
+            number,
+            program,
+            args,
+            rows: 0,
+        });
+        Begun::Started(number)
+    }
+
+    fn turn<W: Outside>(&mut self, outside: &mut W, activation: u32, limit: u32) -> Turn {
+        self.turns += 1;
+        let mut tally = Tally {
+            ran: 0,
+            pages: 0,
+            locks: 0,
+        };
+        let end = self.run(outside, activation, limit, &mut tally);
+        Turn {
+            ran: tally.ran,
+            pages: tally.pages,
+            locks: tally.locks,
+            cycles: ArrayVec::new(),
+            end,
+        }
+    }
+
+    fn number(&self) -> u64 {
+        self.number
+    }
+
+    fn active(&self) -> ArrayVec<u32, 16> {
+        let mut numbers = ArrayVec::new();
+        if let Some(active) = self.active {
+            numbers.push(active.number);
+        }
+        numbers
+    }
+
+    fn printed(&self) -> &[u8] {
+        self.live.out.as_slice()
+    }
+}

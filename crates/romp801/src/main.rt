@@ -1,0 +1,41 @@
+//! The program: it makes the real parts, calls the console once, and ends with the status's number.
+#![tactic(auto)]
+
+use console::{Ended, Status, console, status_text, try_store};
+use outside::{Joint, MemoryDisk, StdScreen, StdSource};
+use std::alloc::AllocError;
+use std::env;
+use std::io;
+use std::process::ExitCode;
+
+fn main(rt: HostRuntime) -> ExitCode {
+    let status = match run(&rt) {
+        Ok(ended) => ended.status,
+        Err(AllocError) => Status::NoMemory,
+    };
+    if status != Status::Done {
+        let _ = eprintln!(rt; "{}", status_text(&status).as_str());
+    }
+    ExitCode::from(status.number())
+}
+
+/// The console on the real source and screen, and a disk in memory that holds the store of `try`.
+fn run(rt: &HostRuntime) -> Result<Ended, AllocError> {
+    let alloc = rt.alloc();
+    let words = words_of(rt);
+    let disk = MemoryDisk::new(alloc, try_store(alloc)?, Vec::new(alloc));
+    let mut outside = Joint::new(disk, StdScreen::new(rt.clone()?));
+    let mut job = StdSource::new(rt.stdin());
+    Ok(console(alloc, words.as_slice(), &mut job, &mut outside))
+}
+
+/// The words of the command line, without the program's name.
+fn words_of(rt: &HostRuntime) -> Vec<String> {
+    let mut words = Vec::new(rt.alloc());
+    if let Ok(args) = env::args(rt) {
+        for word in args.skip(1) {
+            let _ = words.push(word);
+        }
+    }
+    words
+}

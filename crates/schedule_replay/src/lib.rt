@@ -1,0 +1,7 @@
+//! The events of a schedule, one after another, and their report (docs/MODEL.md, "The report").
+#![tactic(auto)]
+
+mod events;
+mod lines;
+
+pub use events::{Replayed, replay};
