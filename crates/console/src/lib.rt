@@ -9,3 +9,6 @@ mod status;
 pub use commands::console;
 pub use opening::try_store;
 pub use status::{Ended, Status, status_text};
+
+#[cfg(test)]
+mod tests;
