@@ -25,7 +25,7 @@ use Rattle.schedule_replay.specs.Lines.{event_lines, is_closing}
 use Rattle.schedule_replay.specs.Puts.{OnlyPuts, number_told}
 use Rattle.schedule_replay.specs.Ran.{Ran}
 use Rattle.schedule_replay.proofs.PutsLemmas.{prints_none, prints_same, prints_on}
-use Rattle.schedule_replay.proofs.StepLemmas.{begin_step, turn_step, answer_closes, lines_numbered}
+use Rattle.schedule_replay.proofs.StepLemmas.{turn_step, answer_closes, lines_numbered}
 use Rattle.schedule_replay.proofs.RunLemmas.{run_on, open_on, lines_on, faulted_on}
 
 -- the lines of one event are those of what happened at it
@@ -51,13 +51,12 @@ module _ {D W : Type 0} (S : desk.Ghosts D) (G : Ghosts W) where
   )
 
   module _ (names : List (List ℕ)) where
-    pub ran_begin : {T : Type 0} (program : ℕ) (args : List ℕ) (begun : Begun) (old new : D) (before after : W) (result : Result T Failed) → (S.desk old).closed ≡ false → program < length (S.programs old)
+    pub ran_begin : {T : Type 0} (program : ℕ) (args : List ℕ) (begun : Begun) (old new : D) (before after : W) (result : Result T Failed) → (S.desk old).closed ≡ false
         → step (S.programs old) (event.Begin program args) Fine (S.desk old) ≡ record { desk = S.desk new; happening = begun_told program begun }
         → OnlyPuts G before after result → ((number : ℕ) → Prints (G.printed before) (G.printed after) (flat_map line_text (happening_lines names number (begun_told program begun))) result)
         → ((held : List ℕ) → S.keeps old held → S.keeps new held) → S.answers new → Ran S G names (event.Begin program args ∷ []) old new before after result
-    ran_begin program args begun old new before after result was_open lt is only printed kept answers =
+    ran_begin program args begun old new before after result was_open is only printed kept answers =
         let after_it : Step = record { desk = S.desk new; happening = begun_told program begun } in
-        let facts = begin_step (S.programs old) program args (S.desk old) after_it was_open lt is in
         record {
           taken = (event.Begin program args, Fine) ∷ [];
           events_taken = refl;
@@ -82,7 +81,6 @@ module _ {D W : Type 0} (S : desk.Ghosts D) (G : Ghosts W) where
         let word = stepping.0 in
         let is = stepping.1 in
         let number = number_after (S.opened old) (S.desk new) in
-        let facts = turn_step (S.programs old) activation limit word (S.desk old) after_it was_open is in
         let rose = word_faults (event.Turn activation limit) word (G.disk_faults before) (G.disk_faults between) calls.disk stepping.2 in
         let from_before : Prints (G.printed before) (G.printed after) (flat_map line_text (happening_lines names (number_told answer.end) (turn_told activation answer said))) result = subst (λ (these : Option (List ℕ)). Prints these (G.printed after) (flat_map line_text (happening_lines names (number_told answer.end) (turn_told activation answer said))) result) calls.quiet.same printed in
         record {
@@ -108,18 +106,6 @@ module _ {D W : Type 0} (S : desk.Ghosts D) (G : Ghosts W) where
         let after_it : Step = record { desk = S.desk new; happening = turn_told activation answer (S.printed new) } in
         let facts = turn_step (S.programs old) activation limit word (S.desk old) after_it was_open is in
         facts.closed ∙ sym (answer_closes activation answer answer.end (S.printed new) facts.counts facts.ending facts.is)
-
-    pub ran_none : {T : Type 0} (old : D) (before : W) (value : T) → S.answers old → Ran S G names [] old old before before (Ok value)
-    ran_none old before value answers = record {
-      taken = [];
-      events_taken = refl;
-      each_open = tt;
-      leaves = refl;
-      faults = omega arith;
-      printed = prints_none (G.printed before) value;
-      kept = λ told keeps still. (told, keeps);
-      answers = answers;
-    }
 
     pub ran_as : {T U : Type 0} (events : List Event) (old new : D) (before after : W) (result : Result T Failed) (other : Result U Failed) → ((one two : Option (List ℕ)) (bytes : List ℕ) → Prints one two bytes result → Prints one two bytes other) → Ran S G names events old new before after result → Ran S G names events old new before after other
     ran_as events old new before after result other turns ran = record {

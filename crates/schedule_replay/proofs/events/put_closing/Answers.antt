@@ -36,4 +36,4 @@ returns-clause-printed g c =
     (prints_on old mid new left ends c.in_ok-put_left.field-0 c.put_line.result
     (prints_same old mid (flat_map line_text (map Left c.as_slice.result.now)) left (Ok c.in_ok-put_left.field-0) (ap (λ (these : List ℕ). flat_map line_text (map Left these)) (c.as_slice.ensures.value ∙ c.active.ensures answers)) c.in_ok-put_left.ensures.printed)
     (prints_one mid new (End (number_after number desk)) c.put_line.result
-    (prints_same mid new (line_text (End c.number.result)) (line_text (End (number_after number desk))) c.put_line.result (ap (λ n. line_text (End n)) (c.number.ensures answers)) c.put_line.ensures.printed)))
+    (prints_same mid new (line_text (End c.number.result)) (line_text (End (number_after number desk))) c.put_line.result (ap (λ n. line_text (End n)) {y = number_after number desk} (c.number.ensures answers)) c.put_line.ensures.printed)))
