@@ -14,7 +14,7 @@ use Rattle.desk.specs.Lines.{Line, Open, Left, End, line_text}
 use Rattle.desk.specs.Report.{number_after, lines_from, report}
 use Rattle.schedule_replay.specs.declared.events.Going.{Going}
 use Rattle.schedule_replay.specs.Lines.{event_lines, closing_lines}
-use Rattle.schedule_replay.specs.Ran.{Ran}
+use Rattle.schedule_replay.specs.Ran.{Ran, HasOpened}
 use Rattle.schedule_replay.specs.Replays.{Reports, is_closed}
 use Rattle.schedule_replay.proofs.PutsLemmas.{done, prints_same, prints_on, prints_stop}
 use Rattle.schedule_replay.proofs.RunLemmas.{report_parts}
@@ -31,6 +31,13 @@ no_closing number desk shut =
     let lines : List Line = map Left (numbers desk) ++ End (number_after number desk) ∷ [] in
     let none : List Line = [] in
     ap (λ (closed : Bool). flat_map line_text (if closed then none else lines)) shut
+
+module _ {D W : Type 0} (S : desk.Ghosts D) (G : Ghosts W) where
+  -- the first line tells the number with which the desk was opened
+  pub opens : {T : Type 0} (old : D) (before after : W) (number : ℕ) (result : Result T Failed) → number ≡ number_after (S.opened old) (S.desk old) → HasOpened S old → Prints (G.printed before) (G.printed after) (line_text (Open number)) result → Prints (G.printed before) (G.printed after) (line_text (Open (S.opened old))) result
+  opens old before after number result is opened printed =
+      let same : number ≡ S.opened old = is ∙ opened.number in
+      subst (λ n. Prints (G.printed before) (G.printed after) (line_text (Open n)) result) same printed
 
 module _ {D W : Type 0} (S : desk.Ghosts D) (G : Ghosts W) (names : List (List ℕ)) where
   pub ran_more : {U : Type 0} (events : List Event) (i : ℕ) (event : Event) → i < length events → (old mid new : D) (before between after : W) (result : Result U Failed) → S.programs mid ≡ S.programs old → S.opened mid ≡ S.opened old → (S.desk mid).closed ≡ false → Ran S G names (take i events) old mid before between done → Ran S G names (get_or events i event ∷ []) mid new between after result → Ran S G names (take (i + 1) events) old new before after result
