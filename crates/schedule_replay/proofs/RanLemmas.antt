@@ -1,5 +1,5 @@
 -- The runs of a supervisor, one event after another.
-use Rattle.std.proofs.Common.{◌≡◌, ℕ, ◌<◌, ◌≤◌, List, [], ◌∷◌, ◌++◌, length, map, refl, sym, ap, ◌∙◌, subst, arith, ⊎_elim, append-nil, IsTrue, IsSome, ◌⊎◌}
+use Rattle.std.proofs.Common.{◌≡◌, ℕ, ◌≤◌, List, [], ◌∷◌, ◌++◌, map, refl, sym, ap, ◌∙◌, subst, arith, ⊎_elim, append-nil, IsTrue, IsSome, ◌⊎◌}
 use Rattle.std.specs.Prelude.{false, not, Option, unwrap_or, Result, Ok}
 use Rattle.std.specs.List.{flat_map}
 use Rattle.std.proofs.lemmas.List.{map-append}
@@ -24,7 +24,7 @@ use Rattle.desk.specs.Report.{number_after, happening_lines}
 use Rattle.schedule_replay.specs.Lines.{event_lines, is_closing}
 use Rattle.schedule_replay.specs.Puts.{OnlyPuts, number_told}
 use Rattle.schedule_replay.specs.Ran.{Ran}
-use Rattle.schedule_replay.proofs.PutsLemmas.{prints_none, prints_same, prints_on}
+use Rattle.schedule_replay.proofs.PutsLemmas.{prints_same, prints_on}
 use Rattle.schedule_replay.proofs.StepLemmas.{turn_step, answer_closes, lines_numbered}
 use Rattle.schedule_replay.proofs.RunLemmas.{run_on, open_on, lines_on, faulted_on}
 

@@ -1,17 +1,15 @@
 -- What the step of a turn tells of its answer.
-use Rattle.std.proofs.Common.{◌≡◌, ℕ, ◌+◌, ◌<◌, List, length, refl, sym, ap, ◌∙◌, subst, arith, ⊎_elim}
-use Rattle.std.specs.Prelude.{Bool, true, false, if◌then◌else◌, Option, Some, None, nat_lt, slice_get}
-use Rattle.std.proofs.lemmas.Option.{slice_get_cases}
+use Rattle.std.proofs.Common.{◌≡◌, ℕ, List, refl, sym, ap, ◌∙◌, subst}
+use Rattle.std.specs.Prelude.{Bool, false, if◌then◌else◌, Some, None}
 use Rattle.flat_machine.specs.declared.machine.Program.{Program}
-use Rattle.flat_machine.specs.Serial.{Activation}
 use Rattle.desk.specs.declared.event.Event.{Event}
 use Rattle.desk.specs.declared.event.Event.TheVariants as event
 use Rattle.desk.specs.declared.answers.Turn.{Turn}
 use Rattle.desk.specs.declared.answers.TurnEnd.{TurnEnd}
 use Rattle.desk.specs.declared.answers.TurnEnd.TheVariants as end
 use Rattle.desk.specs.Desk.{Desk}
-use Rattle.desk.specs.Instruction.{Word, Fine, Counts, Ending, Idle, Turning, Going, Over, turn}
-use Rattle.desk.specs.Run.{Happening, Nothing, Turned, NoSegment, Begun, Busy, Step, absent_segment, begins, begin_if, event_of, step, turned}
+use Rattle.desk.specs.Instruction.{Word, Counts, Ending, Idle, Turning, Going, Over, turn}
+use Rattle.desk.specs.Run.{Happening, Nothing, Turned, Step, event_of, step, turned}
 use Rattle.desk.specs.Answers.{turn_told, HasNumbers}
 use Rattle.desk.specs.Report.{happening_lines}
 use Rattle.schedule_replay.specs.Puts.{number_told}

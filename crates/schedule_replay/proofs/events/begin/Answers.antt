@@ -1,5 +1,4 @@
-use Rattle.std.proofs.Common.{map, [], arith}
-use Rattle.desk.specs.declared.event.Event.TheVariants.{Begin}
+use Rattle.std.proofs.Common.{map}
 use Rattle.schedule_replay.proofs.RanLemmas.{ran_begin}
 use Rattle.schedule_replay.proofs.events.begin.Goals as goal
 

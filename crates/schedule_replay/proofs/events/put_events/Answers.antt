@@ -79,7 +79,7 @@ loop-event-preserved g c =
           let so_far = now.ran answers was_open in
           let still = now.still answers was_open in
           ran_as g.S.Supervisor g.W.Outside names _ c.args.desk.now c.answer.new.desk c.args.outside.now c.answer.new.outside (Ok c.in_ok-answer.field-0) (Ok 0) (λ one two bytes prints. prints_well one two bytes c.in_ok-answer.field-0 0 prints)
-              (ran_more g.S.Supervisor g.W.Outside names c.args.events.now c.loop-event.event-index (Begin 0 []) c.loop-event-test.true c.args.desk.now c.loop-event.desk c.answer.new.desk c.args.outside.now c.loop-event.outside c.answer.new.outside (Ok c.in_ok-answer.field-0) now.answered.programs now.answered.opened still so_far (c.in_ok-answer.ensures.ran so_far.answers still));
+          (ran_more g.S.Supervisor g.W.Outside names c.args.events.now c.loop-event.event-index (Begin 0 []) c.loop-event-test.true c.args.desk.now c.loop-event.desk c.answer.new.desk c.args.outside.now c.loop-event.outside c.answer.new.outside (Ok c.in_ok-answer.field-0) now.answered.programs now.answered.opened still so_far (c.in_ok-answer.ensures.ran so_far.answers still));
       still = λ answers was_open. c.in_ok-answer.ensures.going (now.ran answers was_open).answers (now.still answers was_open) ∙ ap is_closed c.in-On.is;
     }
 

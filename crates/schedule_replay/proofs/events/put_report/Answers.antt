@@ -2,7 +2,7 @@ use Rattle.std.proofs.Common.{◌≡◌, ℕ, [], List, ◌++◌, map, refl, ap,
 use Rattle.std.specs.Prelude.{Ok, false}
 use Rattle.std.specs.List.{flat_map}
 use Rattle.outside.specs.Bytes.{Prints}
-use Rattle.desk.specs.Lines.{line_text, Open}
+use Rattle.desk.specs.Lines.{line_text}
 use Rattle.schedule_replay.specs.declared.events.Going.TheVariants as going
 use Rattle.schedule_replay.specs.Lines.{event_lines, closing_lines}
 use Rattle.schedule_replay.specs.Replays.{is_closed}
