@@ -428,6 +428,8 @@ impl Supervisor for PrivateDesk {
 
     ghost sound = { IsSound };
 
+    ghost answers = { λ _. ⊥ };
+
     ghost programs = { λ d. d.programs.items };
 
     ghost opened = { λ d. d.opened };
@@ -439,6 +441,10 @@ impl Supervisor for PrivateDesk {
     ghost store_bytes = { λ d. total d.header };
 
     ghost printed = { λ d. d.live.out };
+
+    ghost keeps = { λ _ _. ⊥ };
+
+    ghost keeps_what_stands = { λ _ _ kept. absurd kept };
 
     fn begin(&mut self, program: u16, args: [u32; 4]) -> Begun {
         if self.closed {

@@ -60,6 +60,10 @@ prints_stop (Some old) new first second (Err why) (Err failed) one two prints = 
   prints.1 ∙ ap (λ (some : List ℕ). Some (old ++ some)) (sym (take_min prints.0 first) ∙ sym (take-append-le (min prints.0 (length first)) first second (omega arith))),
 )
 
+-- a failure of another type
+pub prints_broken : {T U : Type 0} (result : Result T Failed) (later : Result U Failed) → IsErr result → IsErr later → (old new : Option (List ℕ)) (bytes : List ℕ) → Prints old new bytes result → Prints old new bytes later
+prints_broken result later one two old new bytes prints = prints_same old new (bytes ++ []) bytes later (append-nil bytes) (prints_stop old new bytes [] result later one two prints)
+
 -- what is put for a list, one element after another
 module _ {X : Type 0} (F : List X → List ℕ) (split : (xs ys : List X) → F (xs ++ ys) ≡ F xs ++ F ys) (xs : List X) (i : ℕ) (x : X) (lt : i < length xs) where
   one_more : F (take (i + 1) xs) ≡ F (take i xs) ++ F (get_or xs i x ∷ [])

@@ -1,3 +1,6 @@
 pub mod Asked
 pub mod Puts
+pub mod Lines
 pub mod Answered
+pub mod Ran
+pub mod Replays

@@ -1,0 +1,51 @@
+-- What replaying a schedule did.
+use Rattle.std.specs.Prelude.{◌≡◌, ℕ, Bool, true, false, List, [], ◌++◌, Result, Ok, Err, IfOk}
+use Rattle.outside.specs.declared.world.Outside.{Ghosts}
+use Rattle.outside.specs.declared.failed.Failed.{Failed}
+use Rattle.outside.specs.Bytes.{Prints}
+use Rattle.outside.specs.Causes.{RoseBy}
+use Rattle.desk.specs.declared.event.Event.{Event}
+use Rattle.desk.specs.declared.supervisor.Supervisor as desk
+use Rattle.desk.specs.Instruction.{Word}
+use Rattle.desk.specs.Run.{run, faulted, IsRunOf}
+use Rattle.desk.specs.Report.{report}
+use Rattle.schedule_replay.specs.declared.events.Going.{Going}
+use Rattle.schedule_replay.specs.declared.events.Going.TheVariants as going
+use Rattle.schedule_replay.specs.declared.events.Replayed.{Replayed}
+use Rattle.schedule_replay.specs.declared.events.Replayed.TheVariants as replayed
+use Rattle.schedule_replay.specs.Ran.{Ran, Kept}
+
+-- whether the desk is closed
+abbrev pub is_closed : Going → Bool
+is_closed going.On = false
+is_closed going.Closed = true
+
+-- The first of the events were run, and their lines put. All events were run where the desk goes on.
+pub record RanSome {D W : Type 0} (S : desk.Ghosts D) (G : Ghosts W) (names : List (List ℕ)) (events : List Event) (old new : D) (before after : W) (result : Result Going Failed) : Type 0 where
+  pub front : List Event
+  pub rest : List Event
+  pub whole : front ++ rest ≡ events
+  pub ran : Ran S G names front old new before after result
+  pub closed : IfOk result (λ going. (S.desk new).closed ≡ is_closed going)
+  pub all : IfOk result (λ going. is_closed going ≡ false → rest ≡ [])
+
+-- There is one run of the first of the events, which leaves the desk that is shown. Its report is put, or a prefix of it
+-- where a put failed. The disk's faults rose by at least the number of events whose word isn't fine. All events were run where
+-- the desk goes on. Its answers are still the desk's.
+pub record Reports {D W : Type 0} (S : desk.Ghosts D) (G : Ghosts W) (names : List (List ℕ)) (events : List Event) (old new : D) (before after : W) (result : Result Going Failed) : Type 0 where
+  pub taken : List (Event × Word)
+  pub rest : List Event
+  pub is_run : IsRunOf (S.programs old) events (S.desk old) taken rest
+  pub leaves : run (S.programs old) taken (S.desk old) ≡ S.desk new
+  pub faults : RoseBy (faulted taken) (G.disk_faults before) (G.disk_faults after)
+  pub printed : Prints (G.printed before) (G.printed after) (report names (S.programs old) (S.opened old) taken (S.desk old)) result
+  pub closed : IfOk result (λ going. (S.desk new).closed ≡ is_closed going)
+  pub all : IfOk result (λ going. is_closed going ≡ false → rest ≡ [])
+  pub kept : Kept S G old new before after
+  pub answers : S.answers new
+
+-- The events were replayed: to the end, to the one that closed the desk, or to the one in whose report a put failed.
+abbrev pub Replays : {D W : Type 0} → desk.Ghosts D → Ghosts W → List (List ℕ) → List Event → D → D → W → W → Replayed → Type 0
+Replays S G names events old new before after replayed.Ended = Reports S G names events old new before after (Ok going.On)
+Replays S G names events old new before after replayed.Closed = Reports S G names events old new before after (Ok going.Closed)
+Replays S G names events old new before after replayed.PutFault = (failed : Failed) × Reports S G names events old new before after (Err failed)
