@@ -6,5 +6,6 @@ mod line_marks;
 mod page_entries;
 mod resident_pages;
 mod single;
+mod touched_pages;
 
 pub use single::PrivateDesk;

@@ -1,14 +1,16 @@
 // The entry of each page: who owns it, its write bit, and the lines that it permits.
-ghost use Rattle.std.specs.Prelude.{◌≡◌, ◌*◌, ◌+◌, ◌<◌, ◌≤◌, ◌^◌, ◌==◌, ◌%◌, ℕ, false, map, replicate, slice_set, slice_range, slice_index_or, length, vec_len, if◌then◌else◌, IfOk, All};
+ghost use Rattle.std.specs.Prelude.{◌≡◌, ◌*◌, ◌+◌, ◌<◌, ◌≤◌, ◌^◌, ◌==◌, ◌%◌, ℕ, false, map, replicate, slice_set, slice_range, slice_index_or, length, vec_len, filter, if◌then◌else◌, IfOk, All};
 ghost use Rattle.std.specs.List.{list_any};
 ghost use Rattle.lock_rules.specs.Access.{permits};
 ghost use Rattle.lock_rules.specs.Lines.{Lines, lines_of_page, within_page, with_whole_pages};
 ghost use Rattle.flat_machine.specs.Touched.{touch_lines};
 ghost use Rattle.desk.specs.Desk.{Authority, nobody};
-ghost use Rattle.desk.specs.Instruction.{refuses, lines_within, authority_by};
+ghost use Rattle.desk.specs.Instruction.{refuses, lines_within, authority_by, Attempt, granted};
+ghost use Rattle.arrayvec.specs.ArrayVec.{array_vec_len};
 ghost use Rattle.private_desk.specs.ShowSet.{ShowSet};
 
 use super::line_marks::LineMarks;
+use super::resident_pages::Touched;
 use flat_machine::Touch;
 use std::alloc::{AllocError, Global};
 
@@ -85,6 +87,7 @@ pub struct PageEntries {
 
 impl PageEntries {
     ghost use Rattle.private_desk.specs.Entries.{authority_told};
+    ghost use Rattle.private_desk.specs.Marks.{Show};
 
     /// Each of so many pages is nobody's.
     pub fn new(alloc: Global, pages: u16) -> Result<Self, AllocError>
@@ -127,6 +130,37 @@ impl PageEntries {
             write,
             lines,
         };
+    }
+
+    /// Those of these pages whose entries refuse an activation a touched line.
+    pub fn refused(&self, pages: &[u32], number: u32, touch: Touch) -> Touched
+        requires pages { All (λ page. page < vec_len self.now.entries) pages.now }
+        requires short { length pages.now ≤ 2 }
+        requires few { vec_len self.now.entries < 2 ^ 16 }
+        ensures value { result.items ≡ filter (λ page. refuses (slice_index_or (authority_told self.now.entries.items) page nobody) number (lines_within page (touch_lines touch))) pages.now }
+        ensures few { array_vec_len result ≤ length pages.now }
+        ensures below { All (λ page. page < vec_len self.now.entries) result.items }
+    {
+        let mut refused = Touched::new();
+        for page in pages {
+            if self.refuses(*page, number, touch) {
+                refused.push(*page);
+            }
+        }
+        refused
+    }
+
+    /// Grants each of these pages to an activation that has read and written the marked lines.
+    pub fn grant_all(&mut self, pages: &[u32], number: u32, marks: &LineMarks)
+        requires pages { All (λ page. page < vec_len self.old.entries) pages.now }
+        requires few { vec_len self.old.entries < 2 ^ 16 }
+        requires lines { vec_len marks.now.writes ≡ vec_len self.old.entries * 16 }
+        ensures pages { vec_len self.new.entries ≡ vec_len self.old.entries }
+        ensures granted { (attempt : Attempt) (lines : Lines) → attempt.entry.number ≡ number → Show marks.now lines → authority_told self.new.entries.items ≡ granted attempt (with_whole_pages lines) pages.now (authority_told self.old.entries.items) }
+    {
+        for page in pages {
+            self.grant(*page, number, &marks.reads, &marks.writes);
+        }
     }
 
     /// Grants each of these pages whose entry refuses an activation a touched line. The answer is how many were granted.
