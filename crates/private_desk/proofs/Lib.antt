@@ -4,3 +4,4 @@ pub mod PageLemmas
 pub mod SizeLemmas
 pub mod EntryLemmas
 pub mod CallLemmas
+pub mod RecordLemmas
