@@ -5,3 +5,4 @@ pub mod SizeLemmas
 pub mod EntryLemmas
 pub mod CallLemmas
 pub mod RecordLemmas
+pub mod BodyLemmas
