@@ -6,3 +6,4 @@ pub mod EntryLemmas
 pub mod CallLemmas
 pub mod RecordLemmas
 pub mod BodyLemmas
+pub mod LaidLemmas
