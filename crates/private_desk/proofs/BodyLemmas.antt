@@ -3,14 +3,13 @@ use Rattle.std.proofs.Common.{◌≡◌, ℕ, zero, suc, ◌+◌, ◌*◌, ◌-�
 use Rattle.std.specs.Prelude.{None, Result, Ok, Err, is_ok, OnErr, if◌then◌else◌, cond, filter, slice_range, slice_index_or, ◌&&◌, nat_le, nat_lt}
 use Rattle.std.specs.List.{range_with_len, flat_map}
 use Rattle.std.proofs.lemmas.Bool.Decides.{nat_tests}
-use Rattle.std.proofs.lemmas.List.{take_at, drop_at, drop-drop, length-drop, length-take-le, get_or-append_right, get_or_past}
+use Rattle.std.proofs.lemmas.List.{take_at, drop_at, length-drop, length-take-le, get_or-append_right, get_or_past}
 use Rattle.std.proofs.lemmas.List.Elements.{filter-append}
 use Rattle.std.proofs.lemmas.Grind.{flat_map-append}
 use Rattle.byteorder.specs.Endian.{big_bytes, big_number}
 use Rattle.byteorder.specs.Numbers.{big_number-reads_back}
 use Rattle.lock_rules.specs.Sets.{has, size}
 use Rattle.lock_rules.proofs.Sizes.{size-counted}
-use Rattle.store_format.specs.Header.{number_at}
 use Rattle.store_format.specs.Bank.{RecordLine, lines_from, wrong_line}
 use Rattle.store_format.specs.Body.{IsBody}
 use Rattle.private_desk.specs.ShowSet.{ShowSet}
