@@ -7,3 +7,4 @@ pub mod CallLemmas
 pub mod RecordLemmas
 pub mod BodyLemmas
 pub mod LaidLemmas
+pub mod StandsLemmas
