@@ -4,3 +4,7 @@ pub mod PageLemmas
 pub mod SizeLemmas
 pub mod EntryLemmas
 pub mod CallLemmas
+pub mod RecordLemmas
+pub mod BodyLemmas
+pub mod LaidLemmas
+pub mod StandsLemmas

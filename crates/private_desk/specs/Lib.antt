@@ -5,3 +5,4 @@ pub mod EntryRules
 pub mod Words
 pub mod PrivateDesk
 pub mod Attempts
+pub mod Record

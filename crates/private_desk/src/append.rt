@@ -1,8 +1,9 @@
 // One record added to a bank: its body behind the closed gate, a sync, the open gate, and a sync.
-ghost use Rattle.std.specs.Prelude.{◌≡◌, ◌+◌, ◌<◌, ◌≤◌, ◌^◌, length};
+ghost use Rattle.std.specs.Prelude.{◌≡◌, ◌+◌, ◌<◌, ◌≤◌, ◌^◌, [], ◌∷◌, length, IsSome, OnOk};
 ghost use Rattle.std.specs.Option.{ForSome};
+ghost use Rattle.outside.specs.Bytes.{written};
 ghost use Rattle.outside.specs.Causes.{Rose, HasCause};
-ghost use Rattle.outside.specs.Runs.{CallsDisk};
+ghost use Rattle.outside.specs.Runs.{CallsDisk, held_of};
 ghost use Rattle.store_format.specs.Header.{total};
 
 use outside::{Failed, Outside};
@@ -29,6 +30,8 @@ pub fn append<W: Outside>(outside: &mut W, header: &Header, gate: u64, body: &[u
     requires bytes { ForSome (W.held outside.old) (λ bytes. total header.now ≤ length bytes) }
     ensures calls { CallsDisk W.Outside outside.old outside.new }
     ensures bytes { ForSome (W.held outside.new) (λ bytes. total header.now ≤ length bytes) }
+    ensures told { IsSome (W.held outside.old) → IsSome (W.held outside.new) }
+    ensures done { result ≡ Appended.Done → IsSome (W.held outside.old) → held_of W.Outside outside.new ≡ written (written (held_of W.Outside outside.old) (gate + 1) body.now) gate (0xA5 ∷ []) }
     ensures unwritten { result ≡ Appended.Unwritten → Rose (W.disk_faults outside.old) (W.disk_faults outside.new) }
     ensures doubt { result ≡ Appended.Doubt → Rose (W.disk_faults outside.old) (W.disk_faults outside.new) }
 {
@@ -52,6 +55,8 @@ fn write_and_sync<W: Outside>(
     requires bytes { ForSome (W.held outside.old) (λ bytes. total header.now ≤ length bytes) }
     ensures calls { CallsDisk W.Outside outside.old outside.new }
     ensures bytes { ForSome (W.held outside.new) (λ bytes. total header.now ≤ length bytes) }
+    ensures told { IsSome (W.held outside.old) → IsSome (W.held outside.new) }
+    ensures done { OnOk result (IsSome (W.held outside.old) → held_of W.Outside outside.new ≡ written (held_of W.Outside outside.old) at bytes.now) }
     ensures cause { HasCause (W.disk_faults outside.old) (W.disk_faults outside.new) result }
 {
     outside.write_at(at, bytes)?;

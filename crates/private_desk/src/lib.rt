@@ -4,6 +4,7 @@
 mod append;
 mod line_marks;
 mod page_entries;
+mod record;
 mod resident_pages;
 mod single;
 mod touched_pages;

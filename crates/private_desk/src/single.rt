@@ -13,9 +13,9 @@ ghost use Rattle.arrayvec.specs.ArrayVec.{array_vec_len};
 use super::append::{Appended, append};
 use super::line_marks::LineMarks;
 use super::page_entries::PageEntries;
+use super::record::fill_body;
 use super::resident_pages::{ResidentPages, Touched};
 use arrayvec::ArrayVec;
-use byteorder::{BigEndian, ByteOrder};
 use desk::{Begun, Committed, Supervisor, Turn, TurnEnd};
 use flat_machine::{Plain, Program, Touch, Went, Window};
 use line_geometry::Directory;
@@ -361,36 +361,6 @@ impl PrivateDesk {
         self.active = None;
         self.entries.release(active.number);
     }
-}
-
-/// The body of the record with this number: count, number, the written lines, and a closed gate.
-fn fill_body(body: &mut Vec<u8>, number: u64, marks: &LineMarks, store: &[u8])
-    requires few { marks.now.written < 2 ^ 16 }
-    requires store { vec_len marks.now.writes * 128 ≤ length store.now }
-    ensures room { vec_capacity body.old ≤ vec_capacity body.new }
-{
-    body.clear();
-    let mut head = [0; 10];
-    BigEndian::write_u16(&mut head[..2], marks.written as u16);
-    BigEndian::write_u64(&mut head[2..], number);
-    let _ = body.extend_from_slice(&head);
-    for line in 0..marks.writes.len() {
-        if marks.writes[line] {
-            add_line(body, line, &store[line * 128..line * 128 + 128]);
-        }
-    }
-    let _ = body.push(0);
-}
-
-/// Adds a line to a body: its number, and its bytes.
-fn add_line(body: &mut Vec<u8>, line: usize, bytes: &[u8])
-    requires { line < 2 ^ 14 }
-    ensures room { vec_capacity body.old ≤ vec_capacity body.new }
-{
-    let mut number = [0; 4];
-    BigEndian::write_u32(&mut number, line as u32);
-    let _ = body.extend_from_slice(&number);
-    let _ = body.extend_from_slice(bytes);
 }
 
 /// The segment of the first window whose segment the directory lacks.
