@@ -73,6 +73,7 @@ pub record IsSound (d : PrivateDesk) : Type 0 where
   pub sizes : HaveSizes d.header.directory d.live d.committed d.marks d.entries
   pub running : IsRunningIf (length d.programs.items) d.turns d.marks.written d.active
   pub room : HaveRoom d.header.bank_bytes d.used d.next d.begins d.turns
+  pub body : d.header.bank_bytes ≤ vec_capacity d.body
 
 -- the header of its store, the programs that may begin, how many begins it has room for, and how many turns were made
 abbrev pub header_told : PrivateDesk → Header

@@ -11,3 +11,6 @@ fill_body-requires-clause-store g c =
 pub append-appended-requires-clause-fits : goal.append-appended-requires-clause-fits
 append-appended-requires-clause-fits g c =
     omega (arith, c.bank_at.ensures.value, c.from.ensures, c.requires.sound.ranges.most_bank, c.requires.sound.room.bytes)
+
+pub fill_body-requires-clause-room : goal.fill_body-requires-clause-room
+fill_body-requires-clause-room g c = omega (arith, c.requires.room, c.requires.sound.body)
