@@ -163,24 +163,6 @@ impl PageEntries {
         }
     }
 
-    /// Grants each of these pages whose entry refuses an activation a touched line. The answer is how many were granted.
-    pub fn request(&mut self, pages: &[u32], number: u32, touch: Touch, marks: &LineMarks) -> u32
-        requires pages { All (λ page. page * 16 < vec_len marks.now.writes) pages.now }
-        requires lines { vec_len marks.now.writes ≡ vec_len self.old.entries * 16 }
-        requires short { length pages.now ≤ 2 }
-        ensures pages { vec_len self.new.entries ≡ vec_len self.old.entries }
-        ensures few { result ≤ length pages.now }
-    {
-        let mut count = 0;
-        for page in pages {
-            if self.refuses(*page, number, touch) {
-                self.grant(*page, number, &marks.reads, &marks.writes);
-                count += 1;
-            }
-        }
-        count
-    }
-
     /// Each page of an activation becomes nobody's.
     pub fn release(&mut self, number: u32)
         ensures pages { vec_len self.new.entries ≡ vec_len self.old.entries }

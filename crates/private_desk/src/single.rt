@@ -1,20 +1,20 @@
 // The desk of `try`: at most one activation at a time, over a store that is whole in memory.
-ghost use Rattle.std.specs.Prelude.{◌≡◌, ◌+◌, ◌*◌, ◌<◌, ◌≤◌, ◌^◌, ◌-◌, ℕ, length, vec_len, vec_capacity, IfOk, IfNone, IsSome, Some, All};
+ghost use Rattle.std.specs.Prelude.{◌≡◌, ◌+◌, ◌*◌, ◌<◌, ◌≤◌, ◌^◌, ◌-◌, ℕ, length, vec_len, IfOk, IfNone, Some};
 ghost use Rattle.std.specs.Option.{ForSome};
 ghost use Rattle.outside.specs.Runs.{CallsDisk};
-ghost use Rattle.line_geometry.specs.Directory.{Layout, byte_count};
+ghost use Rattle.line_geometry.specs.Directory.{byte_count};
 ghost use Rattle.line_geometry.specs.Lines.{line_count};
 ghost use Rattle.lock_rules.specs.Sets.{size};
 ghost use Rattle.lock_rules.specs.Lines.{Lines, both};
 ghost use Rattle.flat_machine.specs.Touched.{AreSome, touch_lines};
 ghost use Rattle.store_format.specs.Header.{total};
-ghost use Rattle.arrayvec.specs.ArrayVec.{array_vec_len};
 
 use super::append::{Appended, append};
 use super::line_marks::LineMarks;
 use super::page_entries::PageEntries;
 use super::record::fill_body;
-use super::resident_pages::{ResidentPages, Touched};
+use super::resident_pages::ResidentPages;
+use super::touched_pages::pages_of;
 use arrayvec::ArrayVec;
 use desk::{Begun, Committed, Supervisor, Turn, TurnEnd};
 use flat_machine::{Plain, Program, Touch, Went, Window};
@@ -288,9 +288,10 @@ impl PrivateDesk {
         let pages = pages_of(touch);
         tally.pages += self.resident.fetch(pages.as_slice());
         self.marks.add(touch, lines);
-        tally.locks += self
-            .entries
-            .request(pages.as_slice(), number, touch, &self.marks);
+        let refused = self.entries.refused(pages.as_slice(), number, touch);
+        self.entries
+            .grant_all(refused.as_slice(), number, &self.marks);
+        tally.locks += refused.len() as u32;
     }
 
     /// The commit call of the active activation: its record, and the end of the turn.
@@ -370,24 +371,6 @@ fn absent_segment(directory: &Directory, windows: &[Option<Window>]) -> Option<u
         .flatten()
         .map(|window| window.segment)
         .find(|segment| directory.length_of(*segment).is_none())
-}
-
-/// The pages of the lines that are touched, ascending.
-fn pages_of(touch: Touch) -> Touched
-    ensures few { array_vec_len result ≤ 2 }
-    ensures below { (lines : ℕ) → AreSome touch lines → All (λ page. page * 16 < lines) result.items }
-{
-    let mut pages = Touched::new();
-    match touch {
-        Touch::Nothing => {}
-        Touch::Reads { first, last } | Touch::Writes { first, last } => {
-            pages.push(first / 16);
-            if last / 16 > first / 16 {
-                pages.push(last / 16);
-            }
-        }
-    }
-    pages
 }
 
 impl Supervisor for PrivateDesk {

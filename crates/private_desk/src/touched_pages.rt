@@ -12,7 +12,7 @@ use flat_machine::Touch;
 pub fn pages_of(touch: Touch) -> Touched
     ensures value { (lines : ℕ) → AreSome touch lines → result.items ≡ pages_of ((touch_lines touch).reads ++ (touch_lines touch).writes) }
     ensures few { array_vec_len result ≤ 2 }
-    ensures below { (lines : ℕ) → AreSome touch lines → All (λ page. page * 16 < lines) result.items }
+    ensures below { (pages : ℕ) → AreSome touch (pages * 16) → All (λ page. page < pages) result.items }
 {
     match touch {
         Touch::Nothing => Touched::new(),
@@ -24,7 +24,7 @@ pub fn pages_of(touch: Touch) -> Touched
 fn pages_between(first: u32, last: u32) -> Touched
     ensures value { first ≤ last → last ≤ first + 1 → result.items ≡ pages_of (range_with_len first (last + 1 - first)) }
     ensures few { array_vec_len result ≤ 2 }
-    ensures below { (lines : ℕ) → first ≤ last → last < lines → All (λ page. page * 16 < lines) result.items }
+    ensures below { (pages : ℕ) → first ≤ last → last < pages * 16 → All (λ page. page < pages) result.items }
 {
     let mut pages = Touched::new();
     pages.push(first / 16);

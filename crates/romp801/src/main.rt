@@ -3,7 +3,6 @@
 
 use console::{Ended, Status, console, status_text, try_store};
 use outside::{Joint, MemoryDisk, StdScreen, StdSource};
-use std::alloc::AllocError;
 use std::env;
 use std::io;
 use std::process::ExitCode;
@@ -11,7 +10,7 @@ use std::process::ExitCode;
 fn main(rt: HostRuntime) -> ExitCode {
     let status = match run(&rt) {
         Ok(ended) => ended.status,
-        Err(AllocError) => Status::NoMemory,
+        Err(status) => status,
     };
     if status != Status::Done {
         let _ = eprintln!(rt; "{}", status_text(&status).as_str());
@@ -20,22 +19,26 @@ fn main(rt: HostRuntime) -> ExitCode {
 }
 
 /// The console on the real source and screen, and a disk in memory that holds the store of `try`.
-fn run(rt: &HostRuntime) -> Result<Ended, AllocError> {
+fn run(rt: &HostRuntime) -> Result<Ended, Status> {
     let alloc = rt.alloc();
-    let words = words_of(rt);
+    let words = words_of(rt)?;
     let disk = MemoryDisk::new(alloc, try_store(alloc)?, Vec::new(alloc));
     let mut outside = Joint::new(disk, StdScreen::new(rt.clone()?));
     let mut job = StdSource::new(rt.stdin());
     Ok(console(alloc, words.as_slice(), &mut job, &mut outside))
 }
 
-/// The words of the command line, without the program's name.
-fn words_of(rt: &HostRuntime) -> Vec<String> {
+/// The words of the command line, without the program's name: no command line where one is not UTF-8.
+fn words_of(rt: &HostRuntime) -> Result<Vec<String>, Status> {
+    let args = env::args(rt).map_err(|error| match error.kind() {
+        io::ErrorKind::OutOfMemory => Status::NoMemory,
+        _ => Status::Usage,
+    })?;
     let mut words = Vec::new(rt.alloc());
-    if let Ok(args) = env::args(rt) {
-        for word in args.skip(1) {
-            let _ = words.push(word);
+    for word in args.skip(1) {
+        if words.push(word).is_err() {
+            return Err(Status::NoMemory);
         }
     }
-    words
+    Ok(words)
 }
