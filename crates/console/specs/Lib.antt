@@ -1,3 +1,4 @@
 pub mod Statuses
 pub mod SourceText
 pub mod Opening
+pub mod Causes

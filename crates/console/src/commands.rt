@@ -1,14 +1,15 @@
-ghost use Rattle.std.specs.Prelude.{◌≡◌, ◌<◌, ◌≤◌, ◌⊎◌, length, vec_len, IfOk};
-ghost use Rattle.std.specs.Option.{ForSome};
+ghost use Rattle.std.specs.Prelude.{◌≡◌, ◌≢◌, ◌<◌, ◌≤◌, ◌⊎◌, ◌↔◌, [], vec_len, IfOk, IfErr, IsTrue};
+ghost use Rattle.outside.specs.Causes.{Rose};
 ghost use Rattle.outside.specs.Runs.{OnlyAsks};
 ghost use Rattle.console.specs.Opening.{IsOpened};
+ghost use Rattle.console.specs.Causes.{IsTry, IsJob, ReadsBy, OpensBy, IsRefused, IsPastJob, IsOfReading, IsOfOpening, status_of};
 
 use super::opening::{check_store, try_header, try_store};
 use super::source_text::read_text;
 use super::status::{Ended, Status};
 use desk::Committed;
 use flat_machine::Program;
-use job_text::read_job;
+use job_text::{Job, read_job};
 use outside::{Outside, Source};
 use private_desk::PrivateDesk;
 use schedule_replay::{Replayed, replay};
@@ -23,34 +24,75 @@ pub fn console<S: Source, W: Outside>(
     words: &[String],
     job: &mut S,
     outside: &mut W,
-) -> Ended {
-    let mut order = Vec::new(alloc);
-    let status = match words {
-        [word] if word.as_str() == "try" => match try_job(alloc, job, outside, &mut order) {
-            Ok(()) => Status::Done,
-            Err(status) => status,
+) -> Ended
+    ensures usage { result.status ≡ Status.Usage ↔ (IsTry words.now → ⊥) }
+    ensures read { IsTry words.now → ReadsBy (S.left job.old) (S.left job.new) (S.faults job.old) (S.faults job.new) result.status }
+    ensures opened { IsTry words.now → OpensBy (W.held outside.old) result.status }
+    ensures put { result.status ≡ Status.PutFault → Rose (W.put_faults outside.old) (W.put_faults outside.new) }
+    ensures refused { IsRefused result.status → (result.order.items ≡ []) × OnlyAsks W.Outside outside.old outside.new }
+    ensures never { (result.status ≢ Status.Exists) × (result.status ≢ Status.NoRange) }
+{
+    if !is_try(words) {
+        return Ended {
+            status: Status::Usage,
+            order: Vec::new(alloc),
+        };
+    }
+    match read(alloc, job) {
+        Err(status) => Ended {
+            status,
+            order: Vec::new(alloc),
         },
-        _ => Status::Usage,
-    };
-    Ended { status, order }
+        Ok(job) => try_job(alloc, job, outside),
+    }
 }
 
-/// The job is read, the store opened, and the events run.
-fn try_job<S: Source, W: Outside>(
-    alloc: Global,
-    job: &mut S,
-    outside: &mut W,
-    order: &mut Vec<Committed>,
-) -> Result<(), Status> {
-    let text = read_text(alloc, job)?;
-    let job = read_job(alloc, &text)?;
-    let mut desk = open(alloc, job.frames, job.programs, outside)?;
-    let replayed = replay(&mut desk, &job.names, &job.events, outside);
-    *order = desk.into_order();
-    match replayed {
-        Replayed::Ended => Ok(()),
-        Replayed::Closed => Err(Status::DiskFault),
-        Replayed::PutFault => Err(Status::PutFault),
+/// Whether the words are `try` alone.
+fn is_try(words: &[String]) -> bool
+    ensures { IsTrue result ↔ IsTry words.now }
+{
+    match words {
+        [word] => word.as_str() == "try",
+        _ => false,
+    }
+}
+
+/// The job of the source.
+fn read<S: Source>(alloc: Global, source: &mut S) -> Result<Job, Status>
+    ensures read { ReadsBy (S.left source.old) (S.left source.new) (S.faults source.old) (S.faults source.new) (status_of result) }
+    ensures only { IfErr result IsOfReading }
+    ensures ready { IfOk result IsJob }
+{
+    let text = read_text(alloc, source)?;
+    Ok(read_job(alloc, &text)?)
+}
+
+/// The store is opened, and the events of the job run.
+fn try_job<W: Outside>(alloc: Global, job: Job, outside: &mut W) -> Ended
+    requires { IsJob job }
+    ensures opened { OpensBy (W.held outside.old) result.status }
+    ensures put { result.status ≡ Status.PutFault → Rose (W.put_faults outside.old) (W.put_faults outside.new) }
+    ensures refused { IsRefused result.status → (result.order.items ≡ []) × OnlyAsks W.Outside outside.old outside.new }
+    ensures only { IsPastJob result.status ⊎ (result.status ≡ Status.NoMemory) }
+    ensures never { (result.status ≢ Status.Exists) × (result.status ≢ Status.NoRange) }
+{
+    let mut desk = match open(alloc, job.frames, job.programs, outside) {
+        Ok(desk) => desk,
+        Err(status) => {
+            return Ended {
+                status,
+                order: Vec::new(alloc),
+            };
+        }
+    };
+    let status = match replay(&mut desk, &job.names, &job.events, outside) {
+        Replayed::Ended => Status::Done,
+        Replayed::Closed => Status::DiskFault,
+        Replayed::PutFault => Status::PutFault,
+    };
+    Ended {
+        status,
+        order: desk.into_order(),
     }
 }
 
@@ -64,6 +106,8 @@ fn open<W: Outside>(
     requires frames { 0 < frames }
     requires programs { 0 < vec_len programs }
     ensures asks { OnlyAsks W.Outside outside.old outside.new }
+    ensures store { OpensBy (W.held outside.old) (status_of result) }
+    ensures only { IfErr result IsOfOpening }
     ensures opened { IfOk result (IsOpened frames programs.items W.Outside outside.new) }
 {
     let wanted = try_store(alloc)?;

@@ -1,8 +1,9 @@
-use Rattle.std.proofs.Common.{◌≡◌, ◌-◌, ◌∙◌, ap, List, ℕ, take, drop, length, length-drop, arith}
+use Rattle.std.proofs.Common.{◌≡◌, ◌-◌, ◌∙◌, sym, ap, List, ℕ, take, drop, length, length-drop, arith}
 use Rattle.std.proofs.lemmas.List.{take_all}
 use Rattle.store_format.specs.Header.{Header, fresh, home_at}
 use Rattle.desk.specs.Desk.{opened}
 use Rattle.console.specs.Opening.{try_layout}
+use Rattle.console.proofs.CauseLemmas.{opens-done, opens-error}
 use Rattle.console.proofs.commands.open.Goals as goal
 
 -- the part behind an offset, as a range to the end
@@ -29,3 +30,14 @@ returns-clause-opened g c =
           let same = ap (λ (these : List ℕ). length these) (c.in_ok-check_store.ensures.held x is) in
           omega (arith, same, c.deref-2.ensures.len, c.in_ok-wanted.ensures.len);
     }
+
+pub returns-clause-store : goal.returns-clause-store
+returns-clause-store g c =
+    opens-done (g.W.Outside.held c.args.outside.now)
+    (λ x is. c.in_ok-check_store.ensures.held x (c.in_ok-check_store.ensures.asks.held ∙ is) ∙ c.deref-2.ensures.value ∙ c.in_ok-wanted.ensures.bytes)
+
+pub returns-in_err-check_store-clause-store : goal.returns-in_err-check_store-clause-store
+returns-in_err-check_store-clause-store g c =
+    let wanted : c.deref-2.result.now ≡ fresh try_layout = c.deref-2.ensures.value ∙ c.in_ok-wanted.ensures.bytes in
+    opens-error (g.W.Outside.held c.args.outside.now) c.from_residual-in_err-check_store.result c.in_err-check_store.field-0.0 c.from_residual-in_err-check_store.ensures
+    (λ is x told same. c.in_err-check_store.ensures.other (cc) x told (same ∙ sym wanted))

@@ -1,1 +1,0 @@
--- A job of the small form can be run.

@@ -1,0 +1,85 @@
+-- How a call ended, and why.
+use Rattle.std.specs.Prelude.{◌≡◌, ◌≢◌, ℕ, List, [], ◌∷◌, map, codes, Option, Result, Ok, Err, String, string_bytes}
+use Rattle.std.specs.Option.{ForSome}
+use Rattle.std.specs.declared.alloc.Global.{Global}
+use Rattle.outside.specs.Causes.{Rose}
+use Rattle.store_format.specs.Header.{fresh}
+use Rattle.job_text.specs.SmallJob.{SmallJob}
+use Rattle.job_text.specs.Answers.{IsTextOf, IsJobOfText}
+use Rattle.job_text.specs.declared.job.Job.{Job}
+use Rattle.console.specs.declared.status.Status.{Status}
+use Rattle.console.specs.declared.status.Status.TheVariants as status
+use Rattle.console.specs.Opening.{try_layout}
+use Rattle.console.specs.SourceText.{HasRead, IsWhole}
+
+-- the words are `try` alone
+abbrev pub IsTry : List (String Global) → Type 0
+IsTry words = map string_bytes words ≡ codes "try" ∷ []
+
+-- the status of a command that went to its end, or didn't
+abbrev pub status_of : {T : Type 0} → Result T Status → Status
+status_of (Ok done) = Status.Done
+status_of (Err status) = status
+
+-- the text of the job was had whole
+abbrev pub IsPastText : Status → Type 0
+IsPastText status.Usage = ⊥
+IsPastText status.SourceFault = ⊥
+IsPastText status.TooBig = ⊥
+IsPastText status.NoMemory = ⊥
+IsPastText _ = Unit {0}
+
+-- and it is a job's
+abbrev pub IsPastJob : Status → Type 0
+IsPastJob (status.Job line kind) = ⊥
+IsPastJob other = IsPastText other
+
+-- the store was opened
+abbrev pub IsPastOpening : Status → Type 0
+IsPastOpening status.Done = Unit {0}
+IsPastOpening status.PutFault = Unit {0}
+IsPastOpening _ = ⊥
+
+-- the command ended before the store was opened
+abbrev pub IsRefused : Status → Type 0
+IsRefused status.Done = ⊥
+IsRefused status.DiskFault = ⊥
+IsRefused status.PutFault = ⊥
+IsRefused _ = Unit {0}
+
+-- a job that some text gives
+pub record IsJob (job : Job) : Type 0 where
+  pub text : List ℕ
+  pub gives : IsJobOfText text job
+
+-- the text is that of some job
+abbrev pub IsSomeJob : List ℕ → Type 0
+IsSomeJob text = (small : SmallJob) × IsTextOf text small
+
+-- a status of reading a job
+abbrev pub IsOfReading : Status → Type 0
+IsOfReading (status.Job line kind) = Unit {0}
+IsOfReading status.SourceFault = Unit {0}
+IsOfReading status.TooBig = Unit {0}
+IsOfReading status.NoMemory = Unit {0}
+IsOfReading _ = ⊥
+
+-- a status of opening a store
+abbrev pub IsOfOpening : Status → Type 0
+IsOfOpening (status.Store offset) = Unit {0}
+IsOfOpening status.DiskFault = Unit {0}
+IsOfOpening status.NoMemory = Unit {0}
+IsOfOpening _ = ⊥
+
+-- what the bytes and the faults of a source tell of the status with which its job was read
+pub record ReadsBy (left left_now : Option (List ℕ)) (faults faults_now : ℕ) (status : Status) : Type 0 where
+  pub source : status ≡ Status.SourceFault → Rose faults faults_now
+  pub big : status ≡ Status.TooBig → HasRead left left_now 1048577
+  pub text : IsPastText status → (text : List ℕ) × IsWhole left left_now text
+  pub no_job : (line kind : ℕ) → status ≡ Status.Job line kind → (line ≡ 1) × (kind ≡ 10) × ((text : List ℕ) × IsWhole left left_now text × (IsSomeJob text → ⊥))
+  pub job : IsPastJob status → (text : List ℕ) × IsWhole left left_now text × IsSomeJob text
+
+-- what the bytes of a disk tell of the status with which it was opened
+pub record OpensBy (held : Option (List ℕ)) (status : Status) : Type 0 where
+  pub no_store : (offset : ℕ) → status ≡ Status.Store offset → (offset ≡ 0) × ForSome held (λ bytes. bytes ≢ fresh try_layout)
+  pub store : IsPastOpening status → ForSome held (λ bytes. bytes ≡ fresh try_layout)
