@@ -5,4 +5,4 @@ use Rattle.private_desk.proofs.single.PrivateDesk.reach.Goals as goal
 pub refused-refused-requires-clause-pages : goal.refused-refused-requires-clause-pages
 refused-refused-requires-clause-pages c =
     let sizes = c.requires.sound.sizes in
-    rw c.as_slice.ensures (c.pages_of.ensures.below _ (subst (λ (pages : ℕ). AreSome c.args.touch (pages * 16)) (sym sizes.pages) c.requires.touch))
+    rw c.as_slice-2.ensures.value (c.pages_of-pages.ensures.below _ (subst (λ (pages : ℕ). AreSome c.args.touch (pages * 16)) (sym sizes.pages) c.requires.touch))
