@@ -1,5 +1,5 @@
 -- A stretch of no calls.
-use Rattle.std.proofs.Common.{refl, inl, arith, ℕ, List}
+use Rattle.std.proofs.Common.{refl, inl, arith}
 use Rattle.outside.specs.declared.world.Outside.{Ghosts}
 use Rattle.outside.specs.Runs.{CallsDisk}
 

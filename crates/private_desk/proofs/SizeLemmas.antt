@@ -1,5 +1,5 @@
 -- The lines of a store with pages of 2,048 bytes.
-use Rattle.std.proofs.Common.{◌≡◌, ◌*◌, ◌∙◌, ap, sym, ℕ}
+use Rattle.std.proofs.Common.{◌≡◌, ◌*◌, ◌∙◌, ap, sym}
 use Rattle.line_geometry.specs.Directory.{byte_count}
 use Rattle.line_geometry.specs.Segments.{page_bytes}
 use Rattle.line_geometry.specs.declared.directory.PageSize.{PageSize}

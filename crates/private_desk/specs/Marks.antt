@@ -1,8 +1,7 @@
 -- Marks of lines, and the sets of lines that they show.
-use Rattle.std.specs.Prelude.{◌≡◌, ℕ, ◌+◌, ◌<◌, ◌≤◌}
+use Rattle.std.specs.Prelude.{◌≡◌}
 use Rattle.lock_rules.specs.Sets.{size}
 use Rattle.lock_rules.specs.Lines.{Lines}
-use Rattle.flat_machine.specs.declared.touch.Touch.{Touch}
 use Rattle.private_desk.specs.ShowSet.{ShowSet}
 use Rattle.private_desk.specs.declared.line_marks.LineMarks.{LineMarks}
 

@@ -1,4 +1,4 @@
-use Rattle.std.proofs.Common.{◌≡◌, ◌+◌, ◌++◌, ℕ, List, Bool, true, false, refl, sym, ap, ◌∙◌, arith, vec_len, vec_capacity, slice_index_or}
+use Rattle.std.proofs.Common.{◌≡◌, ◌++◌, ℕ, List, Bool, true, false, refl, sym, ap, ◌∙◌, arith, vec_len, vec_capacity, slice_index_or}
 use Rattle.std.specs.List.{flat_map}
 use Rattle.std.proofs.lemmas.List.{get_or_read_under}
 use Rattle.lock_rules.specs.Sets.{size}

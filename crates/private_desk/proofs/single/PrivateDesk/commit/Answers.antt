@@ -1,4 +1,4 @@
-use Rattle.std.proofs.Common.{arith, ◌*◌, ◌≤◌, length, vec_len}
+use Rattle.std.proofs.Common.{arith}
 use Rattle.private_desk.proofs.SizeLemmas.{lines_fit}
 use Rattle.private_desk.proofs.single.PrivateDesk.commit.Goals as goal
 

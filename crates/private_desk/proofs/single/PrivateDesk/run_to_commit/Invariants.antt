@@ -1,4 +1,4 @@
-use Rattle.std.proofs.Common.{◌≡◌, ◌≤◌, ◌*◌, ◌+◌, ◌-◌}
+use Rattle.std.proofs.Common.{◌≤◌, ◌*◌, ◌+◌, ◌-◌}
 use Rattle.private_desk.specs.PrivateDesk.{IsSound}
 use Rattle.private_desk.specs.Attempts.{KeepsParts, HaveRowsWithin}
 use Rattle.private_desk.proofs.single.PrivateDesk.run_to_commit.Given as goal
