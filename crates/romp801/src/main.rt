@@ -3,9 +3,8 @@
 
 use console::{Ended, Status, console, status_text, try_store};
 use outside::{Joint, MemoryDisk, StdScreen, StdSource};
-use std::env;
-use std::io;
 use std::process::ExitCode;
+use std::{env, io};
 
 fn main(rt: HostRuntime) -> ExitCode {
     let status = match run(&rt) {
