@@ -217,7 +217,7 @@ fn a_file_is_opened_once_and_never_cut(rt: HostRuntime) -> Result<(), Fail> {
 
 #[test]
 fn the_standard_streams_are_a_screen_and_a_source(rt: HostRuntime) -> Result<(), Fail> {
-    let disk = FileDisk::new(rt, String::from_str(rt.alloc(), "store")?, false);
+    let disk = FileDisk::new(rt, String::from_str(rt.alloc(), "absent")?, false);
     let mut joint = Joint::new(disk, StdScreen::new(rt));
     assert_eq!(rt; joint.put(b"printed\n"), Ok(()));
     assert_eq!(rt; joint.length(), Err(Failed));
