@@ -1,6 +1,7 @@
 // What no clause says: the memory kinds with ample memory, a real file and the standard streams.
 use super::*;
 use std::alloc::{AllocError, Global};
+use std::fs;
 use std::test::Fail;
 
 // A call, the offset, the bytes that a write writes or as many as a read reads, and whether it fails.
@@ -197,6 +198,7 @@ fn a_joint_is_a_disk_and_a_screen(rt: HostRuntime) -> Result<(), Fail> {
 #[test]
 fn a_file_is_opened_once_and_never_cut(rt: HostRuntime) -> Result<(), Fail> {
     let alloc = rt.alloc();
+    let _ = fs::remove_file(&rt, "store");
     let mut absent = FileDisk::new(rt, String::from_str(alloc, "store")?, false);
     assert_eq!(rt; absent.length(), Err(Failed));
     let mut disk = FileDisk::new(rt, String::from_str(alloc, "store")?, true);
@@ -212,6 +214,7 @@ fn a_file_is_opened_once_and_never_cut(rt: HostRuntime) -> Result<(), Fail> {
     assert_eq!(rt; again.read_at(2, &mut into), Err(Failed));
     assert_eq!(rt; again.length(), Ok(3));
     assert_eq!(rt; Disk::moment(&again), 0);
+    let _ = fs::remove_file(&rt, "store");
     Ok(())
 }
 
