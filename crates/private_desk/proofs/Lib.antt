@@ -1,3 +1,6 @@
+pub mod CommitLemmas
+pub mod InstructionLemmas
+pub mod AloneLemmas
 pub mod MarkLemmas
 pub mod FetchLemmas
 pub mod PageLemmas

@@ -12,6 +12,7 @@ use Rattle.store_format.specs.Stands.{Standing, Stands, NotAStore, Damaged, IsSt
 use Rattle.store_format.specs.Body.{IsBody}
 use Rattle.store_format.proofs.Stores.{stands_is}
 use Rattle.private_desk.specs.ShowSet.{ShowSet}
+use Rattle.private_desk.specs.Kept.{StandsFor}
 use Rattle.private_desk.specs.Record.{lines_marked, body_of}
 use Rattle.private_desk.proofs.SizeLemmas.{lines_fit}
 use Rattle.private_desk.proofs.RecordLemmas.{IsReady, written_store, written_stands}
@@ -23,11 +24,6 @@ number_of : Standing → ℕ
 number_of (Stands number store) = number
 number_of (NotAStore offset) = 0
 number_of (Damaged offset) = 0
-
--- a store that stands for a number and these bytes, with a closed gate
-pub record StandsFor (image : List ℕ) (header : Header) (which : Which) (base gate : ℕ) (records : List (List RecordLine)) (number : ℕ) (bytes : List ℕ) : Type 0 where
-  pub store : IsStore image header which base gate records
-  pub standing : stands image ≡ Stands number (record { directory = header.directory; bytes = bytes })
 
 -- a body of the lines in which bytes differ from those that are committed, and room for it
 pub record IsCommitted (header : Header) (which : Which) (gate number : ℕ) (committed live : List ℕ) (marks : List Bool) (set : List ℕ) (n count : ℕ) (body : List ℕ) : Type 0 where

@@ -1,5 +1,7 @@
 -- What an attempt of one instruction leaves.
 use Rattle.std.specs.Prelude.{◌≡◌, ℕ, ◌+◌, ◌*◌, ◌<◌, ◌≤◌, ◌^◌, Option, Some, None}
+use Rattle.desk.specs.declared.answers.TurnEnd.{TurnEnd}
+use Rattle.desk.specs.declared.answers.TurnEnd.TheVariants as end
 use Rattle.private_desk.specs.declared.single.Active.{Active}
 use Rattle.private_desk.specs.declared.single.Attempt.{Attempt}
 use Rattle.private_desk.specs.declared.single.Attempt.TheVariants as attempt
@@ -17,17 +19,38 @@ pub record KeepsParts (old new : PrivateDesk) : Type 0 where
   pub turns : new.turns ≡ old.turns
   pub next : new.next ≡ old.next
 
--- one instruction more was counted at most, with two pages and two refusals
+-- the committed bytes, the order and what says where the next record goes are as before
+pub record KeepsBytes (old new : PrivateDesk) : Type 0 where
+  pub committed : new.committed ≡ old.committed
+  pub used : new.used ≡ old.used
+  pub number : new.number ≡ old.number
+  pub order : new.order ≡ old.order
+  pub closed : new.closed ≡ old.closed
+
+-- an end without numbers of the store
+abbrev pub IsPlain : TurnEnd → Type 0
+IsPlain end.Idle = Unit {0}
+IsPlain end.Limit = Unit {0}
+IsPlain (end.Checked code address) = Unit {0}
+IsPlain (end.Journal lines limit) = Unit {0}
+IsPlain _ = ⊥
+
+-- an end of a turn of an open desk
+abbrev pub IsTurned : TurnEnd → Type 0
+IsTurned end.Shut = ⊥
+IsTurned _ = Unit {0}
+
+-- one instruction more was counted at most, with four pages, two each before and after its grants, and two refusals
 pub record TalliesMore (old new : Tally) : Type 0 where
   pub ran : new.ran ≤ old.ran + 1
-  pub pages : new.pages ≤ old.pages + 2
+  pub pages : new.pages ≤ old.pages + 4
   pub locks : new.locks ≤ old.locks + 2
 
 -- an attempt that goes on leaves the activation with one row more; one at the commit call leaves it, and its record fits
 abbrev pub HasAttempted : Attempt → Active → PrivateDesk → Type 0
 HasAttempted attempt.On active new = new.active ≡ Some (record active { rows = active.rows + 1 })
 HasAttempted attempt.Commit active new = (new.active ≡ Some active) × (new.used + (132 * new.marks.written + 12) ≤ new.header.bank_bytes)
-HasAttempted (attempt.Over end) active new = Unit {0}
+HasAttempted (attempt.Over end) active new = IsPlain end
 
 -- the one that is active has done at most so many rows
 abbrev pub HaveRowsWithin : Option Active → ℕ → Type 0
@@ -36,7 +59,7 @@ HaveRowsWithin (Some active) rows = active.rows ≤ rows
 
 -- the instructions stopped at the commit call of the active one, whose record fits, or the turn is over
 abbrev pub HasStopped : Stop → PrivateDesk → Tally → Type 0
-HasStopped (stop.Over end) new tally = Unit {0}
+HasStopped (stop.Over end) new tally = IsPlain end
 HasStopped (stop.Commit active) new tally =
     (new.active ≡ Some active)
     × (new.used + (132 * new.marks.written + 12) ≤ new.header.bank_bytes)

@@ -6,3 +6,8 @@ pub mod Words
 pub mod PrivateDesk
 pub mod Attempts
 pub mod Record
+pub mod Follows
+pub mod Answered
+pub mod Kept
+pub mod Running
+pub mod Settled

@@ -87,3 +87,7 @@ begins_told d = d.begins
 
 abbrev pub turns_told : PrivateDesk → ℕ
 turns_told d = d.turns
+
+-- the number with which its store was opened
+abbrev pub opened_told : PrivateDesk → ℕ
+opened_told d = d.opened

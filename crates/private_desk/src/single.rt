@@ -1,13 +1,16 @@
 // The desk of `try`: at most one activation at a time, over a store that is whole in memory.
-ghost use Rattle.std.specs.Prelude.{◌≡◌, ◌+◌, ◌*◌, ◌<◌, ◌≤◌, ◌^◌, ◌-◌, ℕ, length, vec_len, IfOk, IfNone, Some};
+ghost use Rattle.std.specs.Prelude.{◌≡◌, ◌+◌, ◌*◌, ◌<◌, ◌≤◌, ◌^◌, ◌-◌, ◌%◌, ◌==◌, ◌⊎◌, ℕ, List, [], ◌∷◌, ◌++◌, true, false, length, vec_len, vec_capacity, map, slice_get, slice_index_or, filter, if◌then◌else◌, IfOk, IfNone, IsSome, Some, None, Option};
 ghost use Rattle.std.specs.Option.{ForSome};
-ghost use Rattle.outside.specs.Runs.{CallsDisk};
+ghost use Rattle.outside.specs.Causes.{Rose};
+ghost use Rattle.outside.specs.Runs.{CallsDisk, held_of};
 ghost use Rattle.line_geometry.specs.Directory.{byte_count};
 ghost use Rattle.line_geometry.specs.Lines.{line_count};
 ghost use Rattle.lock_rules.specs.Sets.{size};
-ghost use Rattle.lock_rules.specs.Lines.{Lines, both};
+ghost use Rattle.lock_rules.specs.Lines.{Lines, both, pages_of, with_whole_pages};
+ghost use Rattle.lock_rules.specs.Resident.{taken_out};
 ghost use Rattle.flat_machine.specs.Touched.{AreSome, touch_lines};
 ghost use Rattle.store_format.specs.Header.{total};
+ghost use Rattle.desk.specs.Run.{absent_segment};
 
 use super::append::{Appended, append};
 use super::line_marks::LineMarks;
@@ -82,10 +85,19 @@ pub struct PrivateDesk {
 }
 
 impl PrivateDesk {
-    ghost use Rattle.private_desk.specs.PrivateDesk.{desk_of, header_told, programs_told, begins_told, turns_told, IsSound};
-    ghost use Rattle.desk.specs.Desk.{opened};
+    ghost use Rattle.private_desk.specs.PrivateDesk.{desk_of, header_told, programs_told, begins_told, turns_told, opened_told, IsSound};
+    ghost use Rattle.desk.specs.Desk.{opened, nobody};
+    ghost use Rattle.desk.specs.Instruction as turn;
+    ghost use Rattle.desk.specs.Instruction.{Word, Fine, Fetched, fetches, refuses, lines_within, granted, room, limit_passed, commits, Over};
+    ghost use Rattle.desk.specs.Answers.{ending_told, HasNumbers};
+    ghost use Rattle.desk.specs.Report.{number_after};
+    ghost use Rattle.private_desk.specs.Kept.{Keeps};
     ghost use Rattle.private_desk.specs.Marks.{Show};
-    ghost use Rattle.private_desk.specs.Attempts.{KeepsParts, HasAttempted, HasStopped, HaveRowsWithin, TalliesMore};
+    ghost use Rattle.private_desk.specs.Entries.{authority_told};
+    ghost use Rattle.private_desk.specs.Words.{ReadsAll, FetchesTwice};
+    ghost use Rattle.private_desk.specs.Follows.{Follows};
+    ghost use Rattle.private_desk.specs.Answered.{counts_of, commit_call, IsInstruction, IsTurn, IsCommitted, IsOfActivation, refused_to};
+    ghost use Rattle.private_desk.specs.Attempts.{KeepsParts, KeepsBytes, IsPlain, IsTurned, HasAttempted, HasStopped, HaveRowsWithin, TalliesMore};
 
     /// A desk over a store with these bytes and no record in its bank, for so many begins of these programs.
     ///
@@ -110,6 +122,8 @@ impl PrivateDesk {
         ensures programs { IfOk result (λ desk. programs_told desk ≡ programs.items) }
         ensures begins { IfOk result (λ desk. begins_told desk ≡ begins) }
         ensures turns { IfOk result (λ desk. turns_told desk ≡ 0) }
+        ensures number { IfOk result (λ desk. opened_told desk ≡ 0) }
+        ensures follows { IfOk result Follows }
     {
         let directory = header.directory();
         let committed = OwnedList::from_vec(Vec::from_slice(alloc, store)?);
@@ -163,6 +177,13 @@ impl PrivateDesk {
         ensures parts { KeepsParts self.old self.new }
         ensures calls { CallsDisk W.Outside outside.old outside.new }
         ensures bytes { ForSome (W.held outside.new) (λ bytes. total self.new.header ≤ length bytes) }
+        ensures told { IsSome (W.held outside.old) → IsSome (W.held outside.new) }
+        ensures shut { self.old.closed ≡ true → (result ≡ TurnEnd.Shut) × (self.new ≡ self.old) }
+        ensures turned { self.old.closed ≡ false → IsTurned result }
+        ensures follows { Follows self.old → Follows self.new }
+        ensures step { Follows self.old → self.old.closed ≡ false → (word : Word) × (turn.turn word activation limit (desk_of self.old) ≡ Over (desk_of self.new) (counts_of tally.new) (ending_told result self.new.live.out)) × ((word ≡ Fine) ⊎ Rose (W.disk_faults outside.old) (W.disk_faults outside.new)) }
+        ensures numbers { Follows self.old → HasNumbers result activation (number_after self.new.opened (desk_of self.new)) }
+        ensures kept { Follows self.old → IsSome (W.held outside.old) → Keeps self.old.header self.old.used self.old.number self.old.committed (held_of W.Outside outside.old) → self.new.closed ≡ false → Keeps self.new.header self.new.used self.new.number self.new.committed (held_of W.Outside outside.new) }
     {
         if self.closed {
             return TurnEnd::Shut;
@@ -183,6 +204,10 @@ impl PrivateDesk {
         ensures sound { IsSound self.new }
         ensures parts { KeepsParts self.old self.new }
         ensures stopped { HasStopped result self.new tally.new }
+        ensures bytes { KeepsBytes self.old self.new }
+        ensures follows { Follows self.old → Follows self.new }
+        ensures step { Follows self.old → (word : Word) → ReadsAll word → IsTurn word result activation limit self.old self.new tally.new }
+        ensures active { IsOfActivation result activation }
     {
         for _ in 0..limit {
             let active = match self.active {
@@ -201,7 +226,8 @@ impl PrivateDesk {
     /// The most lines that a record may have now, if one fits the bank.
     fn room(&self) -> Option<u32>
         requires { self.now.used ≤ self.now.header.bank_bytes }
-        ensures room { ForSome result (λ most. (self.now.used + (132 * most + 12) ≤ self.now.header.bank_bytes) × (most ≤ 992)) }
+        ensures fits { ForSome result (λ most. (self.now.used + (132 * most + 12) ≤ self.now.header.bank_bytes) × (most ≤ 992)) }
+        ensures room { result ≡ room (desk_of self.now) }
     {
         let rest = self.header.bank_bytes() - self.used;
         if rest < 12 {
@@ -216,6 +242,11 @@ impl PrivateDesk {
         requires sound { IsSound self.old }
         ensures sound { IsSound self.new }
         ensures parts { KeepsParts self.old self.new }
+        ensures bytes { KeepsBytes self.old self.new }
+        ensures active { self.new.active ≡ None }
+        ensures released { authority_told self.new.entries.entries.items ≡ map (λ authority. if authority.owner == number then nobody else authority) (authority_told self.old.entries.entries.items) }
+        ensures resident { (lines : Lines) → Show self.old.marks lines → self.new.resident.pages.items ≡ taken_out (pages_of lines.writes) self.old.resident.pages.items }
+        ensures frames { self.new.resident.frames ≡ self.old.resident.frames }
     {
         self.active = None;
         self.entries.release(number);
@@ -227,11 +258,14 @@ impl PrivateDesk {
         requires sound { IsSound self.old }
         requires active { self.old.active ≡ Some active }
         requires rows { active.rows < self.old.turns * 1000000 }
-        requires tally { (tally.old.ran < 1000000) × (tally.old.pages < 2000000) × (tally.old.locks < 2000000) }
+        requires tally { (tally.old.ran < 1000000) × (tally.old.pages < 4000000) × (tally.old.locks < 2000000) }
         ensures sound { IsSound self.new }
         ensures parts { KeepsParts self.old self.new }
         ensures tally { TalliesMore tally.old tally.new }
         ensures attempted { HasAttempted result active self.new }
+        ensures bytes { KeepsBytes self.old self.new }
+        ensures follows { Follows self.old → Follows self.new }
+        ensures step { Follows self.old → (word : Word) → ReadsAll word → IsInstruction word result active self.old self.new tally.old tally.new }
     {
         let program = &self.programs[usize::from(active.program)];
         let directory = self.header.directory();
@@ -247,15 +281,10 @@ impl PrivateDesk {
             self.roll_back(active.number);
             return Attempt::Over(TurnEnd::Journal(lines, most));
         }
-        if went == Went::Commit {
+        if let Went::Commit = went {
             return Attempt::Commit;
         }
-        self.reach(active.number, touch, lines, tally);
-        self.active = Some(Active {
-            rows: active.rows + 1,
-            ..active
-        });
-        tally.ran += 1;
+        self.reach(active, touch, lines, tally);
         Attempt::On
     }
 
@@ -263,6 +292,7 @@ impl PrivateDesk {
     fn limit_passed(&self, lines: u32) -> Option<u32>
         requires { self.now.used ≤ self.now.header.bank_bytes }
         ensures none { IfNone result ((self.now.used + (132 * lines + 12) ≤ self.now.header.bank_bytes) × (lines ≤ 992)) }
+        ensures limit { result ≡ limit_passed (room (desk_of self.now)) lines }
     {
         match self.room() {
             None => Some(0),
@@ -271,27 +301,43 @@ impl PrivateDesk {
         }
     }
 
-    /// The touched pages come in and are granted where their entry refuses; both are counted.
-    fn reach(&mut self, number: u32, touch: Touch, lines: u32, tally: &mut Tally)
+    /// A row takes effect: the touched pages come in and are granted where their entry refuses, and all are counted.
+    fn reach(&mut self, active: Active, touch: Touch, lines: u32, tally: &mut Tally)
         requires sound { IsSound self.old }
+        requires active { self.old.active ≡ Some active }
+        requires rows { active.rows < self.old.turns * 1000000 }
         requires lines { lines ≤ 992 }
         requires touch { AreSome touch (line_count self.old.header.directory) }
         requires counted { (set : Lines) → Show self.old.marks set → lines ≡ size (both set (touch_lines touch)).writes }
-        requires tally { (tally.old.pages < 2000000) × (tally.old.locks < 2000000) }
+        requires tally { (tally.old.ran < 1000000) × (tally.old.pages < 4000000) × (tally.old.locks < 2000000) }
         ensures sound { IsSound self.new }
         ensures parts { KeepsParts self.old self.new }
-        ensures active { self.new.active ≡ self.old.active }
-        ensures ran { tally.new.ran ≡ tally.old.ran }
-        ensures pages { tally.new.pages ≤ tally.old.pages + 2 }
-        ensures locks { tally.new.locks ≤ tally.old.locks + 2 }
+        ensures active { self.new.active ≡ Some (record active { rows = active.rows + 1 }) }
+        ensures ran { tally.new.ran ≡ tally.old.ran + 1 }
+        ensures few_pages { tally.new.pages ≤ tally.old.pages + 4 }
+        ensures few_locks { tally.new.locks ≤ tally.old.locks + 2 }
+        ensures bytes { KeepsBytes self.old self.new }
+        ensures live { self.new.live ≡ self.old.live }
+        ensures frames { self.new.resident.frames ≡ self.old.resident.frames }
+        ensures fetched { (word : Word) → ReadsAll word → FetchesTwice word self.old.resident.frames (pages_of ((touch_lines touch).reads ++ (touch_lines touch).writes)) self.old.resident.pages.items self.new.resident.pages.items tally.old.pages tally.new.pages }
+        ensures marked { (set : Lines) → Show self.old.marks set → Show self.new.marks (both set (touch_lines touch)) }
+        ensures locks { tally.new.locks ≡ tally.old.locks + length (refused_to active.number touch (authority_told self.old.entries.entries.items)) }
+        ensures granted { (attempt : turn.Attempt) (set : Lines) → attempt.entry.number ≡ active.number → Show self.old.marks set → authority_told self.new.entries.entries.items ≡ granted attempt (with_whole_pages (both set (touch_lines touch))) (refused_to active.number touch (authority_told self.old.entries.entries.items)) (authority_told self.old.entries.entries.items) }
     {
         let pages = pages_of(touch);
         tally.pages += self.resident.fetch(pages.as_slice());
         self.marks.add(touch, lines);
-        let refused = self.entries.refused(pages.as_slice(), number, touch);
+        let refused = self.entries.refused(pages.as_slice(), active.number, touch);
         self.entries
-            .grant_all(refused.as_slice(), number, &self.marks);
+            .grant_all(refused.as_slice(), active.number, &self.marks);
         tally.locks += refused.len() as u32;
+        // A page that left while the other came in is brought in again.
+        tally.pages += self.resident.fetch(pages.as_slice());
+        self.active = Some(Active {
+            rows: active.rows + 1,
+            ..active
+        });
+        tally.ran += 1;
     }
 
     /// The commit call of the active activation: its record, and the end of the turn.
@@ -306,6 +352,12 @@ impl PrivateDesk {
         ensures parts { KeepsParts self.old self.new }
         ensures calls { CallsDisk W.Outside outside.old outside.new }
         ensures bytes { ForSome (W.held outside.new) (λ bytes. total self.new.header ≤ length bytes) }
+        ensures told { IsSome (W.held outside.old) → IsSome (W.held outside.new) }
+        ensures turned { IsTurned result }
+        ensures follows { Follows self.old → self.old.closed ≡ false → Follows self.new }
+        ensures step { Follows self.old → self.old.closed ≡ false → (word : Word) × ReadsAll word × IsCommitted word result active self.old self.new tally.old tally.new × ((word ≡ Fine) ⊎ Rose (W.disk_faults outside.old) (W.disk_faults outside.new)) }
+        ensures numbers { Follows self.old → self.old.closed ≡ false → HasNumbers result active.number (number_after self.new.opened (desk_of self.new)) }
+        ensures kept { Follows self.old → IsSome (W.held outside.old) → Keeps self.old.header self.old.used self.old.number self.old.committed (held_of W.Outside outside.old) → self.new.closed ≡ false → Keeps self.new.header self.new.used self.new.number self.new.committed (held_of W.Outside outside.new) }
     {
         let number = self.number.wrapping_add(1);
         fill_body(
@@ -315,32 +367,35 @@ impl PrivateDesk {
             self.live.store.as_slice(),
         );
         let gate = self.header.bank_at(Which::A) + 8 + u64::from(self.used);
-        let appended = append(outside, &self.header, gate, &self.body);
-        let doubt = match appended {
+        match append(outside, &self.header, gate, &self.body) {
             Appended::Done => {
                 self.settle(number, active);
                 tally.ran += 1;
-                return TurnEnd::Committed(number, active.rows + 1);
+                TurnEnd::Committed(number, active.rows + 1)
             }
             Appended::Doubt => {
-                self.enter_order(active);
-                Some(active.number)
+                self.enter_order(number, active);
+                self.closed = true;
+                let doubt = Some(active.number);
+                TurnEnd::Closed { doubt, number }
             }
-            Appended::Unwritten => None,
-        };
-        self.closed = true;
-        TurnEnd::Closed { doubt, number }
+            Appended::Unwritten => {
+                self.closed = true;
+                let doubt = None;
+                TurnEnd::Closed { doubt, number }
+            }
+        }
     }
 
-    /// The commit of the active activation enters the order.
-    fn enter_order(&mut self, active: Active)
+    /// The commit of the active activation enters the order, and its number is the store's.
+    fn enter_order(&mut self, number: u64, active: Active)
         requires rows { active.rows < 2 ^ 63 }
         ensures sound { IsSound self.old → IsSound self.new }
-        ensures parts { KeepsParts self.old self.new }
-        ensures used { self.new.used ≡ self.old.used }
-        ensures written { self.new.marks.written ≡ self.old.marks.written }
-        ensures active { self.new.active ≡ self.old.active }
+        ensures others { self.new ≡ record self.old { number = number; order = self.new.order } }
+        ensures room { vec_capacity self.old.order ≤ vec_capacity self.new.order }
+        ensures order { vec_len self.old.order < vec_capacity self.old.order → self.new.order.items ≡ self.old.order.items ++ record { activation = active.number; steps = active.rows + 1 } ∷ [] }
     {
+        self.number = number;
         let _ = self.order.push(Committed {
             activation: active.number,
             steps: active.rows + 1,
@@ -354,34 +409,51 @@ impl PrivateDesk {
         requires room { self.old.used + (132 * self.old.marks.written + 12) ≤ self.old.header.bank_bytes }
         ensures sound { IsSound self.new }
         ensures parts { KeepsParts self.old self.new }
+        ensures number { self.new.number ≡ number }
+        ensures closed { self.new.closed ≡ self.old.closed }
+        ensures live { self.new.live ≡ self.old.live }
+        ensures active { self.new.active ≡ None }
+        ensures used { self.new.used ≡ self.old.used + (11 + 132 * self.old.marks.written) }
+        ensures committed { self.new.committed ≡ self.old.live.store }
+        ensures released { authority_told self.new.entries.entries.items ≡ map (λ authority. if authority.owner == active.number then nobody else authority) (authority_told self.old.entries.entries.items) }
+        ensures resident { self.new.resident ≡ self.old.resident }
+        ensures order_room { vec_capacity self.old.order ≤ vec_capacity self.new.order }
+        ensures order { vec_len self.old.order < vec_capacity self.old.order → self.new.order.items ≡ self.old.order.items ++ record { activation = active.number; steps = active.rows + 1 } ∷ [] }
     {
-        self.enter_order(active);
+        self.enter_order(number, active);
         self.used += 11 + 132 * self.marks.written;
         self.committed.write(0, self.live.store.as_slice());
-        self.number = number;
         self.active = None;
         self.entries.release(active.number);
     }
 }
 
 /// The segment of the first window whose segment the directory lacks.
-fn absent_segment(directory: &Directory, windows: &[Option<Window>]) -> Option<u16> {
-    windows
-        .iter()
-        .flatten()
-        .map(|window| window.segment)
-        .find(|segment| directory.length_of(*segment).is_none())
+fn absent_segment(directory: &Directory, windows: &[Option<Window>]) -> Option<u16>
+    ensures { result ≡ absent_segment directory.now windows.now }
+{
+    for window in windows {
+        if let Some(Window { segment, .. }) = *window {
+            if directory.length_of(segment).is_none() {
+                return Some(segment);
+            }
+        }
+    }
+    None
 }
 
 impl Supervisor for PrivateDesk {
     ghost use Rattle.private_desk.specs.PrivateDesk.{desk_of, IsSound};
+    ghost use Rattle.private_desk.specs.Follows.{Follows};
+    ghost use Rattle.private_desk.specs.Kept.{Keeps};
+    ghost use Rattle.desk.specs.Report.{number_after};
     ghost use Rattle.store_format.specs.Header.{total};
 
     ghost desk = { desk_of };
 
     ghost sound = { IsSound };
 
-    ghost answers = { λ _. ⊥ };
+    ghost answers = { Follows };
 
     ghost programs = { λ d. d.programs.items };
 
@@ -395,9 +467,9 @@ impl Supervisor for PrivateDesk {
 
     ghost printed = { λ d. d.live.out };
 
-    ghost keeps = { λ _ _. ⊥ };
+    ghost keeps = { λ d held. Keeps d.header d.used (number_after d.opened (desk_of d)) d.committed held };
 
-    ghost keeps_what_stands = { λ _ _ kept. absurd kept };
+    ghost keeps_what_stands = { λ d held kept. kept.stand.standing };
 
     fn begin(&mut self, program: u16, args: [u32; 4]) -> Begun {
         if self.closed {

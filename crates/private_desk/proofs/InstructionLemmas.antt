@@ -1,0 +1,256 @@
+-- One instruction of a private desk is one of the desk.
+use Rattle.std.proofs.Common.{◌≡◌, ℕ, suc, ◌+◌, ◌<◌, List, [], ◌∷◌, ◌++◌, length, refl, sym, ◌∙◌, ap, subst, arith, Option, Some, None}
+use Rattle.std.specs.Prelude.{false, ◌==◌, find, slice_get, option_and_then, vec_len, vec_capacity}
+use Rattle.std.specs.Option.{option_map_or}
+use Rattle.line_geometry.specs.Directory.{Layout}
+use Rattle.line_geometry.specs.FlatStore.{FlatStore}
+use Rattle.lock_rules.specs.Sets.{size}
+use Rattle.lock_rules.specs.Lines.{Lines, no_lines, both, with_whole_pages}
+use Rattle.flat_machine.specs.declared.machine.Program.{Program}
+use Rattle.flat_machine.specs.declared.machine.Plain.{Plain}
+use Rattle.flat_machine.specs.declared.touch.Touch.{Touch}
+use Rattle.flat_machine.specs.declared.machine.Went.{Went}
+use Rattle.flat_machine.specs.Row.{Outcome, On, Commit, Check, Plan, Does, Fails, outcome_by, plan_at, row}
+use Rattle.flat_machine.specs.Touched.{touch_lines, touched, touched_by}
+use Rattle.flat_machine.specs.After.{after, next_state}
+use Rattle.flat_machine.specs.Due.{touched_within}
+use Rattle.desk.specs.Desk.{Desk, Entry, with_entry, rolled_back}
+use Rattle.desk.specs.Holdings.{wanted}
+use Rattle.desk.specs.Instruction.{Word, Counts, Turning, Going, Over, Checked, Journal, instruction, attempts, limited, limit_passed, room, lines_written, takes_effect, commits, granted}
+use Rattle.desk.specs.Instruction as desk
+use Rattle.private_desk.specs.PrivateDesk.{desk_of, entry_of, entries_told}
+use Rattle.private_desk.specs.Entries.{authority_told}
+use Rattle.private_desk.specs.Words.{ReadsAll}
+use Rattle.private_desk.specs.Follows.{Follows, IsAfter, IsAfterIf, HasPlaces, store_of}
+use Rattle.private_desk.specs.Marks.{Show}
+use Rattle.private_desk.specs.Answered.{counts_of, commit_call, instruction_of, refused_to}
+use Rattle.private_desk.specs.Running.{Runs, IsRolledBack, HasReached}
+use Rattle.private_desk.specs.declared.single.Active.{Active}
+use Rattle.private_desk.specs.declared.single.Tally.{Tally}
+use Rattle.private_desk.specs.declared.single.PrivateDesk.{PrivateDesk}
+use Rattle.private_desk.proofs.AloneLemmas.{GoesOn, find-alone, find-other, with_entry-alone, ended-alone, conflicts-alone, instruction-at, attempts-check, attempts-limited, limited-by, effect-of}
+
+-- the activation that is active runs
+pub runs : (d : PrivateDesk) (active : Active) → Follows d → d.active ≡ Some active → (program : Program) × Runs d active program
+runs d active follows is =
+    let live : IsAfter d.programs.items (store_of d) active d.live d.marks = subst (λ (one : Option Active). IsAfterIf d.programs.items (store_of d) one d.live d.marks) is follows.live in
+    (live.program, record { active_is = is; named = live.named; state = live.state; marked = live.marked })
+
+-- and it runs the program that its number names
+pub runs_as : (d : PrivateDesk) (active : Active) (program : Program) → Follows d → d.active ≡ Some active → slice_get d.programs.items active.program ≡ Some program → Runs d active program
+runs_as d active program follows is named =
+    let (other, on) = runs d active follows is in
+    let same : other ≡ program = cc in
+    subst (λ (p : Program). Runs d active p) same on
+
+-- an activation with another number, or none, is not active
+pub find-not_active : (d : PrivateDesk) (number : ℕ) → ((active : Active) → d.active ≡ Some active → (active.number == number) ≡ false)
+    → find (λ (entry : Entry). entry.number == number) (desk_of d).active ≡ None
+find-not_active d number other = by_active d.active refl
+  where
+    by_program : (active : Active) (program : Option Program) → (active.number == number) ≡ false
+        → find (λ (entry : Entry). entry.number == number) (option_map_or (λ (p : Program). entry_of active p ∷ []) program []) ≡ None
+    by_program active None not = refl
+    by_program active (Some program) not = find-other (entry_of active program) (entry_of active program ∷ []) number refl not
+
+    by_active : (one : Option Active) → d.active ≡ one → find (λ (entry : Entry). entry.number == number) (entries_told d.programs.items d.active) ≡ None
+    by_active None is = ap (λ (these : Option Active). find (λ (entry : Entry). entry.number == number) (entries_told d.programs.items these)) is
+    by_active (Some active) is =
+        ap (λ (these : Option Active). find (λ (entry : Entry). entry.number == number) (entries_told d.programs.items these)) is
+        ∙ by_program active (slice_get d.programs.items active.program) (other active is)
+
+-- no option but none
+pub none-of : (option : Option ℕ) → ((n : ℕ) → option ≡ Some n → ⊥) → option ≡ None
+none-of None not = refl
+none-of (Some n) not = absurd (not n refl)
+
+-- it is the only entry
+pub entries-alone : (d : PrivateDesk) (active : Active) (program : Program) → Runs d active program → (desk_of d).active ≡ entry_of active program ∷ []
+entries-alone d active program on = ap (entries_told d.programs.items) on.active_is ∙ ap (λ (these : Option Program). option_map_or (λ (p : Program). entry_of active p ∷ []) these []) on.named
+
+-- desks whose parts are equal
+pub same_desk : (one other : Desk) → one.frames ≡ other.frames → one.most_active ≡ other.most_active → one.bank_bytes ≡ other.bank_bytes → one.used ≡ other.used
+    → one.committed ≡ other.committed → one.order ≡ other.order → one.active ≡ other.active → one.authority ≡ other.authority → one.resident ≡ other.resident
+    → one.next ≡ other.next → one.closed ≡ other.closed → one ≡ other
+same_desk one other a b c d e f g h j k l =
+    λ i. record {
+      frames = a i;
+      most_active = b i;
+      bank_bytes = c i;
+      used = d i;
+      committed = e i;
+      order = f i;
+      active = g i;
+      authority = h i;
+      resident = j i;
+      next = k i;
+      closed = l i;
+    }
+
+-- the commit call touches nothing
+touched-commit : (program : Program) (directory : Layout) (outcome : Outcome) (plan : Plan) → outcome ≡ Commit → touched_by program directory outcome plan ≡ no_lines
+touched-commit program directory outcome (Does effect next link) is = ap (λ (this : Outcome). touched_by program directory this (Does effect next link)) is
+touched-commit program directory outcome (Fails code) is = ap (λ (this : Outcome). touched_by program directory this (Fails code)) is
+
+-- a row that isn't a check goes on, or to the commit call
+pub goes : (went : Went) (new : Plain) → ((code : ℕ) → went ≡ Went.Check code → ⊥) → GoesOn (outcome_by went new)
+goes Went.On new not_check = tt
+goes Went.Commit new not_check = tt
+goes (Went.Check code) new not_check = absurd (not_check code refl)
+
+-- and where it isn't the commit call, it goes on
+pub goes-on : (went : Went) (new : Plain) → ((code : ℕ) → went ≡ Went.Check code → ⊥) → (went ≡ Went.Commit → ⊥) → outcome_by went new ≡ On new
+goes-on Went.On new not_check not_commit = refl
+goes-on Went.Commit new not_check not_commit = absurd (not_commit refl)
+goes-on (Went.Check code) new not_check not_commit = absurd (not_check code refl)
+
+module _ (word : Word) (d : PrivateDesk) (active : Active) (program : Program) (on : Runs d active program) (tally : Tally) where
+  abbrev entry : Entry
+  entry = entry_of active program
+
+  abbrev attempt : desk.Attempt
+  attempt = record { entry = entry; now = d.live; outcome = row program d.header.directory d.live; lines = wanted (desk_of d) entry }
+
+  alone : (desk_of d).active ≡ entry ∷ []
+  alone = entries-alone d active program on
+
+  first : instruction_of word active.number d tally ≡ attempts word attempt attempt.outcome (desk_of d) (counts_of tally)
+  first =
+      ap (λ (one : Option Entry). instruction word one (desk_of d) (counts_of tally)) (find-alone entry (desk_of d).active active.number alone refl)
+      ∙ instruction-at word entry (desk_of d) (counts_of tally) d.live on.state
+
+  rolled : (live : Plain) (new : PrivateDesk) → IsRolledBack (record d { live = live }) active.number new → desk_of new ≡ rolled_back (desk_of d) entry
+  rolled live new back =
+      same_desk (desk_of new) (rolled_back (desk_of d) entry) back.frames refl (cc) (cc) (cc) (cc)
+      (ap (entries_told new.programs.items) back.active ∙ sym (ended-alone (desk_of d) entry active.number alone refl))
+      back.released
+      (back.resident (touched_within program active.args (store_of d) active.rows) on.marked)
+      (cc) (cc)
+
+  -- a program check
+  pub checked : (code : ℕ) (live : Plain) (new : PrivateDesk) → row program d.header.directory d.live ≡ Check code → IsRolledBack (record d { live = live }) active.number new
+      → instruction_of word active.number d tally ≡ Over (desk_of new) (counts_of tally) (Checked code d.live.iar)
+  checked code live new is back =
+      first
+      ∙ attempts-check word attempt (desk_of d) (counts_of tally) code attempt.outcome is
+      ∙ ap (λ (left : Desk). Over left (counts_of tally) (Checked code d.live.iar)) (sym (rolled live new back))
+
+  module _ (touch : Touch) (lines : ℕ) (touches : touch_lines touch ≡ touched program d.header.directory d.live)
+      (counted : lines ≡ size (both (touched_within program active.args (store_of d) active.rows) (touch_lines touch)).writes) where
+    -- the instruction under way, with the lines of the touch
+    abbrev touching : desk.Attempt
+    touching = record { entry = entry; now = d.live; outcome = row program d.header.directory d.live; lines = touch_lines touch }
+
+    lines-are : wanted (desk_of d) entry ≡ touch_lines touch
+    lines-are = ap (λ (state : Option Plain). option_map_or (touched program d.header.directory) state no_lines) on.state ∙ sym touches
+
+    limited-first : GoesOn (row program d.header.directory d.live)
+        → instruction_of word active.number d tally ≡ limited (limit_passed (room (desk_of d)) (lines_written touching (desk_of d))) word touching (desk_of d) (counts_of tally)
+    limited-first goes =
+        first
+        ∙ ap (λ (these : Lines). attempts word (record { entry = entry; now = d.live; outcome = attempt.outcome; lines = these }) attempt.outcome (desk_of d) (counts_of tally)) lines-are
+        ∙ attempts-limited word touching (desk_of d) (counts_of tally) attempt.outcome goes
+
+    -- more lines than a record may have
+    pub journalled : (most : ℕ) (live : Plain) (new : PrivateDesk) → GoesOn (row program d.header.directory d.live) → Some most ≡ limit_passed (room (desk_of d)) lines → IsRolledBack (record d { live = live }) active.number new
+        → instruction_of word active.number d tally ≡ Over (desk_of new) (counts_of tally) (Journal lines most)
+    journalled most live new goes past back =
+        limited-first goes
+        ∙ limited-by word touching (desk_of d) (counts_of tally) most (ap (limit_passed (room (desk_of d))) (sym counted) ∙ sym past)
+        ∙ ap (λ (left : Desk). Over left (counts_of tally) (Journal (lines_written touching (desk_of d)) most)) (sym (rolled live new back))
+        ∙ ap (λ (n : ℕ). Over (desk_of new) (counts_of tally) (Journal n most)) (sym counted)
+
+    abbrev limited_at : desk.Attempt → Turning
+    limited_at this = limited (limit_passed (room (desk_of d)) (lines_written this (desk_of d))) word this (desk_of d) (counts_of tally)
+
+    -- the commit call
+    pub at_commit : row program d.header.directory d.live ≡ Commit → None ≡ limit_passed (room (desk_of d)) lines
+        → instruction_of word active.number d tally ≡ commits word (commit_call active program d.live) (desk_of d) (counts_of tally)
+    at_commit is within =
+        let nothing : touch_lines touch ≡ no_lines = touches ∙ touched-commit program d.header.directory (row program d.header.directory d.live) (plan_at d.live) is in
+        let call = commit_call active program d.live in
+        limited-first (subst GoesOn (sym is) tt)
+        ∙ ap (λ (outcome : Outcome). limited_at (record { entry = entry; now = d.live; outcome = outcome; lines = touch_lines touch })) is
+        ∙ ap (λ (these : Lines). limited_at (record { entry = entry; now = d.live; outcome = Commit; lines = these })) nothing
+        ∙ effect-of word call (desk_of d) (counts_of tally) d.resident.pages.items d.resident.pages.items tally.pages tally.pages
+        (ap (λ (these : Lines). limit_passed (room (desk_of d)) (size (both (touched_within program active.args (store_of d) active.rows) these).writes)) (sym nothing)
+        ∙ ap (limit_passed (room (desk_of d))) (sym counted) ∙ sym within)
+        refl refl (conflicts-alone (desk_of d) entry alone)
+        ∙ ap (λ (n : ℕ). commits word call (desk_of d) (record { ran = tally.ran; pages = tally.pages; locks = n; cycles = [] })) (omega arith)
+    abbrev refused : List ℕ
+    refused = refused_to active.number touch (authority_told d.entries.entries.items)
+
+    abbrev more : Active
+    more = record active { rows = active.rows + 1 }
+
+    -- the desk and the counts before the row takes effect
+    module _ (next : Plain) (new : PrivateDesk) (now : Tally) (reached : HasReached (record d { live = next }) active touch new tally now) where
+      abbrev left : Desk
+      left = record (desk_of d) {
+        resident = new.resident.pages.items;
+        authority = granted touching (with_whole_pages (both (touched_within program active.args (store_of d) active.rows) (touch_lines touch))) refused (authority_told d.entries.entries.items);
+      }
+
+      abbrev counts_left : Counts
+      counts_left = record (counts_of tally) { pages = now.pages; locks = tally.locks + length refused }
+
+      active-is : entries_told new.programs.items new.active ≡ entry_of more program ∷ []
+      active-is =
+          ap (entries_told new.programs.items) reached.active
+          ∙ ap (λ (programs : List Program). entries_told programs (Some more)) reached.parts.programs
+          ∙ ap (λ (these : Option Program). option_map_or (λ (p : Program). entry_of more p ∷ []) these []) on.named
+
+      left-is : with_entry left (entry_of more program) ≡ desk_of new
+      left-is =
+          same_desk (with_entry left (entry_of more program)) (desk_of new) (sym reached.frames) refl (cc) (sym reached.bytes.used) (cc) (cc)
+          (with_entry-alone left entry (entry_of more program) alone refl ∙ sym active-is)
+          (sym (reached.granted_to touching (touched_within program active.args (store_of d) active.rows) refl on.marked))
+          refl
+          (sym reached.parts.next) (sym reached.bytes.closed)
+
+      counts-are : record counts_left { ran = tally.ran + 1 } ≡ counts_of now
+      counts-are = λ i. record { ran = sym reached.ran i; pages = now.pages; locks = sym reached.locks i; cycles = [] }
+
+      -- a row that goes on
+      pub went_on : ReadsAll word → row program d.header.directory d.live ≡ On next → None ≡ limit_passed (room (desk_of d)) lines
+          → instruction_of word active.number d tally ≡ Going (desk_of new) (counts_of now)
+      went_on reads is within =
+          let (between, first_counted, fetched, again) = reached.fetched word reads in
+          limited-first (subst GoesOn (sym is) tt)
+          ∙ effect-of word touching (desk_of d) (counts_of tally) between new.resident.pages.items first_counted now.pages
+          (ap (limit_passed (room (desk_of d))) (sym counted) ∙ sym within) fetched again (conflicts-alone (desk_of d) entry alone)
+          ∙ ap (λ (outcome : Outcome). takes_effect word touching outcome left counts_left) is
+          ∙ ap (λ (after_row : Desk). Going after_row (record counts_left { ran = tally.ran + 1 })) left-is
+          ∙ ap (Going (desk_of new)) counts-are
+
+      -- the state after it is the live one, and the marks are those of the lines touched so far
+      pub follows_more : Follows d → touch_lines touch ≡ touched program d.header.directory d.live → row program d.header.directory d.live ≡ On next → Follows new
+      follows_more follows touches is =
+          let store = store_of d in
+          let args = active.args in
+          let suc-rows : active.rows + 1 ≡ suc active.rows = omega arith in
+          let store-is : store_of new ≡ store = cc in
+          let state-is : after program args store (active.rows + 1) ≡ Some new.live =
+          ap (after program args store) suc-rows
+          ∙ ap (λ (state : Option Plain). option_and_then (λ (s : Plain). next_state (row program d.header.directory s)) state) on.state
+          ∙ ap next_state is
+          ∙ ap Some (sym reached.live) in
+          let marks-are : touched_within program args store (active.rows + 1) ≡ both (touched_within program args store active.rows) (touch_lines touch) =
+          ap (touched_within program args store) suc-rows ∙ ap (both (touched_within program args store active.rows)) lines-are in
+          let live : IsAfter new.programs.items (store_of new) more new.live new.marks = record {
+            program = program;
+            named = ap (λ (programs : List Program). slice_get programs active.program) reached.parts.programs ∙ on.named;
+            state = ap (λ (s : FlatStore). after program args s (active.rows + 1)) store-is ∙ state-is;
+            marked = subst (Show new.marks) (sym (ap (λ (s : FlatStore). touched_within program args s (active.rows + 1)) store-is ∙ marks-are)) (reached.marked (touched_within program args store active.rows) on.marked);
+          } in
+          record {
+            live = subst (λ (one : Option Active). IsAfterIf new.programs.items (store_of new) one new.live new.marks) (sym reached.active) live;
+            number = cc;
+            places = λ still. places-more still;
+            room = omega (arith, ap vec_capacity reached.bytes.order, reached.parts.begins, follows.room);
+          }
+        where
+          places-more : new.closed ≡ false → HasPlaces new.active (vec_len new.order) new.next
+          places-more still =
+              let places : vec_len d.order + 1 < d.next = subst (λ (one : Option Active). HasPlaces one (vec_len d.order) d.next) on.active_is (follows.places (sym reached.bytes.closed ∙ still)) in
+              subst (λ (one : Option Active). HasPlaces one (vec_len new.order) new.next) (sym reached.active) (omega (arith, places, ap vec_len reached.bytes.order, reached.parts.next))

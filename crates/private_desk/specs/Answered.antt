@@ -1,0 +1,73 @@
+-- What the steps of a turn of a private desk are, as steps of the desk.
+use Rattle.std.specs.Prelude.{◌≡◌, ℕ, ◌==◌, List, [], ◌++◌, slice_get, slice_index_or, filter, find, Some}
+use Rattle.flat_machine.specs.declared.machine.Plain.{Plain}
+use Rattle.flat_machine.specs.declared.machine.Program.{Program}
+use Rattle.flat_machine.specs.Row as row
+use Rattle.flat_machine.specs.declared.touch.Touch.{Touch}
+use Rattle.flat_machine.specs.Touched.{touch_lines}
+use Rattle.lock_rules.specs.Lines.{no_lines, pages_of}
+use Rattle.desk.specs.declared.answers.TurnEnd.{TurnEnd}
+use Rattle.desk.specs.Desk.{Entry, Authority, nobody}
+use Rattle.desk.specs.Instruction as desk
+use Rattle.desk.specs.Instruction.{Word, Counts, Turning, Going, Over, instruction, commits, refuses, lines_within, turn}
+use Rattle.desk.specs.Answers.{ending_told}
+use Rattle.private_desk.specs.PrivateDesk.{desk_of, entry_of}
+use Rattle.private_desk.specs.Words.{ReadsAll}
+use Rattle.private_desk.specs.declared.single.Active.{Active}
+use Rattle.private_desk.specs.declared.single.Attempt.{Attempt}
+use Rattle.private_desk.specs.declared.single.Attempt.TheVariants as attempt
+use Rattle.private_desk.specs.declared.single.Stop.{Stop}
+use Rattle.private_desk.specs.declared.single.Stop.TheVariants as stop
+use Rattle.private_desk.specs.declared.single.Tally.{Tally}
+use Rattle.private_desk.specs.declared.single.PrivateDesk.{PrivateDesk}
+
+-- what a turn has counted
+abbrev pub counts_of : Tally → Counts
+counts_of tally = record { ran = tally.ran; pages = tally.pages; locks = tally.locks; cycles = [] }
+
+-- the commit call of an activation that runs a program, at its state
+abbrev pub commit_call : Active → Program → Plain → desk.Attempt
+commit_call active program live = record { entry = entry_of active program; now = live; outcome = row.Commit; lines = no_lines }
+
+-- the desk is at the commit call of an activation
+abbrev pub IsAtCommit : Word → Turning → Active → PrivateDesk → Tally → Type 0
+IsAtCommit word turning active d tally =
+    (program : Program) → slice_get d.programs.items active.program ≡ Some program
+    → turning ≡ commits word (commit_call active program d.live) (desk_of d) (counts_of tally)
+
+-- an instruction of the activation with a number
+abbrev pub instruction_of : Word → ℕ → PrivateDesk → Tally → Turning
+instruction_of word number d tally = instruction word (find (λ (entry : Entry). entry.number == number) (desk_of d).active) (desk_of d) (counts_of tally)
+
+-- what an attempt did is an instruction of the desk
+abbrev pub IsInstruction : Word → Attempt → Active → (old new : PrivateDesk) → (before now : Tally) → Type 0
+IsInstruction word attempt.On active old new before now = instruction_of word active.number old before ≡ Going (desk_of new) (counts_of now)
+IsInstruction word attempt.Commit active old new before now = IsAtCommit word (instruction_of word active.number old before) active new now
+IsInstruction word (attempt.Over end) active old new before now =
+    (printed : List ℕ) → instruction_of word active.number old before ≡ Over (desk_of new) (counts_of now) (ending_told end printed)
+
+-- where instructions stopped is where the turn of the desk is
+abbrev pub IsTurn : Word → Stop → (activation limit : ℕ) → (old new : PrivateDesk) → Tally → Type 0
+IsTurn word (stop.Over end) activation limit old new now =
+    (printed : List ℕ) → turn word activation limit (desk_of old) ≡ Over (desk_of new) (counts_of now) (ending_told end printed)
+IsTurn word (stop.Commit active) activation limit old new now =
+    IsAtCommit word (turn word activation limit (desk_of old)) active new now
+
+-- what a commit came to is what becomes of the commit call
+abbrev pub IsCommitted : Word → TurnEnd → Active → (old new : PrivateDesk) → (before now : Tally) → Type 0
+IsCommitted word end active old new before now =
+    (program : Program) → slice_get old.programs.items active.program ≡ Some program
+    → commits word (commit_call active program old.live) (desk_of old) (counts_of before)
+    ≡ Over (desk_of new) (counts_of now) (ending_told end new.live.out)
+
+-- the activation at its commit call has this number
+abbrev pub IsOfActivation : Stop → ℕ → Type 0
+IsOfActivation (stop.Over end) number = Unit {0}
+IsOfActivation (stop.Commit active) number = active.number ≡ number
+
+-- the touched pages whose authority refuses an activation a touched line
+abbrev pub refused_to : (number : ℕ) → Touch → List Authority → List ℕ
+refused_to number touch authority =
+    filter
+    (λ page. refuses (slice_index_or authority page nobody) number (lines_within page (touch_lines touch)))
+    (pages_of ((touch_lines touch).reads ++ (touch_lines touch).writes))

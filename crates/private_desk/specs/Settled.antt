@@ -1,0 +1,21 @@
+-- What the commit of an activation leaves.
+use Rattle.std.specs.Prelude.{◌≡◌, ℕ, ◌+◌, ◌*◌, ◌<◌, ◌≤◌, ◌==◌, ◌++◌, [], ◌∷◌, map, if◌then◌else◌, None, vec_len, vec_capacity}
+use Rattle.desk.specs.Desk.{nobody}
+use Rattle.private_desk.specs.Attempts.{KeepsParts}
+use Rattle.private_desk.specs.Entries.{authority_told}
+use Rattle.private_desk.specs.declared.single.Active.{Active}
+use Rattle.private_desk.specs.declared.single.PrivateDesk.{PrivateDesk}
+
+-- the activation ended with its commit: its bytes are committed, and its record is used
+pub record HasSettled (old : PrivateDesk) (runner : Active) (number : ℕ) (new : PrivateDesk) : Type 0 where
+  pub parts : KeepsParts old new
+  pub number_is : new.number ≡ number
+  pub closed : new.closed ≡ old.closed
+  pub live : new.live ≡ old.live
+  pub active : new.active ≡ None
+  pub used : new.used ≡ old.used + (11 + 132 * old.marks.written)
+  pub committed : new.committed ≡ old.live.store
+  pub released : authority_told new.entries.entries.items ≡ map (λ authority. if authority.owner == runner.number then nobody else authority) (authority_told old.entries.entries.items)
+  pub resident : new.resident ≡ old.resident
+  pub order_room : vec_capacity old.order ≤ vec_capacity new.order
+  pub order : vec_len old.order < vec_capacity old.order → new.order.items ≡ old.order.items ++ record { activation = runner.number; steps = runner.rows + 1 } ∷ []
