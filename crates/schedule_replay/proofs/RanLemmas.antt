@@ -20,8 +20,8 @@ use Rattle.desk.specs.Instruction.{Word, Fine, ReadFailed, Unwritten, Doubt, Fai
 use Rattle.desk.specs.Run.{Step, run, step, faulted, OpenBeforeEach}
 use Rattle.desk.specs.Answers.{begun_told, turn_told, HasNumbers}
 use Rattle.desk.specs.Lines.{Line, line_text}
-use Rattle.desk.specs.Report.{number_after, happening_lines}
-use Rattle.schedule_replay.specs.Lines.{event_lines, is_closing}
+use Rattle.desk.specs.Report.{number_after, happening_lines, event_lines}
+use Rattle.schedule_replay.specs.Lines.{is_closing}
 use Rattle.schedule_replay.specs.Puts.{OnlyPuts, number_told}
 use Rattle.schedule_replay.specs.Ran.{Ran}
 use Rattle.schedule_replay.proofs.PutsLemmas.{prints_same, prints_on}

@@ -11,9 +11,9 @@ use Rattle.desk.specs.declared.supervisor.Supervisor as desk
 use Rattle.desk.specs.Desk.{Desk}
 use Rattle.desk.specs.Holdings.{numbers}
 use Rattle.desk.specs.Lines.{Line, Open, Left, End, line_text}
-use Rattle.desk.specs.Report.{number_after, lines_from, report}
+use Rattle.desk.specs.Report.{number_after, lines_from, report, event_lines}
 use Rattle.schedule_replay.specs.declared.events.Going.{Going}
-use Rattle.schedule_replay.specs.Lines.{event_lines, closing_lines}
+use Rattle.schedule_replay.specs.Lines.{closing_lines}
 use Rattle.schedule_replay.specs.Ran.{Ran, HasOpened}
 use Rattle.schedule_replay.specs.Replays.{Reports, is_closed}
 use Rattle.schedule_replay.proofs.PutsLemmas.{done, prints_same, prints_on, prints_stop}

@@ -11,8 +11,8 @@ use Rattle.desk.specs.Holdings.{numbers}
 use Rattle.desk.specs.Instruction.{Word}
 use Rattle.desk.specs.Run.{run, step, is_fine, faulted, OpenBeforeEach}
 use Rattle.desk.specs.Lines.{Line, Open, Left, End, line_text}
-use Rattle.desk.specs.Report.{number_after, happening_lines, lines_from, report}
-use Rattle.schedule_replay.specs.Lines.{event_lines, closing_lines}
+use Rattle.desk.specs.Report.{number_after, happening_lines, lines_from, report, event_lines}
+use Rattle.schedule_replay.specs.Lines.{closing_lines}
 
 module _ (programs : List Program) where
   pub run_on : (xs ys : List (Event × Word)) (desk : Desk) → run programs (xs ++ ys) desk ≡ run programs ys (run programs xs desk)

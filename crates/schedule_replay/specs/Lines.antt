@@ -17,13 +17,6 @@ closes CommitUnwritten = true
 closes CommitDoubted = true
 closes _ = false
 
--- the lines of a run's events, without those of its end
-abbrev pub event_lines : List (List ℕ) → List Program → ℕ → List (Event × Word) → Desk → List Line
-event_lines names programs number [] desk = []
-event_lines names programs number (event ∷ events) desk =
-    let after = step programs event.0 event.1 desk in
-    happening_lines names (number_after number after.desk) after.happening ++ event_lines names programs number events after.desk
-
 -- the lines of the end of a run
 abbrev pub closing_lines : ℕ → Desk → List Line
 closing_lines number desk = if desk.closed then [] else map Left (numbers desk) ++ End (number_after number desk) ∷ []

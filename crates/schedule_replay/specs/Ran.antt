@@ -11,8 +11,7 @@ use Rattle.desk.specs.declared.supervisor.Supervisor as desk
 use Rattle.desk.specs.Instruction.{Word}
 use Rattle.desk.specs.Run.{run, faulted, OpenBeforeEach}
 use Rattle.desk.specs.Lines.{line_text}
-use Rattle.desk.specs.Report.{number_after}
-use Rattle.schedule_replay.specs.Lines.{event_lines}
+use Rattle.desk.specs.Report.{number_after, event_lines}
 
 -- while the desk is open, it keeps the bytes that are told, where it kept them before
 abbrev pub Kept : {D W : Type 0} → desk.Ghosts D → Ghosts W → D → D → W → W → Type 0

@@ -4,7 +4,7 @@ use Rattle.std.specs.List.{flat_map}
 use Rattle.outside.specs.Bytes.{Prints}
 use Rattle.desk.specs.Lines.{line_text}
 use Rattle.schedule_replay.specs.declared.events.Going.TheVariants as going
-use Rattle.schedule_replay.specs.Lines.{event_lines, closing_lines}
+use Rattle.schedule_replay.specs.Lines.{closing_lines}
 use Rattle.schedule_replay.specs.Replays.{is_closed}
 use Rattle.schedule_replay.proofs.PutsLemmas.{prints_same, prints_on, prints_stop, prints_broken, prints_well}
 use Rattle.schedule_replay.proofs.ReportLemmas.{if_ok_broken, no_closing, opens, reports_none, reports_of}
