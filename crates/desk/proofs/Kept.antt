@@ -11,6 +11,7 @@ use Rattle.lock_rules.specs.Waits.{shown_cycle, victim_of}
 use Rattle.store_format.specs.Bank.{record_bytes}
 use Rattle.desk.specs.Desk.{Desk, Entry, with_entry, ended, rolled_back}
 use Rattle.desk.specs.Holdings.{wanted, numbers, waits_for, conflicts_of}
+use Rattle.desk.specs.Run.{is_fine}
 use Rattle.desk.specs.Instruction.{Word, Fine, ReadFailed, Unwritten, Doubt, Failed, Counts, Ending, Idle, Limit, Checked, Journal, Disk, Victim, Waits, Committed, CommitUnwritten, CommitDoubted, Turning, Going, Over, Attempt, Fetching, Fetched, Broken, Contest, Contested, Settled, Lost, attempts, attempts_at, instruction, turns, turn, limited, limit_passed, room, lines_written, fetched_first, fetches_touched, counts_refused, asks, gets, goes_on, takes_effect, commits, breaks, breaks_cycle, breaks_cycles, contest_ends, ordered, waits_or_gets, with_grants, refused_pages, no_counts}
 
 -- each active entry runs the activation of its number
@@ -27,7 +28,8 @@ pub record Moves (all : List Activation) (old new : Desk) : Type 0 where
   pub numbered_all : AreNumbered all old.active → AreNumbered all new.active
 
 -- a step that ends the desk without a commit
-pub record Shuts (old new : Desk) : Type 0 where
+pub record Shuts (word : Word) (old new : Desk) : Type 0 where
+  pub broken : is_fine word ≡ false
   pub committed : new.committed ≡ old.committed
   pub order : new.order ≡ old.order
   pub closed : new.closed ≡ true
@@ -50,23 +52,24 @@ pub record Commits (all : List Activation) (activation steps : ℕ) (out : List 
   pub numbered_all : AreNumbered all old.active → AreNumbered all new.active
 
 -- a commit in doubt
-pub record Doubts (all : List Activation) (activation : ℕ) (old new : Desk) : Type 0 where
+pub record Doubts (all : List Activation) (word : Word) (activation : ℕ) (old new : Desk) : Type 0 where
+  pub broken : is_fine word ≡ false
   pub steps : ℕ
   pub ordered_as : Ordered all activation steps old new
   pub committed : new.committed ≡ old.committed
   pub closed : new.closed ≡ true
 
 -- what an end of a turn of an activation did
-abbrev pub Ends : List Activation → ℕ → Desk → Desk → Ending → Type 0
-Ends all activation old new (Committed steps out) = Commits all activation steps out old new
-Ends all activation old new CommitUnwritten = Shuts old new
-Ends all activation old new CommitDoubted = Doubts all activation old new
-Ends all activation old new _ = Moves all old new
+abbrev pub Ends : List Activation → Word → ℕ → Desk → Desk → Ending → Type 0
+Ends all word activation old new (Committed steps out) = Commits all activation steps out old new
+Ends all word activation old new CommitUnwritten = Shuts word old new
+Ends all word activation old new CommitDoubted = Doubts all word activation old new
+Ends all word activation old new _ = Moves all old new
 
 -- what a turn under way, or over, did
-abbrev pub Does : List Activation → ℕ → Desk → Turning → Type 0
-Does all activation old (Going desk counts) = Moves all old desk
-Does all activation old (Over desk counts ending) = Ends all activation old desk ending
+abbrev pub Does : List Activation → Word → ℕ → Desk → Turning → Type 0
+Does all word activation old (Going desk counts) = Moves all old desk
+Does all word activation old (Over desk counts ending) = Ends all word activation old desk ending
 
 -- what a contest did
 abbrev pub Contests : List Activation → Desk → Contest → Type 0
@@ -177,36 +180,37 @@ module _ (all : List Activation) (activation : ℕ) (word : Word) (attempt : Att
     numbered_all = λ are. filtered all (λ (entry : Entry). not (entry.number == attempt.entry.number)) desk.active (moves.numbered_all are);
   }
 
-  does-commit : (word : Word) (desk : Desk) (counts : Counts) → attempt.outcome ≡ Commit → Moves all old desk → Does all activation old (commits word attempt desk counts)
+  does-commit : (word : Word) (desk : Desk) (counts : Counts) → attempt.outcome ≡ Commit → Moves all old desk → Does all word activation old (commits word attempt desk counts)
   does-commit Fine desk counts is moves = done desk is moves
   does-commit (ReadFailed page) desk counts is moves = done desk is moves
   does-commit Failed desk counts is moves = done desk is moves
-  does-commit Unwritten desk counts is moves = record { committed = moves.committed; order = moves.order; closed = refl }
+  does-commit Unwritten desk counts is moves = record { broken = refl; committed = moves.committed; order = moves.order; closed = refl }
   does-commit Doubt desk counts is moves = record {
+    broken = refl;
     steps = attempt.entry.rows + 1;
     ordered_as = record { state = attempt.now; commits_at = commits_here is; order = order-is desk moves };
     committed = moves.committed;
     closed = refl;
   }
 
-  does-effect : (desk : Desk) (counts : Counts) (outcome : Outcome) → attempt.outcome ≡ outcome → Moves all old desk → Does all activation old (takes_effect word attempt outcome desk counts)
+  does-effect : (desk : Desk) (counts : Counts) (outcome : Outcome) → attempt.outcome ≡ outcome → Moves all old desk → Does all word activation old (takes_effect word attempt outcome desk counts)
   does-effect desk counts (On next) is moves = moves-on all old desk _ moves (moves-with all desk (record attempt.entry { rows = attempt.entry.rows + 1; waiting = false }) named)
   does-effect desk counts Commit is moves = does-commit word desk counts is moves
   does-effect desk counts (Check code) is moves = moves-on all old desk _ moves (moves-rolled all desk attempt.entry)
 
   -- a page that can't be read
-  does-break : (desk : Desk) (counts : Counts) (counted : ℕ) → Moves all old desk → Does all activation old (breaks attempt desk counts counted)
+  does-break : (desk : Desk) (counts : Counts) (counted : ℕ) → Moves all old desk → Does all word activation old (breaks attempt desk counts counted)
   does-break desk counts counted moves =
       let back = moves-on all old desk (rolled_back desk attempt.entry) moves (moves-rolled all desk attempt.entry) in
       record { committed = back.committed; order = back.order; next = back.next; closed = back.closed; numbered_all = back.numbered_all }
 
-  does-on : (desk : Desk) (counts : Counts) (fetching : Fetching) → Moves all old desk → Does all activation old (goes_on word attempt desk counts fetching)
+  does-on : (desk : Desk) (counts : Counts) (fetching : Fetching) → Moves all old desk → Does all word activation old (goes_on word attempt desk counts fetching)
   does-on desk counts (Fetched resident counted) moves =
       does-effect (record desk { resident = resident }) (record counts { pages = counted }) attempt.outcome refl
       (record { committed = moves.committed; order = moves.order; next = moves.next; closed = moves.closed; numbered_all = moves.numbered_all })
   does-on desk counts (Broken counted) moves = does-break desk counts counted moves
 
-  does-get : (refused : List ℕ) (desk : Desk) (counts : Counts) → Moves all old desk → Does all activation old (gets word attempt refused desk counts)
+  does-get : (refused : List ℕ) (desk : Desk) (counts : Counts) → Moves all old desk → Does all word activation old (gets word attempt refused desk counts)
   does-get refused desk counts moves =
       does-on (with_grants attempt refused desk) counts (fetches_touched word attempt (with_grants attempt refused desk) counts)
       (record { committed = moves.committed; order = moves.order; next = moves.next; closed = moves.closed; numbered_all = moves.numbered_all })
@@ -231,23 +235,23 @@ module _ (all : List Activation) (activation : ℕ) (word : Word) (attempt : Att
   contests-all (suc left) number (Settled desk counts) is = is
   contests-all (suc left) number (Lost desk counts) is = is
 
-  does-wait : (refused holders : List ℕ) (desk : Desk) (counts : Counts) → Moves all old desk → Does all activation old (waits_or_gets word attempt refused holders desk counts)
+  does-wait : (refused holders : List ℕ) (desk : Desk) (counts : Counts) → Moves all old desk → Does all word activation old (waits_or_gets word attempt refused holders desk counts)
   does-wait refused [] desk counts moves = does-get refused desk counts moves
   does-wait refused (holder ∷ holders) desk counts moves = moves
 
-  does-contest : (refused : List ℕ) (contest : Contest) → Contests all old contest → Does all activation old (contest_ends word attempt refused contest)
+  does-contest : (refused : List ℕ) (contest : Contest) → Contests all old contest → Does all word activation old (contest_ends word attempt refused contest)
   does-contest refused (Lost desk counts) moves = moves
   does-contest refused (Settled desk counts) moves = does-wait refused (conflicts_of desk attempt.entry) desk counts moves
   does-contest refused (Contested desk counts) moves = does-wait refused (conflicts_of desk attempt.entry) desk counts moves
 
-  does-ask : (refused holders : List ℕ) (desk : Desk) (counts : Counts) → Moves all old desk → Does all activation old (asks word attempt refused holders desk counts)
+  does-ask : (refused holders : List ℕ) (desk : Desk) (counts : Counts) → Moves all old desk → Does all word activation old (asks word attempt refused holders desk counts)
   does-ask refused [] desk counts moves = does-get refused desk counts moves
   does-ask refused (holder ∷ holders) desk counts moves =
       does-contest refused _
       (contests-all (length desk.active) attempt.entry.number (Contested (with_entry desk (record attempt.entry { waiting = true })) counts)
       (moves-on all old desk _ moves (moves-with all desk (record attempt.entry { waiting = true }) named)))
 
-  does-fetch : (desk : Desk) (counts : Counts) (fetching : Fetching) → Moves all old desk → Does all activation old (fetched_first word attempt desk counts fetching)
+  does-fetch : (desk : Desk) (counts : Counts) (fetching : Fetching) → Moves all old desk → Does all word activation old (fetched_first word attempt desk counts fetching)
   does-fetch desk counts (Fetched resident counted) moves =
       let there = record desk { resident = resident } in
       does-ask (refused_pages attempt there) (conflicts_of there attempt.entry) there
@@ -255,36 +259,36 @@ module _ (all : List Activation) (activation : ℕ) (word : Word) (attempt : Att
       (record { committed = moves.committed; order = moves.order; next = moves.next; closed = moves.closed; numbered_all = moves.numbered_all })
   does-fetch desk counts (Broken counted) moves = does-break desk counts counted moves
 
-  does-limit : (limit : Option ℕ) (desk : Desk) (counts : Counts) → Moves all old desk → Does all activation old (limited limit word attempt desk counts)
+  does-limit : (limit : Option ℕ) (desk : Desk) (counts : Counts) → Moves all old desk → Does all word activation old (limited limit word attempt desk counts)
   does-limit (Some most) desk counts moves = moves-on all old desk _ moves (moves-rolled all desk attempt.entry)
   does-limit None desk counts moves = does-fetch desk counts (fetches_touched word attempt desk counts) moves
 
-  does-attempt : (outcome : Outcome) (desk : Desk) (counts : Counts) → Moves all old desk → Does all activation old (attempts word attempt outcome desk counts)
+  does-attempt : (outcome : Outcome) (desk : Desk) (counts : Counts) → Moves all old desk → Does all word activation old (attempts word attempt outcome desk counts)
   does-attempt (Check code) desk counts moves = moves-on all old desk _ moves (moves-rolled all desk attempt.entry)
   does-attempt (On next) desk counts moves = does-limit (limit_passed (room desk) (lines_written attempt desk)) desk counts moves
   does-attempt Commit desk counts moves = does-limit (limit_passed (room desk) (lines_written attempt desk)) desk counts moves
 
 -- an instruction of the entry with a number
 pub does-instruction : (all : List Activation) (word : Word) (number : ℕ) (desk : Desk) (counts : Counts) → AreNumbered all desk.active
-    → Does all number desk (instruction word (find (λ (entry : Entry). entry.number == number) desk.active) desk counts)
+    → Does all word number desk (instruction word (find (λ (entry : Entry). entry.number == number) desk.active) desk counts)
 unfolding instruction
 does-instruction all word number desk counts are = by_entry (find (λ (entry : Entry). entry.number == number) desk.active) refl
   where
     by_state : (entry : Entry) → (entry.number ≡ number) × (numbered all entry.number ≡ Some entry.runs) → (state : Option Plain)
-        → after entry.runs.program entry.runs.args desk.committed entry.rows ≡ state → Does all number desk (attempts_at word entry state desk counts)
+        → after entry.runs.program entry.runs.args desk.committed entry.rows ≡ state → Does all word number desk (attempts_at word entry state desk counts)
     by_state entry own None is = moves-none all desk
     by_state entry own (Some now) is =
         does-attempt all number word
         (record { entry = entry; now = now; outcome = row entry.runs.program desk.committed.directory now; lines = wanted desk entry })
         desk own.0 own.1 is refl (row entry.runs.program desk.committed.directory now) desk counts (moves-none all desk)
 
-    by_entry : (one : Option Entry) → find (λ (entry : Entry). entry.number == number) desk.active ≡ one → Does all number desk (instruction word one desk counts)
+    by_entry : (one : Option Entry) → find (λ (entry : Entry). entry.number == number) desk.active ≡ one → Does all word number desk (instruction word one desk counts)
     by_entry None is = moves-none all desk
     by_entry (Some entry) is = by_state entry (found all number desk.active entry are is) (after entry.runs.program entry.runs.args desk.committed entry.rows) refl
 
 -- one more step of a turn
-ends-after : (all : List Activation) (number : ℕ) (old mid new : Desk) (ending : Ending) → Moves all old mid → Ends all number mid new ending → Ends all number old new ending
-ends-after all number old mid new (Committed steps out) moves did = record {
+ends-after : (all : List Activation) (word : Word) (number : ℕ) (old mid new : Desk) (ending : Ending) → Moves all old mid → Ends all word number mid new ending → Ends all word number old new ending
+ends-after all word number old mid new (Committed steps out) moves did = record {
   state = did.state;
   commits_at = ap (committing all (number, steps)) (sym moves.committed) ∙ did.commits_at;
   order = did.order ∙ ap (λ (order : List (ℕ × ℕ)). order ++ (number, steps) ∷ []) moves.order;
@@ -294,8 +298,9 @@ ends-after all number old mid new (Committed steps out) moves did = record {
   closed = did.closed ∙ moves.closed;
   numbered_all = λ are. did.numbered_all (moves.numbered_all are);
 }
-ends-after all number old mid new CommitUnwritten moves did = record { committed = did.committed ∙ moves.committed; order = did.order ∙ moves.order; closed = did.closed }
-ends-after all number old mid new CommitDoubted moves did = record {
+ends-after all word number old mid new CommitUnwritten moves did = record { broken = did.broken; committed = did.committed ∙ moves.committed; order = did.order ∙ moves.order; closed = did.closed }
+ends-after all word number old mid new CommitDoubted moves did = record {
+  broken = did.broken;
   steps = did.steps;
   ordered_as = record {
       state = did.ordered_as.state;
@@ -305,18 +310,18 @@ ends-after all number old mid new CommitDoubted moves did = record {
   committed = did.committed ∙ moves.committed;
   closed = did.closed;
 }
-ends-after all number old mid new _ moves did = moves-on all old mid new moves did
+ends-after all word number old mid new _ moves did = moves-on all old mid new moves did
 
-does-after : (all : List Activation) (number : ℕ) (old mid : Desk) (turning : Turning) → Moves all old mid → Does all number mid turning → Does all number old turning
-does-after all number old mid (Going desk counts) moves did = moves-on all old mid desk moves did
-does-after all number old mid (Over desk counts ending) moves did = ends-after all number old mid desk ending moves did
+does-after : (all : List Activation) (word : Word) (number : ℕ) (old mid : Desk) (turning : Turning) → Moves all old mid → Does all word number mid turning → Does all word number old turning
+does-after all word number old mid (Going desk counts) moves did = moves-on all old mid desk moves did
+does-after all word number old mid (Over desk counts ending) moves did = ends-after all word number old mid desk ending moves did
 
 -- so many instructions more
-pub does-turns : (all : List Activation) (word : Word) (number left : ℕ) (old : Desk) (turning : Turning) → AreNumbered all old.active → Does all number old turning
-    → Does all number old (turns word number left turning)
+pub does-turns : (all : List Activation) (word : Word) (number left : ℕ) (old : Desk) (turning : Turning) → AreNumbered all old.active → Does all word number old turning
+    → Does all word number old (turns word number left turning)
 unfolding turns
 does-turns all word number zero old (Going desk counts) are did = did
 does-turns all word number (suc left) old (Going desk counts) are did =
     does-turns all word number left old _ are
-    (does-after all number old desk _ did (does-instruction all word number desk counts (did.numbered_all are)))
+    (does-after all word number old desk _ did (does-instruction all word number desk counts (did.numbered_all are)))
 does-turns all word number left old (Over desk counts ending) are did = did

@@ -4,6 +4,7 @@ use Rattle.std.specs.Prelude.{nat_lt, not, filter, slice_get, if◌then◌else�
 use Rattle.std.specs.List.{flat_map}
 use Rattle.std.proofs.lemmas.List.{append-nil}
 use Rattle.std.proofs.lemmas.List.Elements.{filter-append}
+use Rattle.std.proofs.lemmas.List.Sums.{sum_by-append}
 use Rattle.line_geometry.specs.FlatStore.{FlatStore}
 use Rattle.flat_machine.specs.declared.machine.Plain.{Plain}
 use Rattle.flat_machine.specs.declared.machine.Program.{Program}
@@ -13,7 +14,7 @@ use Rattle.desk.specs.declared.event.Event.TheVariants.{Begin, Turn, Checkpoint,
 use Rattle.desk.specs.Desk.{Desk, Entry, opened}
 use Rattle.desk.specs.Holdings.{numbers}
 use Rattle.desk.specs.Instruction.{Word, Fine, ReadFailed, Unwritten, Doubt, Failed, Counts, Ending, Idle, Limit, Checked, Journal, Disk, Victim, Waits, Committed, CommitUnwritten, CommitDoubted, Turning, Going, Over, turn, no_counts}
-use Rattle.desk.specs.Run.{Step, Happening, Nothing, Begun, Busy, NoSegment, Turned, CheckpointMade, CheckpointFailed, Crashed, CrashFailed, begin_if, begins, absent_segment, turned, restarted, event_of, step, run, OpenBeforeEach}
+use Rattle.desk.specs.Run.{Step, Happening, Nothing, Begun, Busy, NoSegment, Turned, CheckpointMade, CheckpointFailed, Crashed, CrashFailed, begin_if, begins, absent_segment, turned, restarted, shut as shut_desk, is_fine, faulted, event_of, step, run, OpenBeforeEach, IsRunOf}
 use Rattle.desk.specs.Lines as line
 use Rattle.desk.specs.Lines.{Line}
 use Rattle.desk.specs.Report.{number_after, happening_lines, cycle_lines, event_lines}
@@ -60,7 +61,8 @@ pub record Commit (all : List Activation) (names : List (List ℕ)) (front : Lis
   pub one_line : (number : ℕ) → commit_lines (happening_lines names number new.happening) ≡ line.Commit activation number steps out ∷ []
 
 -- an event that closes the desk, with a commit in doubt or none
-pub record Closes (all : List Activation) (names : List (List ℕ)) (old : Desk) (new : Step) : Type 0 where
+pub record Closes (all : List Activation) (names : List (List ℕ)) (word : Word) (old : Desk) (new : Step) : Type 0 where
+  pub broken : is_fine word ≡ false
   pub committed : new.desk.committed ≡ old.committed
   pub closed : new.desk.closed ≡ true
   pub doubt : List (ℕ × ℕ)
@@ -69,8 +71,8 @@ pub record Closes (all : List Activation) (names : List (List ℕ)) (old : Desk)
   pub with_doubt : (last : FlatStore) × (serial all doubt old.committed ≡ Some last)
   pub no_lines : (number : ℕ) → commit_lines (happening_lines names number new.happening) ≡ []
 
-abbrev EventDid : List Activation → List (List ℕ) → List Activation → Desk → Step → Type 0
-EventDid all names front old new = Quiet all names front old new ⊎ Commit all names front old new ⊎ Closes all names old new
+abbrev EventDid : List Activation → List (List ℕ) → List Activation → Word → Desk → Step → Type 0
+EventDid all names front word old new = Quiet all names front old new ⊎ Commit all names front old new ⊎ Closes all names word old new
 
 module _ (all : List Activation) (names : List (List ℕ)) (programs : List Program) where
   -- a begin
@@ -117,9 +119,9 @@ module _ (all : List Activation) (names : List (List ℕ)) (programs : List Prog
       by_room false = record { committed = refl; order = refl; closed = refl; next = next-is; are = are; no_lines = λ number. refl }
 
   -- a turn
-  module _ (front : List Activation) (old : Desk) (next : old.next ≡ suc (length front)) (are : AreNumbered all old.active) where
+  module _ (front : List Activation) (old : Desk) (next : old.next ≡ suc (length front)) (are : AreNumbered all old.active) (word : Word) where
     quiet-moves : (new : Desk) (happening : Happening) → Moves all old new → ((number : ℕ) → commit_lines (happening_lines names number happening) ≡ [])
-        → EventDid all names front old (record { desk = new; happening = happening })
+        → EventDid all names front word old (record { desk = new; happening = happening })
     quiet-moves new happening moves quiet = inl (record {
       committed = moves.committed;
       order = moves.order;
@@ -129,8 +131,8 @@ module _ (all : List Activation) (names : List (List ℕ)) (programs : List Prog
       no_lines = quiet;
     })
 
-    ending-did : (activation : ℕ) (new : Desk) (counts : Counts) (ending : Ending) → Ends all activation old new ending
-        → EventDid all names front old (record { desk = new; happening = Turned activation counts ending })
+    ending-did : (activation : ℕ) (new : Desk) (counts : Counts) (ending : Ending) → Ends all word activation old new ending
+        → EventDid all names front word old (record { desk = new; happening = Turned activation counts ending })
     ending-did activation new counts Idle moves = quiet-moves new (Turned activation counts Idle) moves (λ number. refl)
     ending-did activation new counts Limit moves = quiet-moves new (Turned activation counts Limit) moves (λ number. cycles-quiet counts.cycles [])
     ending-did activation new counts (Checked code address) moves = quiet-moves new (Turned activation counts (Checked code address)) moves (λ number. cycles-quiet counts.cycles (line.Check activation code address ∷ []))
@@ -148,6 +150,7 @@ module _ (all : List Activation) (names : List (List ℕ)) (programs : List Prog
       one_line = λ number. cycles-quiet counts.cycles (line.Commit activation number steps out ∷ []);
     }))
     ending-did activation new counts CommitUnwritten did = inr (inr (record {
+      broken = did.broken;
       committed = did.committed;
       closed = did.closed;
       doubt = [];
@@ -157,6 +160,7 @@ module _ (all : List Activation) (names : List (List ℕ)) (programs : List Prog
       no_lines = λ number. cycles-quiet counts.cycles (line.Closed ∷ []);
     }))
     ending-did activation new counts CommitDoubted did = inr (inr (record {
+      broken = did.broken;
       committed = did.committed;
       closed = did.closed;
       doubt = (activation, did.steps) ∷ [];
@@ -167,63 +171,59 @@ module _ (all : List Activation) (names : List (List ℕ)) (programs : List Prog
       no_lines = λ number. cycles-quiet counts.cycles (line.Doubt activation number ∷ line.Closed ∷ []);
     }))
 
-    turning-did : (activation : ℕ) (turning : Turning) → Does all activation old turning → EventDid all names front old (turned activation turning)
+    turning-did : (activation : ℕ) (turning : Turning) → Does all word activation old turning → EventDid all names front word old (turned activation turning)
     turning-did activation (Going desk counts) moves = quiet-moves desk Nothing moves (λ number. refl)
     turning-did activation (Over desk counts ending) did = ending-did activation desk counts ending did
 
-    -- an event of an open desk
+  -- an event of an open desk
+  module _ (front : List Activation) (old : Desk) (next : old.next ≡ suc (length front)) (are : AreNumbered all old.active) where
+    shut : (new : Desk) (happening : Happening) → new.committed ≡ old.committed → new.order ≡ old.order → new.closed ≡ true
+        → ((number : ℕ) → commit_lines (happening_lines names number happening) ≡ []) → EventDid all names front Failed old (record { desk = new; happening = happening })
+    shut new happening committed order closed quiet = inr (inr (record {
+      broken = refl;
+      committed = committed;
+      closed = closed;
+      doubt = [];
+      order = order ∙ sym (append-nil old.order);
+      one_doubt = omega arith;
+      with_doubt = (old.committed, refl);
+      no_lines = quiet;
+    }))
+
+    checkpoint-did : (word : Word) → EventDid all names front word old (event_of programs Checkpoint word old)
+    checkpoint-did Fine = quiet-moves front old next are Fine old CheckpointMade (moves-none all old) (λ number. refl)
+    checkpoint-did (ReadFailed page) = quiet-moves front old next are (ReadFailed page) old CheckpointMade (moves-none all old) (λ number. refl)
+    checkpoint-did Unwritten = quiet-moves front old next are Unwritten old CheckpointMade (moves-none all old) (λ number. refl)
+    checkpoint-did Doubt = quiet-moves front old next are Doubt old CheckpointMade (moves-none all old) (λ number. refl)
+    checkpoint-did Failed = shut (shut_desk old) CheckpointFailed refl refl refl (λ number. refl)
+
+    lost-quiet : (lost : List ℕ) (behind : List Line) → commit_lines (map line.Lost lost ++ behind) ≡ commit_lines behind
+    lost-quiet [] behind = refl
+    lost-quiet (number ∷ lost) behind = lost-quiet lost behind
+
+    crashed : (word : Word) → EventDid all names front word old (record { desk = restarted old; happening = Crashed (numbers old) })
+    crashed word =
+        quiet-moves front old next are word (restarted old) (Crashed (numbers old))
+        (record { committed = refl; order = refl; next = refl; closed = refl; numbered_all = λ these. tt })
+        (λ number. lost-quiet (numbers old) (line.Open number ∷ []))
+
+    crash-did : (word : Word) → EventDid all names front word old (event_of programs Crash word old)
+    crash-did Fine = crashed Fine
+    crash-did (ReadFailed page) = crashed (ReadFailed page)
+    crash-did Unwritten = crashed Unwritten
+    crash-did Doubt = crashed Doubt
+    crash-did Failed = shut (shut_desk (restarted old)) (CrashFailed (numbers old)) refl refl refl (λ number. lost-quiet (numbers old) (line.Closed ∷ []))
+
     pub event-did : (event : Event) (word : Word) (rest : List Activation) → all ≡ front ++ begun_one programs event rest
-        → EventDid all names (front ++ begun_one programs event []) old (event_of programs event word old)
+        → EventDid all names (front ++ begun_one programs event []) word old (event_of programs event word old)
     event-did (Begin program args) word rest is = inl (begin-did program args (slice_get programs program) front rest old is next are)
     event-did (Turn activation limit) word rest is =
-        subst (λ (these : List Activation). EventDid all names these old (turned activation (turn word activation limit old))) (sym (append-nil front))
-        (turning-did activation (turn word activation limit old) (does-turns all word activation limit old (Going old no_counts) are (moves-none all old)))
+        subst (λ (these : List Activation). EventDid all names these word old (turned activation (turn word activation limit old))) (sym (append-nil front))
+        (turning-did front old next are word activation (turn word activation limit old) (does-turns all word activation limit old (Going old no_counts) are (moves-none all old)))
     event-did Checkpoint word rest is =
-        subst (λ (these : List Activation). EventDid all names these old (event_of programs Checkpoint word old)) (sym (append-nil front)) (by_word word)
-      where
-        made : EventDid all names front old (record { desk = old; happening = CheckpointMade })
-        made = quiet-moves old CheckpointMade (moves-none all old) (λ number. refl)
-
-        by_word : (word : Word) → EventDid all names front old (event_of programs Checkpoint word old)
-        by_word Fine = made
-        by_word (ReadFailed page) = made
-        by_word Unwritten = made
-        by_word Doubt = made
-        by_word Failed = inr (inr (record {
-          committed = refl;
-          closed = refl;
-          doubt = [];
-          order = sym (append-nil old.order);
-          one_doubt = omega arith;
-          with_doubt = (old.committed, refl);
-          no_lines = λ number. refl;
-        }))
+        subst (λ (these : List Activation). EventDid all names these word old (event_of programs Checkpoint word old)) (sym (append-nil front)) (checkpoint-did word)
     event-did Crash word rest is =
-        subst (λ (these : List Activation). EventDid all names these old (event_of programs Crash word old)) (sym (append-nil front)) (by_word word)
-      where
-        lost : (numbers : List ℕ) (behind : List Line) → commit_lines (map line.Lost numbers ++ behind) ≡ commit_lines behind
-        lost [] behind = refl
-        lost (number ∷ numbers) behind = lost numbers behind
-
-        crashed : EventDid all names front old (record { desk = restarted old; happening = Crashed (numbers old) })
-        crashed = quiet-moves (restarted old) (Crashed (numbers old))
-          (record { committed = refl; order = refl; next = refl; closed = refl; numbered_all = λ these. tt })
-          (λ number. lost (numbers old) (line.Open number ∷ []))
-
-        by_word : (word : Word) → EventDid all names front old (event_of programs Crash word old)
-        by_word Fine = crashed
-        by_word (ReadFailed page) = crashed
-        by_word Unwritten = crashed
-        by_word Doubt = crashed
-        by_word Failed = inr (inr (record {
-          committed = refl;
-          closed = refl;
-          doubt = [];
-          order = sym (append-nil old.order);
-          one_doubt = omega arith;
-          with_doubt = (old.committed, refl);
-          no_lines = λ number. lost (numbers old) (line.Closed ∷ []);
-        }))
+        subst (λ (these : List Activation). EventDid all names these word old (event_of programs Crash word old)) (sym (append-nil front)) (crash-did word)
 
 -- the activations of an event and of those behind it
 begun-first : (programs : List Program) (event : Event) (events : List Event) → begun programs (event ∷ events) ≡ begun_one programs event (begun programs events)
@@ -262,6 +262,7 @@ pub record From (all : List Activation) (names : List (List ℕ)) (programs : Li
   pub one_doubt : length doubt ≤ 1
   pub none_open : (run programs taken old).closed ≡ false → doubt ≡ []
   pub with_doubt : (last : FlatStore) × (serial all (done ++ doubt) old.committed ≡ Some last)
+  pub closed_by : ((run programs taken old).closed ≡ old.closed) ⊎ (1 ≤ faulted taken)
   pub lines : commit_lines (event_lines names programs number taken old) ≡ serial_lines all (number + length old.order) done old.committed
 
 -- a step of an open desk
@@ -277,6 +278,18 @@ none-behind : (programs : List Program) (taken : List (Event × Word)) (desk : D
 none-behind programs [] desk shut each_open = refl
 none-behind programs (event ∷ taken) desk shut each_open = absurd (let still : IsTrue (not true) = subst (λ (closed : Bool). IsTrue (not closed)) shut each_open.0 in cc)
 
+-- one word more that isn't fine
+faulted-split : (event : Event) (word : Word) (taken : List (Event × Word)) → faulted ((event, word) ∷ taken) ≡ faulted ((event, word) ∷ []) + faulted taken
+faulted-split event word taken = sum_by-append (λ (each : Event × Word). if not (is_fine each.1) then 1 else 0) ((event, word) ∷ []) taken
+
+faulted-one : (event : Event) (word : Word) (taken : List (Event × Word)) → is_fine word ≡ false → 1 ≤ faulted ((event, word) ∷ taken)
+faulted-one event word taken broken =
+    let one : faulted ((event, word) ∷ []) ≡ 1 = ap (λ (fine : Bool). 0 + (if not fine then 1 else 0)) broken in
+    omega (arith, faulted-split event word taken, one)
+
+faulted-more : (event : Event) (word : Word) (taken : List (Event × Word)) → 1 ≤ faulted taken → 1 ≤ faulted ((event, word) ∷ taken)
+faulted-more event word taken some = omega (arith, faulted-split event word taken, some)
+
 module _ (all : List Activation) (names : List (List ℕ)) (programs : List Program) (number : ℕ) where
   -- an event before others, which are from the desk after it
   module _ (front : List Activation) (old : Desk) (new : Step) (event : Event) (word : Word) (taken : List (Event × Word)) (is : step programs event word old ≡ new) where
@@ -289,6 +302,11 @@ module _ (all : List Activation) (names : List (List ℕ)) (programs : List Prog
         ap (λ (s : Step). commit_lines (happening_lines names (number_after number s.desk) s.happening ++ event_lines names programs number taken s.desk)) is
         ∙ filter-append is_commit (happening_lines names (number_after number new.desk) new.happening) (event_lines names programs number taken new.desk)
 
+    closed-on : new.desk.closed ≡ old.closed → ((run programs taken new.desk).closed ≡ new.desk.closed) ⊎ (1 ≤ faulted taken)
+        → ((run programs ((event, word) ∷ taken) old).closed ≡ old.closed) ⊎ (1 ≤ faulted ((event, word) ∷ taken))
+    closed-on same (inl still) = inl (ap (λ (d : Desk). d.closed) run-is ∙ still ∙ same)
+    closed-on same (inr some) = inr (faulted-more event word taken some)
+
     from-quiet : Quiet all names front old new → From all names programs number new.desk taken → From all names programs number old ((event, word) ∷ taken)
     from-quiet quiet from = record {
       done = from.done;
@@ -298,6 +316,7 @@ module _ (all : List Activation) (names : List (List ℕ)) (programs : List Prog
       one_doubt = from.one_doubt;
       none_open = λ still. from.none_open (ap (λ (d : Desk). d.closed) (sym run-is) ∙ still);
       with_doubt = (from.with_doubt.0, ap (serial all (from.done ++ from.doubt)) (sym quiet.committed) ∙ from.with_doubt.1);
+      closed_by = closed-on quiet.closed from.closed_by;
       lines =
           lines-are
           ∙ ap (λ (here : List Line). here ++ commit_lines (event_lines names programs number taken new.desk)) (quiet.no_lines (number_after number new.desk))
@@ -322,6 +341,7 @@ module _ (all : List Activation) (names : List (List ℕ)) (programs : List Prog
           one_doubt = from.one_doubt;
           none_open = λ still. from.none_open (ap (λ (d : Desk). d.closed) (sym run-is) ∙ still);
           with_doubt = (from.with_doubt.0, on (from.done ++ from.doubt) ∙ from.with_doubt.1);
+          closed_by = closed-on did.closed from.closed_by;
           lines =
               lines-are
               ∙ ap (λ (these : List Line). these ++ commit_lines (event_lines names programs number taken new.desk)) (commit.one_line (number_after number new.desk))
@@ -333,7 +353,7 @@ module _ (all : List Activation) (names : List (List ℕ)) (programs : List Prog
               ∙ sym (ap (λ (state : Option Plain). line_before (number + length old.order) pair state (λ (s : Plain). serial_lines all (number + length old.order + 1) from.done (record old.committed { bytes = s.store }))) did.commits_at);
         }
 
-    from-close : Closes all names old new → OpenBeforeEach programs taken new.desk → From all names programs number old ((event, word) ∷ taken)
+    from-close : Closes all names word old new → OpenBeforeEach programs taken new.desk → From all names programs number old ((event, word) ∷ taken)
     from-close closes each_open =
         let none : taken ≡ [] = none-behind programs taken new.desk closes.closed each_open in
         let last : run programs ((event, word) ∷ taken) old ≡ new.desk = run-is ∙ ap (λ (these : List (Event × Word)). run programs these new.desk) none in
@@ -345,6 +365,7 @@ module _ (all : List Activation) (names : List (List ℕ)) (programs : List Prog
           one_doubt = closes.one_doubt;
           none_open = λ still. absurd (let shut : (run programs ((event, word) ∷ taken) old).closed ≡ true = ap (λ (d : Desk). d.closed) last ∙ closes.closed in cc (shut, still));
           with_doubt = closes.with_doubt;
+          closed_by = inr (faulted-one event word taken closes.broken);
           lines =
               lines-are
               ∙ ap (λ (here : List Line). here ++ commit_lines (event_lines names programs number taken new.desk)) (closes.no_lines (number_after number new.desk))
@@ -364,6 +385,7 @@ module _ (all : List Activation) (names : List (List ℕ)) (programs : List Prog
     one_doubt = omega arith;
     none_open = λ still. refl;
     with_doubt = (old.committed, refl);
+    closed_by = inl refl;
     lines = refl;
   }
   serial-from ((event, word) ∷ taken) front tail old is next are each_open =
@@ -405,3 +427,16 @@ run-serial names programs number frames most bank_bytes used store events taken 
       with_doubt = (from.with_doubt.0, ap (λ (order : List (ℕ × ℕ)). serial (begun programs events) order store) from.order ∙ from.with_doubt.1);
       lines_are = from.lines ∙ ap (λ (n : ℕ). serial_lines (begun programs events) n from.done store) same;
     }
+
+-- a run that ends with the desk closed has a word that isn't fine
+pub run-closed : (programs : List Program) (frames most bank_bytes used : ℕ) (store : FlatStore) (events : List Event) (taken : List (Event × Word)) (rest : List Event)
+    → IsRunOf programs events (opened frames most bank_bytes used store) taken rest
+    → (run programs taken (opened frames most bank_bytes used store)).closed ≡ true → 1 ≤ faulted taken
+run-closed programs frames most bank_bytes used store events taken rest is shut =
+    let start = opened frames most bank_bytes used store in
+    let all : begun programs events ≡ begun programs (map (λ (each : Event × Word). each.0) taken) ++ begun programs rest =
+    ap (begun programs) (sym is.prefix) ∙ begun-append programs (map (λ (each : Event × Word). each.0) taken) rest in
+    elim ((serial-from (begun programs events) [] programs 0 taken [] (begun programs rest) start all refl tt is.each_open).closed_by) [
+      | inl still ↦ absurd (cc (shut, still))
+      | inr some ↦ some
+    ]
