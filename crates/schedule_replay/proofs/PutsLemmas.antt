@@ -13,7 +13,7 @@ use Rattle.std.specs.List.{flat_map}
 use Rattle.desk.specs.declared.answers.Cycle.{Cycle}
 use Rattle.desk.specs.Lines.{Line, line_text, Left}
 use Rattle.desk.specs.Report.{cycle_lines}
-use Rattle.schedule_replay.specs.Puts.{OnlyPuts}
+use Rattle.schedule_replay.specs.Puts.{OnlyPuts, BeginsWith}
 
 -- a put that went well
 abbrev pub done : Result ℕ Failed
@@ -111,3 +111,32 @@ cycles_split xs ys =
     ap (λ (lists : List (List ℕ)). flat_map line_text (flat_map cycle_lines lists)) (map-append items xs ys)
     ∙ ap (flat_map line_text) (flat_map-append cycle_lines (map items xs) (map items ys))
     ∙ flat_map-append line_text (flat_map cycle_lines (map items xs)) (flat_map cycle_lines (map items ys))
+
+-- bytes that were put begin with none
+pub begins_none : {T : Type 0} (old new : Option (List ℕ)) (bytes : List ℕ) (result : Result T Failed) → Prints old new bytes result → BeginsWith old new []
+begins_none None new bytes result prints = tt
+begins_none (Some old) new bytes (Ok value) prints = (bytes, prints)
+begins_none (Some old) new bytes (Err failed) prints = (take prints.0 bytes, prints.1)
+
+-- nothing was put
+pub begins_same : (old new : Option (List ℕ)) → new ≡ old → BeginsWith old new []
+begins_same None new same = tt
+begins_same (Some old) new same = ([], same ∙ ap (λ (all : List ℕ). Some all) (sym (append-nil old)))
+
+-- they still begin so with more behind them
+pub begins_on : (old mid new : Option (List ℕ)) (bytes : List ℕ) → BeginsWith old mid bytes → BeginsWith mid new [] → BeginsWith old new bytes
+begins_on None mid new bytes one two = tt
+begins_on (Some old) mid new bytes one two =
+    let more : (rest : List ℕ) × (new ≡ Some ((old ++ (bytes ++ one.0)) ++ rest)) = subst (λ (told : Option (List ℕ)). BeginsWith told new []) one.1 two in (
+      one.0 ++ more.0,
+      more.1 ∙ ap (λ (all : List ℕ). Some all) (append_assoc old (bytes ++ one.0) more.0 ∙ ap (λ (tail : List ℕ). old ++ tail) (append_assoc bytes one.0 more.0)),
+    )
+
+-- bytes in front of those that begin so
+pub begins_behind : {T : Type 0} (old mid new : Option (List ℕ)) (first second : List ℕ) (value : T) → Prints old mid first (Ok value) → BeginsWith mid new second → BeginsWith old new (first ++ second)
+begins_behind None mid new first second value one two = tt
+begins_behind (Some old) mid new first second value one two =
+    let more : (rest : List ℕ) × (new ≡ Some ((old ++ first) ++ (second ++ rest))) = subst (λ (told : Option (List ℕ)). BeginsWith told new second) one two in (
+      more.0,
+      more.1 ∙ ap (λ (all : List ℕ). Some all) (append_assoc old first (second ++ more.0) ∙ ap (λ (tail : List ℕ). old ++ tail) (sym (append_assoc first second more.0))),
+    )

@@ -1,5 +1,5 @@
 -- The runs of a supervisor, one event after another.
-use Rattle.std.proofs.Common.{◌≡◌, ℕ, ◌≤◌, List, [], ◌∷◌, ◌++◌, map, refl, sym, ap, ◌∙◌, subst, arith, ⊎_elim, append-nil, IsTrue, IsSome, ◌⊎◌}
+use Rattle.std.proofs.Common.{◌≡◌, ℕ, ◌≤◌, List, [], ◌∷◌, ◌++◌, map, refl, sym, ap, ◌∙◌, subst, arith, ⊎_elim, append-nil, append_assoc, inl, inr, IsTrue, IsSome, ◌⊎◌}
 use Rattle.std.specs.Prelude.{false, not, Option, unwrap_or, Result, Ok}
 use Rattle.std.specs.List.{flat_map}
 use Rattle.std.proofs.lemmas.List.{map-append}
@@ -22,9 +22,9 @@ use Rattle.desk.specs.Answers.{begun_told, turn_told, HasNumbers}
 use Rattle.desk.specs.Lines.{Line, line_text}
 use Rattle.desk.specs.Report.{number_after, happening_lines, event_lines}
 use Rattle.schedule_replay.specs.Lines.{is_closing}
-use Rattle.schedule_replay.specs.Puts.{OnlyPuts, number_told}
-use Rattle.schedule_replay.specs.Ran.{Ran}
-use Rattle.schedule_replay.proofs.PutsLemmas.{prints_same, prints_on}
+use Rattle.schedule_replay.specs.Puts.{OnlyPuts, BeginsWith, number_told}
+use Rattle.schedule_replay.specs.Ran.{Ran, PrintsEarlier}
+use Rattle.schedule_replay.proofs.PutsLemmas.{prints_same, prints_on, begins_none, begins_on, begins_behind}
 use Rattle.schedule_replay.proofs.StepLemmas.{turn_step, answer_closes, lines_numbered}
 use Rattle.schedule_replay.proofs.RunLemmas.{run_on, open_on, lines_on, faulted_on}
 
@@ -41,6 +41,17 @@ word_faults event (ReadFailed page) before after le cause = ⊎_elim (λ (fine :
 word_faults event Unwritten before after le cause = ⊎_elim (λ (fine : Unwritten ≡ Fine). absurd (let no : ⊥ = cc in no)) (λ rose. omega (arith, rose)) cause
 word_faults event Doubt before after le cause = ⊎_elim (λ (fine : Doubt ≡ Fine). absurd (let no : ⊥ = cc in no)) (λ rose. omega (arith, rose)) cause
 word_faults event broken_word before after le cause = ⊎_elim (λ (fine : broken_word ≡ Fine). absurd (let no : ⊥ = cc in no)) (λ rose. omega (arith, rose)) cause
+
+-- what is printed of earlier events, with more events behind
+earlier_on : {T U : Type 0} (old mid new : Option (List ℕ)) (text other : List (Event × Word) → List ℕ) (one two : List (Event × Word)) (value : T) (bytes : List ℕ) (result : Result U Failed)
+    → ((front : List (Event × Word)) → text (one ++ front) ≡ text one ++ other front)
+    → Prints old mid (text one) (Ok value) → Prints mid new bytes result → PrintsEarlier old mid text one → PrintsEarlier mid new other two → PrintsEarlier old new text (one ++ two)
+earlier_on old mid new text other one two value bytes result behind first second (inl no_one) (inl no_two) = inl (ap (λ (back : List (Event × Word)). one ++ back) no_two ∙ append-nil one ∙ no_one)
+earlier_on old mid new text other one two value bytes result behind first second (inr (front, last, is, begins)) (inl no_two) =
+    inr (front, last, ap (λ (back : List (Event × Word)). one ++ back) no_two ∙ append-nil one ∙ is, begins_on old mid new (text front) begins (begins_none mid new bytes result second))
+earlier_on old mid new text other one two value bytes result behind first second before (inr (front, last, is, begins)) =
+    inr (one ++ front, last, ap (λ (back : List (Event × Word)). one ++ back) is ∙ sym (append_assoc one front (last ∷ [])),
+    subst (λ (these : List ℕ). BeginsWith old new these) (sym (behind front)) (begins_behind old mid new (text one) (other front) value first begins))
 
 module _ {D W : Type 0} (S : desk.Ghosts D) (G : Ghosts W) where
   -- puts leave the bytes that are told
@@ -66,6 +77,7 @@ module _ {D W : Type 0} (S : desk.Ghosts D) (G : Ghosts W) where
           printed = prints_same (G.printed before) (G.printed after) (flat_map line_text (happening_lines names (number_after (S.opened old) (S.desk new)) (begun_told program begun))) (flat_map line_text (event_lines names (S.programs old) (S.opened old) ((event.Begin program args, Fine) ∷ []) (S.desk old))) result
               (ap (flat_map line_text) (sym (one_event names (S.programs old) (S.opened old) (event.Begin program args) Fine (S.desk old) after_it is)))
               (printed (number_after (S.opened old) (S.desk new)));
+          earlier = inr ([], (event.Begin program args, Fine), refl, begins_none (G.printed before) (G.printed after) _ result (printed 0));
           kept = λ told keeps still. kept_by_puts new before after only.held told (kept (held_of G before) keeps);
           answers = answers;
         }
@@ -95,6 +107,7 @@ module _ {D W : Type 0} (S : desk.Ghosts D) (G : Ghosts W) where
               ∙ lines_numbered names activation answer answer.end (S.printed new) number has
               ∙ sym (one_event names (S.programs old) (S.opened old) (event.Turn activation limit) word (S.desk old) after_it is)))
               from_before;
+          earlier = inr ([], (event.Turn activation limit, word), refl, begins_none (G.printed before) (G.printed after) _ result from_before);
           kept = λ some keeps still. kept_by_puts new between after only.held (told some) (kept some keeps (ap not still));
           answers = answers;
         }
@@ -115,6 +128,7 @@ module _ {D W : Type 0} (S : desk.Ghosts D) (G : Ghosts W) where
       leaves = ran.leaves;
       faults = ran.faults;
       printed = turns (G.printed before) (G.printed after) (flat_map line_text (event_lines names (S.programs old) (S.opened old) ran.taken (S.desk old))) ran.printed;
+      earlier = ran.earlier;
       kept = ran.kept;
       answers = ran.answers;
     }
@@ -127,7 +141,11 @@ module _ {D W : Type 0} (S : desk.Ghosts D) (G : Ghosts W) where
         let middle = run programs one.taken start in
         let bytes : List (Event × Word) → Desk → List ℕ = λ events desk. flat_map line_text (event_lines names programs number events desk) in
         let later_open : OpenBeforeEach programs two.taken middle = subst (λ (desk : Desk). OpenBeforeEach programs two.taken desk) (sym one.leaves) (subst (λ (these : List Program). OpenBeforeEach these two.taken (S.desk mid)) same_programs two.each_open) in
-        let later : flat_map line_text (event_lines names (S.programs mid) (S.opened mid) two.taken (S.desk mid)) ≡ bytes two.taken middle = ap (λ (these : List Program). flat_map line_text (event_lines names these (S.opened mid) two.taken (S.desk mid))) same_programs ∙ ap (λ n. flat_map line_text (event_lines names programs n two.taken (S.desk mid))) same_opened ∙ ap (λ (desk : Desk). bytes two.taken desk) (sym one.leaves) in
+        let later : (front : List (Event × Word)) → flat_map line_text (event_lines names (S.programs mid) (S.opened mid) front (S.desk mid)) ≡ bytes front middle = λ front. ap (λ (these : List Program). flat_map line_text (event_lines names these (S.opened mid) front (S.desk mid))) same_programs ∙ ap (λ n. flat_map line_text (event_lines names programs n front (S.desk mid))) same_opened ∙ ap (λ (desk : Desk). bytes front desk) (sym one.leaves) in
+        let behind : (front : List (Event × Word)) → bytes one.taken start ++ flat_map line_text (event_lines names (S.programs mid) (S.opened mid) front (S.desk mid)) ≡ bytes (one.taken ++ front) start = λ front.
+        ap (λ (back : List ℕ). bytes one.taken start ++ back) (later front)
+        ∙ sym (flat_map-append line_text (event_lines names programs number one.taken start) (event_lines names programs number front middle))
+        ∙ ap (flat_map line_text) (sym (lines_on programs names number one.taken front start)) in
         record {
           taken = one.taken ++ two.taken;
           events_taken = map-append (λ (each : Event × Word). each.0) one.taken two.taken ∙ ap (λ (front : List Event). front ++ map (λ (each : Event × Word). each.0) two.taken) one.events_taken ∙ ap (λ (back : List Event). xs ++ back) two.events_taken;
@@ -135,10 +153,10 @@ module _ {D W : Type 0} (S : desk.Ghosts D) (G : Ghosts W) where
           leaves = run_on programs one.taken two.taken start ∙ ap (λ (desk : Desk). run programs two.taken desk) one.leaves ∙ ap (λ (these : List Program). run these two.taken (S.desk mid)) (sym same_programs) ∙ two.leaves;
           faults = omega (arith, one.faults, two.faults, faulted_on one.taken two.taken);
           printed = prints_same (G.printed before) (G.printed after) (bytes one.taken start ++ flat_map line_text (event_lines names (S.programs mid) (S.opened mid) two.taken (S.desk mid))) (bytes (one.taken ++ two.taken) start) result
-              (ap (λ (back : List ℕ). bytes one.taken start ++ back) later
-              ∙ sym (flat_map-append line_text (event_lines names programs number one.taken start) (event_lines names programs number two.taken middle))
-              ∙ ap (flat_map line_text) (sym (lines_on programs names number one.taken two.taken start)))
+              (behind two.taken)
               (prints_on (G.printed before) (G.printed between) (G.printed after) (bytes one.taken start) (flat_map line_text (event_lines names (S.programs mid) (S.opened mid) two.taken (S.desk mid))) value result one.printed two.printed);
+          earlier = earlier_on (G.printed before) (G.printed between) (G.printed after) (λ front. bytes front start) (λ front. flat_map line_text (event_lines names (S.programs mid) (S.opened mid) front (S.desk mid))) one.taken two.taken value _ result
+              (λ front. sym (behind front)) one.printed two.printed one.earlier two.earlier;
           kept = λ told keeps still. let first = one.kept told keeps was_open in two.kept first.0 first.1 still;
           answers = two.answers;
         }

@@ -1,6 +1,6 @@
 -- The report of a run, from its parts.
-use Rattle.std.proofs.Common.{◌≡◌, ℕ, ◌+◌, ◌<◌, ◌≤◌, List, [], ◌∷◌, ◌++◌, length, map, get_or, take, refl, sym, ap, ◌∙◌, subst, arith, rules}
-use Rattle.std.specs.Prelude.{Bool, true, false, if◌then◌else◌, Result, Ok, Err, IsErr, IfOk}
+use Rattle.std.proofs.Common.{◌≡◌, ℕ, ◌+◌, ◌<◌, ◌≤◌, List, [], ◌∷◌, ◌++◌, length, map, get_or, take, refl, sym, ap, ◌∙◌, subst, inl, inr, arith, rules}
+use Rattle.std.specs.Prelude.{Option, ◌⊎◌, Bool, true, false, if◌then◌else◌, Result, Ok, Err, IsErr, IfOk}
 use Rattle.std.specs.List.{flat_map}
 use Rattle.std.proofs.lemmas.List.{take_more}
 use Rattle.outside.specs.declared.failed.Failed.{Failed}
@@ -14,9 +14,11 @@ use Rattle.desk.specs.Lines.{Line, Open, Left, End, line_text}
 use Rattle.desk.specs.Report.{number_after, lines_from, report, event_lines}
 use Rattle.schedule_replay.specs.declared.events.Going.{Going}
 use Rattle.schedule_replay.specs.Lines.{closing_lines}
-use Rattle.schedule_replay.specs.Ran.{Ran, HasOpened}
+use Rattle.desk.specs.Instruction.{Word}
+use Rattle.schedule_replay.specs.Puts.{BeginsWith}
+use Rattle.schedule_replay.specs.Ran.{Ran, HasOpened, PrintsEarlier}
 use Rattle.schedule_replay.specs.Replays.{Reports, is_closed}
-use Rattle.schedule_replay.proofs.PutsLemmas.{done, prints_same, prints_on, prints_stop}
+use Rattle.schedule_replay.proofs.PutsLemmas.{done, prints_same, prints_on, prints_stop, begins_on, begins_behind}
 use Rattle.schedule_replay.proofs.RunLemmas.{report_parts}
 use Rattle.schedule_replay.proofs.RanLemmas.{ran_on, kept_by_puts}
 
@@ -39,6 +41,13 @@ module _ {D W : Type 0} (S : desk.Ghosts D) (G : Ghosts W) where
       let same : number ≡ S.opened old = is ∙ opened.number in
       subst (λ n. Prints (G.printed before) (G.printed after) (line_text (Open n)) result) same printed
 
+-- what is printed of earlier events, behind the first line and with more behind it
+earlier_behind : {T : Type 0} (old between middle new : Option (List ℕ)) (first : List ℕ) (text : List (Event × Word) → List ℕ) (taken : List (Event × Word)) (value : T)
+    → Prints old between first (Ok value) → PrintsEarlier between middle text taken → BeginsWith middle new [] → PrintsEarlier old new (λ front. first ++ text front) taken
+earlier_behind old between middle new first text taken value one (inl none) more = inl none
+earlier_behind old between middle new first text taken value one (inr (front, last, is, begins)) more =
+    inr (front, last, is, begins_behind old between new first (text front) value one (begins_on between middle new (text front) begins more))
+
 module _ {D W : Type 0} (S : desk.Ghosts D) (G : Ghosts W) (names : List (List ℕ)) where
   pub ran_more : {U : Type 0} (events : List Event) (i : ℕ) (event : Event) → i < length events → (old mid new : D) (before between after : W) (result : Result U Failed) → S.programs mid ≡ S.programs old → S.opened mid ≡ S.opened old → (S.desk mid).closed ≡ false → Ran S G names (take i events) old mid before between done → Ran S G names (get_or events i event ∷ []) mid new between after result → Ran S G names (take (i + 1) events) old new before after result
   ran_more events i event lt old mid new before between after result same_programs same_opened was_open one two =
@@ -54,6 +63,7 @@ module _ {D W : Type 0} (S : desk.Ghosts D) (G : Ghosts W) (names : List (List �
     leaves = refl;
     faults = omega (arith, disk);
     printed = prints_stop (G.printed before) (G.printed after) (line_text (Open (S.opened old))) (flat_map line_text (lines_from names (S.programs old) (S.opened old) [] (S.desk old))) result later one two printed;
+    earlier = inl refl;
     closed = if_ok_broken later (λ going. (S.desk old).closed ≡ is_closed going) two;
     all = if_ok_broken later (λ going. is_closed going ≡ false → events ≡ []) two;
     kept = λ told keeps still. kept_by_puts S G old before after held told keeps;
@@ -61,10 +71,10 @@ module _ {D W : Type 0} (S : desk.Ghosts D) (G : Ghosts W) (names : List (List �
   }
 
   -- the open line is put, then the lines of events and those of the end
-  pub reports_of : {T U : Type 0} (events front rest : List Event) (old new : D) (before between middle after : W) (value : T) (result : Result U Failed) (later : Result Going Failed) → front ++ rest ≡ events → (ran : Ran S G names front old new between middle result) → Prints (G.printed before) (G.printed between) (line_text (Open (S.opened old))) (Ok value) → G.held between ≡ G.held before → G.disk_faults before ≤ G.disk_faults between → G.held after ≡ G.held middle → G.disk_faults middle ≤ G.disk_faults after
+  pub reports_of : {T U : Type 0} (events front rest : List Event) (old new : D) (before between middle after : W) (value : T) (result : Result U Failed) (later : Result Going Failed) → front ++ rest ≡ events → (ran : Ran S G names front old new between middle result) → Prints (G.printed before) (G.printed between) (line_text (Open (S.opened old))) (Ok value) → G.held between ≡ G.held before → G.disk_faults before ≤ G.disk_faults between → G.held after ≡ G.held middle → G.disk_faults middle ≤ G.disk_faults after → BeginsWith (G.printed middle) (G.printed after) []
       → Prints (G.printed between) (G.printed after) (flat_map line_text (event_lines names (S.programs old) (S.opened old) ran.taken (S.desk old)) ++ flat_map line_text (closing_lines (S.opened old) (S.desk new))) later
       → IfOk later (λ going. (S.desk new).closed ≡ is_closed going) → IfOk later (λ going. is_closed going ≡ false → rest ≡ []) → Reports S G names events old new before after later
-  reports_of events front rest old new before between middle after value result later whole ran open_put held disk held_later disk_later printed closed all =
+  reports_of events front rest old new before between middle after value result later whole ran open_put held disk held_later disk_later more printed closed all =
       let programs = S.programs old in
       let number = S.opened old in
       let start = S.desk old in
@@ -79,6 +89,7 @@ module _ {D W : Type 0} (S : desk.Ghosts D) (G : Ghosts W) (names : List (List �
         printed = prints_same (G.printed before) (G.printed after) (first ++ (put ++ flat_map line_text (closing_lines number (S.desk new)))) (report names programs number ran.taken start) later
             (ap (λ (desk : Desk). first ++ (put ++ flat_map line_text (closing_lines number desk))) (sym ran.leaves) ∙ sym (report_parts programs names number ran.taken start))
             (prints_on (G.printed before) (G.printed between) (G.printed after) first (put ++ flat_map line_text (closing_lines number (S.desk new))) value later open_put printed);
+        earlier = earlier_behind (G.printed before) (G.printed between) (G.printed middle) (G.printed after) first (λ front. flat_map line_text (event_lines names programs number front start)) ran.taken value open_put ran.earlier more;
         closed = closed;
         all = all;
         kept = λ told keeps still.

@@ -1,5 +1,5 @@
 -- What putting lines does to an outside.
-use Rattle.std.specs.Prelude.{◌≡◌, ℕ, ◌≤◌, List, ◌∷◌, ◌++◌, Result}
+use Rattle.std.specs.Prelude.{◌≡◌, ℕ, ◌≤◌, List, ◌∷◌, ◌++◌, Option, None, Some, Result}
 use Rattle.std.specs.List.{flat_map}
 use Rattle.outside.specs.declared.world.Outside.{Ghosts}
 use Rattle.outside.specs.declared.failed.Failed.{Failed}
@@ -33,3 +33,8 @@ abbrev pub counted_lines : ℕ → Turn → List ℕ → List Line
 counted_lines activation turn printed =
     line.Turn activation turn.ran turn.pages turn.locks
     ∷ (flat_map cycle_lines (counts_told turn).cycles ++ ending_lines (number_told turn.end) activation (ending_told turn.end printed))
+
+-- what is printed now is what was printed before, and then bytes that begin with these
+abbrev pub BeginsWith : Option (List ℕ) → Option (List ℕ) → List ℕ → Type 0
+BeginsWith None now bytes = Unit {0}
+BeginsWith (Some before) now bytes = (rest : List ℕ) × (now ≡ Some (before ++ (bytes ++ rest)))

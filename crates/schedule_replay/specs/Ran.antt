@@ -1,5 +1,6 @@
 -- Runs of the desk that a supervisor shows, with what they put.
-use Rattle.std.specs.Prelude.{◌≡◌, ℕ, false, List, map, Result, IsSome}
+use Rattle.std.specs.Prelude.{◌≡◌, ℕ, ◌⊎◌, false, List, [], ◌∷◌, ◌++◌, map, Option, Result, IsSome}
+use Rattle.schedule_replay.specs.Puts.{BeginsWith}
 use Rattle.std.specs.List.{flat_map}
 use Rattle.outside.specs.declared.world.Outside.{Ghosts}
 use Rattle.outside.specs.declared.failed.Failed.{Failed}
@@ -23,6 +24,11 @@ pub record HasOpened {D : Type 0} (S : desk.Ghosts D) (desk : D) : Type 0 where
   pub still_open : (S.desk desk).closed ≡ false
   pub number : number_after (S.opened desk) (S.desk desk) ≡ S.opened desk
 
+-- the lines of all events but the last, if there is one, are printed whole
+abbrev pub PrintsEarlier : (before now : Option (List ℕ)) → (List (Event × Word) → List ℕ) → List (Event × Word) → Type 0
+PrintsEarlier before now text taken =
+    (taken ≡ []) ⊎ ((front : List (Event × Word)) × (last : Event × Word) × (taken ≡ front ++ last ∷ []) × BeginsWith before now (text front))
+
 -- the events were run, each with a word, and their lines put; its answers are still the desk's
 pub record Ran {D W : Type 0} (S : desk.Ghosts D) (G : Ghosts W) (names : List (List ℕ)) (events : List Event) (old new : D) (before after : W) {T : Type 0} (result : Result T Failed) : Type 0 where
   pub taken : List (Event × Word)
@@ -31,5 +37,6 @@ pub record Ran {D W : Type 0} (S : desk.Ghosts D) (G : Ghosts W) (names : List (
   pub leaves : run (S.programs old) taken (S.desk old) ≡ S.desk new
   pub faults : RoseBy (faulted taken) (G.disk_faults before) (G.disk_faults after)
   pub printed : Prints (G.printed before) (G.printed after) (flat_map line_text (event_lines names (S.programs old) (S.opened old) taken (S.desk old))) result
+  pub earlier : PrintsEarlier (G.printed before) (G.printed after) (λ front. flat_map line_text (event_lines names (S.programs old) (S.opened old) front (S.desk old))) taken
   pub kept : Kept S G old new before after
   pub answers : S.answers new
