@@ -1,5 +1,5 @@
 -- How a call ended, and why.
-use Rattle.std.specs.Prelude.{◌≡◌, ◌≢◌, ℕ, List, [], ◌∷◌, map, codes, Option, Result, Ok, Err, String, string_bytes}
+use Rattle.std.specs.Prelude.{◌≡◌, ◌≢◌, ◌≤◌, ℕ, List, [], ◌∷◌, length, map, codes, Option, Some, Result, Ok, Err, String, string_bytes}
 use Rattle.std.specs.Option.{ForSome}
 use Rattle.std.specs.declared.alloc.Global.{Global}
 use Rattle.outside.specs.Causes.{Rose}
@@ -40,13 +40,6 @@ IsPastOpening status.Done = Unit {0}
 IsPastOpening status.PutFault = Unit {0}
 IsPastOpening _ = ⊥
 
--- the command ended before the store was opened
-abbrev pub IsRefused : Status → Type 0
-IsRefused status.Done = ⊥
-IsRefused status.DiskFault = ⊥
-IsRefused status.PutFault = ⊥
-IsRefused _ = Unit {0}
-
 -- a job that some text gives
 pub record IsJob (job : Job) : Type 0 where
   pub text : List ℕ
@@ -83,3 +76,12 @@ pub record ReadsBy (left left_now : Option (List ℕ)) (faults faults_now : ℕ)
 pub record OpensBy (held : Option (List ℕ)) (status : Status) : Type 0 where
   pub no_store : (offset : ℕ) → status ≡ Status.Store offset → (offset ≡ 0) × ForSome held (λ bytes. bytes ≢ fresh try_layout)
   pub store : IsPastOpening status → ForSome held (λ bytes. bytes ≡ fresh try_layout)
+
+-- the words are `try`, the source has the text of a job, and the disk the store of `try`
+pub record IsComplete (words : List (String Global)) (left held : Option (List ℕ)) : Type 0 where
+  pub tries : IsTry words
+  pub text : List ℕ
+  pub has_text : left ≡ Some text
+  pub few : length text ≤ 1048576
+  pub is_job : IsSomeJob text
+  pub store : held ≡ Some (fresh try_layout)

@@ -2,3 +2,4 @@ pub mod Statuses
 pub mod SourceText
 pub mod Opening
 pub mod Causes
+pub mod Headline

@@ -7,7 +7,8 @@ use Rattle.store_format.specs.Header.{Header, total, fresh, home_at}
 use Rattle.outside.specs.declared.world.Outside.{Ghosts}
 use Rattle.desk.specs.Desk.{opened}
 use Rattle.private_desk.specs.declared.single.PrivateDesk.{PrivateDesk}
-use Rattle.private_desk.specs.PrivateDesk.{desk_of, header_told, programs_told, begins_told, turns_told, IsSound}
+use Rattle.private_desk.specs.PrivateDesk.{desk_of, header_told, programs_told, begins_told, turns_told, opened_told, IsSound}
+use Rattle.private_desk.specs.Follows.{Follows}
 use Rattle.std.specs.Prelude.{drop}
 
 -- the header of the store: segment 1 with four pages, segment 2 with two, and a bank of 65,536 bytes
@@ -26,5 +27,7 @@ pub record IsOpened {W : Type 0} (frames : ℕ) (programs : List Program) (G : G
   pub programs_are : programs_told desk ≡ programs
   pub begins : begins_told desk ≡ 1
   pub turns : turns_told desk ≡ 0
+  pub number : opened_told desk ≡ 0
+  pub follows : Follows desk
   pub held : ForSome (G.held outside) (λ bytes. bytes ≡ fresh try_layout)
   pub long : ForSome (G.held outside) (λ bytes. total try_layout ≤ length bytes)

@@ -4,6 +4,8 @@ use Rattle.console.specs.declared.source_text.TextFault.TheVariants as text
 use Rattle.console.specs.declared.opening.OpenFault.{OpenFault}
 use Rattle.console.specs.declared.opening.OpenFault.TheVariants as open_fault
 use Rattle.console.specs.declared.status.Status.{Status}
+use Rattle.schedule_replay.specs.declared.events.Replayed.{Replayed}
+use Rattle.schedule_replay.specs.declared.events.Replayed.TheVariants as replayed
 use Rattle.job_text.specs.declared.job.JobFault.{JobFault}
 use Rattle.job_text.specs.declared.job.JobFault.TheVariants as job_fault
 
@@ -22,3 +24,9 @@ status_of_text text.Memory = Status.NoMemory
 abbrev pub status_of_open : OpenFault → Status
 status_of_open open_fault.Other = Status.Store 0
 status_of_open open_fault.Disk = Status.DiskFault
+
+-- of a replay
+abbrev pub status_of_replay : Replayed → Status
+status_of_replay replayed.Ended = Status.Done
+status_of_replay replayed.Closed = Status.DiskFault
+status_of_replay replayed.PutFault = Status.PutFault

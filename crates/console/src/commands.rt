@@ -1,8 +1,12 @@
-ghost use Rattle.std.specs.Prelude.{◌≡◌, ◌≢◌, ◌<◌, ◌≤◌, ◌⊎◌, ◌↔◌, [], vec_len, IfOk, IfErr, IsTrue};
+ghost use Rattle.std.specs.Prelude.{◌≡◌, ◌≢◌, ◌<◌, ◌≤◌, ◌⊎◌, ◌↔◌, ℕ, List, IfOk, IfErr, IsTrue, Err};
 ghost use Rattle.outside.specs.Causes.{Rose};
 ghost use Rattle.outside.specs.Runs.{OnlyAsks};
 ghost use Rattle.console.specs.Opening.{IsOpened};
-ghost use Rattle.console.specs.Causes.{IsTry, IsJob, ReadsBy, OpensBy, IsRefused, IsPastJob, IsOfReading, IsOfOpening, status_of};
+ghost use Rattle.desk.specs.Answers.{order_told};
+ghost use Rattle.job_text.specs.Answers.{IsJobOfText};
+ghost use Rattle.console.specs.SourceText.{IsWhole};
+ghost use Rattle.console.specs.Causes.{IsTry, IsJob, IsComplete, ReadsBy, OpensBy, IsPastJob, IsOfReading, IsOfOpening, status_of};
+ghost use Rattle.console.specs.Headline.{Happened, HappenedTo};
 
 use super::opening::{check_store, try_header, try_store};
 use super::source_text::read_text;
@@ -12,7 +16,7 @@ use flat_machine::Program;
 use job_text::{Job, read_job};
 use outside::{Outside, Source};
 use private_desk::PrivateDesk;
-use schedule_replay::{Replayed, replay};
+use schedule_replay::replay;
 use std::alloc::Global;
 
 /// All that the program does: it takes the words of the command line, without the program's name, and the source, disk
@@ -29,7 +33,9 @@ pub fn console<S: Source, W: Outside>(
     ensures read { IsTry words.now → ReadsBy (S.left job.old) (S.left job.new) (S.faults job.old) (S.faults job.new) result.status }
     ensures opened { IsTry words.now → OpensBy (W.held outside.old) result.status }
     ensures put { result.status ≡ Status.PutFault → Rose (W.put_faults outside.old) (W.put_faults outside.new) }
-    ensures refused { IsRefused result.status → (result.order.items ≡ []) × OnlyAsks W.Outside outside.old outside.new }
+    ensures disk { result.status ≡ Status.DiskFault → Rose (W.disk_faults outside.old) (W.disk_faults outside.new) }
+    ensures happened { Happened W.Outside (S.left job.old) (S.left job.new) outside.old outside.new (order_told result.order.items) result.status }
+    ensures complete { IsComplete words.now (S.left job.old) (W.held outside.old) → (Rose (S.faults job.old) (S.faults job.new) → ⊥) → (Rose (W.disk_faults outside.old) (W.disk_faults outside.new) → ⊥) → (Rose (W.put_faults outside.old) (W.put_faults outside.new) → ⊥) → (result.status ≡ Status.Done) ⊎ (result.status ≡ Status.NoMemory) }
     ensures never { (result.status ≢ Status.Exists) × (result.status ≢ Status.NoRange) }
 {
     if !is_try(words) {
@@ -61,7 +67,7 @@ fn is_try(words: &[String]) -> bool
 fn read<S: Source>(alloc: Global, source: &mut S) -> Result<Job, Status>
     ensures read { ReadsBy (S.left source.old) (S.left source.new) (S.faults source.old) (S.faults source.new) (status_of result) }
     ensures only { IfErr result IsOfReading }
-    ensures ready { IfOk result IsJob }
+    ensures means { IfOk result (λ job. (text : List ℕ) × IsWhole (S.left source.old) (S.left source.new) text × IsJobOfText text job) }
 {
     let text = read_text(alloc, source)?;
     Ok(read_job(alloc, &text)?)
@@ -72,7 +78,8 @@ fn try_job<W: Outside>(alloc: Global, job: Job, outside: &mut W) -> Ended
     requires { IsJob job }
     ensures opened { OpensBy (W.held outside.old) result.status }
     ensures put { result.status ≡ Status.PutFault → Rose (W.put_faults outside.old) (W.put_faults outside.new) }
-    ensures refused { IsRefused result.status → (result.order.items ≡ []) × OnlyAsks W.Outside outside.old outside.new }
+    ensures disk { result.status ≡ Status.DiskFault → Rose (W.disk_faults outside.old) (W.disk_faults outside.new) }
+    ensures happened { HappenedTo W.Outside job outside.old outside.new (order_told result.order.items) result.status }
     ensures only { IsPastJob result.status ⊎ (result.status ≡ Status.NoMemory) }
     ensures never { (result.status ≢ Status.Exists) × (result.status ≢ Status.NoRange) }
 {
@@ -85,13 +92,9 @@ fn try_job<W: Outside>(alloc: Global, job: Job, outside: &mut W) -> Ended
             };
         }
     };
-    let status = match replay(&mut desk, &job.names, &job.events, outside) {
-        Replayed::Ended => Status::Done,
-        Replayed::Closed => Status::DiskFault,
-        Replayed::PutFault => Status::PutFault,
-    };
+    let replayed = replay(&mut desk, &job.names, &job.events, outside);
     Ended {
-        status,
+        status: Status::from(replayed),
         order: desk.into_order(),
     }
 }
@@ -104,7 +107,7 @@ fn open<W: Outside>(
     outside: &mut W,
 ) -> Result<PrivateDesk, Status>
     requires frames { 0 < frames }
-    requires programs { 0 < vec_len programs }
+    ensures disk { result ≡ Err Status.DiskFault → Rose (W.disk_faults outside.old) (W.disk_faults outside.new) }
     ensures asks { OnlyAsks W.Outside outside.old outside.new }
     ensures store { OpensBy (W.held outside.old) (status_of result) }
     ensures only { IfErr result IsOfOpening }

@@ -1,12 +1,13 @@
 ghost use Rattle.std.specs.Prelude.{◌≡◌};
 ghost use Rattle.console.specs.declared.status.Status.TheVariants.{NoMemory};
-ghost use Rattle.console.specs.Statuses.{status_of_job, status_of_text, status_of_open};
+ghost use Rattle.console.specs.Statuses.{status_of_job, status_of_text, status_of_open, status_of_replay};
 
 use super::opening::OpenFault;
 use super::source_text::TextFault;
 use arrayvec::ArrayString;
 use desk::Committed;
 use job_text::JobFault;
+use schedule_replay::Replayed;
 use std::alloc::AllocError;
 use std::fmt::Write;
 
@@ -121,6 +122,18 @@ impl From<OpenFault> for Status {
         match fault {
             OpenFault::Other => Status::Store(0),
             OpenFault::Disk => Status::DiskFault,
+        }
+    }
+}
+
+impl From<Replayed> for Status {
+    ghost from_gives = { λ replayed status. status ≡ status_of_replay replayed };
+
+    fn from(replayed: Replayed) -> Self {
+        match replayed {
+            Replayed::Ended => Status::Done,
+            Replayed::Closed => Status::DiskFault,
+            Replayed::PutFault => Status::PutFault,
         }
     }
 }

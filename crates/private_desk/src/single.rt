@@ -89,7 +89,7 @@ impl PrivateDesk {
     ghost use Rattle.desk.specs.Desk.{opened, nobody};
     ghost use Rattle.desk.specs.Instruction as turn;
     ghost use Rattle.desk.specs.Instruction.{Word, Fine, Fetched, fetches, refuses, lines_within, granted, room, limit_passed, commits, Over};
-    ghost use Rattle.desk.specs.Answers.{ending_told, HasNumbers};
+    ghost use Rattle.desk.specs.Answers.{order_told, ending_told, HasNumbers};
     ghost use Rattle.desk.specs.Report.{number_after};
     ghost use Rattle.private_desk.specs.Kept.{Keeps};
     ghost use Rattle.private_desk.specs.Marks.{Show};
@@ -113,7 +113,6 @@ impl PrivateDesk {
         begins: u32,
     ) -> Result<Self, AllocError>
         requires store { length store.now ≡ byte_count header.directory }
-        requires programs { 0 < vec_len programs }
         requires frames { 0 < frames }
         requires begins { begins < 2 ^ 32 - 1 }
         ensures sound { IfOk result IsSound }
@@ -127,7 +126,7 @@ impl PrivateDesk {
     {
         let directory = header.directory();
         let committed = OwnedList::from_vec(Vec::from_slice(alloc, store)?);
-        let live = Plain::start(alloc, &programs[0], [0; 4], directory, store)?;
+        let live = Plain::start(alloc, &no_program(alloc), [0; 4], directory, store)?;
         let marks = LineMarks::new(alloc, directory.line_count())?;
         let entries = PageEntries::new(alloc, directory.pages())?;
         let body = Vec::with_capacity(alloc, header.bank_bytes() as usize)?;
@@ -155,7 +154,9 @@ impl PrivateDesk {
     }
 
     /// The commits whose gate write began.
-    pub fn into_order(self) -> Vec<Committed> {
+    pub fn into_order(self) -> Vec<Committed>
+        ensures { order_told result.items ≡ (desk_of self).order }
+    {
         self.order
     }
 
@@ -425,6 +426,15 @@ impl PrivateDesk {
         self.committed.write(0, self.live.store.as_slice());
         self.active = None;
         self.entries.release(active.number);
+    }
+}
+
+/// A program without an image, which holds the room of the one that is active until the first begin.
+fn no_program(alloc: Global) -> Program {
+    Program {
+        image: OwnedList::from_vec(Vec::new(alloc)),
+        entry: 0,
+        windows: [None; 15],
     }
 }
 

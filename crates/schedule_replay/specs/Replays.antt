@@ -32,9 +32,10 @@ pub record RanSome {D W : Type 0} (S : desk.Ghosts D) (G : Ghosts W) (names : Li
   pub all : IfOk result (λ going. is_closed going ≡ false → rest ≡ [])
 
 -- There is one run of the first of the events, which leaves the desk that is shown. Its report is put, or a prefix of it
--- where a put failed, which has the first line and those of all events but the last. The disk's faults rose by at least the number of events whose word isn't fine. All events were run where
--- the desk goes on. Its answers are still the desk's.
-pub record Reports {D W : Type 0} (S : desk.Ghosts D) (G : Ghosts W) (names : List (List ℕ)) (events : List Event) (old new : D) (before after : W) (result : Result Going Failed) : Type 0 where
+-- where a put failed, which has the first line and those of all events but the last. The disk's faults rose by at least the
+-- number of events whose word isn't fine. A result says whether the desk is closed; all events were run where it goes on. Its
+-- answers are still the desk's.
+pub record Reports {D W : Type 0} (S : desk.Ghosts D) (G : Ghosts W) (names : List (List ℕ)) (events : List Event) (old new : D) (before after : W) {T : Type 0} (shut : T → Bool) (result : Result T Failed) : Type 0 where
   pub taken : List (Event × Word)
   pub rest : List Event
   pub is_run : IsRunOf (S.programs old) events (S.desk old) taken rest
@@ -42,13 +43,13 @@ pub record Reports {D W : Type 0} (S : desk.Ghosts D) (G : Ghosts W) (names : Li
   pub faults : RoseBy (faulted taken) (G.disk_faults before) (G.disk_faults after)
   pub printed : Prints (G.printed before) (G.printed after) (report names (S.programs old) (S.opened old) taken (S.desk old)) result
   pub earlier : PrintsEarlier (G.printed before) (G.printed after) (λ front. line_text (Open (S.opened old)) ++ flat_map line_text (event_lines names (S.programs old) (S.opened old) front (S.desk old))) taken
-  pub closed : IfOk result (λ going. (S.desk new).closed ≡ is_closed going)
-  pub all : IfOk result (λ going. is_closed going ≡ false → rest ≡ [])
+  pub closed : IfOk result (λ value. (S.desk new).closed ≡ shut value)
+  pub all : IfOk result (λ value. shut value ≡ false → rest ≡ [])
   pub kept : Kept S G old new before after
   pub answers : S.answers new
 
 -- The events were replayed: to the end, to the one that closed the desk, or to the one in whose report a put failed.
 abbrev pub Replays : {D W : Type 0} → desk.Ghosts D → Ghosts W → List (List ℕ) → List Event → D → D → W → W → Replayed → Type 0
-Replays S G names events old new before after replayed.Ended = Reports S G names events old new before after (Ok going.On)
-Replays S G names events old new before after replayed.Closed = Reports S G names events old new before after (Ok going.Closed)
-Replays S G names events old new before after replayed.PutFault = (failed : Failed) × Reports S G names events old new before after (Err failed)
+Replays S G names events old new before after replayed.Ended = Reports S G names events old new before after (λ closed. closed) (Ok false)
+Replays S G names events old new before after replayed.Closed = Reports S G names events old new before after (λ closed. closed) (Ok true)
+Replays S G names events old new before after replayed.PutFault = (failed : Failed) × Reports S G names events old new before after {T = Bool} (λ closed. closed) (Err failed)

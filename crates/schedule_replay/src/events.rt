@@ -54,6 +54,7 @@ pub fn replay<S: Supervisor, W: Outside>(
     ensures put { W.put_faults outside.old ≤ W.put_faults outside.new }
     ensures cause { result ≡ Replayed.PutFault → Rose (W.put_faults outside.old) (W.put_faults outside.new) }
     ensures bytes { HoldsStore S.Supervisor W.Outside desk.new outside.new }
+    ensures opened { S.opened desk.new ≡ S.opened desk.old }
     ensures kept { S.answers desk.old → HasOpened S.Supervisor desk.old → Kept S.Supervisor W.Outside desk.old desk.new outside.old outside.new }
 {
     match put_report(desk, names, events, outside) {
@@ -72,12 +73,13 @@ fn put_report<S: Supervisor, W: Outside>(
 ) -> Result<Going, Failed>
     requires ready { IsReady S.Supervisor W.Outside events.now desk.old outside.old }
     requires names { length (S.programs desk.old) ≤ length names.now }
-    ensures reports { S.answers desk.old → HasOpened S.Supervisor desk.old → Reports S.Supervisor W.Outside (map (λ name. name.items) names.now) events.now desk.old desk.new outside.old outside.new result }
+    ensures reports { S.answers desk.old → HasOpened S.Supervisor desk.old → Reports S.Supervisor W.Outside (map (λ name. name.items) names.now) events.now desk.old desk.new outside.old outside.new is_closed result }
     ensures sound { S.sound desk.new }
     ensures time { Elapses W.moment W.left_since outside.old outside.new }
     ensures disk { W.disk_faults outside.old ≤ W.disk_faults outside.new }
     ensures cause { HasCause (W.put_faults outside.old) (W.put_faults outside.new) result }
     ensures bytes { HoldsStore S.Supervisor W.Outside desk.new outside.new }
+    ensures opened { S.opened desk.new ≡ S.opened desk.old }
 {
     put_line(&Line::Open(desk.number()), outside)?;
     match put_events(desk, names, events, outside)? {

@@ -1,4 +1,5 @@
-use Rattle.std.proofs.Common.{◌≡◌, ◌∙◌, ap, arith, length, List}
+use Rattle.std.proofs.Common.{◌≡◌, ◌∙◌, ap, sym, subst, arith, length, map, List, ℕ}
+use Rattle.outside.specs.declared.world.Outside.{Ghosts}
 use Rattle.std.specs.Option.{ForSome}
 use Rattle.store_format.specs.Header.{Header, fresh, total}
 use Rattle.flat_machine.specs.declared.machine.Program.{Program}
@@ -6,14 +7,22 @@ use Rattle.desk.specs.Desk.{Desk}
 use Rattle.desk.specs.declared.event.Event.{Event}
 use Rattle.schedule_replay.specs.Asked.{begins_in, turns_in}
 use Rattle.console.specs.Opening.{try_layout}
-use Rattle.console.specs.declared.opening.OpenFault.TheVariants.{Disk}
-use Rattle.console.proofs.CauseLemmas.{opens-done, opens-fault, opens-put}
-use Rattle.console.proofs.RunLemmas.{askable}
-use Rattle.console.proofs.commands.try_job.Goals.{in-Ended, in-Closed, in-PutFault}
+use Rattle.desk.specs.Answers.{order_told}
+use Rattle.private_desk.specs.declared.single.PrivateDesk.{PrivateDesk}
+use Rattle.private_desk.specs.contracts.single.PrivateDeskSupervisor.TheImpl.{ghosts}
+use Rattle.schedule_replay.specs.declared.events.Replayed.{Replayed}
+use Rattle.schedule_replay.specs.Replays.{Replays}
+use Rattle.job_text.specs.declared.job.Job.{Job}
+use Rattle.console.specs.declared.status.Status.{Status}
+use Rattle.console.specs.Statuses.{status_of_replay}
+use Rattle.console.specs.Causes.{OpensBy}
+use Rattle.console.specs.Headline.{HappenedTo, names_of}
+use Rattle.console.proofs.CauseLemmas.{opens-by}
+use Rattle.console.proofs.RunLemmas.{askable, happened, has_opened, rose-by, put_failed}
 use Rattle.console.proofs.commands.try_job.Goals as goal
 
-pub replay-requires-clause-ready : goal.replay-requires-clause-ready
-replay-requires-clause-ready g c =
+pub replay-replayed-requires-clause-ready : goal.replay-replayed-requires-clause-ready
+replay-replayed-requires-clause-ready g c =
     let opened = c.in-Ok.ensures.opened in
     let means = c.requires.gives.means in
     let events = c.deref-2.ensures.value ∙ means.events in
@@ -33,8 +42,48 @@ replay-requires-clause-ready g c =
 pub returns-clause-opened : goal.returns-clause-opened
 returns-clause-opened g c =
     let held : ForSome (g.W.Outside.held c.args.outside.now) (λ bytes. bytes ≡ fresh try_layout) = λ x is. c.in-Ok.ensures.opened.held x (c.in-Ok.ensures.asks.held ∙ is) in
-    elim c.match-replay.branch [
-      | in-Ended w ↦ rw w.status-is (opens-done (g.W.Outside.held c.args.outside.now) held)
-      | in-Closed w ↦ rw w.status-is (opens-fault (g.W.Outside.held c.args.outside.now) Disk (λ is. absurd cc))
-      | in-PutFault w ↦ rw w.status-is (opens-put (g.W.Outside.held c.args.outside.now) held)
-    ]
+    subst (λ (now : Status). OpensBy (g.W.Outside.held c.args.outside.now) now) (sym c.from.ensures) (opens-by (g.W.Outside.held c.args.outside.now) held c.replay-replayed.result)
+
+pub returns-clause-put : goal.returns-clause-put
+returns-clause-put g c = λ is.
+    let cause = c.replay-replayed.ensures.cause (put_failed c.replay-replayed.result (sym c.from.ensures ∙ is)) in
+    omega (arith, cause, c.in-Ok.ensures.asks.calls.put)
+
+-- what was replayed, in the job's words
+replays : {W : Type 0} (G : Ghosts W) (names : List (List ℕ)) (events : List Event) (job : Job) (desk new : PrivateDesk) (start after : W) (replayed : Replayed)
+    → names ≡ names_of job → events ≡ job.events.items → Replays ghosts G names events desk new start after replayed → Replays ghosts G (names_of job) job.events.items desk new start after replayed
+replays G names events job desk new start after replayed same_names same_events did =
+    subst (λ (these : List (List ℕ)). Replays ghosts G these job.events.items desk new start after replayed) same_names
+    (subst (λ (these : List Event). Replays ghosts G names these desk new start after replayed) same_events did)
+
+pub returns-clause-happened : goal.returns-clause-happened
+returns-clause-happened g c =
+    let G = g.W.Outside in
+    let opened = c.in-Ok.ensures.opened in
+    let asks = c.in-Ok.ensures.asks in
+    let desk = c.in-Ok.desk in
+    let new = c.replay-replayed.new.desk in
+    let before = c.args.outside.now in
+    let start = c.open.new.outside in
+    let after = c.replay-replayed.new.outside in
+    let did = replays G _ c.deref-2.result.now c.args.job desk new start after c.replay-replayed.result
+    (ap (map (λ name. name.items)) c.deref.ensures.value) c.deref-2.ensures.value
+    (c.replay-replayed.ensures.replays opened.follows (has_opened G c.args.job before start after desk new opened asks c.replay-replayed.ensures.opened)) in
+    subst (λ (now : Status). HappenedTo G c.args.job before after (order_told c.into_order.result.items) now) (sym c.from.ensures)
+    (subst (λ (order : List (ℕ × ℕ)). HappenedTo G c.args.job before after order (status_of_replay c.replay-replayed.result)) (sym c.into_order.ensures)
+    (happened G c.args.job before start after desk new opened asks c.replay-replayed.ensures.opened c.replay-replayed.result did))
+
+pub returns-clause-disk : goal.returns-clause-disk
+returns-clause-disk g c = λ is.
+    let G = g.W.Outside in
+    let opened = c.in-Ok.ensures.opened in
+    let asks = c.in-Ok.ensures.asks in
+    let desk = c.in-Ok.desk in
+    let new = c.replay-replayed.new.desk in
+    let before = c.args.outside.now in
+    let start = c.open.new.outside in
+    let after = c.replay-replayed.new.outside in
+    let did = replays G _ c.deref-2.result.now c.args.job desk new start after c.replay-replayed.result
+    (ap (map (λ name. name.items)) c.deref.ensures.value) c.deref-2.ensures.value
+    (c.replay-replayed.ensures.replays opened.follows (has_opened G c.args.job before start after desk new opened asks c.replay-replayed.ensures.opened)) in
+    rose-by G c.args.job before start after desk new opened asks c.replay-replayed.ensures.opened c.replay-replayed.result did (sym c.from.ensures ∙ is)
