@@ -3,7 +3,7 @@ ghost use Rattle.std.specs.Prelude.{◌≡◌, ◌<◌, ◌≤◌, ◌+◌, ◌*
 ghost use Rattle.romp_table.specs.Legal.{HasWidths};
 ghost use Rattle.flat_machine.specs.Access.{FitsFrom, IsAccess, IsSound};
 ghost use Rattle.flat_machine.specs.Words.{bit};
-ghost use Rattle.flat_machine.specs.Work.{base, loads_byte, loads_half, loads_words, stores_byte, stores_half, stores_words, traps, is_masked, called, work_with_count, work_of_r, access_of_d, logic_of_d, work_of_d, work_of_s, work_of_x, work_of};
+ghost use Rattle.flat_machine.specs.Work.{base, half_address, word_address, loads_byte, loads_half, loads_words, stores_byte, stores_half, stores_words, traps, is_masked, called, work_with_count, work_of_r, access_of_d, logic_of_d, work_of_d, work_of_s, work_of_x, work_of};
 
 use super::machine::{Act, Cs};
 use super::words::{
@@ -183,6 +183,20 @@ fn access_d(op: Op, b: u8, address: u32) -> Work
     }
 }
 
+/// The address of a halfword.
+fn half_at(address: u32) -> u32
+    ensures { result ≡ half_address address }
+{
+    address - address % 2
+}
+
+/// The address of a word.
+fn word_at(address: u32) -> u32
+    ensures { result ≡ word_address address }
+{
+    address - address % 4
+}
+
 /// One byte is loaded.
 fn load_byte(address: u32, to: u8) -> Work
     requires { to < 16 }
@@ -204,7 +218,7 @@ fn load_half(address: u32, to: u8, sign: bool) -> Work
     ensures sound { IsSound result }
 {
     Work::Want(Act::Load {
-        address: address - address % 2,
+        address: half_at(address),
         bytes: 2,
         to,
         sign,
@@ -218,7 +232,7 @@ fn load_words(address: u32, bytes: u8, to: u8) -> Work
     ensures sound { IsSound result }
 {
     Work::Want(Act::Load {
-        address: address - address % 4,
+        address: word_at(address),
         bytes,
         to,
         sign: false,
@@ -245,7 +259,7 @@ fn store_half(address: u32, from: u8) -> Work
     ensures sound { IsSound result }
 {
     Work::Want(Act::Store {
-        address: address - address % 2,
+        address: half_at(address),
         bytes: 2,
         from,
     })
@@ -258,7 +272,7 @@ fn store_words(address: u32, bytes: u8, from: u8) -> Work
     ensures sound { IsSound result }
 {
     Work::Want(Act::Store {
-        address: address - address % 4,
+        address: word_at(address),
         bytes,
         from,
     })
