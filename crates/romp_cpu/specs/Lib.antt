@@ -1,0 +1,3 @@
+pub mod Shown
+pub mod Tried
+pub mod Attempts

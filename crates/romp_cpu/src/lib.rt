@@ -1,0 +1,8 @@
+//! The processor: one attempt of one instruction over a storage that may refuse.
+#![tactic(auto)]
+
+mod cpu;
+mod storage;
+
+pub use cpu::{Attempt, Cpu};
+pub use storage::{Access, Fault, Probe, Storage};
