@@ -10,7 +10,7 @@ use Rattle.romp_cpu.specs.declared.cpu.Attempt.{Attempt}
 use Rattle.romp_cpu.specs.declared.cpu.Cpu.{Cpu}
 use Rattle.romp_cpu.specs.declared.storage.Access.{Access}
 use Rattle.romp_cpu.specs.declared.storage.Probe.{Probe}
-use Rattle.romp_cpu.specs.Shown.{access_to}
+use Rattle.romp_cpu.specs.Shown.{bytes_from, access_to}
 
 -- an attempt's answer, and the processor and the storage's state after it
 pub record Tried (S : Type 0) : Type 0 where
@@ -24,6 +24,11 @@ pub record Seen (S : Type 0) : Type 0 where
   pub shown : (address count : ℕ) → List ℕ
   pub answer : Access → Probe
   pub stored : (address : ℕ) → List ℕ → S
+
+-- what is seen of a storage in a state, by the meanings of the storage
+abbrev pub seen_in : {S : Type 0} → (S → ℕ → ℕ) → (S → Access → Probe) → (S → ℕ → List ℕ → S) → S → Seen S
+seen_in byte_at answer stored state =
+    record { state = state; shown = bytes_from (byte_at state); answer = answer state; stored = stored state }
 
 -- registers with a link, if there is one
 abbrev pub linked : Option (ℕ × ℕ) → List ℕ → List ℕ

@@ -4,7 +4,7 @@ ghost use Rattle.flat_machine.specs.Access.{IsAccess, IsSoundPlan, FitsFrom};
 ghost use Rattle.flat_machine.specs.Effect.{filled};
 ghost use Rattle.flat_machine.specs.Row.{plan, stored_bytes};
 ghost use Rattle.romp_cpu.specs.Shown.{bytes_from, halfword_of, access_to};
-ghost use Rattle.romp_cpu.specs.Tried.{linked, refused_by, tried_act};
+ghost use Rattle.romp_cpu.specs.Tried.{linked, refused_by, seen_in, tried, tried_act};
 ghost use Rattle.romp_cpu.specs.Attempts.{GivesEveryRow, UndoesUnlessWent};
 
 use super::storage::{Access, Fault, Probe, Storage};
@@ -55,6 +55,15 @@ impl Cpu {
     /// is asked for once, before anything changes: a fault, a commit and a check leave processor and storage as they were
     /// (docs/MODEL.md).
     pub fn attempt<S: Storage>(&mut self, storage: &mut S) -> Attempt
+        ensures row { GivesEveryRow self.old (seen_in S.byte_at S.answer S.stored (S.state storage.old)) (record { attempt = result; cpu = self.new; state = S.state storage.new }) }
+        ensures undone { UndoesUnlessWent result self.old self.new (S.state storage.old) (S.state storage.new) }
+    {
+        self.carry_out(storage)
+    }
+
+    /// Does what the next instruction is to do, as far as the storage permits.
+    fn carry_out<S: Storage>(&mut self, storage: &mut S) -> Attempt
+        ensures tried { record { attempt = result; cpu = self.new; state = S.state storage.new } ≡ tried (seen_in S.byte_at S.answer S.stored (S.state storage.old)) self.old (plan (halfword_of (S.byte_at (S.state storage.old))) self.old.regs self.old.cs self.old.iar) }
         ensures undone { UndoesUnlessWent result self.old self.new (S.state storage.old) (S.state storage.new) }
     {
         match plan_over(storage, self) {
@@ -81,7 +90,7 @@ impl Cpu {
     ) -> Attempt
         requires access { IsAccess act }
         requires link { ForSome link (λ written. written.0 < 16) }
-        ensures tried { record { attempt = result; cpu = self.new; state = S.state storage.new } ≡ tried_act (record { state = S.state storage.old; shown = bytes_from (S.byte_at (S.state storage.old)); answer = S.answer (S.state storage.old); stored = S.stored (S.state storage.old) }) self.old act regs cs next link }
+        ensures tried { record { attempt = result; cpu = self.new; state = S.state storage.new } ≡ tried_act (seen_in S.byte_at S.answer S.stored (S.state storage.old)) self.old act regs cs next link }
     {
         match act {
             Act::Nothing => self.go_on(regs, cs, next, link),
