@@ -1,3 +1,4 @@
 pub mod Shown
+pub mod Answers
 pub mod Tried
 pub mod Attempts

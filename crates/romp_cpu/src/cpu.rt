@@ -4,6 +4,7 @@ ghost use Rattle.flat_machine.specs.Access.{IsAccess, IsSoundPlan, FitsFrom};
 ghost use Rattle.flat_machine.specs.Effect.{filled};
 ghost use Rattle.flat_machine.specs.Row.{plan, stored_bytes};
 ghost use Rattle.romp_cpu.specs.Shown.{bytes_from, halfword_of, access_to};
+ghost use Rattle.romp_cpu.specs.Answers.{answer_in};
 ghost use Rattle.romp_cpu.specs.Tried.{linked, refused_by, seen_in, tried, tried_act};
 ghost use Rattle.romp_cpu.specs.Attempts.{GivesEveryRow, UndoesUnlessWent};
 
@@ -55,7 +56,7 @@ impl Cpu {
     /// is asked for once, before anything changes: a fault, a commit and a check leave processor and storage as they were
     /// (docs/MODEL.md).
     pub fn attempt<S: Storage>(&mut self, storage: &mut S) -> Attempt
-        ensures row { GivesEveryRow self.old (seen_in S.byte_at S.answer S.stored (S.state storage.old)) (record { attempt = result; cpu = self.new; state = S.state storage.new }) }
+        ensures row { GivesEveryRow self.old (seen_in S.byte_at (answer_in S.registers S.is_in_frame S.refuses) S.stored (S.state storage.old)) (record { attempt = result; cpu = self.new; state = S.state storage.new }) }
         ensures undone { UndoesUnlessWent result self.old self.new (S.state storage.old) (S.state storage.new) }
     {
         self.carry_out(storage)
@@ -63,7 +64,7 @@ impl Cpu {
 
     /// Does what the next instruction is to do, as far as the storage permits.
     fn carry_out<S: Storage>(&mut self, storage: &mut S) -> Attempt
-        ensures tried { record { attempt = result; cpu = self.new; state = S.state storage.new } ≡ tried (seen_in S.byte_at S.answer S.stored (S.state storage.old)) self.old (plan (halfword_of (S.byte_at (S.state storage.old))) self.old.regs self.old.cs self.old.iar) }
+        ensures tried { record { attempt = result; cpu = self.new; state = S.state storage.new } ≡ tried (seen_in S.byte_at (answer_in S.registers S.is_in_frame S.refuses) S.stored (S.state storage.old)) self.old (plan (halfword_of (S.byte_at (S.state storage.old))) self.old.regs self.old.cs self.old.iar) }
         ensures undone { UndoesUnlessWent result self.old self.new (S.state storage.old) (S.state storage.new) }
     {
         match plan_over(storage, self) {
@@ -90,7 +91,7 @@ impl Cpu {
     ) -> Attempt
         requires access { IsAccess act }
         requires link { ForSome link (λ written. written.0 < 16) }
-        ensures tried { record { attempt = result; cpu = self.new; state = S.state storage.new } ≡ tried_act (seen_in S.byte_at S.answer S.stored (S.state storage.old)) self.old act regs cs next link }
+        ensures tried { record { attempt = result; cpu = self.new; state = S.state storage.new } ≡ tried_act (seen_in S.byte_at (answer_in S.registers S.is_in_frame S.refuses) S.stored (S.state storage.old)) self.old act regs cs next link }
     {
         match act {
             Act::Nothing => self.go_on(regs, cs, next, link),
@@ -162,7 +163,7 @@ fn load<S: Storage>(
 ) -> Option<Attempt>
     requires { FitsFrom bytes to }
     ensures state { S.state storage.new ≡ S.state storage.old }
-    ensures refused { result ≡ refused_by (access_to address bytes false) (S.answer (S.state storage.old) (access_to address bytes false)) }
+    ensures refused { result ≡ refused_by (access_to address bytes false) (answer_in S.registers S.is_in_frame S.refuses (S.state storage.old) (access_to address bytes false)) }
     ensures loaded { IfNone result (regs.new ≡ filled to sign (bytes_from (S.byte_at (S.state storage.old)) address bytes) regs.old) }
 {
     let access = Access {
@@ -189,7 +190,7 @@ fn store<S: Storage>(
     regs: &[u32; 16],
 ) -> Option<Attempt>
     requires { FitsFrom bytes from }
-    ensures refused { result ≡ refused_by (access_to address bytes true) (S.answer (S.state storage.old) (access_to address bytes true)) }
+    ensures refused { result ≡ refused_by (access_to address bytes true) (answer_in S.registers S.is_in_frame S.refuses (S.state storage.old) (access_to address bytes true)) }
     ensures stays { OnSome result (S.state storage.new ≡ S.state storage.old) }
     ensures stored { IfNone result (S.state storage.new ≡ S.stored (S.state storage.old) address (stored_bytes regs.now bytes from)) }
 {

@@ -1,7 +1,10 @@
-ghost use Rattle.std.specs.Prelude.{◌≡◌, ◌+◌, ◌<◌, ℕ, true, false, List, length};
+ghost use Rattle.std.specs.Prelude.{◌≡◌, ℕ, Bool, true, false, List, Option, length};
+ghost use Rattle.segment_regs.specs.declared.registers.SegmentRegister.{SegmentRegister};
+ghost use Rattle.segment_regs.specs.declared.registers.Virtual.{Virtual};
 ghost use Rattle.romp_cpu.specs.declared.storage.Access.{Access};
 ghost use Rattle.romp_cpu.specs.declared.storage.Probe.{Probe};
 ghost use Rattle.romp_cpu.specs.Shown.{bytes_from, halfword_of, access_to};
+ghost use Rattle.romp_cpu.specs.Answers.{answer_in, IsOutside};
 
 use segment_regs::Virtual;
 
@@ -30,8 +33,8 @@ pub enum Probe {
 }
 
 /// What a processor fetches from, loads from and stores to. Its contracts speak of a state, which is plain data of the
-/// implementation's own: the bytes that it shows, the answer that each access gets, and the state that a store leaves
-/// (docs/MODEL.md).
+/// implementation's own: the bytes that it shows, the segment registers, which pages are in frames and which bytes their
+/// entries refuse, and the state that a store leaves (docs/MODEL.md).
 pub trait Storage {
     /// The states.
     type State;
@@ -39,43 +42,42 @@ pub trait Storage {
     /// The state that it is in.
     ghost state: { Self → Self.State };
 
-    /// The byte that a state shows at an address.
+    /// The byte that a state shows at an effective address.
     ghost byte_at: { Self.State → ℕ → ℕ };
 
-    /// The answer that an access gets in a state.
-    ghost answer: { Self.State → Access → Probe };
+    /// The segment registers.
+    ghost registers: { Self.State → List (Option SegmentRegister) };
+
+    /// Whether the page of a byte is in a frame.
+    ghost is_in_frame: { Self.State → Virtual → Bool };
+
+    /// Whether the entry of a byte's page refuses to load it, or to store it.
+    ghost refuses: { Self.State → Virtual → Bool → Bool };
 
     /// The state that a store of bytes from an address on leaves.
     ghost stored: { Self.State → ℕ → List ℕ → Self.State };
-
-    /// Whether two addresses name the same byte in a state, maybe through two windows.
-    ghost is_same_byte: { Self.State → ℕ → ℕ → Type 0 };
 
     /// The halfword at an address, the higher byte first. None exactly where it is outside the 16,384 bytes of register 0.
     fn fetch(&self, address: u32) -> Option<u16>
         ensures { result ≡ halfword_of (byte_at (state self.now)) address };
 
-    /// Whether an access may be made. It may arrange things for itself, but the state stays.
+    /// Whether an access may be made: a check as it is located; else the first page by address that is in no frame; else the
+    /// first whose entry refuses. It may arrange things for itself, but the state stays.
     fn probe(&mut self, wants: &Access) -> Probe
-        ensures answer { result ≡ answer (state self.old) wants.now }
+        ensures answer { result ≡ answer_in registers is_in_frame refuses (state self.old) wants.now }
         ensures state { state self.new ≡ state self.old };
 
     /// Fills the slice with the bytes from an address on, an access that is permitted.
     fn load(&self, address: u32, into: &mut [u8])
-        requires { answer (state self.now) (access_to address (length into.old) false) ≡ Probe.Permitted }
+        requires { answer_in registers is_in_frame refuses (state self.now) (access_to address (length into.old) false) ≡ Probe.Permitted }
         ensures { into.new ≡ bytes_from (byte_at (state self.now)) address (length into.old) };
 
-    /// Stores bytes from an address on, an access that is permitted.
+    /// Stores bytes from an address on, an access that is permitted. The range then shows them, and other addresses change
+    /// only where they name the same byte through another register. No access gets another answer.
     fn store(&mut self, address: u32, from: &[u8])
-        requires { answer (state self.old) (access_to address (length from.now) true) ≡ Probe.Permitted }
-        ensures { state self.new ≡ stored (state self.old) address from.now };
-
-    /// A permitted store makes its range show its bytes.
-    ghost shows_stored: { (s : Self.State) (address : ℕ) (bytes : List ℕ) → answer s (access_to address (length bytes) true) ≡ Probe.Permitted → bytes_from (byte_at (stored s address bytes)) address (length bytes) ≡ bytes };
-
-    /// Other addresses change only where they name the same byte.
-    ghost others_stay: { (s : Self.State) (address : ℕ) (bytes : List ℕ) (other : ℕ) → answer s (access_to address (length bytes) true) ≡ Probe.Permitted → ((k : ℕ) → k < length bytes → ¬ (is_same_byte s (address + k) other)) → byte_at (stored s address bytes) other ≡ byte_at s other };
-
-    /// After a permitted store each access gets the answer that it got.
-    ghost answers_stay: { (s : Self.State) (address : ℕ) (bytes : List ℕ) (access : Access) → answer s (access_to address (length bytes) true) ≡ Probe.Permitted → answer (stored s address bytes) access ≡ answer s access };
+        requires { answer_in registers is_in_frame refuses (state self.old) (access_to address (length from.now) true) ≡ Probe.Permitted }
+        ensures state { state self.new ≡ stored (state self.old) address from.now }
+        ensures shows { bytes_from (byte_at (state self.new)) address (length from.now) ≡ from.now }
+        ensures others { (other : ℕ) → IsOutside (registers (state self.old)) address (length from.now) other → byte_at (state self.new) other ≡ byte_at (state self.old) other }
+        ensures answers { (access : Access) → answer_in registers is_in_frame refuses (state self.new) access ≡ answer_in registers is_in_frame refuses (state self.old) access };
 }

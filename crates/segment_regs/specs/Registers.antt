@@ -1,5 +1,5 @@
 -- Sixteen segment registers, and where an effective address lies.
-use Rattle.std.specs.Prelude.{ℕ, ◌+◌, ◌/◌, ◌%◌, ◌^◌, nat_le, ◌==◌, ◌&&◌, not, if◌then◌else◌, Bool, true, List, map, find, slice_index_or, Option, Some, None, option_map, Result, Ok, Err}
+use Rattle.std.specs.Prelude.{ℕ, ◌+◌, ◌*◌, ◌/◌, ◌%◌, ◌^◌, nat_le, ◌==◌, ◌&&◌, not, if◌then◌else◌, Bool, true, List, map, find, slice_index_or, Option, Some, None, option_map, Result, Ok, Err}
 use Rattle.std.specs.List.{range_with_len}
 use Rattle.segment_regs.specs.declared.registers.Check.{Check}
 use Rattle.segment_regs.specs.declared.registers.SegmentRegister.{SegmentRegister}
@@ -28,6 +28,10 @@ registers_with private windows = map (register_with private windows) (range_with
 -- an offset of a segment: its page of 2,048 bytes and its byte in the page
 abbrev pub virtual_at : (segment offset : ℕ) → Virtual
 virtual_at segment offset = record { segment = segment; page = offset / 2048; byte = offset % 2048 }
+
+-- the address so many bytes on in the same segment
+abbrev pub bytes_on : Virtual → ℕ → Virtual
+bytes_on at count = virtual_at at.segment (at.page * 2048 + at.byte + count)
 
 -- so many bytes at an offset under a register: check 2 where there is none or the range passes its end, then check 7
 -- for a store where it is to read
