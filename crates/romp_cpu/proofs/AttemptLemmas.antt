@@ -1,6 +1,5 @@
 -- An attempt gives the row of every plain state that agrees, by the kinds of act.
-use Rattle.std.specs.Prelude.{◌≡◌, refl, ℕ, ◌+◌, ◌<◌, ◌≤◌, nat_le, nat_lt, cond, Bool, true, false, List, [], ◌∷◌, ◌++◌, length, drop, slice_index, slice_range, Option, Some, None}
-use Rattle.std.specs.List.{range_with_len}
+use Rattle.std.specs.Prelude.{◌≡◌, refl, ℕ, ◌+◌, ◌≤◌, nat_le, nat_lt, cond, Bool, true, false, List, [], ◌∷◌, ◌++◌, length, drop, slice_index, slice_range, Option, Some, None}
 use Rattle.std.specs.Option.{option_map_or}
 use mathlib.Core.Path.{fun_ext}
 use Rattle.std.proofs.Common.{arith, ap, sym, ◌∙◌, subst}
@@ -20,15 +19,15 @@ use Rattle.flat_machine.specs.declared.machine.Plan.{Plan}
 use Rattle.flat_machine.specs.declared.machine.Plan.TheVariants.{Does, Fails}
 use Rattle.flat_machine.specs.declared.machine.Program.{Program}
 use Rattle.flat_machine.specs.Effect.{filled}
-use Rattle.flat_machine.specs.Row.{Outcome, On, Commit, Check, halfword, plan, plan_at, located, loads, stores, stored_bytes, moved, acts, with_link, row_by}
+use Rattle.flat_machine.specs.Row.{Outcome, On, Check, halfword, plan, plan_at, located, loads, stores, stored_bytes, moved, acts, with_link, row_by}
 use Rattle.flat_machine.specs.Touched.{lines_of_act, touched_by}
 use Rattle.romp_cpu.specs.declared.cpu.Attempt.{Attempt}
 use Rattle.romp_cpu.specs.declared.cpu.Cpu.{Cpu}
 use Rattle.romp_cpu.specs.declared.storage.Access.{Access}
 use Rattle.romp_cpu.specs.declared.storage.Probe.{Probe}
 use Rattle.romp_cpu.specs.Shown.{bytes_from, halfword_of, access_to}
-use Rattle.romp_cpu.specs.Tried.{Tried, Seen, seen_in, linked, undone, refused_by, unless_refused, tried}
-use Rattle.romp_cpu.specs.Attempts.{access_of, access_of_plan, place_of, bytes_in, ChecksAlike, ShowsSame, IsCpuOf, Agrees, left_by, GivesAll, GivesBy, GivesOver, lines_of_access, TouchesAccess, GivesPlan, GivesEveryRow}
+use Rattle.romp_cpu.specs.Tried.{Seen, seen_in, linked, undone, refused_by, unless_refused, tried}
+use Rattle.romp_cpu.specs.Attempts.{access_of, access_of_plan, place_of, bytes_in, ChecksAlike, ShowsSame, IsCpuOf, left_by, GivesAll, GivesBy, GivesOver, lines_of_access, TouchesAccess, GivesPlan, GivesEveryRow}
 
 -- a halfword of the private bytes that are shown is the halfword shown
 halfword-shown :

@@ -1,5 +1,5 @@
 -- An attempt over a storage, beside the row of a plain state that agrees with it.
-use Rattle.std.specs.Prelude.{◌≡◌, ℕ, ◌+◌, if◌then◌else◌, Bool, true, false, List, [], ◌∷◌, ◌++◌, length, slice_range, Option, Some, None}
+use Rattle.std.specs.Prelude.{◌≡◌, ℕ, ◌+◌, if◌then◌else◌, true, false, List, [], ◌∷◌, ◌++◌, length, slice_range, Option, Some, None}
 use Rattle.std.specs.Option.{option_map_or}
 use Rattle.line_geometry.specs.Directory.{Layout}
 use Rattle.lock_rules.specs.Lines.{Lines, no_lines}

@@ -2,3 +2,4 @@ pub mod Shown
 pub mod Answers
 pub mod Tried
 pub mod Attempts
+pub mod Memory

@@ -1,5 +1,5 @@
 -- What one attempt does, by the plan of the instruction and the answer of the storage.
-use Rattle.std.specs.Prelude.{ℕ, ◌+◌, nat_lt, if◌then◌else◌, Bool, true, false, List, slice_set, Option, Some, None}
+use Rattle.std.specs.Prelude.{ℕ, ◌+◌, nat_lt, if◌then◌else◌, true, false, List, slice_set, Option, Some, None}
 use Rattle.flat_machine.specs.declared.machine.Act.{Act}
 use Rattle.flat_machine.specs.declared.machine.Cs.{Cs}
 use Rattle.flat_machine.specs.declared.machine.Plan.{Plan}

@@ -3,6 +3,8 @@
 
 mod cpu;
 mod storage;
+#[cfg(test)]
+mod tests;
 
 pub use cpu::{Attempt, Cpu};
 pub use storage::{Access, Fault, Probe, Storage};
