@@ -1,2 +1,3 @@
 pub mod AttemptLemmas
 pub mod MemoryLemmas
+pub mod SegmentLemmas

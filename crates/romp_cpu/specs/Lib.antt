@@ -2,4 +2,5 @@ pub mod Shown
 pub mod Answers
 pub mod Tried
 pub mod Attempts
+pub mod Segments
 pub mod Memory
