@@ -13,7 +13,7 @@ use Rattle.flat_machine.specs.Row.{Outcome, On, Commit, Check, row, with_link}
 use Rattle.flat_machine.specs.Touched.{touched}
 
 -- one page under register 1 to write, and under register 2 to read
-abbrev program : Program
+abbrev pub program : Program
 program =
     record {
       image = [];
@@ -24,21 +24,21 @@ program =
       entry_is_even = refl;
     }
 
-abbrev directory : Layout
+abbrev pub directory : Layout
 directory = record { page = Two; segments = (4, 1) ∷ (5, 1) ∷ [] }
 
 -- 64 in register 0, 1 in register 1, and two values in registers 2 and 3
-abbrev holding : ℕ → ℕ → List ℕ
+abbrev pub holding : ℕ → ℕ → List ℕ
 holding x y = 64 ∷ 1 ∷ x ∷ y ∷ replicate 12 0
 
-abbrev status : Bool → Bool → Bool → Bool → Bool → Cs
+abbrev pub status : Bool → Bool → Bool → Bool → Bool → Cs
 status lt eq gt c0 ov = record { lt = lt; eq = eq; gt = gt; c0 = c0; ov = ov }
 
-abbrev all : Cs
+abbrev pub all : Cs
 all = status true true true true true
 
 -- a state at address 0 with this code, and eight bytes that aren't zero at the start of segment 5
-abbrev state : List ℕ → List ℕ → Cs → Plain
+abbrev pub state : List ℕ → List ℕ → Cs → Plain
 state code registers cs =
     record {
       regs = registers;
@@ -49,7 +49,7 @@ state code registers cs =
       out = [];
     }
 
-abbrev outcome : List ℕ → List ℕ → Cs → Outcome
+abbrev pub outcome : List ℕ → List ℕ → Cs → Outcome
 outcome code registers cs = row program directory (state code registers cs)
 
 -- registers 0 to 3, status and address of a state that was gone on to
@@ -105,7 +105,7 @@ l_past_private : outcome (0xCD ∷ 0x32 ∷ 0x00 ∷ 0x00 ∷ []) (holding 0x000
 unfolding row_numbered
 l_past_private = refl
 
-abbrev stored : Outcome → Option (List ℕ)
+abbrev pub stored : Outcome → Option (List ℕ)
 stored (On s) = Some (take 12 (drop 2044 s.store))
 stored _ = None
 

@@ -1,97 +1,239 @@
 //! Programs of a few words, run to their end; what they leave is worked out by hand.
-ghost use Rattle.std.specs.Prelude.{◌≡◌, ◌≤◌, length};
+ghost use Rattle.std.specs.Prelude.{◌≡◌, ◌≤◌, length, IfOk};
 ghost use Rattle.line_geometry.specs.Directory.{byte_count};
 
 use super::{Plain, Program, Went, Window};
 use line_geometry::{Directory, DirectoryFault, PageSize};
 use owned_list::OwnedList;
+use std::alloc::Global;
+use std::process::Abort;
 use std::test::Fail;
 
-/// A program's image, how many rows it goes on for, how it ends, and the first four bytes of the store then.
+/// A program's image, the segment under register 1, two arguments, how many rows it goes on for, how it ends, its address
+/// then, and what it printed: how many bytes, and the last of them.
 struct Case {
     name: &'static str,
     image: &'static [u8],
+    segment: u16,
+    args: [u32; 2],
     rows: u32,
     end: Went,
-    first: [u8; 4],
-    printed: usize,
+    iar: u32,
+    printed: (usize, Option<u8>),
 }
 
-const CASES: [Case; 8] = [
+const CASES: [Case; 15] = [
     Case {
         name: "one add",
         image: &[
-            0xD8, 0x60, 0x10, 0, 0xCD, 0x36, 0, 0, 0xC1, 0x33, 0, 5, 0xDD, 0x36, 0, 0, 0xC0, 0, 0,
-            0,
+            0xD8, 0x60, 0x10, 0x00, 0xCD, 0x36, 0x00, 0x00, 0xC1, 0x33, 0x00, 0x05, 0xDD, 0x36,
+            0x00, 0x00, 0xC0, 0x00, 0x00, 0x00,
         ],
+        segment: 1,
+        args: [0, 0],
         rows: 4,
         end: Went::Commit,
-        first: [0, 0, 0, 5],
-        printed: 0,
+        iar: 16,
+        printed: (0, None),
     },
     Case {
         name: "no row",
-        image: &[0xFF, 0],
+        image: &[0xFF, 0x00],
+        segment: 1,
+        args: [0, 0],
         rows: 0,
         end: Went::Check(1),
-        first: [0; 4],
-        printed: 0,
+        iar: 0,
+        printed: (0, None),
     },
     Case {
         name: "a load without a window",
-        image: &[0xD8, 0x60, 0x30, 0, 0xCD, 0x36, 0, 0],
+        image: &[0xD8, 0x60, 0x30, 0x00, 0xCD, 0x36, 0x00, 0x00],
+        segment: 1,
+        args: [0, 0],
         rows: 1,
         end: Went::Check(2),
-        first: [0; 4],
-        printed: 0,
+        iar: 4,
+        printed: (0, None),
     },
     Case {
         name: "a jump out of private storage",
-        image: &[0, 0xFF],
+        image: &[0x00, 0xFF],
+        segment: 1,
+        args: [0, 0],
         rows: 1,
         end: Went::Check(2),
-        first: [0; 4],
-        printed: 0,
-    },
-    Case {
-        name: "a byte too many",
-        image: &[0xC0, 0, 0, 1, 0, 0xFE],
-        rows: 8192,
-        end: Went::Check(5),
-        first: [0; 4],
-        printed: 4096,
+        iar: 4294967294,
+        printed: (0, None),
     },
     Case {
         name: "no such call",
-        image: &[0xC0, 0, 0, 3],
+        image: &[0xC0, 0x00, 0x00, 0x03],
+        segment: 1,
+        args: [0, 0],
         rows: 0,
         end: Went::Check(6),
-        first: [0; 4],
-        printed: 0,
-    },
-    Case {
-        name: "a store through a window to read",
-        image: &[0xD8, 0x60, 0x20, 0, 0xDD, 0x36, 0, 0],
-        rows: 1,
-        end: Went::Check(7),
-        first: [0; 4],
-        printed: 0,
+        iar: 0,
+        printed: (0, None),
     },
     Case {
         name: "gives up",
-        image: &[0xC0, 0, 0, 2],
+        image: &[0xC0, 0x00, 0x00, 0x02],
+        segment: 1,
+        args: [0, 0],
         rows: 0,
         end: Went::Check(8),
-        first: [0; 4],
-        printed: 0,
+        iar: 0,
+        printed: (0, None),
+    },
+    Case {
+        name: "a subject stores after a branch that is taken",
+        image: &[
+            0xD8, 0x60, 0x10, 0x00, 0x94, 0x23, 0x8F, 0x20, 0x00, 0x06, 0xDD, 0x26, 0x00, 0x00,
+            0xC0, 0x00, 0x00, 0x00, 0xC0, 0x00, 0x00, 0x01, 0xC0, 0x00, 0x00, 0x00,
+        ],
+        segment: 1,
+        args: [3, 0],
+        rows: 4,
+        end: Went::Commit,
+        iar: 22,
+        printed: (1, Some(3)),
+    },
+    Case {
+        name: "a subject stores after a branch that is not taken",
+        image: &[
+            0xD8, 0x60, 0x10, 0x00, 0x94, 0x23, 0x8F, 0x20, 0x00, 0x06, 0xDD, 0x26, 0x00, 0x00,
+            0xC0, 0x00, 0x00, 0x00, 0xC0, 0x00, 0x00, 0x01, 0xC0, 0x00, 0x00, 0x00,
+        ],
+        segment: 1,
+        args: [4, 0],
+        rows: 3,
+        end: Went::Commit,
+        iar: 14,
+        printed: (0, None),
+    },
+    Case {
+        name: "two windows on one segment",
+        image: &[
+            0xD8, 0x60, 0x10, 0x00, 0xD8, 0x70, 0x20, 0x00, 0xDD, 0x26, 0x00, 0x00, 0xA4, 0x20,
+            0xCD, 0x27, 0x00, 0x00, 0xC0, 0x00, 0x00, 0x01, 0xC0, 0x00, 0x00, 0x00,
+        ],
+        segment: 2,
+        args: [66, 0],
+        rows: 6,
+        end: Went::Commit,
+        iar: 22,
+        printed: (1, Some(66)),
+    },
+    Case {
+        name: "a store through a window to read",
+        image: &[
+            0xD8, 0x70, 0x20, 0x00, 0xDD, 0x27, 0x00, 0x00, 0xC0, 0x00, 0x00, 0x00,
+        ],
+        segment: 2,
+        args: [0, 0],
+        rows: 1,
+        end: Went::Check(7),
+        iar: 4,
+        printed: (0, None),
+    },
+    Case {
+        name: "up to the segment's end",
+        image: &[
+            0xD8, 0x60, 0x10, 0x00, 0xE1, 0x62, 0xD9, 0xE6, 0x00, 0x00, 0xC0, 0x00, 0x00, 0x00,
+        ],
+        segment: 2,
+        args: [4088, 0],
+        rows: 3,
+        end: Went::Commit,
+        iar: 10,
+        printed: (0, None),
+    },
+    Case {
+        name: "past the segment's end",
+        image: &[
+            0xD8, 0x60, 0x10, 0x00, 0xE1, 0x62, 0xD9, 0xE6, 0x00, 0x00, 0xC0, 0x00, 0x00, 0x00,
+        ],
+        segment: 2,
+        args: [4092, 0],
+        rows: 2,
+        end: Went::Check(2),
+        iar: 6,
+        printed: (0, None),
+    },
+    Case {
+        name: "prints all there is room for",
+        image: &[
+            0xC0, 0x00, 0x00, 0x01, 0x92, 0x31, 0x02, 0xFD, 0xC0, 0x00, 0x00, 0x00,
+        ],
+        segment: 1,
+        args: [65, 4096],
+        rows: 12288,
+        end: Went::Commit,
+        iar: 8,
+        printed: (4096, Some(65)),
+    },
+    Case {
+        name: "prints one byte too many",
+        image: &[
+            0xC0, 0x00, 0x00, 0x01, 0x92, 0x31, 0x02, 0xFD, 0xC0, 0x00, 0x00, 0x00,
+        ],
+        segment: 1,
+        args: [65, 4097],
+        rows: 12288,
+        end: Went::Check(5),
+        iar: 0,
+        printed: (4096, Some(65)),
+    },
+    Case {
+        name: "prints a line feed",
+        image: &[
+            0xC0, 0x00, 0x00, 0x01, 0x92, 0x31, 0x02, 0xFD, 0xC0, 0x00, 0x00, 0x00,
+        ],
+        segment: 1,
+        args: [10, 1],
+        rows: 3,
+        end: Went::Commit,
+        iar: 8,
+        printed: (1, Some(10)),
     },
 ];
 
-/// Segment 1 under register 1 to write, segment 2 under register 2 to read.
-fn windows() -> [Option<Window>; 15] {
+/// One stores what the other, on the store that it leaves, loads.
+const PAIR: [Case; 2] = [
+    Case {
+        name: "stores at three places",
+        image: &[
+            0xD8, 0x60, 0x10, 0x00, 0xDD, 0x26, 0x08, 0x00, 0xDD, 0x26, 0x10, 0x00, 0xDD, 0x26,
+            0x18, 0x00, 0xC0, 0x00, 0x00, 0x00,
+        ],
+        segment: 1,
+        args: [7, 0],
+        rows: 4,
+        end: Went::Commit,
+        iar: 16,
+        printed: (0, None),
+    },
+    Case {
+        name: "loads over two pages, the base among the loaded",
+        image: &[
+            0xD8, 0x50, 0x10, 0x00, 0xC1, 0x55, 0x07, 0xF8, 0xC9, 0x35, 0x00, 0x00, 0x62, 0x50,
+            0xC0, 0x00, 0x00, 0x01, 0xC0, 0x00, 0x00, 0x00,
+        ],
+        segment: 1,
+        args: [0, 0],
+        rows: 5,
+        end: Went::Commit,
+        iar: 18,
+        printed: (1, Some(7)),
+    },
+];
+
+/// A segment under register 1 to write, segment 2 under register 2 to read.
+fn windows(segment: u16) -> [Option<Window>; 15] {
     let mut windows = [None; 15];
     windows[0] = Some(Window {
-        segment: 1,
+        segment,
         write: true,
     });
     windows[1] = Some(Window {
@@ -108,13 +250,66 @@ fn run(plain: &mut Plain, program: &Program, directory: &Directory) -> (u32, Wen
     ensures private { length plain.new.private ≡ 16384 }
     ensures store { length plain.new.store ≡ length plain.old.store }
 {
-    for rows in 0..10_000 {
+    for rows in 0..20_000 {
         match plain.step(program, directory) {
             Went::On => {}
             end => return (rows, end),
         }
     }
-    (10_000, Went::On)
+    (20_000, Went::On)
+}
+
+/// Runs a program to its end, twice, and looks at how it ended; the state then.
+fn look_at(
+    rt: &impl Abort,
+    alloc: Global,
+    case: &Case,
+    directory: &Directory,
+    store: &[u8],
+) -> Result<Plain, Fail>
+    requires { length store.now ≡ byte_count directory.now }
+    ensures { IfOk result (λ plain. length plain.store ≡ byte_count directory.now) }
+{
+    assert!(rt; case.image.len() <= 16384);
+    let image = OwnedList::from_vec(Vec::from_slice(alloc, case.image)?);
+    let program = Program {
+        image,
+        entry: 0,
+        windows: windows(case.segment),
+    };
+    let [first, second] = case.args;
+    let args = [first, second, 0, 0];
+    let mut plain = Plain::start(alloc, &program, args, directory, store)?;
+    let ended = (case.rows, case.end);
+    assert_eq!(rt;
+        run(&mut plain, &program, directory),
+        ended,
+        "{}",
+        case.name
+    );
+    let private = plain.private.as_slice().to_vec(alloc)?;
+    plain.restart(&program, args, store);
+    assert_eq!(rt;
+        run(&mut plain, &program, directory),
+        ended,
+        "{}",
+        case.name
+    );
+    assert_eq!(rt;
+        plain.private.as_slice(),
+        private.as_slice(),
+        "{}",
+        case.name
+    );
+    let printed = plain.out.as_slice();
+    assert_eq!(rt; plain.iar, case.iar, "{}", case.name);
+    assert_eq!(rt;
+        (printed.len(), printed.last().copied()),
+        case.printed,
+        "{}",
+        case.name
+    );
+    Ok(plain)
 }
 
 #[test]
@@ -122,41 +317,17 @@ fn programs_end_as_worked_out(rt: HostRuntime) -> Result<(), Fail> {
     let directory = Directory::new(PageSize::Two, &[(1, 4), (2, 2)])?;
     let store = vec![in rt.alloc(); 0u8; directory.byte_count() as usize]?;
     for case in &CASES {
-        assert!(rt; case.image.len() <= 16384);
-        let image = OwnedList::from_vec(Vec::from_slice(rt.alloc(), case.image)?);
-        let program = Program {
-            image,
-            entry: 0,
-            windows: windows(),
-        };
-        let mut plain = Plain::start(rt.alloc(), &program, [0; 4], &directory, &store)?;
-        assert_eq!(rt;
-            run(&mut plain, &program, &directory),
-            (case.rows, case.end),
-            "{}",
-            case.name
-        );
-        assert!(rt;
-            plain.store.as_slice().starts_with(&case.first),
-            "{}",
-            case.name
-        );
-        assert_eq!(rt; plain.out.as_slice().len(), case.printed, "{}", case.name);
-        let private = plain.private.as_slice().to_vec(rt.alloc())?;
-        plain.restart(&program, [0; 4], &store);
-        assert_eq!(rt;
-            run(&mut plain, &program, &directory),
-            (case.rows, case.end),
-            "{}",
-            case.name
-        );
-        assert_eq!(rt;
-            plain.private.as_slice(),
-            private.as_slice(),
-            "{}",
-            case.name
-        );
+        let _ = look_at(&rt, rt.alloc(), case, &directory, &store)?;
     }
+    let [writer, reader] = &PAIR;
+    let written = look_at(&rt, rt.alloc(), writer, &directory, &store)?;
+    let _ = look_at(
+        &rt,
+        rt.alloc(),
+        reader,
+        &directory,
+        written.store.as_slice(),
+    )?;
     Ok(())
 }
 

@@ -1,0 +1,6 @@
+pub mod Shown
+pub mod Answers
+pub mod Tried
+pub mod Attempts
+pub mod Segments
+pub mod Memory

@@ -1,0 +1,10 @@
+//! The processor: one attempt of one instruction over a storage that may refuse.
+#![tactic(auto)]
+
+mod cpu;
+mod storage;
+#[cfg(test)]
+mod tests;
+
+pub use cpu::{Attempt, Cpu};
+pub use storage::{Access, Fault, Probe, Storage};

@@ -1,0 +1,8 @@
+//! Sixteen segment registers, and where an effective address lies.
+#![tactic(auto)]
+
+mod registers;
+#[cfg(test)]
+mod tests;
+
+pub use registers::{Check, SegmentRegister, SegmentRegs, Virtual};
