@@ -1,0 +1,9 @@
+pub mod Overlaid
+pub mod GateLemmas
+pub mod FillLemmas
+pub mod LineLemmas
+pub mod NoteLemmas
+pub mod AppendLemmas
+pub mod ReadLemmas
+pub mod BankLemmas
+pub mod Newest

@@ -1,0 +1,117 @@
+use Rattle.std.proofs.Common.{◌≡◌, ℕ, ◌+◌, ◌*◌, ◌<◌, List, [], ◌∷◌, ◌++◌, length, slice_set, refl, sym, subst, ◌∙◌, ap, arith, length-append}
+use Rattle.store_format.specs.Bank.{RecordLine, wrong_line}
+use Rattle.store_format.specs.Stands.{IsStore, stands, one_more}
+use Rattle.outside.specs.Runs.{held_of}
+use Rattle.redo_journal.specs.Noted.{noted}
+use Rattle.redo_journal.specs.Kept.{KeptBank}
+use Rattle.redo_journal.specs.Inside.{begun_lines, kept_of}
+use Rattle.redo_journal.specs.Tracks.{Tracks, IsEither}
+use Rattle.redo_journal.specs.Gate.{IsSafe}
+use Rattle.redo_journal.proofs.AppendLemmas.{IsReadied, make_ready, shut, room, either, same, more, after, doubted, filled_lines, newest_more, says_room}
+use Rattle.redo_journal.proofs.bank.Bank.append.Given.{Over}
+use Rattle.redo_journal.proofs.bank.Bank.append.Goals as goal
+use Rattle.redo_journal.proofs.bank.Bank.append.Goals.{After-record_of, After-keep_body}
+
+-- the bank's fields are tracked, and the body adds the begun record
+ready : (g : Over) (c : goal.After-record_of g) → IsReadied g.W.Outside c.self.inside c.args.outside.now c.record_of.result.now
+ready g c =
+    let tracks : Tracks g.W.Outside (kept_of c.self.inside) c.args.outside.now = subst (λ (bank : KeptBank). Tracks g.W.Outside bank c.args.outside.now) (sym c.self.view_is) c.requires.tracks in
+    record {
+      tracks = tracks;
+      ready =
+          make_ready g.W.Outside c.self.inside c.args.outside.now tracks c.self.invariant c.fill.new.body c.record_of.result.now _ c.record_of.ensures c.fill.ensures.len c.fill.ensures.counted c.fill.ensures.numbered c.fill.ensures.lines c.fill.ensures.closed
+          (omega (arith, c.number_of-due.ensures))
+          (omega (arith, c.end_of.ensures.value, c.from.ensures, c.if-end_of-self.false));
+    }
+
+begun : (g : Over) (c : goal.After-record_of g) → begun_lines c.self.inside ≡ c.args.self.now.begun
+begun g c = ap (λ (bank : KeptBank). bank.begun) c.self.view_is
+
+pub returns-then-end_of-self-clause-full : goal.returns-then-end_of-self-clause-full
+returns-then-end_of-self-clause-full g c =
+    let says = says_room c.self.inside c.args.self.now c.self.view_is in
+    (λ is. omega (arith, says.end, says.need, c.end_of.ensures.value, c.from.ensures, c.if-end_of-self.true), λ is. refl)
+
+pub keep_body-requires-clause-shut : goal.keep_body-requires-clause-shut
+keep_body-requires-clause-shut g c = shut _ _ _ _ _ _ _ _ _ (ready g c).ready
+
+pub keep_body-requires-clause-room : goal.keep_body-requires-clause-room
+keep_body-requires-clause-room g c = room _ _ _ _ _ _ _ _ _ (ready g c).ready
+
+pub note-requires-clause-ordered : goal.note-requires-clause-ordered
+note-requires-clause-ordered g c =
+    ap (wrong_line (length c.self.inside.newest) 0) (filled_lines c.self.inside c.fill.new.body c.as_slice.result.now c.fill.ensures.lines c.as_slice.ensures) ∙ c.self.invariant.ordered
+
+-- what a safe image stands for
+left : (g : Over) (c : goal.After-record_of g) (image seen : List ℕ) → IsSafe c.self.inside.gate c.record_of.result.now (held_of g.W.Outside c.args.outside.now) image → IsEither c.args.self.now.begun (held_of g.W.Outside c.args.outside.now) image seen
+left g c image seen safe =
+    subst (λ (lines : List RecordLine). IsEither lines (held_of g.W.Outside c.args.outside.now) image seen) (begun g c) (either _ _ _ _ _ _ _ _ _ (ready g c).ready image safe seen)
+
+-- an image of now is one since the start
+since : (g : Over) (c : goal.After-keep_body g) (image seen : List ℕ) → g.W.Outside.left_since c.keep_body.new.outside (g.W.Outside.moment c.keep_body.new.outside) image seen
+    → IsSafe c.self.inside.gate c.record_of.result.now (held_of g.W.Outside c.args.outside.now) image
+since g c image seen left = c.keep_body.ensures.crash image seen (g.met.W.Outside.fewer_later c.keep_body.new.outside _ _ image seen c.keep_body.ensures.calls.time.later left)
+
+pub returns-in-Unwritten-clause-crash : goal.returns-in-Unwritten-clause-crash
+returns-in-Unwritten-clause-crash g c image seen was = left g (goal.at.returns-in-Unwritten-clause-crash g c).After-record_of image seen (c.keep_body.ensures.crash image seen was)
+
+pub returns-in-Doubt-clause-crash : goal.returns-in-Doubt-clause-crash
+returns-in-Doubt-clause-crash g c image seen was = left g (goal.at.returns-in-Doubt-clause-crash g c).After-record_of image seen (c.keep_body.ensures.crash image seen was)
+
+pub returns-in-Done-clause-crash : goal.returns-in-Done-clause-crash
+returns-in-Done-clause-crash g c image seen was = left g (goal.at.returns-in-Done-clause-crash g c).After-record_of image seen (c.keep_body.ensures.crash image seen was)
+
+pub returns-in-Unwritten-clause-full : goal.returns-in-Unwritten-clause-full
+returns-in-Unwritten-clause-full g c =
+    let says = says_room c.self.inside c.args.self.now c.self.view_is in
+    (λ is. cc, λ is. absurd (omega (arith, says.end, says.need, c.end_of.ensures.value, c.from.ensures, c.if-end_of-self.false)))
+
+pub returns-in-Doubt-clause-full : goal.returns-in-Doubt-clause-full
+returns-in-Doubt-clause-full g c =
+    let says = says_room c.self.inside c.args.self.now c.self.view_is in
+    (λ is. cc, λ is. absurd (omega (arith, says.end, says.need, c.end_of.ensures.value, c.from.ensures, c.if-end_of-self.false)))
+
+pub returns-in-Done-clause-full : goal.returns-in-Done-clause-full
+returns-in-Done-clause-full g c =
+    let says = says_room c.self.inside c.args.self.now c.self.view_is in
+    (λ is. cc, λ is. absurd (omega (arith, says.end, says.need, c.end_of.ensures.value, c.from.ensures, c.if-end_of-self.false)))
+
+pub returns-in-Unwritten-clause-unwritten : goal.returns-in-Unwritten-clause-unwritten
+returns-in-Unwritten-clause-unwritten g c is image seen left =
+    let at = goal.at.returns-in-Unwritten-clause-unwritten g c in
+    same _ _ _ _ _ _ _ _ _ (ready g at.After-record_of).ready image (since g at.After-keep_body image seen left) (c.keep_body.ensures.unwritten c.in-Unwritten.is image seen left)
+
+pub returns-in-Doubt-clause-doubt : goal.returns-in-Doubt-clause-doubt
+returns-in-Doubt-clause-doubt g c is image seen left =
+    let at = goal.at.returns-in-Doubt-clause-doubt g c in
+    let gate : c.self.inside.gate ≡ c.args.self.now.gate = ap (λ (bank : KeptBank). bank.gate) c.self.view_is in
+    let held = held_of g.W.Outside c.args.outside.now in
+    subst (λ (n : ℕ). stands (slice_set image n 0xA5) ≡ one_more c.args.self.now.begun (stands held)) gate
+    (doubted _ _ _ _ _ _ _ _ _ (ready g at.After-record_of).ready image (since g at.After-keep_body image seen left) (c.keep_body.ensures.doubt c.in-Doubt.is image seen left)
+    ∙ ap (λ (lines : List RecordLine). one_more lines (stands held)) (begun g at.After-record_of))
+
+pub returns-in-Done-clause-done : goal.returns-in-Done-clause-done
+returns-in-Done-clause-done g c is =
+    let at = (goal.at.returns-in-Done-clause-done g c).After-record_of in
+    let now = ready g at in
+    let bank = c.self.inside in
+    let kept = c.keep_body.ensures.done c.in-Done.is in
+    let held = held_of g.W.Outside c.keep_body.new.outside in
+    let gate : bank.gate + length c.record_of.result.now ≡ bank.gate + (11 + 132 * c.from.result) = omega (arith, now.ready.good.bytes, c.from.ensures) in
+    record {
+      tracks = record {
+        sure = kept.sure;
+        header = now.tracks.header;
+        records = now.tracks.records ++ begun_lines bank ∷ [];
+        store = subst (λ (n : ℕ). IsStore held now.tracks.header bank.which bank.base n (now.tracks.records ++ begun_lines bank ∷ [])) gate (after _ _ _ _ _ _ _ _ _ now.ready held kept.safe kept.shown);
+        bank_bytes = now.tracks.bank_bytes;
+        bound = now.tracks.bound ∙ sym c.note.ensures.len;
+        count = omega (arith, length-append now.tracks.records (begun_lines bank ∷ []), now.tracks.count);
+        newest =
+            newest_more bank.newest c.note.new.newest now.tracks.records (begun_lines bank) now.tracks.newest
+            (c.note.ensures.value ∙ ap (noted bank.newest) (filled_lines bank c.fill.new.body c.as_slice.result.now c.fill.ensures.lines c.as_slice.ensures))
+            c.note.ensures.len;
+      };
+      stood = more _ _ _ _ _ _ _ _ _ now.ready held kept.safe kept.shown ∙ ap (λ (lines : List RecordLine). one_more lines (stands (held_of g.W.Outside c.args.outside.now))) (begun g at);
+      writes = kept.writes;
+    }

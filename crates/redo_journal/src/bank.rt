@@ -1,0 +1,176 @@
+ghost use Rattle.std.specs.Prelude.{◌≡◌, ◌↔◌, ◌+◌, ◌*◌, ◌%◌, ◌≤◌, ◌<◌, ◌^◌, [], All, length, take, slice_set, slice_get, Some, None, IsNone, IfSome, IfErr, OnOk};
+ghost use Rattle.store_format.specs.Bank.{record_bytes};
+ghost use Rattle.store_format.specs.Stands.{stands, one_more};
+ghost use Rattle.outside.specs.Causes.{Rose};
+ghost use Rattle.outside.specs.Runs.{CallsDisk, OnlyAsks, Leaves, held_of};
+ghost use Rattle.redo_journal.specs.Kept.{KeptBank, start_of, end_of, area_end, with_line, SameShape};
+ghost use Rattle.redo_journal.specs.Tracks.{Tracks, IsEither, IsAppended};
+
+use crate::keep::{Kept, keep_body};
+use crate::record::{fill, note, word};
+use outside::Outside;
+use owned_list::OwnedList;
+use std::marker::Model;
+use store_format::Which;
+
+/// One bank of a store: its base number and the place of its closed gate, the newest place of each line of the store,
+/// and a record that is begun (docs/MODEL.md, "A bank that is kept").
+#[derive(Drop)]
+pub struct Bank {
+    which: Which,
+    bank_bytes: u32,
+    base: u64,
+    count: u32,
+    gate: u64,
+    newest: OwnedList<Option<u64>>,
+    begun: u16,
+    body: OwnedList<u8>,
+}
+
+impl Model for Bank {
+    ghost use Rattle.redo_journal.specs.Kept.{KeptBank};
+
+    ghost Value = { KeptBank };
+
+    ghost use Rattle.redo_journal.specs.Inside.{kept_of, IsWhole};
+
+    ghost view = { kept_of };
+
+    ghost invariant = { IsWhole };
+}
+
+/// What came of a record that was to be added (docs/FORMATS.md, "Protocols").
+#[derive(Debug, Clone, Copy, PartialEq, Eq)]
+pub enum Appended {
+    /// It is on the disk.
+    Done,
+    /// The record and the gate behind it don't fit the rest of the bank. Nothing was written.
+    Full,
+    /// The disk failed before the gate's write began: no crash leaves the record.
+    Unwritten,
+    /// The disk failed from the gate's write on: a crash leaves the record or not.
+    Doubt,
+}
+
+impl Bank {
+    /// The number that the bank's records lead to.
+    pub fn number(&self) -> u64
+        ensures { result ≡ (self.now.base + self.now.count) % 2 ^ 64 }
+    {
+        number_of(self.base, self.count)
+    }
+
+    /// The place on the disk of a line's newest bytes; none where no record of the bank holds the line.
+    pub fn newest(&self, line: u32) -> Option<u64>
+        requires { line < length self.now.newest }
+        ensures { slice_get self.now.newest line ≡ Some result }
+    {
+        self.newest.as_slice()[line as usize]
+    }
+
+    /// How many lines a record may have to fit the rest of the bank; none where not even an empty one fits.
+    pub fn room(&self) -> Option<u32>
+        ensures none { IsNone result ↔ (area_end self.now < self.now.gate + record_bytes 0 + 1) }
+        ensures fits { IfSome result (λ lines. self.now.gate + record_bytes lines + 1 ≤ area_end self.now) }
+        ensures most { IfSome result (λ lines. area_end self.now < self.now.gate + record_bytes (lines + 1) + 1) }
+    {
+        let left = end_of(self.which, self.bank_bytes) - self.gate;
+        if left < 12 {
+            None
+        } else {
+            Some(((left - 12) / 132) as u32)
+        }
+    }
+
+    /// Begins a record, in place of any other that was begun.
+    pub fn record_start(&mut self)
+        ensures { self.new ≡ record self.old { begun = [] } }
+    {
+        self.begun = 0;
+    }
+
+    /// Adds a line to the record that is begun: a line of the store, above those before it.
+    pub fn record_line(&mut self, line: u32, bytes: &[u8])
+        requires whole { length bytes.now ≡ 128 }
+        requires below { line < length self.old.newest }
+        requires ascending { All (λ begun. begun.line < line) self.old.begun }
+        requires room { record_bytes (length self.old.begun + 1) + 1 ≤ self.old.bank_bytes }
+        ensures { self.new ≡ with_line self.old line bytes.now }
+    {
+        let at = 10 + 132 * usize::from(self.begun);
+        self.body.write(at, &word(line));
+        self.body.write(at + 4, bytes);
+        self.begun += 1;
+    }
+
+    /// Adds the record that is begun to the bank, and makes it sure. After [`Appended::Full`] the record stays
+    /// begun; after [`Appended::Unwritten`] and [`Appended::Doubt`] the bank has to be reopened before it is used
+    /// again (docs/FORMATS.md, "Protocols").
+    pub fn append<W: Outside>(&mut self, outside: &mut W) -> Appended
+        requires tracks { Tracks W.Outside self.old outside.old }
+        ensures calls { CallsDisk W.Outside outside.old outside.new }
+        ensures shape { SameShape self.old self.new }
+
+        // Whenever a crash comes, it leaves what stood, or that with the record.
+        ensures crash { Leaves W.Outside (IsEither self.old.begun (held_of W.Outside outside.old)) outside.old outside.new }
+
+        ensures full { result ≡ Appended.Full ↔ (area_end self.old < self.old.gate + record_bytes (length self.old.begun) + 1) }
+        ensures nothing { result ≡ Appended.Full → (self.new ≡ self.old) × (outside.new ≡ outside.old) }
+        ensures unwritten { result ≡ Appended.Unwritten → Leaves W.Outside (λ image seen. stands image ≡ stands (held_of W.Outside outside.old)) outside.new outside.new }
+        ensures doubt { result ≡ Appended.Doubt → Leaves W.Outside (λ image seen. stands (slice_set image self.old.gate 0xA5) ≡ one_more self.old.begun (stands (held_of W.Outside outside.old))) outside.new outside.new }
+        ensures done { result ≡ Appended.Done → IsAppended W.Outside self.old self.new outside.old outside.new }
+        ensures unwritten_cause { result ≡ Appended.Unwritten → Rose (W.disk_faults outside.old) (W.disk_faults outside.new) }
+        ensures doubt_cause { result ≡ Appended.Doubt → Rose (W.disk_faults outside.old) (W.disk_faults outside.new) }
+    {
+        let begun = self.begun;
+        let bytes = 11 + 132 * u64::from(begun);
+        if end_of(self.which, self.bank_bytes) < self.gate + bytes + 1 {
+            return Appended::Full;
+        }
+        let due = number_of(self.base, self.count).wrapping_add(1);
+        self.begun = 0;
+        fill(&mut self.body, begun, due);
+        match keep_body(outside, self.gate, record_of(&self.body, begun)) {
+            Kept::Unwritten => Appended::Unwritten,
+            Kept::Doubt => Appended::Doubt,
+            Kept::Done => {
+                note(
+                    &mut self.newest,
+                    self.body.as_slice(),
+                    self.gate,
+                    begun,
+                );
+                self.gate += bytes;
+                self.count += 1;
+                Appended::Done
+            }
+        }
+    }
+}
+
+/// The number that so many records behind a base lead to.
+fn number_of(base: u64, count: u32) -> u64
+    ensures { result ≡ (base + count) % 2 ^ 64 }
+{
+    base.wrapping_add(u64::from(count))
+}
+
+/// Where the area of a bank ends.
+fn end_of(which: Which, bank_bytes: u32) -> u64
+    requires { bank_bytes ≤ 131072 }
+    ensures value { result ≡ end_of which bank_bytes }
+    ensures bound { result ≤ 2 ^ 19 }
+{
+    match which {
+        Which::A => 264 + u64::from(bank_bytes),
+        Which::B => 272 + 2 * u64::from(bank_bytes),
+    }
+}
+
+/// The bytes of a record of so many lines, without its gate.
+fn record_of(body: &OwnedList<u8>, count: u16) -> &[u8]
+    requires { record_bytes count ≤ length body.now }
+    ensures { result.now ≡ take (record_bytes count) body.now }
+{
+    &body.as_slice()[..11 + 132 * usize::from(count)]
+}
