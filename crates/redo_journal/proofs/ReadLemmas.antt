@@ -85,5 +85,4 @@ first_read held first gate read shown =
 
 -- a read within the bytes that are held
 pub reads_within : (told : Option (List ℕ)) (n count : ℕ) → n ≤ count → ForSome told (λ bytes. count ≤ length bytes) → ForSome told (λ bytes. n ≤ length bytes)
-reads_within None n count few room = room
-reads_within (Some bytes) n count few room = omega arith
+reads_within told n count few room bytes is = omega (arith, room bytes is)

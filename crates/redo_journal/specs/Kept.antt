@@ -15,10 +15,10 @@ pub record KeptBank : Type 0 where
   pub newest : List (Option ℕ)
   pub begun : List RecordLine
 
--- where the area of a bank with so many bytes begins and ends
-abbrev pub start_of : Which → ℕ → ℕ
-start_of A bank_bytes = 264
-start_of B bank_bytes = 272 + bank_bytes
+-- where a bank with so many bytes lies, and where its area ends
+abbrev pub place_of : Which → ℕ → ℕ
+place_of A bank_bytes = 256
+place_of B bank_bytes = 264 + bank_bytes
 
 abbrev pub end_of : Which → ℕ → ℕ
 end_of A bank_bytes = 264 + bank_bytes

@@ -4,3 +4,4 @@ pub mod Kept
 pub mod Inside
 pub mod Read
 pub mod Tracks
+pub mod Opened

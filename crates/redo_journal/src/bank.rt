@@ -1,17 +1,23 @@
-ghost use Rattle.std.specs.Prelude.{◌≡◌, ◌↔◌, ◌+◌, ◌*◌, ◌%◌, ◌≤◌, ◌<◌, ◌^◌, [], All, length, take, slice_set, slice_get, Some, None, IsNone, IfSome, IfErr, OnOk};
+ghost use Rattle.std.specs.Prelude.{◌≡◌, ◌↔◌, ◌+◌, ◌*◌, ◌%◌, ◌≤◌, ◌<◌, ◌^◌, [], All, length, take, slice_set, slice_get, Some, None, IsNone, IsSome, IfSome, IfOk, IfErr, OnOk};
+ghost use Rattle.store_format.specs.Header.{total, HasRanges};
 ghost use Rattle.store_format.specs.Bank.{record_bytes};
 ghost use Rattle.store_format.specs.Stands.{stands, one_more};
 ghost use Rattle.outside.specs.Causes.{Rose};
 ghost use Rattle.outside.specs.Runs.{CallsDisk, OnlyAsks, Leaves, held_of};
-ghost use Rattle.redo_journal.specs.Kept.{KeptBank, start_of, end_of, area_end, with_line, SameShape};
+ghost use Rattle.redo_journal.specs.Kept.{KeptBank, place_of, end_of, area_end, with_line, SameShape};
+ghost use Rattle.redo_journal.specs.Read.{HoldsAtLeast};
+ghost use Rattle.redo_journal.specs.Opened.{IsRead, IsBankOf, IsReopenFault, IsOpenFault};
 ghost use Rattle.redo_journal.specs.Tracks.{Tracks, IsEither, IsAppended};
 
+use crate::fault::{OpenFault, ReopenFault};
 use crate::keep::{Kept, keep_body};
-use crate::record::{fill, note, word};
-use outside::Outside;
+use crate::read::{Found, read_bank};
+use crate::record::{fill, forget, note, word};
+use outside::{Failed, Outside};
 use owned_list::OwnedList;
+use std::alloc::{AllocError, Global};
 use std::marker::Model;
-use store_format::Which;
+use store_format::{Header, Which};
 
 /// One bank of a store: its base number and the place of its closed gate, the newest place of each line of the store,
 /// and a record that is begun (docs/MODEL.md, "A bank that is kept").
@@ -53,6 +59,87 @@ pub enum Appended {
 }
 
 impl Bank {
+    /// Reads a bank of a store with this header.
+    ///
+    /// # Errors
+    ///
+    /// [`OpenFault::Damaged`] exactly where the bank has a fault, with its offset; [`OpenFault::DiskFault`] only where
+    /// the disk's count rose; [`OpenFault::Memory`] where there was none. Never [`OpenFault::NotAStore`]
+    /// (docs/FORMATS.md, "What an image stands for").
+    pub fn open<W: Outside>(
+        alloc: Global,
+        header: &Header,
+        which: Which,
+        outside: &mut W,
+    ) -> Result<Bank, OpenFault>
+        requires room { HoldsAtLeast W.Outside (total header.now) outside.old }
+        ensures asks { OnlyAsks W.Outside outside.old outside.new }
+        ensures opened { IfOk result (IsBankOf header.now which) }
+        ensures read { IfOk result (λ bank. IsSome (W.held outside.old) → IsRead (held_of W.Outside outside.old) bank) }
+        ensures fault { IfErr result (IsOpenFault W.Outside outside.old outside.new header.now which) }
+    {
+        let mut bank = match Bank::of_store(alloc, header) {
+            Err(AllocError) => return Err(OpenFault::Memory),
+            Ok(bank) => bank,
+        };
+        match bank.reopen(which, outside) {
+            Err(ReopenFault::Damaged(offset)) => Err(OpenFault::Damaged(offset)),
+            Err(ReopenFault::DiskFault) => Err(OpenFault::DiskFault),
+            Ok(()) => Ok(bank),
+        }
+    }
+
+    /// Room for a bank of a store with this header.
+    fn of_store(alloc: Global, header: &Header) -> Result<Bank, AllocError>
+        ensures shape { IfOk result (IsBankOf header.now Which.A) }
+        ensures ranges { HasRanges header.now }
+    {
+        let bank_bytes = header.bank_bytes();
+        let lines = header.directory().line_count() as usize;
+        Ok(Bank {
+            which: Which::A,
+            bank_bytes,
+            base: 0,
+            count: 0,
+            gate: 264,
+            newest: OwnedList::from_vec(vec![in alloc; None; lines]?),
+            begun: 0,
+            body: OwnedList::from_vec(vec![in alloc; 0; bank_bytes as usize]?),
+        })
+    }
+
+    /// Reads one of the store's banks again, in the room of this one. A begun record is forgotten. After an error it
+    /// has to be reopened before it is used again.
+    ///
+    /// # Errors
+    ///
+    /// [`ReopenFault::Damaged`] exactly where that bank has a fault, with its offset; [`ReopenFault::DiskFault`] only
+    /// where the disk's count rose.
+    pub fn reopen<W: Outside>(&mut self, which: Which, outside: &mut W) -> Result<(), ReopenFault>
+        requires room { HoldsAtLeast W.Outside (end_of which self.old.bank_bytes) outside.old }
+        ensures asks { OnlyAsks W.Outside outside.old outside.new }
+        ensures shape { SameShape self.old self.new }
+        ensures turned { OnOk result (self.new.which ≡ which) }
+        ensures begun { OnOk result (self.new.begun ≡ []) }
+        ensures read { OnOk result (IsSome (W.held outside.old) → IsRead (held_of W.Outside outside.old) self.new) }
+        ensures fault { IfErr result (IsReopenFault W.Outside outside.old outside.new which self.old) }
+    {
+        forget(&mut self.newest);
+        self.begun = 0;
+        let at = place_of(which, self.bank_bytes);
+        match read_bank(outside, &mut self.newest, at, self.bank_bytes) {
+            Err(Failed) => Err(ReopenFault::DiskFault),
+            Ok(Found::Faulty(offset)) => Err(ReopenFault::Damaged(offset)),
+            Ok(Found::Holds { base, gate, count }) => {
+                self.which = which;
+                self.base = base;
+                self.gate = gate;
+                self.count = count;
+                Ok(())
+            }
+        }
+    }
+
     /// The number that the bank's records lead to.
     pub fn number(&self) -> u64
         ensures { result ≡ (self.now.base + self.now.count) % 2 ^ 64 }
@@ -134,12 +221,7 @@ impl Bank {
             Kept::Unwritten => Appended::Unwritten,
             Kept::Doubt => Appended::Doubt,
             Kept::Done => {
-                note(
-                    &mut self.newest,
-                    self.body.as_slice(),
-                    self.gate,
-                    begun,
-                );
+                note(&mut self.newest, self.body.as_slice(), self.gate, begun);
                 self.gate += bytes;
                 self.count += 1;
                 Appended::Done
@@ -153,6 +235,19 @@ fn number_of(base: u64, count: u32) -> u64
     ensures { result ≡ (base + count) % 2 ^ 64 }
 {
     base.wrapping_add(u64::from(count))
+}
+
+/// Where a bank lies.
+fn place_of(which: Which, bank_bytes: u32) -> u64
+    requires { bank_bytes ≤ 131072 }
+    ensures value { result ≡ place_of which bank_bytes }
+    ensures end { result + 8 + bank_bytes ≡ end_of which bank_bytes }
+    ensures bound { result ≤ 2 ^ 18 }
+{
+    match which {
+        Which::A => 256,
+        Which::B => 264 + u64::from(bank_bytes),
+    }
 }
 
 /// Where the area of a bank ends.

@@ -1,5 +1,5 @@
 // The bytes of a record.
-ghost use Rattle.std.specs.Prelude.{◌≡◌, ◌+◌, ◌*◌, ◌++◌, ◌≤◌, ◌<◌, ◌^◌, length, take, drop, slice_index, None};
+ghost use Rattle.std.specs.Prelude.{◌≡◌, ◌+◌, ◌*◌, ◌++◌, ◌≤◌, ◌<◌, ◌^◌, length, take, drop, replicate, slice_index, None};
 ghost use Rattle.byteorder.specs.Endian.{big_bytes};
 ghost use Rattle.store_format.specs.Header.{number_at};
 ghost use Rattle.store_format.specs.Bank.{lines_from, wrong_line};
@@ -53,5 +53,14 @@ pub fn note(newest: &mut OwnedList<Option<u64>>, body: &[u8], gate: u64, count: 
         let at = 132 * usize::from(i);
         let line = BigEndian::read_u32(&body[10 + at..]);
         newest.write(line as usize, &[Some(gate + 15 + at as u64)]);
+    }
+}
+
+/// Forgets the newest places.
+pub fn forget(newest: &mut OwnedList<Option<u64>>)
+    ensures { newest.new ≡ replicate (length newest.old) None }
+{
+    for line in 0..newest.len() {
+        newest.write(line, &[None]);
     }
 }
