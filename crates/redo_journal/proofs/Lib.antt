@@ -4,6 +4,7 @@ pub mod FillLemmas
 pub mod LineLemmas
 pub mod NoteLemmas
 pub mod AppendLemmas
+pub mod WithinLemmas
 pub mod ReadLemmas
 pub mod BankLemmas
 pub mod Newest

@@ -1,7 +1,8 @@
+pub mod Held
 pub mod Gate
 pub mod Noted
 pub mod Kept
 pub mod Inside
 pub mod Read
-pub mod Tracks
 pub mod Opened
+pub mod Tracks

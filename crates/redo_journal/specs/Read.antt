@@ -1,7 +1,5 @@
 -- What a read of a gate says.
 use Rattle.std.specs.Prelude.{◌≡◌, ℕ, ◌+◌, ◌*◌, ◌<◌, ◌≤◌, List, length, fold, Option}
-use Rattle.std.specs.Option.{ForSome}
-use Rattle.outside.specs.declared.world.Outside.{Ghosts}
 use Rattle.store_format.specs.Bank as format
 use Rattle.store_format.specs.Bank.{RecordLine}
 use Rattle.redo_journal.specs.declared.read.Gate.{Gate}
@@ -9,10 +7,6 @@ use Rattle.redo_journal.specs.declared.read.Gate.TheVariants.{Closed, Wrong, Sou
 use Rattle.redo_journal.specs.declared.read.Found.{Found}
 use Rattle.redo_journal.specs.declared.read.Found.TheVariants.{Holds, Faulty}
 use Rattle.redo_journal.specs.Noted.{noted}
-
--- where the bytes are told, at least so many are held
-abbrev pub HoldsAtLeast : {W : Type 0} → Ghosts W → ℕ → W → Type 0
-HoldsAtLeast G count outside = ForSome (G.held outside) (λ bytes. count ≤ length bytes)
 
 -- a next gate lies a record behind this one, in an area with this end
 abbrev pub IsNext : (gate end : ℕ) → Gate → Type 0

@@ -1,8 +1,7 @@
 -- What a bank that is kept says of the bytes on the disk.
-use Rattle.std.specs.Prelude.{◌≡◌, ◌⊎◌, ℕ, ◌+◌, List, length}
-use Rattle.std.specs.Option.{option_map}
+use Rattle.std.specs.Prelude.{◌≡◌, ◌⊎◌, ℕ, List, length, take}
 use Rattle.line_geometry.specs.Lines.{line_count}
-use Rattle.store_format.specs.Header.{Header}
+use Rattle.store_format.specs.Header.{Header, header_of}
 use Rattle.store_format.specs.Bank.{RecordLine}
 use Rattle.store_format.specs.Stands.{IsStore, stands, one_more}
 use Rattle.outside.specs.declared.world.Outside.{Ghosts}
@@ -26,8 +25,8 @@ pub record Tracks {W : Type 0} (G : Ghosts W) (bank : KeptBank) (outside : W) : 
 abbrev pub IsEither : List RecordLine → List ℕ → List ℕ → List ℕ → Type 0
 IsEither lines held image seen = (stands image ≡ stands held) ⊎ (stands image ≡ one_more lines (stands held))
 
--- the begun record was added, by two writes, and the bank is tracked
+-- the begun record was added, the header is the same, and the bank is tracked
 pub record IsAppended {W : Type 0} (G : Ghosts W) (old_bank bank : KeptBank) (old new : W) : Type 0 where
   pub tracks : Tracks G bank new
   pub stood : stands (held_of G new) ≡ one_more old_bank.begun (stands (held_of G old))
-  pub writes : G.writes new ≡ option_map (λ count. count + 2) (G.writes old)
+  pub header : header_of (take 128 (held_of G new)) ≡ header_of (take 128 (held_of G old))

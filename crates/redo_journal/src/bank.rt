@@ -1,11 +1,12 @@
 ghost use Rattle.std.specs.Prelude.{◌≡◌, ◌↔◌, ◌+◌, ◌*◌, ◌%◌, ◌≤◌, ◌<◌, ◌^◌, [], All, length, take, slice_set, slice_get, Some, None, IsNone, IsSome, IfSome, IfOk, IfErr, OnOk};
+ghost use Rattle.std.specs.Option.{option_map};
 ghost use Rattle.store_format.specs.Header.{total, HasRanges};
 ghost use Rattle.store_format.specs.Bank.{record_bytes};
 ghost use Rattle.store_format.specs.Stands.{stands, one_more};
 ghost use Rattle.outside.specs.Causes.{Rose};
 ghost use Rattle.outside.specs.Runs.{CallsDisk, OnlyAsks, Leaves, held_of};
 ghost use Rattle.redo_journal.specs.Kept.{KeptBank, place_of, end_of, area_end, with_line, SameShape};
-ghost use Rattle.redo_journal.specs.Read.{HoldsAtLeast};
+ghost use Rattle.redo_journal.specs.Held.{HoldsAtLeast, IsNoShorter};
 ghost use Rattle.redo_journal.specs.Opened.{IsRead, IsBankOf, IsReopenFault, IsOpenFault};
 ghost use Rattle.redo_journal.specs.Tracks.{Tracks, IsEither, IsAppended};
 
@@ -125,13 +126,15 @@ impl Bank {
         ensures fault { IfErr result (IsReopenFault W.Outside outside.old outside.new which self.old) }
     {
         forget(&mut self.newest);
-        self.begun = 0;
         let at = place_of(which, self.bank_bytes);
+        self.which = which;
+        self.count = 0;
+        self.gate = at + 8;
+        self.begun = 0;
         match read_bank(outside, &mut self.newest, at, self.bank_bytes) {
             Err(Failed) => Err(ReopenFault::DiskFault),
             Ok(Found::Faulty(offset)) => Err(ReopenFault::Damaged(offset)),
             Ok(Found::Holds { base, gate, count }) => {
-                self.which = which;
                 self.base = base;
                 self.gate = gate;
                 self.count = count;
@@ -150,7 +153,8 @@ impl Bank {
     /// The place on the disk of a line's newest bytes; none where no record of the bank holds the line.
     pub fn newest(&self, line: u32) -> Option<u64>
         requires { line < length self.now.newest }
-        ensures { slice_get self.now.newest line ≡ Some result }
+        ensures place { slice_get self.now.newest line ≡ Some result }
+        ensures within { IfSome result (λ at. at + 128 ≤ area_end self.now) }
     {
         self.newest.as_slice()[line as usize]
     }
@@ -194,20 +198,21 @@ impl Bank {
     /// begun; after [`Appended::Unwritten`] and [`Appended::Doubt`] the bank has to be reopened before it is used
     /// again (docs/FORMATS.md, "Protocols").
     pub fn append<W: Outside>(&mut self, outside: &mut W) -> Appended
-        requires tracks { Tracks W.Outside self.old outside.old }
+        requires room { HoldsAtLeast W.Outside (area_end self.old) outside.old }
         ensures calls { CallsDisk W.Outside outside.old outside.new }
         ensures shape { SameShape self.old self.new }
-
-        // Whenever a crash comes, it leaves what stood, or that with the record.
-        ensures crash { Leaves W.Outside (IsEither self.old.begun (held_of W.Outside outside.old)) outside.old outside.new }
-
+        ensures longer { IsNoShorter W.Outside outside.old outside.new }
         ensures full { result ≡ Appended.Full ↔ (area_end self.old < self.old.gate + record_bytes (length self.old.begun) + 1) }
         ensures nothing { result ≡ Appended.Full → (self.new ≡ self.old) × (outside.new ≡ outside.old) }
-        ensures unwritten { result ≡ Appended.Unwritten → Leaves W.Outside (λ image seen. stands image ≡ stands (held_of W.Outside outside.old)) outside.new outside.new }
-        ensures doubt { result ≡ Appended.Doubt → Leaves W.Outside (λ image seen. stands (slice_set image self.old.gate 0xA5) ≡ one_more self.old.begun (stands (held_of W.Outside outside.old))) outside.new outside.new }
-        ensures done { result ≡ Appended.Done → IsAppended W.Outside self.old self.new outside.old outside.new }
+        ensures writes { result ≡ Appended.Done → W.writes outside.new ≡ option_map (λ count. count + 2) (W.writes outside.old) }
         ensures unwritten_cause { result ≡ Appended.Unwritten → Rose (W.disk_faults outside.old) (W.disk_faults outside.new) }
         ensures doubt_cause { result ≡ Appended.Doubt → Rose (W.disk_faults outside.old) (W.disk_faults outside.new) }
+
+        // Of a bank that is tracked: whenever a crash comes, it leaves what stood, or that with the record.
+        ensures crash { Tracks W.Outside self.old outside.old → Leaves W.Outside (IsEither self.old.begun (held_of W.Outside outside.old)) outside.old outside.new }
+        ensures unwritten { result ≡ Appended.Unwritten → Tracks W.Outside self.old outside.old → Leaves W.Outside (λ image seen. stands image ≡ stands (held_of W.Outside outside.old)) outside.new outside.new }
+        ensures doubt { result ≡ Appended.Doubt → Tracks W.Outside self.old outside.old → Leaves W.Outside (λ image seen. stands (slice_set image self.old.gate 0xA5) ≡ one_more self.old.begun (stands (held_of W.Outside outside.old))) outside.new outside.new }
+        ensures done { result ≡ Appended.Done → Tracks W.Outside self.old outside.old → IsAppended W.Outside self.old self.new outside.old outside.new }
     {
         let begun = self.begun;
         let bytes = 11 + 132 * u64::from(begun);

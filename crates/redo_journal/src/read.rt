@@ -1,11 +1,12 @@
 // Reading the records of a bank.
-ghost use Rattle.std.specs.Prelude.{◌≡◌, ◌+◌, ◌*◌, ◌==◌, ◌≤◌, ◌<◌, ◌^◌, length, drop, slice_index, None, IsSome, IfOk, OnErr};
+ghost use Rattle.std.specs.Prelude.{◌≡◌, ℕ, ◌+◌, ◌*◌, ◌==◌, ◌≤◌, ◌<◌, ◌^◌, length, drop, slice_index, None, IsSome, IfOk, OnErr};
 ghost use Rattle.store_format.specs.Header.{number_at};
 ghost use Rattle.store_format.specs.Bank.{lines_from, wrong_line, gate_if, bank_held};
 ghost use Rattle.outside.specs.Causes.{Rose};
 ghost use Rattle.outside.specs.Runs.{OnlyAsks, held_of};
-ghost use Rattle.redo_journal.specs.Noted.{noted};
-ghost use Rattle.redo_journal.specs.Read.{HoldsAtLeast, IsGate, IsNext, IsBank, IsClosedIn};
+ghost use Rattle.redo_journal.specs.Noted.{noted, AreWithin};
+ghost use Rattle.redo_journal.specs.Held.{HoldsAtLeast};
+ghost use Rattle.redo_journal.specs.Read.{IsGate, IsNext, IsBank, IsClosedIn};
 
 use crate::keep::OPEN;
 use byteorder::{BigEndian, ByteOrder};
@@ -40,6 +41,7 @@ pub fn read_bank<W: Outside>(
     ensures asks { OnlyAsks W.Outside outside.old outside.new }
     ensures len { length newest.new ≡ length newest.old }
     ensures within { IfOk result (IsClosedIn (at + 8) (at + 8 + bank_bytes)) }
+    ensures placed { AreWithin (at + 8 + bank_bytes) newest.old → AreWithin (at + 8 + bank_bytes) newest.new }
     ensures found { IfOk result (λ found. IsSome (W.held outside.old) → IsBank found newest.old newest.new (number_at (held_of W.Outside outside.old) at 8) (bank_held (held_of W.Outside outside.old) (length newest.old) at bank_bytes)) }
     ensures cause { OnErr result (Rose (W.disk_faults outside.old) (W.disk_faults outside.new)) }
 {
@@ -73,6 +75,7 @@ fn read_gate<W: Outside>(
     ensures asks { OnlyAsks W.Outside outside.old outside.new }
     ensures len { length newest.new ≡ length newest.old }
     ensures next { IfOk result (IsNext gate end) }
+    ensures placed { AreWithin end newest.old → AreWithin end newest.new }
     ensures found { IfOk result (λ found. IsSome (W.held outside.old) → IsGate found gate newest.old newest.new (gate_if (slice_index (held_of W.Outside outside.old) gate == 0xA5) (length newest.old) end due gate (drop gate (held_of W.Outside outside.old)))) }
     ensures cause { OnErr result (Rose (W.disk_faults outside.old) (W.disk_faults outside.new)) }
 {
@@ -111,6 +114,7 @@ fn read_lines<W: Outside>(
     requires few { at < 2 ^ 20 }
     ensures asks { OnlyAsks W.Outside outside.old outside.new }
     ensures len { length newest.new ≡ length newest.old }
+    ensures placed { (end : ℕ) → at + 132 * count ≤ end → AreWithin end newest.old → AreWithin end newest.new }
     ensures fault { IfOk result (λ fault. IsSome (W.held outside.old) → fault ≡ wrong_line (length newest.old) 0 (lines_from count at (drop at (held_of W.Outside outside.old)))) }
     ensures noted { IfOk result (λ fault. IsSome (W.held outside.old) → fault ≡ None → newest.new ≡ noted newest.old (lines_from count at (drop at (held_of W.Outside outside.old)))) }
     ensures cause { OnErr result (Rose (W.disk_faults outside.old) (W.disk_faults outside.new)) }

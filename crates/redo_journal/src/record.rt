@@ -1,9 +1,9 @@
 // The bytes of a record.
-ghost use Rattle.std.specs.Prelude.{◌≡◌, ◌+◌, ◌*◌, ◌++◌, ◌≤◌, ◌<◌, ◌^◌, length, take, drop, replicate, slice_index, None};
+ghost use Rattle.std.specs.Prelude.{◌≡◌, ℕ, ◌+◌, ◌*◌, ◌++◌, ◌≤◌, ◌<◌, ◌^◌, length, take, drop, replicate, slice_index, None};
 ghost use Rattle.byteorder.specs.Endian.{big_bytes};
 ghost use Rattle.store_format.specs.Header.{number_at};
 ghost use Rattle.store_format.specs.Bank.{lines_from, wrong_line};
-ghost use Rattle.redo_journal.specs.Noted.{noted};
+ghost use Rattle.redo_journal.specs.Noted.{noted, AreWithin};
 
 use byteorder::{BigEndian, ByteOrder};
 use owned_list::OwnedList;
@@ -48,6 +48,7 @@ pub fn note(newest: &mut OwnedList<Option<u64>>, body: &[u8], gate: u64, count: 
     requires ordered { wrong_line (length newest.old) 0 (lines_from count (gate + 11) (drop 10 body.now)) ≡ None }
     ensures value { newest.new ≡ noted newest.old (lines_from count (gate + 11) (drop 10 body.now)) }
     ensures len { length newest.new ≡ length newest.old }
+    ensures placed { (end : ℕ) → gate + 11 + 132 * count ≤ end → AreWithin end newest.old → AreWithin end newest.new }
 {
     for i in 0..count {
         let at = 132 * usize::from(i);

@@ -6,6 +6,7 @@ use Rattle.store_format.specs.Header.{number_at}
 use Rattle.store_format.specs.Bank as format
 use Rattle.store_format.specs.Bank.{gate_at, bank_held}
 use Rattle.outside.specs.Runs.{held_of}
+use Rattle.redo_journal.specs.Noted.{AreWithin}
 use Rattle.store_format.proofs.Padded.{read_is}
 use Rattle.outside.proofs.Runs.{asks_on}
 use Rattle.redo_journal.proofs.ReadLemmas.{reads_within}
@@ -62,6 +63,7 @@ loop-count-init g c = record {
     crash = c.read_at.ensures.crash;
   };
   len = refl;
+  placed = λ are. are;
   far = omega arith;
   inside = omega (arith, c.requires.some);
   reaches = λ some. starts (held_of g.W.Outside c.args.outside.now) (length c.args.newest.now) (c.args.at + 8 + c.args.bank_bytes) c.args.bank_bytes c.read_u64-base.result (c.args.at + 8) c.args.newest.now (omega (arith, c.requires.some));
@@ -102,6 +104,7 @@ loop-count-preserved g c =
     record {
       asks = asks_on g.W.Outside g.met.W.Outside.fewer_later c.args.outside.now c.loop-count.outside c.read_gate.new.outside c.loop-count.invariant.asks c.read_gate.ensures.asks;
       len = c.read_gate.ensures.len ∙ c.loop-count.invariant.len;
+      placed = λ are. subst (λ (n : ℕ). AreWithin (c.args.at + 8 + n) c.loop-count.newest → AreWithin (c.args.at + 8 + n) c.read_gate.new.newest) c.from.ensures c.read_gate.ensures.placed (c.loop-count.invariant.placed are);
       far = omega (arith, c.loop-count.invariant.far, next.0);
       inside = omega (arith, next.1, c.from.ensures);
       reaches = λ some. let found = rw c.in-Sound.is at (c.in_ok-read_gate.ensures.found (still g at some)) in

@@ -5,9 +5,10 @@ use Rattle.owned_list.specs.Overlay.{overlaid}
 use Rattle.store_format.specs.Bank.{wrong_line}
 use Rattle.outside.specs.Bytes.{bytes_at}
 use Rattle.outside.specs.Runs.{OnlyAsks, held_of}
-use Rattle.redo_journal.specs.Noted.{noted}
+use Rattle.redo_journal.specs.Noted.{noted, AreWithin}
 use Rattle.store_format.proofs.Padded.{read_is}
 use Rattle.outside.proofs.Runs.{asks_on}
+use Rattle.redo_journal.proofs.WithinLemmas.{within-overlaid}
 use Rattle.redo_journal.proofs.ReadLemmas.{lines_after, wrong_here, right_here, noted_here, is_right, is_low, is_high, reads_within}
 use Rattle.redo_journal.proofs.read.read_lines.Given.{Over}
 use Rattle.redo_journal.proofs.read.read_lines.Goals as goal
@@ -58,6 +59,9 @@ loop-i-preserved g c =
     let place : c.args.at + 132 * c.from.result + 4 ≡ c.args.at + 132 * c.loop-i.i + 4 = omega (arith, c.from.ensures) in
     record {
       asks = asked g at;
+      placed = λ end few are.
+          subst (λ (these : List (Option ℕ)). AreWithin end these) (sym c.write.ensures.value)
+          (within-overlaid end line (c.args.at + 132 * c.from.result + 4) c.loop-i.newest (omega (arith, few, c.from.ensures, c.loop-i-test.true)) (c.loop-i.invariant.placed end few are));
       len = c.write.ensures.len ∙ c.loop-i.invariant.len;
       fault = λ some.
           ap (λ (n : ℕ). wrong_line n (c.from-least.result + 1) (lines_after c.args.count (c.loop-i.i + 1) c.args.at held)) c.write.ensures.len

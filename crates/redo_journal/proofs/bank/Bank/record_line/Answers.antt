@@ -51,6 +51,7 @@ invariant_of-self c =
       some_bytes = old.some_bytes;
       few_bytes = old.few_bytes;
       inside = old.inside;
+      placed = old.placed;
       few_records = old.few_records;
       buffer = c.write-2.ensures.len ∙ c.write.ensures.len ∙ old.buffer;
       fits = room (goal.at.invariant_of-self c).After-from;
