@@ -23,12 +23,12 @@ use Rattle.redo_journal.specs.Noted.{noted, newest_of}
 abbrev pub line_bytes : ℕ → List ℕ → List ℕ
 line_bytes k bytes = take 128 (drop (k * 128) bytes)
 
-same_line : (bytes part : List ℕ) (j : ℕ) → length part ≡ 128 → j * 128 + 128 ≤ length bytes → line_bytes j (overlaid bytes (j * 128) part) ≡ part
+pub same_line : (bytes part : List ℕ) (j : ℕ) → length part ≡ 128 → j * 128 + 128 ≤ length bytes → line_bytes j (overlaid bytes (j * 128) part) ≡ part
 same_line bytes part j long within =
     ap (λ (these : List ℕ). take 128 these) (drop-overlaid bytes (j * 128) part (omega (arith, long)))
     ∙ take_at part (drop (j * 128 + length part) bytes) 128 long
 
-other_line : (bytes part : List ℕ) (j k : ℕ) → length part ≡ 128 → j * 128 + 128 ≤ length bytes → (k ≡ j → ⊥) → line_bytes k (overlaid bytes (j * 128) part) ≡ line_bytes k bytes
+pub other_line : (bytes part : List ℕ) (j k : ℕ) → length part ≡ 128 → j * 128 + 128 ≤ length bytes → (k ≡ j → ⊥) → line_bytes k (overlaid bytes (j * 128) part) ≡ line_bytes k bytes
 other_line bytes part j k long within other = elim (cases_lt k j) [
   | inl before ↦
       shorter_front 128 (j * 128 - k * 128) (drop (k * 128) (overlaid bytes (j * 128) part)) (drop (k * 128) bytes)
