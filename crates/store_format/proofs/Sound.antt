@@ -1,10 +1,10 @@
 -- What a header without a fault says.
-use Rattle.std.proofs.Common.{◌≡◌, ℕ, ◌+◌, ◌*◌, ◌-◌, ◌<◌, ◌≤◌, Bool, true, false, List, [], ◌∷◌, ◌++◌, length, take, refl, sym, ◌∙◌, ap, subst, arith, inl, inr}
+use Rattle.std.proofs.Common.{◌≡◌, ℕ, ◌+◌, ◌*◌, ◌-◌, ◌≤◌, true, false, List, [], ◌∷◌, ◌++◌, length, take, ◌∙◌, ap, arith, inl, inr}
 use Rattle.std.specs.Prelude.{Option, None, Some, min, nat_lt, is_some, if◌then◌else◌}
 use Rattle.std.proofs.lemmas.Bool.{cases_lt}
 use Rattle.std.proofs.lemmas.Bool.Decides.{nat_tests}
 use Rattle.line_geometry.specs.Legal.{IsLegal}
-use Rattle.store_format.specs.Header.{Header, Field, number_at, within, name_field, segments_at, segments_of, segment_fields, zeros, fields, first_fault, header_of, total}
+use Rattle.store_format.specs.Header.{Header, number_at, within, name_field, segments_of, segment_fields, zeros, fields, first_fault, header_of, total}
 use Rattle.store_format.specs.Bank.{base_of, bank_of}
 use Rattle.store_format.specs.Stands.{Standing, NotAStore, stands, standing_if, standing_by, chosen}
 use Rattle.store_format.proofs.Checks.{none-append, right_number, length-segments_at}

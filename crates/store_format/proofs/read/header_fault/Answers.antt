@@ -1,6 +1,5 @@
-use Rattle.std.proofs.Common.{◌≡◌, ℕ, ◌+◌, ◌*◌, ◌-◌, ◌∷◌, [], ◌∙◌, sym, ap, List, length, arith}
-use Rattle.std.specs.Prelude.{min, Option}
-use Rattle.std.specs.Option.{option_or}
+use Rattle.std.proofs.Common.{◌≡◌, ℕ, ◌+◌, ◌*◌, ◌-◌, ◌∷◌, [], ◌∙◌, ap, length, arith}
+use Rattle.std.specs.Prelude.{min}
 use Rattle.store_format.specs.Header.{name_field, number_at, within, segment_fields, segments_at, segments_of, zeros, first_fault}
 use Rattle.store_format.proofs.Checks.{six_faults, or_is, length-segments_at}
 use Rattle.store_format.proofs.read.header_fault.Goals as goal

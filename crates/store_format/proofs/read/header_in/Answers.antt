@@ -5,7 +5,7 @@ use Rattle.line_geometry.specs.Legal.{IsLegal}
 use Rattle.line_geometry.specs.Directory.{Layout}
 use Rattle.line_geometry.specs.declared.directory.DirectoryFault.{DirectoryFault}
 use Rattle.line_geometry.specs.declared.directory.PageSize.TheVariants.{Two}
-use Rattle.store_format.specs.Header.{Header, number_at, segments_at, segments_of}
+use Rattle.store_format.specs.Header.{number_at, segments_at, segments_of}
 use Rattle.store_format.proofs.Checks.{segments_at-more}
 use Rattle.store_format.proofs.Sound.{IsSound, sound_header}
 use Rattle.store_format.proofs.read.header_in.Goals as goal
