@@ -1,0 +1,10 @@
+pub mod Overlaid
+pub mod GateLemmas
+pub mod FillLemmas
+pub mod LineLemmas
+pub mod NoteLemmas
+pub mod AppendLemmas
+pub mod WithinLemmas
+pub mod ReadLemmas
+pub mod BankLemmas
+pub mod Newest

@@ -1,0 +1,15 @@
+use Rattle.std.proofs.Common.{◌≡◌, ◌+◌, ◌*◌, ◌<◌, ◌≤◌, length, IsSome}
+use Rattle.outside.specs.Runs.{OnlyAsks, held_of}
+use Rattle.redo_journal.specs.Noted.{AreWithin}
+use Rattle.redo_journal.proofs.BankLemmas.{Reaches}
+use Rattle.redo_journal.proofs.read.read_bank.Given as goal
+
+abbrev pub invariant-loop-count : goal.invariant-loop-count
+invariant-loop-count g l = record {
+  asks : OnlyAsks g.W.Outside l.fn.outside l.outside;
+  len : length l.newest ≡ length l.fn.newest;
+  placed : AreWithin (l.at + 8 + l.bank_bytes) l.fn.newest → AreWithin (l.at + 8 + l.bank_bytes) l.newest;
+  far : l.at + 8 + 11 * l.count ≤ l.gate;
+  inside : l.gate < l.at + 8 + l.bank_bytes;
+  reaches : IsSome (g.W.Outside.held l.fn.outside) → Reaches (held_of g.W.Outside l.fn.outside) (length l.fn.newest) (l.at + 8 + l.bank_bytes) l.bank_bytes l.base (l.at + 8) l.count l.gate l.fn.newest l.newest;
+}

@@ -1,0 +1,68 @@
+use Rattle.std.proofs.Common.{◌≡◌, ℕ, ◌+◌, ◌*◌, List, [], length, drop, sym, subst, ◌∙◌, ap, arith, IsSome}
+use Rattle.std.specs.Prelude.{Option, None, Some, unwrap_or, slice_index, ◌==◌}
+use Rattle.store_format.specs.Bank.{RecordLine, lines_from, wrong_line, gate_if, lined_gate}
+use Rattle.outside.specs.Bytes.{bytes_at}
+use Rattle.outside.specs.Runs.{held_of}
+use Rattle.redo_journal.specs.Noted.{noted}
+use Rattle.store_format.proofs.Padded.{read_is}
+use Rattle.outside.proofs.Runs.{asks_on}
+use Rattle.redo_journal.proofs.ReadLemmas.{first_read, gate_read, reads_within}
+use Rattle.redo_journal.proofs.read.read_gate.Given.{Over}
+use Rattle.redo_journal.proofs.read.read_gate.Goals as goal
+use Rattle.redo_journal.proofs.read.read_gate.Goals.{After-read_lines}
+
+-- the lines behind the gate
+lines : (g : Over) (c : goal.After-read_lines g) → List RecordLine
+lines g c = lines_from c.read_u16-count.result (c.args.gate + 11) (drop (c.args.gate + 11) (held_of g.W.Outside c.args.outside.now))
+
+gate_is : (g : Over) (c : goal.After-read_lines g) → IsSome (g.W.Outside.held c.args.outside.now)
+    → gate_if (slice_index (held_of g.W.Outside c.args.outside.now) c.args.gate == 0xA5) (length c.args.newest.now) c.args.end c.args.due c.args.gate (drop c.args.gate (held_of g.W.Outside c.args.outside.now))
+    ≡ lined_gate (wrong_line (length c.args.newest.now) 0 (lines g c)) (lines g c) (c.args.gate + 11 + 132 * c.read_u16-count.result)
+unfolding lines
+gate_is g c some =
+    let G = g.W.Outside in
+    let first = read_is (G.held c.args.outside.now) c.read_at.new.into c.args.gate 1 some c.in_ok-read_at.ensures.read in
+    let told = subst (λ (those : Option (List ℕ)). IsSome those) (sym c.read_at.ensures.held) some in
+    let head = read_is (G.held c.read_at.new.self) c.read_at-2.new.into (c.args.gate + 1) 10 told c.in_ok-read_at-2.ensures.read ∙ ap (λ (those : Option (List ℕ)). bytes_at (unwrap_or those []) (c.args.gate + 1) 10) c.read_at.ensures.held in
+    gate_read (held_of G c.args.outside.now) c.read_at-2.new.into (length c.args.newest.now) c.args.end c.args.due c.args.gate c.read_u16-count.result c.read_u64.result head c.read_u16-count.ensures c.read_u64.ensures c.if-read_u64-due.false
+    (first_read (held_of G c.args.outside.now) c.read_at.new.into c.args.gate first c.if-first.false)
+    (omega (arith, c.if-end-next.false, c.from.ensures))
+
+-- the bytes held by then are those at the start
+same : (g : Over) (c : goal.After-read_lines g) → lines_from c.read_u16-count.result (c.args.gate + 11) (drop (c.args.gate + 11) (held_of g.W.Outside c.read_at-2.new.self)) ≡ lines g c
+unfolding lines
+same g c = ap (λ (those : Option (List ℕ)). lines_from c.read_u16-count.result (c.args.gate + 11) (drop (c.args.gate + 11) (unwrap_or those []))) (c.read_at-2.ensures.held ∙ c.read_at.ensures.held)
+
+still : (g : Over) (c : goal.After-read_lines g) → IsSome (g.W.Outside.held c.args.outside.now) → IsSome (g.W.Outside.held c.read_at-2.new.self)
+still g c some = subst (λ (those : Option (List ℕ)). IsSome those) (sym (c.read_at-2.ensures.held ∙ c.read_at.ensures.held)) some
+
+pub returns-in-Some-clause-found : goal.returns-in-Some-clause-found
+returns-in-Some-clause-found g c some =
+    let at = (goal.at.returns-in-Some-clause-found g c).After-read_lines in
+    let fault : wrong_line (length c.args.newest.now) 0 (lines g at) ≡ Some c.in-Some.offset = ap (wrong_line (length c.args.newest.now) 0) (sym (same g at)) ∙ sym (c.in_ok-offset.ensures.fault (still g at some)) ∙ c.in-Some.is in
+    gate_is g at some ∙ ap (λ (those : Option ℕ). lined_gate those (lines g at) (c.args.gate + 11 + 132 * c.read_u16-count.result)) fault
+
+pub returns-in-None-clause-found : goal.returns-in-None-clause-found
+returns-in-None-clause-found g c some =
+    let at = (goal.at.returns-in-None-clause-found g c).After-read_lines in
+    let fault : wrong_line (length c.args.newest.now) 0 (lines g at) ≡ None = ap (wrong_line (length c.args.newest.now) 0) (sym (same g at)) ∙ sym (c.in_ok-offset.ensures.fault (still g at some)) ∙ c.in-None.is in (
+      lines g at,
+      gate_is g at some
+          ∙ ap (λ (those : Option ℕ). lined_gate those (lines g at) (c.args.gate + 11 + 132 * c.read_u16-count.result)) fault
+          ∙ ap (λ (n : ℕ). lined_gate None (lines g at) (c.args.gate + 11 + 132 * n)) (sym c.from.ensures),
+      c.in_ok-offset.ensures.noted (still g at some) c.in-None.is ∙ ap (noted c.args.newest.now) (same g at),
+    )
+
+pub returns-then-read_u64-due-clause-asks : goal.returns-then-read_u64-due-clause-asks
+returns-then-read_u64-due-clause-asks g c =
+    asks_on g.W.Outside g.met.W.Outside.fewer_later c.args.outside.now c.read_at.new.self c.read_at-2.new.self (record {
+      calls = record { quiet = c.read_at.ensures.quiet; honest = c.read_at.ensures.honest; time = c.read_at.ensures.time; disk = c.read_at.ensures.cause.later; put = c.read_at.ensures.puts };
+      held = c.read_at.ensures.held;
+      writes = c.read_at.ensures.writes;
+      crash = c.read_at.ensures.crash;
+    }) (record {
+      calls = record { quiet = c.read_at-2.ensures.quiet; honest = c.read_at-2.ensures.honest; time = c.read_at-2.ensures.time; disk = c.read_at-2.ensures.cause.later; put = c.read_at-2.ensures.puts };
+      held = c.read_at-2.ensures.held;
+      writes = c.read_at-2.ensures.writes;
+      crash = c.read_at-2.ensures.crash;
+    })

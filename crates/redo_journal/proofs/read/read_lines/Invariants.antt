@@ -1,0 +1,15 @@
+use Rattle.std.proofs.Common.{◌≡◌, ℕ, ◌+◌, ◌*◌, ◌≤◌, length, drop, IsSome}
+use Rattle.store_format.specs.Bank.{lines_from, wrong_line}
+use Rattle.outside.specs.Runs.{OnlyAsks, held_of}
+use Rattle.redo_journal.specs.Noted.{noted, AreWithin}
+use Rattle.redo_journal.proofs.ReadLemmas.{lines_after}
+use Rattle.redo_journal.proofs.read.read_lines.Given as goal
+
+abbrev pub invariant-loop-i : goal.invariant-loop-i
+invariant-loop-i g l = record {
+  asks : OnlyAsks g.W.Outside l.initial.outside l.outside;
+  placed : (end : ℕ) → l.at + 132 * l.count ≤ end → AreWithin end l.initial.newest → AreWithin end l.newest;
+  len : length l.newest ≡ length l.initial.newest;
+  fault : IsSome (g.W.Outside.held l.initial.outside) → wrong_line (length l.newest) l.least (lines_after l.count l.i l.at (held_of g.W.Outside l.initial.outside)) ≡ wrong_line (length l.initial.newest) 0 (lines_from l.count l.at (drop l.at (held_of g.W.Outside l.initial.outside)));
+  noted : IsSome (g.W.Outside.held l.initial.outside) → noted l.newest (lines_after l.count l.i l.at (held_of g.W.Outside l.initial.outside)) ≡ noted l.initial.newest (lines_from l.count l.at (drop l.at (held_of g.W.Outside l.initial.outside)));
+}

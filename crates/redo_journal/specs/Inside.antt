@@ -1,0 +1,33 @@
+-- The fields of a bank, and what is kept of them.
+use Rattle.std.specs.Prelude.{◌≡◌, ℕ, ◌+◌, ◌*◌, ◌<◌, ◌≤◌, List, length, drop, None}
+use Rattle.store_format.specs.Bank.{RecordLine, lines_from, wrong_line}
+use Rattle.redo_journal.specs.declared.bank.Bank.TheInside.{Inside}
+use Rattle.redo_journal.specs.Kept.{KeptBank, end_of}
+use Rattle.redo_journal.specs.Noted.{AreWithin}
+
+-- the lines of the begun record
+abbrev pub begun_lines : Inside → List RecordLine
+begun_lines bank = lines_from bank.begun (bank.gate + 11) (drop 10 bank.body)
+
+-- the bank that the fields are
+abbrev pub kept_of : Inside → KeptBank
+kept_of bank = record {
+  which = bank.which;
+  bank_bytes = bank.bank_bytes;
+  base = bank.base;
+  count = bank.count;
+  gate = bank.gate;
+  newest = bank.newest;
+  begun = begun_lines bank;
+}
+
+-- The area is one of a store and has the gate and the newest places in it, the buffer has room for the begun record, and its lines ascend.
+pub record IsWhole (bank : Inside) : Type 0 where
+  pub some_bytes : 4096 ≤ bank.bank_bytes
+  pub few_bytes : bank.bank_bytes ≤ 131072
+  pub inside : bank.gate < end_of bank.which bank.bank_bytes
+  pub placed : AreWithin (end_of bank.which bank.bank_bytes) bank.newest
+  pub few_records : bank.count ≤ bank.gate
+  pub buffer : length bank.body ≡ bank.bank_bytes
+  pub fits : 12 + 132 * bank.begun ≤ bank.bank_bytes
+  pub ordered : wrong_line (length bank.newest) 0 (begun_lines bank) ≡ None

@@ -1,0 +1,39 @@
+-- A bank as it is kept.
+use Rattle.std.specs.Prelude.{◌≡◌, ℕ, ◌+◌, ◌*◌, List, [], ◌∷◌, ◌++◌, length, Option}
+use Rattle.store_format.specs.declared.header.Which.{Which}
+use Rattle.store_format.specs.declared.header.Which.TheVariants.{A, B}
+use Rattle.store_format.specs.Bank.{RecordLine, record_bytes}
+
+-- Which bank it is, the bytes of its record area, its base number, how many records it has, where its closed gate is,
+-- the newest place of each line of the store, and the lines of the record that is begun, as they will lie behind the gate.
+pub record KeptBank : Type 0 where
+  pub which : Which
+  pub bank_bytes : ℕ
+  pub base : ℕ
+  pub count : ℕ
+  pub gate : ℕ
+  pub newest : List (Option ℕ)
+  pub begun : List RecordLine
+
+-- where a bank with so many bytes lies, and where its area ends
+abbrev pub place_of : Which → ℕ → ℕ
+place_of A bank_bytes = 256
+place_of B bank_bytes = 264 + bank_bytes
+
+abbrev pub end_of : Which → ℕ → ℕ
+end_of A bank_bytes = 264 + bank_bytes
+end_of B bank_bytes = 272 + 2 * bank_bytes
+
+-- where the area ends
+abbrev pub area_end : KeptBank → ℕ
+area_end bank = end_of bank.which bank.bank_bytes
+
+-- the bank with one line more in its begun record
+abbrev pub with_line : KeptBank → ℕ → List ℕ → KeptBank
+with_line bank line bytes =
+    record bank { begun = bank.begun ++ record { line = line; at = bank.gate + record_bytes (length bank.begun); bytes = bytes } ∷ [] }
+
+-- a bank of the same size, of a store with as many lines
+pub record SameShape (old new : KeptBank) : Type 0 where
+  pub bank_bytes : new.bank_bytes ≡ old.bank_bytes
+  pub lines : length new.newest ≡ length old.newest

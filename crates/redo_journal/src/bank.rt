@@ -1,0 +1,276 @@
+ghost use Rattle.std.specs.Prelude.{◌≡◌, ◌↔◌, ◌+◌, ◌*◌, ◌%◌, ◌≤◌, ◌<◌, ◌^◌, [], All, length, take, slice_set, slice_get, Some, None, IsNone, IsSome, IfSome, IfOk, IfErr, OnOk};
+ghost use Rattle.std.specs.Option.{option_map};
+ghost use Rattle.store_format.specs.Header.{total, HasRanges};
+ghost use Rattle.store_format.specs.Bank.{record_bytes};
+ghost use Rattle.store_format.specs.Stands.{stands, one_more};
+ghost use Rattle.outside.specs.Causes.{Rose};
+ghost use Rattle.outside.specs.Runs.{CallsDisk, OnlyAsks, Leaves, held_of};
+ghost use Rattle.redo_journal.specs.Kept.{KeptBank, place_of, end_of, area_end, with_line, SameShape};
+ghost use Rattle.redo_journal.specs.Held.{HoldsAtLeast, IsNoShorter};
+ghost use Rattle.redo_journal.specs.Opened.{IsRead, IsBankOf, IsReopenFault, IsOpenFault};
+ghost use Rattle.redo_journal.specs.Tracks.{Tracks, IsEither, IsAppended};
+
+use crate::fault::{OpenFault, ReopenFault};
+use crate::keep::{Kept, keep_body};
+use crate::read::{Found, read_bank};
+use crate::record::{fill, forget, note, word};
+use outside::{Failed, Outside};
+use owned_list::OwnedList;
+use std::alloc::{AllocError, Global};
+use std::marker::Model;
+use store_format::{Header, Which};
+
+/// One bank of a store: its base number and the place of its closed gate, the newest place of each line of the store,
+/// and a record that is begun (docs/MODEL.md, "A bank that is kept").
+#[derive(Drop)]
+pub struct Bank {
+    which: Which,
+    bank_bytes: u32,
+    base: u64,
+    count: u32,
+    gate: u64,
+    newest: OwnedList<Option<u64>>,
+    begun: u16,
+    body: OwnedList<u8>,
+}
+
+impl Model for Bank {
+    ghost use Rattle.redo_journal.specs.Kept.{KeptBank};
+
+    ghost Value = { KeptBank };
+
+    ghost use Rattle.redo_journal.specs.Inside.{kept_of, IsWhole};
+
+    ghost view = { kept_of };
+
+    ghost invariant = { IsWhole };
+}
+
+/// What came of a record that was to be added (docs/FORMATS.md, "Protocols").
+#[derive(Debug, Clone, Copy, PartialEq, Eq)]
+pub enum Appended {
+    /// It is on the disk.
+    Done,
+    /// The record and the gate behind it don't fit the rest of the bank. Nothing was written.
+    Full,
+    /// The disk failed before the gate's write began: no crash leaves the record.
+    Unwritten,
+    /// The disk failed from the gate's write on: a crash leaves the record or not.
+    Doubt,
+}
+
+impl Bank {
+    /// Reads a bank of a store with this header.
+    ///
+    /// # Errors
+    ///
+    /// [`OpenFault::Damaged`] exactly where the bank has a fault, with its offset; [`OpenFault::DiskFault`] only where
+    /// the disk's count rose; [`OpenFault::Memory`] where there was none. Never [`OpenFault::NotAStore`]
+    /// (docs/FORMATS.md, "What an image stands for").
+    pub fn open<W: Outside>(
+        alloc: Global,
+        header: &Header,
+        which: Which,
+        outside: &mut W,
+    ) -> Result<Bank, OpenFault>
+        requires room { HoldsAtLeast W.Outside (total header.now) outside.old }
+        ensures asks { OnlyAsks W.Outside outside.old outside.new }
+        ensures opened { IfOk result (IsBankOf header.now which) }
+        ensures read { IfOk result (λ bank. IsSome (W.held outside.old) → IsRead (held_of W.Outside outside.old) bank) }
+        ensures fault { IfErr result (IsOpenFault W.Outside outside.old outside.new header.now which) }
+    {
+        let mut bank = match Bank::of_store(alloc, header) {
+            Err(AllocError) => return Err(OpenFault::Memory),
+            Ok(bank) => bank,
+        };
+        match bank.reopen(which, outside) {
+            Err(ReopenFault::Damaged(offset)) => Err(OpenFault::Damaged(offset)),
+            Err(ReopenFault::DiskFault) => Err(OpenFault::DiskFault),
+            Ok(()) => Ok(bank),
+        }
+    }
+
+    /// Room for a bank of a store with this header.
+    fn of_store(alloc: Global, header: &Header) -> Result<Bank, AllocError>
+        ensures shape { IfOk result (IsBankOf header.now Which.A) }
+        ensures ranges { HasRanges header.now }
+    {
+        let bank_bytes = header.bank_bytes();
+        let lines = header.directory().line_count() as usize;
+        Ok(Bank {
+            which: Which::A,
+            bank_bytes,
+            base: 0,
+            count: 0,
+            gate: 264,
+            newest: OwnedList::from_vec(vec![in alloc; None; lines]?),
+            begun: 0,
+            body: OwnedList::from_vec(vec![in alloc; 0; bank_bytes as usize]?),
+        })
+    }
+
+    /// Reads one of the store's banks again, in the room of this one. A begun record is forgotten. After an error it
+    /// has to be reopened before it is used again.
+    ///
+    /// # Errors
+    ///
+    /// [`ReopenFault::Damaged`] exactly where that bank has a fault, with its offset; [`ReopenFault::DiskFault`] only
+    /// where the disk's count rose.
+    pub fn reopen<W: Outside>(&mut self, which: Which, outside: &mut W) -> Result<(), ReopenFault>
+        requires room { HoldsAtLeast W.Outside (end_of which self.old.bank_bytes) outside.old }
+        ensures asks { OnlyAsks W.Outside outside.old outside.new }
+        ensures shape { SameShape self.old self.new }
+        ensures turned { OnOk result (self.new.which ≡ which) }
+        ensures begun { OnOk result (self.new.begun ≡ []) }
+        ensures read { OnOk result (IsSome (W.held outside.old) → IsRead (held_of W.Outside outside.old) self.new) }
+        ensures fault { IfErr result (IsReopenFault W.Outside outside.old outside.new which self.old) }
+    {
+        forget(&mut self.newest);
+        let at = place_of(which, self.bank_bytes);
+        self.which = which;
+        self.count = 0;
+        self.gate = at + 8;
+        self.begun = 0;
+        match read_bank(outside, &mut self.newest, at, self.bank_bytes) {
+            Err(Failed) => Err(ReopenFault::DiskFault),
+            Ok(Found::Faulty(offset)) => Err(ReopenFault::Damaged(offset)),
+            Ok(Found::Holds { base, gate, count }) => {
+                self.base = base;
+                self.gate = gate;
+                self.count = count;
+                Ok(())
+            }
+        }
+    }
+
+    /// The number that the bank's records lead to.
+    pub fn number(&self) -> u64
+        ensures { result ≡ (self.now.base + self.now.count) % 2 ^ 64 }
+    {
+        number_of(self.base, self.count)
+    }
+
+    /// The place on the disk of a line's newest bytes; none where no record of the bank holds the line.
+    pub fn newest(&self, line: u32) -> Option<u64>
+        requires { line < length self.now.newest }
+        ensures place { slice_get self.now.newest line ≡ Some result }
+        ensures within { IfSome result (λ at. at + 128 ≤ area_end self.now) }
+    {
+        self.newest.as_slice()[line as usize]
+    }
+
+    /// How many lines a record may have to fit the rest of the bank; none where not even an empty one fits.
+    pub fn room(&self) -> Option<u32>
+        ensures none { IsNone result ↔ (area_end self.now < self.now.gate + record_bytes 0 + 1) }
+        ensures fits { IfSome result (λ lines. self.now.gate + record_bytes lines + 1 ≤ area_end self.now) }
+        ensures most { IfSome result (λ lines. area_end self.now < self.now.gate + record_bytes (lines + 1) + 1) }
+    {
+        let left = end_of(self.which, self.bank_bytes) - self.gate;
+        if left < 12 {
+            None
+        } else {
+            Some(((left - 12) / 132) as u32)
+        }
+    }
+
+    /// Begins a record, in place of any other that was begun.
+    pub fn record_start(&mut self)
+        ensures { self.new ≡ record self.old { begun = [] } }
+    {
+        self.begun = 0;
+    }
+
+    /// Adds a line to the record that is begun: a line of the store, above those before it.
+    pub fn record_line(&mut self, line: u32, bytes: &[u8])
+        requires whole { length bytes.now ≡ 128 }
+        requires below { line < length self.old.newest }
+        requires ascending { All (λ begun. begun.line < line) self.old.begun }
+        requires room { record_bytes (length self.old.begun + 1) + 1 ≤ self.old.bank_bytes }
+        ensures { self.new ≡ with_line self.old line bytes.now }
+    {
+        let at = 10 + 132 * usize::from(self.begun);
+        self.body.write(at, &word(line));
+        self.body.write(at + 4, bytes);
+        self.begun += 1;
+    }
+
+    /// Adds the record that is begun to the bank, and makes it sure. After [`Appended::Full`] the record stays
+    /// begun; after [`Appended::Unwritten`] and [`Appended::Doubt`] the bank has to be reopened before it is used
+    /// again (docs/FORMATS.md, "Protocols").
+    pub fn append<W: Outside>(&mut self, outside: &mut W) -> Appended
+        requires room { HoldsAtLeast W.Outside (area_end self.old) outside.old }
+        ensures calls { CallsDisk W.Outside outside.old outside.new }
+        ensures shape { SameShape self.old self.new }
+        ensures longer { IsNoShorter W.Outside outside.old outside.new }
+        ensures full { result ≡ Appended.Full ↔ (area_end self.old < self.old.gate + record_bytes (length self.old.begun) + 1) }
+        ensures nothing { result ≡ Appended.Full → (self.new ≡ self.old) × (outside.new ≡ outside.old) }
+        ensures writes { result ≡ Appended.Done → W.writes outside.new ≡ option_map (λ count. count + 2) (W.writes outside.old) }
+        ensures unwritten_cause { result ≡ Appended.Unwritten → Rose (W.disk_faults outside.old) (W.disk_faults outside.new) }
+        ensures doubt_cause { result ≡ Appended.Doubt → Rose (W.disk_faults outside.old) (W.disk_faults outside.new) }
+
+        // Of a bank that is tracked: whenever a crash comes, it leaves what stood, or that with the record.
+        ensures crash { Tracks W.Outside self.old outside.old → Leaves W.Outside (IsEither self.old.begun (held_of W.Outside outside.old)) outside.old outside.new }
+        ensures unwritten { result ≡ Appended.Unwritten → Tracks W.Outside self.old outside.old → Leaves W.Outside (λ image seen. stands image ≡ stands (held_of W.Outside outside.old)) outside.new outside.new }
+        ensures doubt { result ≡ Appended.Doubt → Tracks W.Outside self.old outside.old → Leaves W.Outside (λ image seen. stands (slice_set image self.old.gate 0xA5) ≡ one_more self.old.begun (stands (held_of W.Outside outside.old))) outside.new outside.new }
+        ensures done { result ≡ Appended.Done → Tracks W.Outside self.old outside.old → IsAppended W.Outside self.old self.new outside.old outside.new }
+    {
+        let begun = self.begun;
+        let bytes = 11 + 132 * u64::from(begun);
+        if end_of(self.which, self.bank_bytes) < self.gate + bytes + 1 {
+            return Appended::Full;
+        }
+        let due = number_of(self.base, self.count).wrapping_add(1);
+        self.begun = 0;
+        fill(&mut self.body, begun, due);
+        match keep_body(outside, self.gate, record_of(&self.body, begun)) {
+            Kept::Unwritten => Appended::Unwritten,
+            Kept::Doubt => Appended::Doubt,
+            Kept::Done => {
+                note(&mut self.newest, self.body.as_slice(), self.gate, begun);
+                self.gate += bytes;
+                self.count += 1;
+                Appended::Done
+            }
+        }
+    }
+}
+
+/// The number that so many records behind a base lead to.
+fn number_of(base: u64, count: u32) -> u64
+    ensures { result ≡ (base + count) % 2 ^ 64 }
+{
+    base.wrapping_add(u64::from(count))
+}
+
+/// Where a bank lies.
+fn place_of(which: Which, bank_bytes: u32) -> u64
+    requires { bank_bytes ≤ 131072 }
+    ensures value { result ≡ place_of which bank_bytes }
+    ensures end { result + 8 + bank_bytes ≡ end_of which bank_bytes }
+    ensures bound { result ≤ 2 ^ 18 }
+{
+    match which {
+        Which::A => 256,
+        Which::B => 264 + u64::from(bank_bytes),
+    }
+}
+
+/// Where the area of a bank ends.
+fn end_of(which: Which, bank_bytes: u32) -> u64
+    requires { bank_bytes ≤ 131072 }
+    ensures value { result ≡ end_of which bank_bytes }
+    ensures bound { result ≤ 2 ^ 19 }
+{
+    match which {
+        Which::A => 264 + u64::from(bank_bytes),
+        Which::B => 272 + 2 * u64::from(bank_bytes),
+    }
+}
+
+/// The bytes of a record of so many lines, without its gate.
+fn record_of(body: &OwnedList<u8>, count: u16) -> &[u8]
+    requires { record_bytes count ≤ length body.now }
+    ensures { result.now ≡ take (record_bytes count) body.now }
+{
+    &body.as_slice()[..11 + 132 * usize::from(count)]
+}

@@ -1,0 +1,63 @@
+// A body that is kept behind a gate.
+ghost use Rattle.std.specs.Prelude.{◌≡◌, ◌+◌, ◌≤◌, ◌<◌, ◌^◌, length, false, OnOk, OnErr};
+ghost use Rattle.std.specs.Option.{option_map};
+ghost use Rattle.outside.specs.Causes.{Rose};
+ghost use Rattle.outside.specs.Runs.{CallsDisk, Leaves, held_of};
+ghost use Rattle.outside.specs.Bytes.{Torn};
+ghost use Rattle.outside.specs.Durable.{IsSure, IsWritten};
+ghost use Rattle.redo_journal.specs.Held.{HoldsAtLeast, IsNoShorter};
+ghost use Rattle.redo_journal.specs.Gate.{is_open, HasBody, IsShut, IsSafe, IsKept};
+
+use outside::{Failed, Outside};
+
+/// The gate in front of a record. Any other byte is a closed gate.
+pub const OPEN: u8 = 0xa5;
+
+/// How far a record was kept (docs/FORMATS.md, "Protocols").
+#[derive(Debug, Clone, Copy, PartialEq, Eq)]
+pub enum Kept {
+    /// It is on the disk.
+    Done,
+    /// The disk failed before the gate's write began: a crash leaves no such record.
+    Unwritten,
+    /// The disk failed from the gate's write on: a crash leaves the record or not.
+    Doubt,
+}
+
+/// Writes a body behind a closed gate, makes it sure, and then opens the gate and makes that sure.
+pub fn keep_body<W: Outside>(outside: &mut W, gate: u64, body: &[u8]) -> Kept
+    requires room { HoldsAtLeast W.Outside (gate + 1 + length body.now) outside.old }
+    requires few { gate < 2 ^ 63 }
+    ensures calls { CallsDisk W.Outside outside.old outside.new }
+    ensures longer { IsNoShorter W.Outside outside.old outside.new }
+    ensures crash { IsShut W.Outside gate outside.old → Leaves W.Outside (λ image seen. IsSafe gate body.now (held_of W.Outside outside.old) image) outside.old outside.new }
+    ensures unwritten { result ≡ Kept.Unwritten → IsShut W.Outside gate outside.old → Leaves W.Outside (λ image seen. is_open gate image ≡ false) outside.new outside.new }
+    ensures doubt { result ≡ Kept.Doubt → IsShut W.Outside gate outside.old → Leaves W.Outside (λ image seen. HasBody gate body.now image) outside.new outside.new }
+    ensures done { result ≡ Kept.Done → IsShut W.Outside gate outside.old → IsKept W.Outside gate body.now outside.old outside.new }
+    ensures writes { result ≡ Kept.Done → W.writes outside.new ≡ option_map (λ count. count + 2) (W.writes outside.old) }
+    ensures unwritten_cause { result ≡ Kept.Unwritten → Rose (W.disk_faults outside.old) (W.disk_faults outside.new) }
+    ensures doubt_cause { result ≡ Kept.Doubt → Rose (W.disk_faults outside.old) (W.disk_faults outside.new) }
+{
+    match write_sure(outside, gate + 1, body) {
+        Err(Failed) => return Kept::Unwritten,
+        Ok(()) => {}
+    }
+    match write_sure(outside, gate, &[OPEN]) {
+        Err(Failed) => Kept::Doubt,
+        Ok(()) => Kept::Done,
+    }
+}
+
+/// Writes over bytes that are held, and makes them sure. From the start on a crash may leave anything in their range.
+fn write_sure<W: Outside>(outside: &mut W, at: u64, bytes: &[u8]) -> Result<(), Failed>
+    requires room { HoldsAtLeast W.Outside (at + length bytes.now) outside.old }
+    ensures calls { CallsDisk W.Outside outside.old outside.new }
+    ensures longer { IsNoShorter W.Outside outside.old outside.new }
+    ensures crash { IsSure W.Outside outside.old → Leaves W.Outside (λ image seen. Torn at (length bytes.now) (held_of W.Outside outside.old) image) outside.old outside.new }
+    ensures done { OnOk result (IsSure W.Outside outside.old → IsWritten W.Outside at bytes.now outside.old outside.new) }
+    ensures writes { OnOk result (W.writes outside.new ≡ option_map (λ count. count + 1) (W.writes outside.old)) }
+    ensures cause { OnErr result (Rose (W.disk_faults outside.old) (W.disk_faults outside.new)) }
+{
+    outside.write_at(at, bytes)?;
+    outside.sync()
+}

@@ -1,0 +1,12 @@
+//! One bank of a store: what its records say, and one record more, which a crash leaves whole or not at all.
+#![tactic(auto)]
+
+mod bank;
+mod fault;
+mod keep;
+mod read;
+mod record;
+
+pub use bank::{Appended, Bank};
+pub use fault::{OpenFault, ReopenFault};
+pub use keep::Kept;

@@ -1,0 +1,128 @@
+-- A page whose home lines have the newest lines over them.
+use Rattle.std.proofs.Common.{◌≡◌, inl, inr, ℕ, zero, suc, ◌+◌, ◌*◌, ◌-◌, ◌<◌, ◌≤◌, List, [], ◌∷◌, ◌++◌, length, take, drop, get_or, refl, sym, ◌∙◌, ap, subst, arith}
+use Rattle.std.specs.Prelude.{Option, None, Some, IfSome, fold}
+use Rattle.std.proofs.lemmas.Bool.{cases_lt, cases_eq}
+use Rattle.std.proofs.lemmas.List.{drop-drop, drop-take, take-take, take-append-drop, length-take, length-drop, length-take-le}
+use Rattle.line_geometry.specs.Directory.{page_count}
+use Rattle.line_geometry.specs.Lines.{line_count}
+use Rattle.store_format.specs.Header.{Header, home_at}
+use Rattle.store_format.specs.Stands.{Standing, laid, home_of, stands}
+use Rattle.store_format.proofs.Stores.{stands_is}
+use Rattle.outside.specs.Bytes.{bytes_at}
+use Rattle.owned_list.specs.Overlay.{overlaid}
+use Rattle.redo_journal.specs.Noted.{newest_of}
+use Rattle.redo_journal.proofs.Newest.{line_bytes, newest_bytes, same_line, other_line, Agree, store_agrees}
+use Rattle.restart.specs.Kept.{KeptStore}
+use Rattle.restart.specs.Shows.{Shows, page_in}
+use Rattle.restart.proofs.ShowLemmas.{shown_store}
+use Rattle.restart.specs.Page.{newest_over}
+
+-- the lines up to one are the newest, and those from it on are at home
+pub record Composed (image home : List ℕ) (newest : List (Option ℕ)) (first i : ℕ) (page : List ℕ) : Type 0 where
+  pub done : (k : ℕ) → k < i → line_bytes k page ≡ newest_bytes image home (first + k) (get_or newest (first + k) None)
+  pub left : (k : ℕ) → i ≤ k → k < 16 → line_bytes k page ≡ line_bytes (first + k) home
+
+-- a line of a part of a list
+line_of_part : (bytes : List ℕ) (at k : ℕ) → k < 16 → line_bytes k (take 2048 (drop at bytes)) ≡ take 128 (drop (at + k * 128) bytes)
+line_of_part bytes at k few =
+    let whole : 2048 ≡ k * 128 + (2048 - k * 128) = omega arith in
+    ap (λ (n : ℕ). take 128 (drop (k * 128) (take n (drop at bytes)))) whole
+    ∙ ap (λ (these : List ℕ). take 128 these) (drop-take (k * 128) (2048 - k * 128) (drop at bytes))
+    ∙ take-take 128 (2048 - k * 128) (drop (k * 128) (drop at bytes)) (omega arith)
+    ∙ ap (λ (these : List ℕ). take 128 these) (drop-drop (k * 128) at bytes)
+
+pub composed_none : (image : List ℕ) (header : Header) (newest : List (Option ℕ)) (first : ℕ) (page : List ℕ) → page ≡ bytes_at image (home_at header first) 2048 → Composed image (home_of image header) newest first 0 page
+composed_none image header newest first page is = record {
+  done = λ k few. absurd (omega arith);
+  left = λ k more few.
+      let place : home_at header first + k * 128 ≡ home_at header 0 + (first + k) * 128 = omega arith in
+      ap (line_bytes k) is
+      ∙ line_of_part image (home_at header first) k few
+      ∙ ap (λ (n : ℕ). take 128 (drop n image)) place
+      ∙ ap (λ (these : List ℕ). take 128 these) (sym (drop-drop ((first + k) * 128) (home_at header 0) image));
+}
+
+pub composed_more : (image home : List ℕ) (newest : List (Option ℕ)) (first i : ℕ) (page new : List ℕ) (place : Option ℕ) → i < 16 → length page ≡ 2048 → place ≡ get_or newest (first + i) None
+    → ((at : ℕ) → place ≡ Some at → at + 128 ≤ length image) → new ≡ newest_over image place page (i * 128) → Composed image home newest first i page → Composed image home newest first (i + 1) new
+composed_more image home newest first i page new None more long place_is within is composed = record {
+  done = λ k few. elim (cases_eq k i) [
+    | inl same ↦
+        ap (λ (n : ℕ). line_bytes n new) same
+        ∙ ap (line_bytes i) is
+        ∙ composed.left i (omega arith) more
+        ∙ ap (newest_bytes image home (first + i)) place_is
+        ∙ ap (λ (n : ℕ). newest_bytes image home (first + n) (get_or newest (first + n) None)) (sym same)
+    | inr other ↦ ap (line_bytes k) is ∙ composed.done k (below k i few other)
+  ];
+  left = λ k past few. ap (line_bytes k) is ∙ composed.left k (omega arith) few;
+}
+  where
+    below : (k i : ℕ) → k < i + 1 → (k ≡ i → ⊥) → k < i
+    below k i few other = omega (arith, other)
+composed_more image home newest first i page new (Some at) more long place_is within is composed = record {
+  done = λ k few. elim (cases_eq k i) [
+    | inl same ↦
+        ap (λ (n : ℕ). line_bytes n new) same
+        ∙ ap (line_bytes i) is
+        ∙ same_line page (bytes_at image at 128) i whole (omega (arith, long))
+        ∙ ap (newest_bytes image home (first + i)) place_is
+        ∙ ap (λ (n : ℕ). newest_bytes image home (first + n) (get_or newest (first + n) None)) (sym same)
+    | inr other ↦ ap (line_bytes k) is ∙ other_line page (bytes_at image at 128) i k whole (omega (arith, long)) other ∙ composed.done k (below k i few other)
+  ];
+  left = λ k past few. ap (line_bytes k) is ∙ other_line page (bytes_at image at 128) i k whole (omega (arith, long)) (behind k i past) ∙ composed.left k (omega arith) few;
+}
+  where
+    whole : length (bytes_at image at 128) ≡ 128
+    whole = length-take-le 128 (drop at image) (omega (arith, length-drop at image, within at refl))
+
+    below : (k i : ℕ) → k < i + 1 → (k ≡ i → ⊥) → k < i
+    below k i few other = omega (arith, other)
+
+    behind : (k i : ℕ) → i + 1 ≤ k → k ≡ i → ⊥
+    behind k i past same = omega (arith, past, same)
+
+-- lists of as many lines that have the same lines
+same_lines : (n : ℕ) (xs ys : List ℕ) → length xs ≡ n * 128 → length ys ≡ n * 128 → ((k : ℕ) → k < n → line_bytes k xs ≡ line_bytes k ys) → xs ≡ ys
+same_lines zero xs ys long long' each = empty xs (omega arith) ∙ sym (empty ys (omega arith))
+  where
+    empty : (zs : List ℕ) → length zs ≡ 0 → zs ≡ []
+    empty [] none = refl
+    empty (z ∷ zs) none = absurd (omega arith)
+same_lines (suc n) xs ys long long' each =
+    sym (take-append-drop 128 xs)
+    ∙ ap (λ (these : List ℕ). these ++ drop 128 xs) (each 0 (omega arith))
+    ∙ ap (λ (these : List ℕ). take 128 ys ++ these)
+    (same_lines n (drop 128 xs) (drop 128 ys) (omega (arith, length-drop 128 xs)) (omega (arith, length-drop 128 ys))
+    (λ k few. ap (λ (these : List ℕ). take 128 these) (moved xs k) ∙ each (suc k) (omega arith) ∙ ap (λ (these : List ℕ). take 128 these) (sym (moved ys k))))
+    ∙ take-append-drop 128 ys
+  where
+    moved : (zs : List ℕ) (k : ℕ) → drop (k * 128) (drop 128 zs) ≡ drop (suc k * 128) zs
+    moved zs k = let place : 128 + k * 128 ≡ suc k * 128 = omega arith in drop-drop (k * 128) 128 zs ∙ ap (λ (n : ℕ). drop n zs) place
+
+-- with all sixteen lines the page is that of the store
+pub composed_all : (image home bytes : List ℕ) (newest : List (Option ℕ)) (bound page_number : ℕ) (page : List ℕ) → Agree bound image home bytes newest → page_number * 16 + 16 ≤ bound → length page ≡ 2048
+    → Composed image home newest (page_number * 16) 16 page → page ≡ take 2048 (drop (page_number * 2048) bytes)
+composed_all image home bytes newest bound page_number page agree within long composed =
+    same_lines 16 page (take 2048 (drop (page_number * 2048) bytes)) long (length-take-le 2048 (drop (page_number * 2048) bytes) (omega (arith, length-drop (page_number * 2048) bytes, agree.long, within)))
+    (λ k few.
+    let place : page_number * 2048 + k * 128 ≡ (page_number * 16 + k) * 128 = omega arith in
+    composed.done k few
+    ∙ sym (agree.each (page_number * 16 + k) (omega (arith, within)))
+    ∙ ap (λ (n : ℕ). take 128 (drop n bytes)) (sym place)
+    ∙ sym (line_of_part bytes (page_number * 2048) k few))
+
+-- the page of a store that shows the bytes
+pub shown_page : (held : List ℕ) (store : KeptStore) (shows : Shows held store) (page : List ℕ) (page_number : ℕ) → page_number < page_count store.header.directory → length page ≡ 2048
+    → Composed held (home_of held store.header) store.bank.newest (page_number * 16) 16 page → page ≡ page_in (stands held) page_number
+shown_page held store shows page page_number within long composed =
+    let is = shown_store held store shows in
+    let bytes = fold laid (home_of held store.header) shows.read.records in
+    let newest : newest_of (line_count store.header.directory) shows.read.records ≡ store.bank.newest = ap (λ (n : ℕ). newest_of n shows.read.records) shows.fits.lines ∙ sym shows.read.newest in
+    let agree : Agree (line_count store.header.directory) held (home_of held store.header) bytes store.bank.newest =
+    subst (λ (those : List (Option ℕ)). Agree (line_count store.header.directory) held (home_of held store.header) bytes those) newest (store_agrees held store.header store.bank.which store.bank.base store.bank.gate shows.read.records is) in
+    composed_all held (home_of held store.header) bytes store.bank.newest (line_count store.header.directory) page_number page agree (omega (arith, within)) long composed
+    ∙ ap (λ (standing : Standing). page_in standing page_number) (sym (stands_is held store.header store.bank.which store.bank.base store.bank.gate shows.read.records is))
+
+pub placed_at : (place : Option ℕ) (at end : ℕ) → place ≡ Some at → IfSome place (λ those. those + 128 ≤ end) → at + 128 ≤ end
+placed_at None at end is within = cc
+placed_at (Some those) at end is within = let same : those ≡ at = cc in omega (arith, same, within)

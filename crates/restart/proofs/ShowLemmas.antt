@@ -1,0 +1,136 @@
+-- What a store shows of bytes, and what these stand for.
+use Rattle.std.proofs.Common.{◌≡◌, ℕ, ◌+◌, ◌*◌, ◌-◌, ◌%◌, ◌^◌, ◌<◌, ◌≤◌, List, [], ◌∷◌, length, take, drop, refl, sym, ◌∙◌, ap, subst, arith, IsSome, IsTrue}
+use Rattle.std.specs.Prelude.{Option, None, Some, fold, unwrap_or}
+use Rattle.line_geometry.specs.FlatStore.{FlatStore}
+use Rattle.line_geometry.specs.Lines.{line_count}
+use Rattle.store_format.specs.declared.header.Which.{Which}
+use Rattle.store_format.specs.declared.header.Which.TheVariants.{A, B}
+use Rattle.store_format.specs.Header.{Header, bank_at, number_at, fields, first_fault, header_of, total}
+use Rattle.store_format.specs.Bank.{Bank, RecordLine, Holds, Faulty, base_of, bank_of, bank_held}
+use Rattle.store_format.specs.Stands.{Standing, Stands, Damaged, stands, standing_if, standing_by, HasHeader, IsStore, chosen, laid, home_of}
+use Rattle.store_format.proofs.Stores.{stands_is, stood, not_less}
+use Rattle.outside.specs.declared.world.Outside.{Ghosts}
+use Rattle.outside.specs.Runs.{OnlyAsks, FewerLater, held_of}
+use Rattle.outside.specs.Bytes.{AreTold}
+use Rattle.outside.specs.Durable.{IsSure}
+use Rattle.redo_journal.specs.Kept.{KeptBank, place_of, end_of}
+use Rattle.redo_journal.specs.Opened.{IsRead, IsBankOf, bank_in}
+use Rattle.redo_journal.specs.Opened as opened
+use Rattle.redo_journal.specs.declared.fault.OpenFault.{OpenFault}
+use Rattle.redo_journal.specs.declared.fault.OpenFault.TheVariants as opening
+use Rattle.redo_journal.specs.Tracks as journal
+use Rattle.restart.specs.Faults.{IsOpenFault}
+use Rattle.restart.specs.Kept.{KeptStore, Fits, number_of}
+use Rattle.restart.specs.Shows.{Shows, Tracks, ShownStands}
+
+place_is : (header : Header) (which : Which) (bytes : ℕ) → header.bank_bytes ≡ bytes → bank_at header which ≡ place_of which bytes
+place_is header A bytes same = refl
+place_is header B bytes same = omega (arith, same)
+
+-- the bank of a header is the one that such a bank's size says
+pub bank_is : (held : List ℕ) (header : Header) (which : Which) (bytes bound : ℕ) → header.bank_bytes ≡ bytes → line_count header.directory ≡ bound → bank_of held header which ≡ bank_in held which bytes bound
+bank_is held header which bytes bound same lines =
+    ap (λ (n : ℕ). bank_held held n (bank_at header which) header.bank_bytes) lines
+    ∙ ap (λ (n : ℕ). bank_held held bound n header.bank_bytes) (place_is header which bytes same)
+    ∙ ap (bank_held held bound (place_of which bytes)) same
+
+-- what a store shows is a store with the records of its bank
+pub shown_store : (held : List ℕ) (store : KeptStore) (shows : Shows held store) → IsStore held store.header store.bank.which store.bank.base store.bank.gate shows.read.records
+shown_store held store shows = record {
+  sound = shows.header.sound;
+  said = shows.header.said;
+  whole = shows.header.whole;
+  chooses = shows.chosen_is;
+  from = ap (λ (n : ℕ). number_at held n 8) (place_is store.header store.bank.which store.bank.bank_bytes shows.fits.bank_bytes) ∙ shows.read.base;
+  holds = bank_is held store.header store.bank.which store.bank.bank_bytes (length store.bank.newest) shows.fits.bank_bytes shows.fits.lines ∙ shows.read.holds;
+}
+
+pub shown_stands : ShownStands
+shown_stands held store shows = (
+  record { directory = store.header.directory; bytes = fold laid (home_of held store.header) shows.read.records },
+  stands_is held store.header store.bank.which store.bank.base store.bank.gate shows.read.records (shown_store held store shows)
+      ∙ ap (λ (n : ℕ). Stands ((store.bank.base + n) % 2 ^ 64) (record { directory = store.header.directory; bytes = fold laid (home_of held store.header) shows.read.records })) shows.read.count,
+)
+
+-- a store that is tracked has a bank that is
+pub bank_tracked : {W : Type 0} (G : Ghosts W) (store : KeptStore) (outside : W) → Tracks G store outside → journal.Tracks G store.bank outside
+bank_tracked G store outside tracks = record {
+  sure = tracks.sure;
+  header = store.header;
+  records = tracks.shows.read.records;
+  store = shown_store (held_of G outside) store tracks.shows;
+  bank_bytes = tracks.shows.fits.bank_bytes;
+  bound = tracks.shows.fits.lines;
+  count = tracks.shows.read.count;
+  newest = tracks.shows.read.newest;
+}
+
+-- a bank that is tracked under a header is the store's
+pub store_tracked : {W : Type 0} (G : Ghosts W) (header : Header) (bank : KeptBank) (outside : W) → Fits header bank → header_of (take 128 (held_of G outside)) ≡ header → journal.Tracks G bank outside
+    → Tracks G (record { header = header; bank = bank }) outside
+store_tracked G header bank outside fits said tracks =
+    let same : tracks.header ≡ header = sym tracks.store.said ∙ said in
+    let held = held_of G outside in
+    record {
+      sure = tracks.sure;
+      shows = record {
+        header = record { sound = tracks.store.sound; said = said; whole = tracks.store.whole ∙ ap (λ (those : Header). total those) same };
+        chosen_is = tracks.store.chooses;
+        read = record {
+          records = tracks.records;
+          base = ap (λ (n : ℕ). number_at held n 8) (sym (place_is tracks.header bank.which bank.bank_bytes tracks.bank_bytes)) ∙ tracks.store.from;
+          holds = sym (bank_is held tracks.header bank.which bank.bank_bytes (length bank.newest) tracks.bank_bytes tracks.bound) ∙ tracks.store.holds;
+          count = tracks.count;
+          newest = tracks.newest;
+        };
+        fits = fits;
+      };
+    }
+
+-- a bank with a fault makes a damaged store
+pub damaged_is : (held : List ℕ) (header : Header) (which : Which) (offset : ℕ) → HasHeader held header → chosen held ≡ which → bank_of held header which ≡ Faulty offset → stands held ≡ Damaged offset
+unfolding stands
+damaged_is held header which offset has chooses faulty =
+    ap (λ (fault : Option ℕ). standing_if held fault (header_of (take 128 held))) has.sound
+    ∙ ap (λ (those : Header). standing_if held None those) has.said
+    ∙ measured
+  where
+    chosen_bank : standing_by held header (base_of held header (chosen held)) (bank_of held header (chosen held)) ≡ Damaged offset
+    chosen_bank =
+        ap (λ (b : Which). standing_by held header (base_of held header b) (bank_of held header b)) chooses
+        ∙ ap (standing_by held header (base_of held header which)) faulty
+
+    measured : standing_if held None header ≡ Damaged offset
+    measured = rw (not_less (length held) (total header) (omega (arith, has.whole)), not_less (total header) (length held) (omega (arith, has.whole))) chosen_bank
+
+-- bytes that are sure stay sure while the disk is only asked
+pub sure_on : {W : Type 0} (G : Ghosts W) (fewer_later : FewerLater G) (old new : W) → IsSure G old → OnlyAsks G old new → IsSure G new
+sure_on G fewer_later old new sure asks = record {
+  honest = subst (λ b. IsTrue b) (sym asks.calls.honest) sure.honest;
+  told = subst (λ (those : Option (List ℕ)). IsSome those) (sym asks.held) sure.told;
+  durable = λ image seen left.
+      subst (λ (those : Option (List ℕ)). AreTold those image) (sym asks.held)
+      (sure.durable image seen (asks.crash sure.told image seen (fewer_later new (G.moment old) (G.moment new) image seen asks.calls.time.later left)));
+}
+
+-- what is wrong with the chosen bank is wrong with the store
+pub opening_fault : {W : Type 0} (G : Ghosts W) (old mid new : W) (header : Header) (which : Which) (fault : OpenFault) → OnlyAsks G old mid
+    → (IsSome (G.held old) → HasHeader (held_of G old) header) → (IsSome (G.held old) → chosen (held_of G old) ≡ which)
+    → opened.IsOpenFault G mid new header which fault → IsOpenFault G old new fault
+opening_fault G old mid new header which (opening.NotAStore offset) asks has chooses is = absurd is
+opening_fault G old mid new header which (opening.Damaged offset) asks has chooses is =
+    λ told.
+    let still : IsSome (G.held mid) = subst (λ (those : Option (List ℕ)). IsSome those) (sym asks.held) told in
+    let same : held_of G mid ≡ held_of G old = ap (λ (those : Option (List ℕ)). unwrap_or those []) asks.held in
+    damaged_is (held_of G old) header which offset (has told) (chooses told) (ap (λ (held : List ℕ). bank_of held header which) (sym same) ∙ is still)
+opening_fault G old mid new header which opening.DiskFault asks has chooses is = omega (arith, is, asks.calls.disk)
+opening_fault G old mid new header which opening.Memory asks has chooses is = tt
+
+-- a bank that was read of the bytes of a store makes that store
+pub shows_read : (held : List ℕ) (header : Header) (which : Which) (bank : KeptBank) → HasHeader held header → chosen held ≡ which → bank.which ≡ which → Fits header bank → IsRead held bank → Shows held (record { header = header; bank = bank })
+shows_read held header which bank has chooses is fits read = record { header = has; chosen_is = chooses ∙ sym is; read = read; fits = fits }
+
+-- a bank lies in front of the home lines
+pub end_inside : (header : Header) (which : Which) (bytes : ℕ) → header.bank_bytes ≡ bytes → end_of which bytes ≤ total header
+end_inside header A bytes same = omega (arith, same)
+end_inside header B bytes same = omega (arith, same)

@@ -1,0 +1,73 @@
+use Rattle.std.proofs.Common.{◌≡◌, ℕ, ◌+◌, ◌*◌, ◌≤◌, List, [], length, get_or, ap, subst, sym, IsSome, ◌∙◌, arith, refl, ◌<◌}
+use Rattle.std.specs.Prelude.{Option, None, Some, IfSome, unwrap_or}
+use Rattle.line_geometry.specs.Directory.{page_count}
+use Rattle.store_format.specs.Header.{home_at, total}
+use Rattle.store_format.specs.Stands.{home_of}
+use Rattle.outside.specs.Bytes.{bytes_at}
+use Rattle.outside.specs.Runs.{held_of}
+use Rattle.outside.proofs.Runs.{asks_on}
+use Rattle.outside.proofs.Durable.{told_some}
+use Rattle.redo_journal.specs.Kept.{area_end}
+use Rattle.store_format.proofs.Padded.{read_is}
+use Rattle.restart.specs.Kept.{KeptStore}
+use Rattle.restart.specs.Shows.{Shows}
+use Rattle.restart.proofs.Compose.{Composed, composed_none, composed_more, shown_page, placed_at}
+use Rattle.restart.specs.Page.{newest_over}
+use Rattle.restart.proofs.ShowLemmas.{end_inside}
+use Rattle.restart.proofs.durable.Durable.read_page.Goals as goal
+
+pub loop-i-init : goal.loop-i-init
+loop-i-init g c =
+    let G = g.W.Outside in
+    let held = held_of G c.args.outside.now in
+    let header = c.self.inside.header in
+    record {
+      asks = record {
+        calls = record { quiet = c.read_at.ensures.quiet; honest = c.read_at.ensures.honest; time = c.read_at.ensures.time; disk = c.read_at.ensures.cause.later; put = c.read_at.ensures.puts };
+        held = c.read_at.ensures.held;
+        writes = c.read_at.ensures.writes;
+        crash = c.read_at.ensures.crash;
+      };
+      len = c.read_at.auto.into ∙ c.requires.whole;
+      composed = λ told.
+          composed_none held header c.self.inside.bank.newest (c.from-first.result * 16) c.read_at.new.into
+          (read_is (G.held c.args.outside.now) c.read_at.new.into c.home_at.result (length c.args.into.now) told c.in_ok-read_at.ensures.read
+          ∙ ap (λ (n : ℕ). bytes_at held n (length c.args.into.now)) c.home_at.ensures.value
+          ∙ ap (bytes_at held (home_at header (c.from-first.result * 16))) c.requires.whole);
+    }
+
+pub loop-i-preserved : goal.loop-i-preserved
+loop-i-preserved g c =
+    let G = g.W.Outside in
+    let held = held_of G c.args.outside.now in
+    let bank = c.self.inside.bank in
+    let line = c.from-first.result * 16 + c.loop-i.i in
+    let place = get_or bank.newest line None in
+    let so_far = c.loop-i.invariant in
+    let read = c.in_ok-read_newest.ensures in
+    record {
+      asks = asks_on G g.met.W.Outside.fewer_later c.args.outside.now c.loop-i.outside c.read_newest.new.outside so_far.asks read.asks;
+      len = c.read_newest.auto.page ∙ so_far.len;
+      composed = λ told.
+          let still : IsSome (G.held c.loop-i.outside) = subst (λ (those : Option (List ℕ)). IsSome those) (sym so_far.asks.held) told in
+          let same : held_of G c.loop-i.outside ≡ held = ap (λ (those : Option (List ℕ)). unwrap_or those []) so_far.asks.held in
+          let room : total c.args.self.now.header ≤ length held = c.requires.room held (told_some (G.held c.args.outside.now) told) in
+          let end : area_end bank ≤ total c.self.inside.header = end_inside c.self.inside.header bank.which bank.bank_bytes c.self.invariant.bank_bytes in
+          let header : total c.self.inside.header ≡ total c.args.self.now.header = ap (λ (store : KeptStore). total store.header) c.self.view_is in
+          composed_more held (home_of held c.self.inside.header) bank.newest (c.from-first.result * 16) c.loop-i.i c.loop-i.into c.read_newest.new.page place c.loop-i-test.true so_far.len refl
+          (λ at is. let fits = placed_at place at (area_end bank) is read.placed in omega (arith, fits, end, header, room))
+          (read.read still ∙ ap (λ (image : List ℕ). newest_over image place c.loop-i.into (c.loop-i.i * 128)) same)
+          (so_far.composed told);
+    }
+
+pub returns-clause-read : goal.returns-clause-read
+returns-clause-read g c tracks =
+    let held = held_of g.W.Outside c.args.outside.now in
+    let shows : Shows held (record { header = c.self.inside.header; bank = c.self.inside.bank }) = subst (λ (store : KeptStore). Shows held store) (sym c.self.view_is) tracks.shows in
+    let first : c.from-first.result * 16 ≡ c.args.page * 16 = omega (arith, c.from-first.ensures) in
+    let all : c.loop-i.i ≡ 16 = omega (arith, c.loop-i-test.false, c.loop-i.auto.i-end) in
+    let within : c.args.page < page_count c.self.inside.header.directory = subst (λ (store : KeptStore). c.args.page < page_count store.header.directory) (sym c.self.view_is) c.requires.page in
+    let composed : Composed held (home_of held c.self.inside.header) c.self.inside.bank.newest (c.args.page * 16) 16 c.loop-i.into =
+    subst (λ (n : ℕ). Composed held (home_of held c.self.inside.header) c.self.inside.bank.newest n 16 c.loop-i.into) first
+    (subst (λ (n : ℕ). Composed held (home_of held c.self.inside.header) c.self.inside.bank.newest (c.from-first.result * 16) n c.loop-i.into) all (c.loop-i.invariant.composed tracks.sure.told)) in
+    shown_page held (record { header = c.self.inside.header; bank = c.self.inside.bank }) shows c.loop-i.into c.args.page within c.loop-i.invariant.len composed

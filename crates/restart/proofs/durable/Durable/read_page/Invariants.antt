@@ -1,0 +1,12 @@
+use Rattle.std.proofs.Common.{◌≡◌, length, IsSome}
+use Rattle.store_format.specs.Stands.{home_of}
+use Rattle.outside.specs.Runs.{OnlyAsks, held_of}
+use Rattle.restart.proofs.Compose.{Composed}
+use Rattle.restart.proofs.durable.Durable.read_page.Given as goal
+
+abbrev pub invariant-loop-i : goal.invariant-loop-i
+invariant-loop-i g l = record {
+  asks : OnlyAsks g.W.Outside l.fn.outside l.outside;
+  len : length l.into ≡ 2048;
+  composed : IsSome (g.W.Outside.held l.fn.outside) → Composed (held_of g.W.Outside l.fn.outside) (home_of (held_of g.W.Outside l.fn.outside) l.self-inside.header) l.self-inside.bank.newest l.first l.i l.into;
+}

@@ -1,0 +1,5 @@
+use Rattle.restart.proofs.ShowLemmas.{shown_stands}
+use Rattle.restart.proofs.law.what_is_shown_stands.Goals as goal
+
+pub returns : goal.returns
+returns c = shown_stands

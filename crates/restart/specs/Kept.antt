@@ -1,0 +1,18 @@
+-- A store as it is kept in memory: its header, and the chosen bank.
+use Rattle.std.specs.Prelude.{◌≡◌, ℕ, ◌+◌, ◌%◌, ◌^◌, length}
+use Rattle.line_geometry.specs.Lines.{line_count}
+use Rattle.store_format.specs.Header.{Header}
+use Rattle.redo_journal.specs.Kept.{KeptBank}
+
+pub record KeptStore : Type 0 where
+  pub header : Header
+  pub bank : KeptBank
+
+-- the bank has the size that the header says, and a newest place for each of its lines
+pub record Fits (header : Header) (bank : KeptBank) : Type 0 where
+  pub bank_bytes : header.bank_bytes ≡ bank.bank_bytes
+  pub lines : line_count header.directory ≡ length bank.newest
+
+-- the number of the store
+abbrev pub number_of : KeptStore → ℕ
+number_of store = (store.bank.base + store.bank.count) % 2 ^ 64

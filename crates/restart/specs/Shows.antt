@@ -1,0 +1,37 @@
+-- What a store that is kept says of the bytes on the disk.
+use Rattle.std.specs.Prelude.{◌≡◌, ℕ, ◌*◌, List, [], take, drop}
+use Rattle.line_geometry.specs.FlatStore.{FlatStore}
+use Rattle.store_format.specs.Bank.{RecordLine}
+use Rattle.store_format.specs.Stands.{Standing, Stands, NotAStore, Damaged, HasHeader, chosen, stands, one_more}
+use Rattle.outside.specs.declared.world.Outside.{Ghosts}
+use Rattle.outside.specs.Runs.{held_of}
+use Rattle.outside.specs.Durable.{IsSure}
+use Rattle.redo_journal.specs.Opened.{IsRead}
+use Rattle.restart.specs.Kept.{KeptStore, Fits, number_of}
+
+-- Header, chosen bank, its base, number of records, closed gate and newest places are those of these bytes.
+pub record Shows (held : List ℕ) (store : KeptStore) : Type 0 where
+  pub header : HasHeader held store.header
+  pub chosen_is : chosen held ≡ store.bank.which
+  pub read : IsRead held store.bank
+  pub fits : Fits store.header store.bank
+
+-- The outside is honest and tells its bytes, a crash leaves them, and the store is what they show.
+pub record Tracks {W : Type 0} (G : Ghosts W) (store : KeptStore) (outside : W) : Type 0 where
+  pub sure : IsSure G outside
+  pub shows : Shows (held_of G outside) store
+
+-- bytes that a store shows stand for its number and some bytes
+abbrev pub ShownStands : Type 0
+ShownStands = (held : List ℕ) (store : KeptStore) → Shows held store → (flat : FlatStore) × (stands held ≡ Stands (number_of store) flat)
+
+-- the page of what stands
+abbrev pub page_in : Standing → ℕ → List ℕ
+page_in (Stands number store) page = take 2048 (drop (page * 2048) store.bytes)
+page_in (NotAStore offset) page = []
+page_in (Damaged offset) page = []
+
+-- the begun record was added, and the store is tracked
+pub record IsCommitted {W : Type 0} (G : Ghosts W) (old_store store : KeptStore) (old new : W) : Type 0 where
+  pub tracks : Tracks G store new
+  pub stood : stands (held_of G new) ≡ one_more old_store.bank.begun (stands (held_of G old))

@@ -1,0 +1,181 @@
+ghost use Rattle.std.specs.Prelude.{◌≡◌, ◌↔◌, ◌+◌, ◌*◌, ◌≤◌, ◌<◌, [], All, length, slice_set, IsNone, IsTrue, IsSome, IfSome, IfOk, IfErr, OnOk, OnErr};
+ghost use Rattle.std.specs.Option.{option_map};
+ghost use Rattle.line_geometry.specs.Directory.{page_count};
+ghost use Rattle.line_geometry.specs.Lines.{line_count};
+ghost use Rattle.store_format.specs.Header.{total};
+ghost use Rattle.store_format.specs.Bank.{record_bytes};
+ghost use Rattle.store_format.specs.Stands.{stands, one_more, HasHeader};
+ghost use Rattle.outside.specs.Causes.{Rose};
+ghost use Rattle.outside.specs.Runs.{CallsDisk, OnlyAsks, Leaves, held_of};
+ghost use Rattle.redo_journal.specs.Held.{HoldsAtLeast, IsNoShorter};
+ghost use Rattle.redo_journal.specs.Kept.{KeptBank, area_end, with_line};
+ghost use Rattle.redo_journal.specs.Tracks.{IsEither};
+ghost use Rattle.restart.specs.Kept.{KeptStore, number_of};
+ghost use Rattle.restart.specs.Shows.{Shows, Tracks, IsCommitted, page_in};
+ghost use Rattle.restart.specs.Faults.{IsOpenFault, IsReopenFault};
+
+use crate::page::read_newest;
+use crate::start::{start, sync_and_select};
+use outside::{Failed, Outside};
+use redo_journal::{Appended, Bank, Kept, OpenFault, ReopenFault};
+use std::alloc::Global;
+use std::marker::Model;
+use store_format::Header;
+
+/// A store on a disk: its header, and the bank that the selector chooses. It is what an opening found, with each
+/// commit since (docs/MODEL.md, "A store that is open").
+#[derive(Drop)]
+pub struct Durable {
+    header: Header,
+    bank: Bank,
+}
+
+impl Model for Durable {
+    ghost use Rattle.restart.specs.Kept.{KeptStore, Fits};
+
+    ghost Value = { KeptStore };
+
+    ghost view = { λ d. record { header = d.header; bank = d.bank } };
+
+    ghost invariant = { λ d. Fits d.header d.bank };
+}
+
+impl Durable {
+    /// Opens the store that the disk holds: it makes the disk's bytes sure and reads the header, the selector and the
+    /// chosen bank. It reads no home line and writes nothing.
+    ///
+    /// # Errors
+    ///
+    /// [`OpenFault::NotAStore`] and [`OpenFault::Damaged`] exactly where the bytes have that fault, with its offset;
+    /// [`OpenFault::DiskFault`] only where the disk's count rose; [`OpenFault::Memory`] where there was none
+    /// (docs/FORMATS.md, "What an image stands for").
+    pub fn open<W: Outside>(alloc: Global, outside: &mut W) -> Result<Durable, OpenFault>
+        ensures asks { OnlyAsks W.Outside outside.old outside.new }
+        ensures room { IfOk result (λ store. HoldsAtLeast W.Outside (total store.header) outside.new) }
+        ensures shows { IfOk result (λ store. IsSome (W.held outside.old) → Shows (held_of W.Outside outside.old) store) }
+        ensures tracks { IfOk result (λ store. IsTrue (W.is_honest outside.old) → IsSome (W.held outside.old) → Tracks W.Outside store outside.new) }
+        ensures fault { IfErr result (IsOpenFault W.Outside outside.old outside.new) }
+    {
+        let (header, which) = start(outside)?;
+        match Bank::open(alloc, &header, which, outside) {
+            Err(fault) => Err(fault),
+            Ok(bank) => Ok(Durable { header, bank }),
+        }
+    }
+
+    /// The header.
+    pub fn header(&self) -> &Header
+        ensures { result.now ≡ self.now.header }
+    {
+        &self.header
+    }
+
+    /// The number of the store: how many commits it has had, modulo 2 to the 64.
+    pub fn number(&self) -> u64
+        ensures { result ≡ number_of self.now }
+    {
+        self.bank.number()
+    }
+
+    /// Reads the disk again, under the header that is kept. A begun record is forgotten.
+    ///
+    /// # Errors
+    ///
+    /// [`ReopenFault::Damaged`] exactly where the chosen bank has a fault, with its offset;
+    /// [`ReopenFault::DiskFault`] only where the disk's count rose. After an error it has to be reopened before it is
+    /// used again.
+    pub fn reopen<W: Outside>(&mut self, outside: &mut W) -> Result<(), ReopenFault>
+        requires room { HoldsAtLeast W.Outside (total self.old.header) outside.old }
+        ensures asks { OnlyAsks W.Outside outside.old outside.new }
+        ensures header { self.new.header ≡ self.old.header }
+        ensures shows { OnOk result (HasHeader (held_of W.Outside outside.old) self.old.header → IsSome (W.held outside.old) → Shows (held_of W.Outside outside.old) self.new) }
+        ensures tracks { OnOk result (HasHeader (held_of W.Outside outside.old) self.old.header → IsTrue (W.is_honest outside.old) → IsSome (W.held outside.old) → Tracks W.Outside self.new outside.new) }
+        ensures fault { IfErr result (IsReopenFault W.Outside outside.old outside.new self.old.header) }
+    {
+        let which = match sync_and_select(outside) {
+            Err(Failed) => return Err(ReopenFault::DiskFault),
+            Ok(which) => which,
+        };
+        self.bank.reopen(which, outside)
+    }
+
+    /// Begins a record, in place of any other that was begun.
+    pub fn record_start(&mut self)
+        ensures { self.new ≡ record self.old { bank = record self.old.bank { begun = [] } } }
+    {
+        self.bank.record_start();
+    }
+
+    /// Adds a line to the record that is begun: a line of the store, above those before it.
+    pub fn record_line(&mut self, line: u32, bytes: &[u8])
+        requires whole { length bytes.now ≡ 128 }
+        requires below { line < line_count self.old.header.directory }
+        requires ascending { All (λ begun. begun.line < line) self.old.bank.begun }
+        requires room { record_bytes (length self.old.bank.begun + 1) + 1 ≤ self.old.header.bank_bytes }
+        ensures { self.new ≡ record self.old { bank = with_line self.old.bank line bytes.now } }
+    {
+        self.bank.record_line(line, bytes);
+    }
+
+    /// Adds the record that is begun, which fits the rest of the bank, and makes it sure. It takes no memory. After
+    /// [`Kept::Unwritten`] and [`Kept::Doubt`] the store has to be reopened before it is used again
+    /// (docs/FORMATS.md, "Protocols").
+    pub fn commit<W: Outside>(&mut self, outside: &mut W) -> Kept
+        requires room { HoldsAtLeast W.Outside (total self.old.header) outside.old }
+        requires fits { self.old.bank.gate + record_bytes (length self.old.bank.begun) + 1 ≤ area_end self.old.bank }
+        ensures calls { CallsDisk W.Outside outside.old outside.new }
+        ensures header { self.new.header ≡ self.old.header }
+        ensures longer { IsNoShorter W.Outside outside.old outside.new }
+        ensures writes { result ≡ Kept.Done → W.writes outside.new ≡ option_map (λ count. count + 2) (W.writes outside.old) }
+        ensures unwritten_cause { result ≡ Kept.Unwritten → Rose (W.disk_faults outside.old) (W.disk_faults outside.new) }
+        ensures doubt_cause { result ≡ Kept.Doubt → Rose (W.disk_faults outside.old) (W.disk_faults outside.new) }
+
+        // Of a store that is tracked: whenever a crash comes, it leaves what stood, or that with the record.
+        ensures crash { Tracks W.Outside self.old outside.old → Leaves W.Outside (IsEither self.old.bank.begun (held_of W.Outside outside.old)) outside.old outside.new }
+        ensures unwritten { result ≡ Kept.Unwritten → Tracks W.Outside self.old outside.old → Leaves W.Outside (λ image seen. stands image ≡ stands (held_of W.Outside outside.old)) outside.new outside.new }
+        ensures doubt { result ≡ Kept.Doubt → Tracks W.Outside self.old outside.old → Leaves W.Outside (λ image seen. stands (slice_set image self.old.bank.gate 0xA5) ≡ one_more self.old.bank.begun (stands (held_of W.Outside outside.old))) outside.new outside.new }
+        ensures done { result ≡ Kept.Done → Tracks W.Outside self.old outside.old → IsCommitted W.Outside self.old self.new outside.old outside.new }
+    {
+        match self.bank.append(outside) {
+            Appended::Done => Kept::Done,
+            Appended::Full | Appended::Unwritten => Kept::Unwritten,
+            Appended::Doubt => Kept::Doubt,
+        }
+    }
+
+    /// Reads a page of the committed store: its home lines, with the newest lines of the bank over them. It takes one
+    /// call of the disk, and one for each line of the page that the bank holds.
+    ///
+    /// # Errors
+    ///
+    /// Only where the disk's count rose.
+    pub fn read_page<W: Outside>(
+        &self,
+        outside: &mut W,
+        page: u16,
+        into: &mut [u8],
+    ) -> Result<(), Failed>
+        requires room { HoldsAtLeast W.Outside (total self.now.header) outside.old }
+        requires page { page < page_count self.now.header.directory }
+        requires whole { length into.old ≡ 2048 }
+        ensures asks { OnlyAsks W.Outside outside.old outside.new }
+        ensures read { OnOk result (Tracks W.Outside self.now outside.old → into.new ≡ page_in (stands (held_of W.Outside outside.old)) page) }
+        ensures cause { OnErr result (Rose (W.disk_faults outside.old) (W.disk_faults outside.new)) }
+    {
+        let first = u32::from(page) * 16;
+        outside.read_at(self.header.home_at(first), into)?;
+        for i in 0..16 {
+            read_newest(&self.bank, outside, first + i, into, i as usize * 128)?;
+        }
+        Ok(())
+    }
+
+    /// How many lines a record may have to fit the rest of the bank; none where not even an empty one fits.
+    pub fn room(&self) -> Option<u32>
+        ensures none { IsNone result ↔ (area_end self.now.bank < self.now.bank.gate + record_bytes 0 + 1) }
+        ensures fits { IfSome result (λ lines. self.now.bank.gate + record_bytes lines + 1 ≤ area_end self.now.bank) }
+        ensures most { IfSome result (λ lines. area_end self.now.bank < self.now.bank.gate + record_bytes (lines + 1) + 1) }
+    {
+        self.bank.room()
+    }
+}

@@ -1,0 +1,137 @@
+-- The fields of a header looked at one after another.
+use Rattle.std.proofs.Common.{◌≡◌, ℕ, zero, suc, ◌+◌, ◌*◌, ◌-◌, ◌<◌, ◌≤◌, Bool, true, false, List, [], ◌∷◌, ◌++◌, length, refl, sym, ◌∙◌, ap, arith, slice_index}
+use Rattle.std.specs.Prelude.{Option, None, Some, nat_lt, nat_le, not, ◌&&◌, min, if◌then◌else◌, is_some}
+use Rattle.std.specs.Option.{option_or}
+use Rattle.std.proofs.lemmas.Bool.Decides.{nat_tests}
+use Rattle.store_format.specs.Header.{Field, number_at, within, segments_at, segment_fields, zeros, first_fault}
+
+option_or-if : (b c : Bool) (n m : ℕ) (later : Option ℕ) → (if b then Some n else if c then Some m else later) ≡ option_or (if b then Some n else if c then Some m else None) later
+option_or-if true c n m later = refl
+option_or-if false true n m later = refl
+option_or-if false false n m later = refl
+
+-- one field in front
+pub first_fault-cons : (bytes : ℕ) (field : Field) (fields : List Field) → first_fault bytes (field ∷ fields) ≡ option_or (first_fault bytes (field ∷ [])) (first_fault bytes fields)
+first_fault-cons bytes field fields = option_or-if (nat_lt bytes (field.at + field.bytes)) field.wrong bytes field.at (first_fault bytes fields)
+
+pub or_first : (a b : Option ℕ) → is_some a ≡ true → option_or a b ≡ a
+or_first None b some = cc
+or_first (Some x) b some = refl
+
+pub or_second : (a b : Option ℕ) → is_some a ≡ false → option_or a b ≡ b
+or_second None b none = refl
+or_second (Some x) b none = cc
+
+option_or-assoc : {T : Type 0} (a b c : Option T) → option_or a (option_or b c) ≡ option_or (option_or a b) c
+option_or-assoc None b c = refl
+option_or-assoc (Some x) b c = refl
+
+pub first_fault-append : (bytes : ℕ) (front back : List Field) → first_fault bytes (front ++ back) ≡ option_or (first_fault bytes front) (first_fault bytes back)
+first_fault-append bytes [] back = refl
+first_fault-append bytes (field ∷ front) back =
+    first_fault-cons bytes field (front ++ back)
+    ∙ ap (option_or (first_fault bytes (field ∷ []))) (first_fault-append bytes front back)
+    ∙ option_or-assoc (first_fault bytes (field ∷ [])) (first_fault bytes front) (first_fault bytes back)
+    ∙ ap (λ (fault : Option ℕ). option_or fault (first_fault bytes back)) (sym (first_fault-cons bytes field front))
+
+-- what a number's field without a fault says
+pub right_number : (length at bytes number least most : ℕ) → is_some (first_fault length (within at bytes number least most ∷ [])) ≡ false → (at + bytes ≤ length) × (least ≤ number) × (number ≤ most)
+right_number length at bytes number least most none = by_tests (nat_lt length (at + bytes)) (nat_le least number) (nat_le number most) refl refl refl none
+  where
+    by_tests : (cut low high : Bool) → nat_lt length (at + bytes) ≡ cut → nat_le least number ≡ low → nat_le number most ≡ high
+        → is_some (if cut then Some length else if not (low && high) then Some at else None) ≡ false → (at + bytes ≤ length) × (least ≤ number) × (number ≤ most)
+    by_tests true low high is is' is'' none = absurd (cc)
+    by_tests false false high is is' is'' none = absurd (cc)
+    by_tests false true false is is' is'' none = absurd (cc)
+    by_tests false true true is is' is'' none = (grind (arith, nat_tests), grind (arith, nat_tests), grind (arith, nat_tests))
+
+-- the entries from one on
+abbrev pub segments_left : List ℕ → (count i : ℕ) → List (ℕ × ℕ)
+segments_left head count i = segments_at head (16 + 4 * i) (count - i)
+
+module _ (head : List ℕ) (length count i least room identifier pages at : ℕ) (more : i < count) (place : at ≡ 16 + 4 * i) (first : identifier ≡ number_at head at 2) (second : pages ≡ number_at head (at + 2) 2) where
+  begins : segments_left head count i ≡ (identifier, pages) ∷ segments_left head count (i + 1)
+  begins =
+      let fuel : count - i ≡ suc (count - (i + 1)) = omega arith in
+      let next : at + 4 ≡ 16 + 4 * (i + 1) = omega arith in
+      ap (λ (n : ℕ). segments_at head n (count - i)) (sym place)
+      ∙ ap (segments_at head at) fuel
+      ∙ ap (λ (n : ℕ). (n, number_at head (at + 2) 2) ∷ segments_at head (at + 4) (count - (i + 1))) (sym first)
+      ∙ ap (λ (n : ℕ). (identifier, n) ∷ segments_at head (at + 4) (count - (i + 1))) (sym second)
+      ∙ ap (λ (n : ℕ). (identifier, pages) ∷ segments_at head n (count - (i + 1))) next
+
+  abbrev later : List Field
+  later = segment_fields (16 + 4 * (i + 1)) (identifier + 1) (room - pages) (segments_left head count (i + 1))
+
+  listed : segment_fields (16 + 4 * i) least room (segments_left head count i) ≡ within at 2 identifier least 3839 ∷ within (at + 2) 2 pages 1 (min room 128) ∷ later
+  listed =
+      let next : at + 4 ≡ 16 + 4 * (i + 1) = omega arith in
+      ap (λ (n : ℕ). segment_fields n least room (segments_left head count i)) (sym place)
+      ∙ ap (segment_fields at least room) begins
+      ∙ ap (λ (n : ℕ). within at 2 identifier least 3839 ∷ within (at + 2) 2 pages 1 (min room 128) ∷ segment_fields n (identifier + 1) (room - pages) (segments_left head count (i + 1))) next
+
+  whole : first_fault length (segment_fields (16 + 4 * i) least room (segments_left head count i)) ≡ option_or (first_fault length (within at 2 identifier least 3839 ∷ [])) (option_or (first_fault length (within (at + 2) 2 pages 1 (min room 128) ∷ [])) (first_fault length later))
+  whole =
+      ap (first_fault length) listed
+      ∙ first_fault-cons length (within at 2 identifier least 3839) (within (at + 2) 2 pages 1 (min room 128) ∷ later)
+      ∙ ap (option_or (first_fault length (within at 2 identifier least 3839 ∷ []))) (first_fault-cons length (within (at + 2) 2 pages 1 (min room 128)) later)
+
+  -- the first field of an entry is wrong, or the second, or neither
+  pub wrong_identifier : is_some (first_fault length (within at 2 identifier least 3839 ∷ [])) ≡ true → first_fault length (within at 2 identifier least 3839 ∷ []) ≡ first_fault length (segment_fields (16 + 4 * i) least room (segments_left head count i))
+  wrong_identifier wrong = sym (whole ∙ or_first _ _ wrong)
+
+  pub wrong_pages : is_some (first_fault length (within at 2 identifier least 3839 ∷ [])) ≡ false → is_some (first_fault length (within (at + 2) 2 pages 1 (min room 128) ∷ [])) ≡ true → first_fault length (within (at + 2) 2 pages 1 (min room 128) ∷ []) ≡ first_fault length (segment_fields (16 + 4 * i) least room (segments_left head count i))
+  wrong_pages right wrong = sym (whole ∙ or_second _ _ right ∙ or_first _ _ wrong)
+
+  pub right_segment : is_some (first_fault length (within at 2 identifier least 3839 ∷ [])) ≡ false → is_some (first_fault length (within (at + 2) 2 pages 1 (min room 128) ∷ [])) ≡ false → first_fault length later ≡ first_fault length (segment_fields (16 + 4 * i) least room (segments_left head count i))
+  right_segment right also = sym (whole ∙ or_second _ _ right ∙ or_second _ _ also)
+
+-- one zero more
+pub zeros_more : (head : List ℕ) (length at : ℕ) → at < 128 → first_fault length (zeros head at (128 - at)) ≡ option_or (first_fault length (within at 1 (slice_index head at) 0 0 ∷ [])) (first_fault length (zeros head (at + 1) (128 - (at + 1))))
+zeros_more head length at more =
+    let fuel : 128 - at ≡ suc (128 - (at + 1)) = omega arith in
+    ap (λ (n : ℕ). first_fault length (zeros head at n)) fuel
+    ∙ first_fault-cons length (within at 1 (slice_index head at) 0 0) (zeros head (at + 1) (128 - (at + 1)))
+
+-- a header's four first fields, its segments and its zeros
+pub six_faults : (length : ℕ) (a b c d : Field) (listed zeros : List Field)
+    → option_or (option_or (option_or (option_or (option_or (first_fault length (a ∷ [])) (first_fault length (b ∷ []))) (first_fault length (c ∷ []))) (first_fault length (d ∷ []))) (first_fault length listed)) (first_fault length zeros)
+    ≡ first_fault length (a ∷ b ∷ c ∷ d ∷ (listed ++ zeros))
+six_faults length a b c d listed zeros = sym (
+    first_fault-append length (a ∷ b ∷ c ∷ d ∷ listed) zeros
+    ∙ ap (λ (fault : Option ℕ). option_or fault (first_fault length zeros))
+    (first_fault-append length (a ∷ b ∷ c ∷ d ∷ []) listed
+    ∙ ap (λ (fault : Option ℕ). option_or fault (first_fault length listed))
+    (first_fault-append length (a ∷ b ∷ c ∷ []) (d ∷ [])
+    ∙ ap (λ (fault : Option ℕ). option_or fault (first_fault length (d ∷ [])))
+    (first_fault-append length (a ∷ b ∷ []) (c ∷ [])
+    ∙ ap (λ (fault : Option ℕ). option_or fault (first_fault length (c ∷ [])))
+    (first_fault-append length (a ∷ []) (b ∷ []))))))
+
+pub or_is : {result first second was is : Option ℕ} → result ≡ option_or first second → first ≡ was → second ≡ is → result ≡ option_or was is
+or_is result first second = cc
+
+or_none : (a b : Option ℕ) → option_or a b ≡ None → (a ≡ None) × (b ≡ None)
+or_none None b none = (refl, none)
+or_none (Some x) b none = absurd (cc)
+
+-- where a list of fields has no fault, neither has its front nor its back
+pub none-append : (length : ℕ) (front back : List Field) → first_fault length (front ++ back) ≡ None → (first_fault length front ≡ None) × (first_fault length back ≡ None)
+none-append length front back none = or_none (first_fault length front) (first_fault length back) (sym (first_fault-append length front back) ∙ none)
+
+pub length-segments_at : (image : List ℕ) (at count : ℕ) → length (segments_at image at count) ≡ count
+length-segments_at image at zero = refl
+length-segments_at image at (suc count) = omega (arith, length-segments_at image (at + 4) count)
+
+-- one entry more at the end
+pub segments_at-more : (image : List ℕ) (at count : ℕ) → segments_at image at (count + 1) ≡ segments_at image at count ++ (number_at image (at + 4 * count) 2, number_at image (at + 4 * count + 2) 2) ∷ []
+segments_at-more image at zero =
+    let place : at ≡ at + 4 * 0 = omega arith in
+    ap (λ (n : ℕ). (number_at image n 2, number_at image (n + 2) 2) ∷ []) place
+segments_at-more image at (suc count) =
+    let place : at + 4 + 4 * count ≡ at + 4 * suc count = omega arith in
+    let fuel : suc count + 1 ≡ suc (count + 1) = omega arith in
+    ap (segments_at image at) fuel
+    ∙ ap (λ (these : List (ℕ × ℕ)). (number_at image at 2, number_at image (at + 2) 2) ∷ these)
+    (segments_at-more image (at + 4) count
+    ∙ ap (λ (n : ℕ). segments_at image (at + 4) count ++ (number_at image n 2, number_at image (n + 2) 2) ∷ []) place)

@@ -1,0 +1,115 @@
+-- A header that is cut, with zeros behind it.
+use Rattle.std.proofs.Common.{◌≡◌, ℕ, zero, suc, ◌+◌, ◌*◌, ◌-◌, ◌^◌, ◌≤◌, true, List, [], ◌∷◌, ◌++◌, length, take, drop, refl, sym, ◌∙◌, ap, arith, slice_index, replicate, codes, inl, inr}
+use Rattle.std.specs.Prelude.{Option, None, Some, nat_lt, nat_eq, not, min, if◌then◌else◌, unwrap_or, IsSome, IfSome}
+use lib.Pointwise.{pointwise}
+use Rattle.std.proofs.lemmas.Bool.{cases_lt}
+use Rattle.std.proofs.lemmas.Bool.Decides.{nat_tests}
+use Rattle.std.proofs.lemmas.List.{get_or-drop, get_or_append_left, get_or-append_right, get_or_past, take-append-le, take_all, drop-replicate, length-take}
+use Rattle.byteorder.specs.Endian.{big_from}
+use Rattle.outside.specs.Bytes.{bytes_at}
+use Rattle.store_format.specs.Header.{Field, number_at, within, name_field, segments_at, segments_of, segment_fields, zeros, fields, first_fault, header_of}
+
+-- lists that read the same at each place
+abbrev Same : List ℕ → List ℕ → Type 0
+Same xs ys = (i : ℕ) → slice_index xs i ≡ slice_index ys i
+
+pub zeros_same : (xs : List ℕ) (count : ℕ) → Same (xs ++ replicate count 0) xs
+zeros_same xs count i = elim (cases_lt i (length xs)) [
+  | inl within ↦ get_or_append_left xs (replicate count 0) 0 i within
+  | inr past ↦ get_or-append_right xs (replicate count 0) (length xs) i 0 refl past ∙ zero_byte count (i - length xs) ∙ sym (get_or_past xs i 0 past)
+]
+  where
+    zero_byte : (count i : ℕ) → slice_index (replicate count 0) i ≡ 0
+    zero_byte zero i = refl
+    zero_byte (suc count) zero = refl
+    zero_byte (suc count) (suc i) = zero_byte count i
+
+same_from : (xs ys : List ℕ) (i n : ℕ) → Same xs ys → big_from i n xs ≡ big_from i n ys
+same_from xs ys i zero same = refl
+same_from xs ys i (suc n) same =
+    ap (λ (byte : ℕ). byte * 256 ^ n + big_from (suc i) n xs) (same i)
+    ∙ ap (λ (rest : ℕ). slice_index ys i * 256 ^ n + rest) (same_from xs ys (suc i) n same)
+
+same_number : (xs ys : List ℕ) (at n : ℕ) → Same xs ys → number_at xs at n ≡ number_at ys at n
+same_number xs ys at n same = same_from (drop at xs) (drop at ys) 0 n (λ i. get_or-drop at xs i 0 ∙ same (at + i) ∙ sym (get_or-drop at ys i 0))
+
+same_segments : (xs ys : List ℕ) (at count : ℕ) → Same xs ys → segments_at xs at count ≡ segments_at ys at count
+same_segments xs ys at zero same = refl
+same_segments xs ys at (suc count) same =
+    ap (λ (n : ℕ). (n, number_at xs (at + 2) 2) ∷ segments_at xs (at + 4) count) (same_number xs ys at 2 same)
+    ∙ ap (λ (n : ℕ). (number_at ys at 2, n) ∷ segments_at xs (at + 4) count) (same_number xs ys (at + 2) 2 same)
+    ∙ ap (λ (rest : List (ℕ × ℕ)). (number_at ys at 2, number_at ys (at + 2) 2) ∷ rest) (same_segments xs ys (at + 4) count same)
+
+same_listed : (xs ys : List ℕ) → Same xs ys → segments_of xs ≡ segments_of ys
+same_listed xs ys same = ap (λ (n : ℕ). segments_at xs 16 (min n 15)) (same_number xs ys 10 2 same) ∙ same_segments xs ys 16 (min (number_at ys 10 2) 15) same
+
+same_zeros : (xs ys : List ℕ) (at count : ℕ) → Same xs ys → zeros xs at count ≡ zeros ys at count
+same_zeros xs ys at zero same = refl
+same_zeros xs ys at (suc count) same =
+    ap (λ (n : ℕ). within at 1 n 0 0 ∷ zeros xs (at + 1) count) (same at)
+    ∙ ap (λ (rest : List Field). within at 1 (slice_index ys at) 0 0 ∷ rest) (same_zeros xs ys (at + 1) count same)
+
+pub same_header : (xs ys : List ℕ) → Same xs ys → header_of xs ≡ header_of ys
+same_header xs ys same =
+    ap (λ (n : ℕ). record { directory = record { page = (header_of xs).directory.page; segments = segments_of xs }; bank_bytes = n }) (same_number xs ys 12 4 same)
+    ∙ ap (λ (these : List (ℕ × ℕ)). record { directory = record { page = (header_of xs).directory.page; segments = these }; bank_bytes = number_at ys 12 4 }) (same_listed xs ys same)
+
+-- the fields behind the name
+abbrev behind_name : List ℕ → List Field
+behind_name image =
+    within 8 2 (number_at image 8 2) 1 1
+    ∷ within 10 2 (number_at image 10 2) 1 15
+    ∷ within 12 4 (number_at image 12 4) 4096 131072
+    ∷ (segment_fields 16 1 1024 (segments_of image) ++ zeros image (16 + 4 * length (segments_of image)) (112 - 4 * length (segments_of image)))
+
+abbrev rest : List ℕ → List (ℕ × ℕ) → List Field
+rest image segments = segment_fields 16 1 1024 segments ++ zeros image (16 + 4 * length segments) (112 - 4 * length segments)
+
+same_behind : (xs ys : List ℕ) → Same xs ys → behind_name xs ≡ behind_name ys
+same_behind xs ys same =
+    ap (λ (n : ℕ). within 8 2 n 1 1 ∷ within 10 2 (number_at xs 10 2) 1 15 ∷ within 12 4 (number_at xs 12 4) 4096 131072 ∷ rest xs (segments_of xs)) (same_number xs ys 8 2 same)
+    ∙ ap (λ (n : ℕ). within 8 2 (number_at ys 8 2) 1 1 ∷ within 10 2 n 1 15 ∷ within 12 4 (number_at xs 12 4) 4096 131072 ∷ rest xs (segments_of xs)) (same_number xs ys 10 2 same)
+    ∙ ap (λ (n : ℕ). within 8 2 (number_at ys 8 2) 1 1 ∷ within 10 2 (number_at ys 10 2) 1 15 ∷ within 12 4 n 4096 131072 ∷ rest xs (segments_of xs)) (same_number xs ys 12 4 same)
+    ∙ ap (λ (these : List Field). within 8 2 (number_at ys 8 2) 1 1 ∷ within 10 2 (number_at ys 10 2) 1 15 ∷ within 12 4 (number_at ys 12 4) 4096 131072 ∷ these) (ap (rest xs) (same_listed xs ys same) ∙ ap (λ (these : List Field). segment_fields 16 1 1024 (segments_of ys) ++ these) (same_zeros xs ys (16 + 4 * length (segments_of ys)) (112 - 4 * length (segments_of ys)) same))
+
+-- of a name that isn't whole the bytes don't matter
+same_name : (xs ys : List ℕ) (bytes : ℕ) (later : List Field) → (8 ≤ bytes → take 8 xs ≡ take 8 ys) → first_fault bytes (name_field xs ∷ later) ≡ first_fault bytes (name_field ys ∷ later)
+same_name xs ys bytes later whole = elim (cases_lt bytes 8) [
+  | inl cut ↦ let is : nat_lt bytes (0 + 8) ≡ true = grind (arith, nat_tests) in rw is refl
+  | inr enough ↦ ap (λ (front : List ℕ). if nat_lt bytes (0 + 8) then Some bytes else if not (pointwise nat_eq (codes "801STORE") front) then Some 0 else first_fault bytes later) (whole enough)
+]
+
+pub same_fields : (xs ys : List ℕ) (bytes : ℕ) → Same xs ys → (8 ≤ bytes → take 8 xs ≡ take 8 ys) → first_fault bytes (fields xs) ≡ first_fault bytes (fields ys)
+same_fields xs ys bytes same whole =
+    same_name xs ys bytes (behind_name xs) whole ∙ ap (λ (later : List Field). first_fault bytes (name_field ys ∷ later)) (same_behind xs ys same)
+
+pub read_is : (told : Option (List ℕ)) (into : List ℕ) (at count : ℕ) → IsSome told → IfSome told (λ bytes. into ≡ bytes_at bytes at count) → into ≡ bytes_at (unwrap_or told []) at count
+read_is None into at count some is = cc
+read_is (Some bytes) into at count some is = is
+
+pub number_is : (told : Option (List ℕ)) (number : ℕ) → IsSome told → IfSome told (λ bytes. number ≡ length bytes) → number ≡ length (unwrap_or told [])
+number_is None number some is = cc
+number_is (Some bytes) number some is = is
+
+-- what is read of a header, with zeros up to 128 bytes
+module _ (held : List ℕ) where
+  abbrev pub padded : List ℕ
+  padded = take 128 held ++ replicate (128 - length held) 0
+
+  pub padded_is : (into back : List ℕ) (whole : ℕ) → whole ≡ min (length held) 128 → into ≡ take whole (drop 0 held) → back ≡ drop whole (replicate 128 0) → into ++ back ≡ padded
+  padded_is into back whole is front behind =
+      let left : 128 - whole ≡ 128 - length held = omega arith in
+      let these : take whole held ≡ take 128 held = elim (cases_lt (length held) 128) [
+        | inl few ↦ take_all whole held (omega arith) ∙ sym (take_all 128 held (omega arith))
+        | inr many ↦ let all : whole ≡ 128 = omega arith in ap (λ (n : ℕ). take n held) all
+      ] in
+      ap (λ (xs : List ℕ). xs ++ back) (front ∙ these)
+      ∙ ap (λ (xs : List ℕ). take 128 held ++ xs) (behind ∙ drop-replicate whole 128 0 ∙ ap (λ (n : ℕ). replicate n 0) left)
+
+  pub padded_fault : first_fault (length held) (fields padded) ≡ first_fault (length held) (fields (take 128 held))
+  padded_fault =
+      same_fields padded (take 128 held) (length held) (zeros_same (take 128 held) (128 - length held))
+      (λ enough. take-append-le 8 (take 128 held) (replicate (128 - length held) 0) (omega (arith, enough, length-take 128 held)))
+
+  pub padded_header : header_of padded ≡ header_of (take 128 held)
+  padded_header = same_header padded (take 128 held) (zeros_same (take 128 held) (128 - length held))

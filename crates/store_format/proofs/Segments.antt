@@ -1,0 +1,106 @@
+-- The fields of segments are right exactly where the segments are a directory's.
+use Rattle.std.proofs.Common.{◌≡◌, ℕ, ◌+◌, ◌-◌, ◌<◌, ◌≤◌, Bool, true, false, List, [], ◌∷◌, length, refl, subst, arith}
+use Rattle.std.specs.Prelude.{Option, None, Some, All, nat_lt, nat_le, ◌==◌, not, ◌&&◌, min, cond}
+use Rattle.std.proofs.lemmas.Bool.Decides.{nat_tests}
+use Rattle.std.proofs.lemmas.List.Elements.{All-nil, All-cons, All-head, All-tail}
+use Rattle.line_geometry.specs.declared.directory.DirectoryFault.{DirectoryFault}
+use Rattle.line_geometry.specs.declared.directory.DirectoryFault.TheVariants.{Order, Range, TooMany}
+use Rattle.line_geometry.specs.Legal.{fault_of, fault_after, is_strange, IsLegal}
+use Rattle.line_geometry.proofs.Legal.{legal-none, none-legal}
+use Rattle.store_format.specs.Header.{Field, within, segment_fields, first_fault}
+use Rattle.store_format.proofs.Checks.{none-append}
+
+abbrev pub Stays : Field → Type 0
+Stays field = field.wrong ≡ false
+
+pub within_right : (number least most : ℕ) → least ≤ number → number ≤ most → not (nat_le least number && nat_le number most) ≡ false
+within_right number least most low high = grind (arith, nat_tests)
+
+pub right_within : (number least most : ℕ) → not (nat_le least number && nat_le number most) ≡ false → (least ≤ number) × (number ≤ most)
+right_within number least most right = (grind (arith, nat_tests), grind (arith, nat_tests))
+
+abbrev fault_by : Bool → Bool → Bool → Option DirectoryFault → Option DirectoryFault
+fault_by strange low many later = cond strange (Some Range) (cond low (Some Order) (cond many (Some TooMany) later))
+
+not_strange : (segment : ℕ × ℕ) → 1 ≤ segment.0 → segment.0 ≤ 3839 → 1 ≤ segment.1 → segment.1 ≤ 128 → is_strange segment ≡ false
+not_strange segment a b c d = grind (arith, nat_tests)
+
+not_low : (a b : ℕ) → b < a → nat_le a b ≡ false
+not_low a b less = grind (arith, nat_tests)
+
+not_many : (a b : ℕ) → b ≤ a → nat_lt a b ≡ false
+not_many a b le = grind (arith, nat_tests)
+
+few_left : (room pages : ℕ) → pages ≤ min room 128 → (pages ≤ room) × (pages ≤ 128)
+few_left room pages le = (omega arith, omega arith)
+
+-- right fields have no fault
+fine_after : (segments : List (ℕ × ℕ)) (at last pages : ℕ) → pages ≤ 1024 → All Stays (segment_fields at (last + 1) (1024 - pages) segments) → fault_after last pages segments ≡ None
+fine_after [] at last pages few right = refl
+fine_after (segment ∷ segments) at last pages few right =
+    let later = segment_fields (at + 4) (segment.0 + 1) (1024 - pages - segment.1) segments in
+    let first = within at 2 segment.0 (last + 1) 3839 in
+    let second = within (at + 2) 2 segment.1 1 (min (1024 - pages) 128) in
+    let tail = All-tail Stays first (second ∷ later) right in
+    let identifier = right_within segment.0 (last + 1) 3839 (All-head Stays first (second ∷ later) right) in
+    let many = right_within segment.1 1 (min (1024 - pages) 128) (All-head Stays second later tail) in
+    let left = few_left (1024 - pages) segment.1 many.1 in
+    let room : 1024 - pages - segment.1 ≡ 1024 - (pages + segment.1) = omega arith in
+    let rest : All Stays (segment_fields (at + 4) (segment.0 + 1) (1024 - (pages + segment.1)) segments) =
+    subst (λ (n : ℕ). All Stays (segment_fields (at + 4) (segment.0 + 1) n segments)) room (All-tail Stays second later tail) in
+    rw (not_strange segment (omega (arith, identifier.0)) identifier.1 many.0 left.1, not_low segment.0 last (omega (arith, identifier.0)), not_many 1024 (pages + segment.1) (omega (arith, left.0, few)))
+    (fine_after segments (at + 4) segment.0 (pages + segment.1) (omega (arith, left.0, few)) rest)
+
+-- segments without a fault have right fields
+right_after : (segments : List (ℕ × ℕ)) (at last pages : ℕ) → pages ≤ 1024 → fault_after last pages segments ≡ None → All Stays (segment_fields at (last + 1) (1024 - pages) segments)
+right_after [] at last pages few fine = All-nil Stays
+right_after (segment ∷ segments) at last pages few fine = by_tests (is_strange segment) (nat_le segment.0 last) (nat_lt 1024 (pages + segment.1)) refl refl refl (right_after segments (at + 4) segment.0 (pages + segment.1)) fine
+  where
+    by_tests : (strange low many : Bool) → is_strange segment ≡ strange → nat_le segment.0 last ≡ low → nat_lt 1024 (pages + segment.1) ≡ many
+        → (pages + segment.1 ≤ 1024 → fault_after segment.0 (pages + segment.1) segments ≡ None → All Stays (segment_fields (at + 4) (segment.0 + 1) (1024 - (pages + segment.1)) segments))
+        → fault_by strange low many (fault_after segment.0 (pages + segment.1) segments) ≡ None
+        → All Stays (segment_fields at (last + 1) (1024 - pages) (segment ∷ segments))
+    by_tests true low many is is' is'' inner fine = absurd (cc)
+    by_tests false true many is is' is'' inner fine = absurd (cc)
+    by_tests false false true is is' is'' inner fine = absurd (cc)
+    by_tests false false false is is' is'' inner fine =
+        let fits : pages + segment.1 ≤ 1024 = grind (arith, nat_tests) in
+        let above : last < segment.0 = grind (arith, nat_tests) in
+        let most : segment.0 ≤ 3839 = grind (arith, nat_tests) in
+        let fewest : 1 ≤ segment.1 = grind (arith, nat_tests) in
+        let largest : segment.1 ≤ 128 = grind (arith, nat_tests) in
+        let room : 1024 - (pages + segment.1) ≡ 1024 - pages - segment.1 = omega arith in
+        let later = segment_fields (at + 4) (segment.0 + 1) (1024 - pages - segment.1) segments in
+        let first = within at 2 segment.0 (last + 1) 3839 in
+        let second = within (at + 2) 2 segment.1 1 (min (1024 - pages) 128) in
+        All-cons Stays first (second ∷ later) (within_right segment.0 (last + 1) 3839 (omega arith) most)
+        (All-cons Stays second later (within_right segment.1 1 (min (1024 - pages) 128) fewest (omega arith))
+        (subst (λ (n : ℕ). All Stays (segment_fields (at + 4) (segment.0 + 1) n segments)) room (inner fits fine)))
+
+pub segments_legal : (segments : List (ℕ × ℕ)) → 1 ≤ length segments → length segments ≤ 15 → All Stays (segment_fields 16 1 1024 segments) → IsLegal segments
+segments_legal segments some few right =
+    let fine : fault_of segments ≡ None = rw (not_many 15 (length segments) few, not_empty (length segments) some) (fine_after segments 16 0 0 (omega arith) right) in
+    legal-none segments fine
+  where
+    not_empty : (n : ℕ) → 1 ≤ n → (n == 0) ≡ false
+    not_empty n le = grind (arith, nat_tests)
+
+pub legal_segments : (segments : List (ℕ × ℕ)) → IsLegal segments → All Stays (segment_fields 16 1 1024 segments)
+legal_segments segments legal =
+    let fine : fault_after 0 0 segments ≡ None = (rw (not_many 15 (length segments) legal.few, not_empty (length segments) legal.some) at (none-legal segments legal)) in
+    right_after segments 16 0 0 (omega arith) fine
+  where
+    not_empty : (n : ℕ) → 1 ≤ n → (n == 0) ≡ false
+    not_empty n le = grind (arith, nat_tests)
+
+-- fields without a fault are right
+pub stays_all : (length : ℕ) (fields : List Field) → first_fault length fields ≡ None → All Stays fields
+stays_all length [] none = All-nil Stays
+stays_all length (field ∷ fields) none =
+    let parts = none-append length (field ∷ []) fields none in
+    All-cons Stays field fields (stays_one (nat_lt length (field.at + field.bytes)) field.wrong length field.at parts.0) (stays_all length fields parts.1)
+  where
+    stays_one : (cut wrong : Bool) (length at : ℕ) → cond cut (Some length) (cond wrong (Some at) None) ≡ None → wrong ≡ false
+    stays_one true wrong length at none = absurd (cc)
+    stays_one false true length at none = absurd (cc)
+    stays_one false false length at none = refl

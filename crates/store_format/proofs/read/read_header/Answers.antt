@@ -1,0 +1,53 @@
+use Rattle.std.proofs.Common.{◌≡◌, ℕ, ◌∙◌, sym, ap, length, List, take, refl}
+use Rattle.std.specs.Prelude.{Option, None, Some, IsSome, min}
+use Rattle.outside.specs.Runs.{held_of}
+use Rattle.store_format.specs.Header.{fields, first_fault, header_of, total}
+use Rattle.store_format.specs.Stands.{NotAStore}
+use Rattle.store_format.proofs.Padded.{padded_fault, padded_header}
+use Rattle.store_format.proofs.Sound.{faulty_header, faulty_length}
+use Rattle.store_format.proofs.read.read_header.Given.{Over}
+use Rattle.store_format.proofs.read.read_header.Goals as goal
+use Rattle.store_format.proofs.read.read_header.Goals.{After-header_fault, After-total-total}
+
+-- the fault that was found is that of the bytes held
+found : (g : Over) (c : goal.After-header_fault g) → IsSome (g.W.Outside.held c.args.outside.now)
+    → first_fault (length (held_of g.W.Outside c.args.outside.now)) (fields (take 128 (held_of g.W.Outside c.args.outside.now))) ≡ c.header_fault.result
+found g c told =
+    let held = held_of g.W.Outside c.args.outside.now in
+    sym (c.header_fault.ensures
+    ∙ ap (λ (n : ℕ). first_fault n (fields c.in-Ok.read.1)) (c.in-Ok.ensures.number told)
+    ∙ ap (λ (head : List ℕ). first_fault (length held) (fields head)) (c.in-Ok.ensures.head told)
+    ∙ padded_fault held)
+
+none_is : (fault : Option ℕ) → ((offset : ℕ) → fault ≡ Some offset → ⊥) → fault ≡ None
+none_is None none = refl
+none_is (Some offset) none = absurd (none offset refl)
+
+said : (g : Over) (c : goal.After-total-total g) → IsSome (g.W.Outside.held c.args.outside.now) → header_of (take 128 (held_of g.W.Outside c.args.outside.now)) ≡ c.header_in-header.result
+said g c told =
+    sym (padded_header (held_of g.W.Outside c.args.outside.now)) ∙ ap (λ (head : List ℕ). header_of head) (sym (c.in-Ok.ensures.head told)) ∙ c.header_in-header.ensures
+
+pub returns-in-Some-clause-fault : goal.returns-in-Some-clause-fault
+returns-in-Some-clause-fault g c told =
+    faulty_header (held_of g.W.Outside c.args.outside.now) c.in-Some.offset (found g (goal.at.returns-in-Some-clause-fault g c).After-header_fault told ∙ c.in-Some.is)
+
+pub header_in-header-requires : goal.header_in-header-requires
+header_in-header-requires g c = (c.in-Ok.read.0, sym c.header_fault.ensures ∙ none_is c.header_fault.result c.in_default.not-Some)
+
+pub returns-else-length-total-clause-fault : goal.returns-else-length-total-clause-fault
+returns-else-length-total-clause-fault g c told =
+    let at = goal.at.returns-else-length-total-clause-fault g c in
+    let held = held_of g.W.Outside c.args.outside.now in
+    let bytes = c.in-Ok.ensures.number told in
+    faulty_length held c.header_in-header.result (found g at.After-header_fault told ∙ none_is c.header_fault.result c.in_default.not-Some) (said g at.After-total-total told)
+    (λ same. c.if-length-total.false (bytes ∙ same ∙ sym c.total-total.ensures.value))
+    ∙ ap NotAStore (ap (λ (n : ℕ). min n (total c.header_in-header.result)) (sym bytes) ∙ ap (min c.in-Ok.read.0) (sym c.total-total.ensures.value) ∙ sym c.min.ensures)
+
+pub returns-then-length-total-clause-header : goal.returns-then-length-total-clause-header
+returns-then-length-total-clause-header g c told =
+    let at = goal.at.returns-then-length-total-clause-header g c in
+    record {
+      sound = found g at.After-header_fault told ∙ none_is c.header_fault.result c.in_default.not-Some;
+      said = said g at.After-total-total told;
+      whole = sym (c.in-Ok.ensures.number told) ∙ c.if-length-total.true ∙ c.total-total.ensures.value;
+    }

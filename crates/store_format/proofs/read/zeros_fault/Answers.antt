@@ -1,0 +1,24 @@
+use Rattle.std.proofs.Common.{◌≡◌, ℕ, ◌+◌, ◌-◌, ◌∷◌, [], ◌∙◌, sym, ap, slice_index}
+use Rattle.std.specs.Prelude.{is_some, Option}
+use Rattle.store_format.specs.Header.{within, zeros, first_fault}
+use Rattle.store_format.proofs.Checks.{zeros_more, or_first, or_second}
+use Rattle.store_format.proofs.read.zeros_fault.Goals as goal
+use Rattle.store_format.proofs.read.zeros_fault.Goals.{After-is_some}
+
+here : (c : goal.After-is_some) → c.number_fault-fault.result ≡ first_fault c.args.length (within c.loop-at.at 1 (slice_index c.args.head.now c.loop-at.at) 0 0 ∷ [])
+here c = c.number_fault-fault.ensures ∙ ap (λ (n : ℕ). first_fault c.args.length (within c.loop-at.at 1 n 0 0 ∷ [])) c.into.ensures
+
+pub returns-then-is_some : goal.returns-then-is_some
+returns-then-is_some c =
+    let is = here (goal.at.returns-then-is_some c).After-is_some in
+    is
+    ∙ sym (or_first _ (first_fault c.args.length (zeros c.args.head.now (c.loop-at.at + 1) (128 - (c.loop-at.at + 1)))) (ap (λ (fault : Option ℕ). is_some fault) (sym is) ∙ sym c.is_some.ensures ∙ c.if-is_some.true))
+    ∙ sym (zeros_more c.args.head.now c.args.length c.loop-at.at c.loop-at-test.true)
+    ∙ c.loop-at.invariant
+
+pub loop-at-preserved : goal.loop-at-preserved
+loop-at-preserved c =
+    let is = here (goal.at.loop-at-preserved c).After-is_some in
+    sym (or_second _ (first_fault c.args.length (zeros c.args.head.now (c.loop-at.at + 1) (128 - (c.loop-at.at + 1)))) (ap (λ (fault : Option ℕ). is_some fault) (sym is) ∙ sym c.is_some.ensures ∙ c.if-is_some.false))
+    ∙ sym (zeros_more c.args.head.now c.args.length c.loop-at.at c.loop-at-test.true)
+    ∙ c.loop-at.invariant

@@ -1,0 +1,90 @@
+// What no clause says: a fresh store is made and its header is read where there is memory.
+use super::*;
+use line_geometry::{Directory, PageSize};
+use outside::{Call, Joint, MemoryDisk, MemoryScreen, Refusal};
+use std::alloc::{AllocError, Global};
+use std::process::Abort;
+use std::test::Fail;
+
+// A change of a store's bytes: a byte is another, only so many are left, or there is one more.
+#[derive(Clone, Copy)]
+enum Change {
+    Byte(usize, u8),
+    Cut(usize),
+    More,
+}
+
+const CASES: [(Change, u64); 12] = [
+    (Change::Byte(0, 0), 0),
+    (Change::Byte(9, 0), 8),
+    (Change::Byte(9, 3), 8),
+    (Change::Byte(11, 0), 10),
+    (Change::Byte(13, 0), 12),
+    (Change::Byte(19, 0), 18),
+    (Change::Byte(21, 1), 20),
+    (Change::Byte(100, 1), 100),
+    (Change::Cut(0), 0),
+    (Change::Cut(100), 100),
+    (Change::Cut(143_631), 143_631),
+    (Change::More, 143_632),
+];
+
+fn changed(image: &mut Vec<u8>, change: Change) -> Result<(), AllocError> {
+    match change {
+        Change::Byte(at, byte) => {
+            if let Some(there) = image.get_mut(at) {
+                *there = byte;
+            }
+        }
+        Change::Cut(len) => image.truncate(len),
+        Change::More => image.push(0)?,
+    }
+    Ok(())
+}
+
+fn disk_of(alloc: Global, image: Vec<u8>) -> Joint<MemoryDisk, MemoryScreen> {
+    Joint::new(
+        MemoryDisk::new(alloc, image, Vec::new(alloc)),
+        MemoryScreen::new(alloc, Vec::new(alloc)),
+    )
+}
+
+fn header_of(rt: &impl Abort) -> Header {
+    let directory = Directory::new(PageSize::Two, &[(1, 4), (2, 2)]).expect(rt, "a directory");
+    assert!(rt; directory.page() == PageSize::Two);
+    Header::new(directory, 65_536)
+}
+
+#[test]
+fn a_header_is_read_with_its_faults(rt: HostRuntime) -> Result<(), Fail> {
+    let alloc = rt.alloc();
+    let header = header_of(&rt);
+    let mut disk = disk_of(alloc, header.fresh(alloc)?);
+    let read = read_header(&mut disk).expect(&rt, "a header");
+    assert_eq!(rt; read.bank_bytes(), 65_536);
+    assert_eq!(rt; read.total(), 143_632);
+    assert_eq!(rt; read.directory().segments(), [(1, 4), (2, 2)].as_slice());
+    for (change, offset) in CASES {
+        let mut image = header.fresh(alloc)?;
+        changed(&mut image, change)?;
+        let mut disk = disk_of(alloc, image);
+        assert_eq!(rt;
+            read_header(&mut disk).err(),
+            Some(HeaderFault::NotAStore(offset))
+        );
+    }
+    let refused = vec![in alloc;
+        Refusal {
+            call: Call::Read,
+            from: 0,
+            to: 128,
+            skip: 0
+        },
+    ]?;
+    let mut disk = Joint::new(
+        MemoryDisk::new(alloc, header.fresh(alloc)?, refused),
+        MemoryScreen::new(alloc, Vec::new(alloc)),
+    );
+    assert_eq!(rt; read_header(&mut disk).err(), Some(HeaderFault::DiskFault));
+    Ok(())
+}
