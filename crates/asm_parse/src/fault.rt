@@ -4,6 +4,11 @@ ghost use Rattle.asm_parse.specs.declared.fault.LineFault.TheVariants as line;
 
 use std::alloc::{AllocError, AllocFailed};
 
+/// What stands where a mnemonic is due is none.
+pub(crate) const MNEMONIC: u8 = 2;
+/// The operands aren't those of the mnemonic.
+pub(crate) const OPERANDS: u8 = 3;
+
 /// Why a text is no program (docs/FORMATS.md, "Assembler").
 #[derive(Debug, Clone, Copy, PartialEq, Eq)]
 pub enum AsmFault {
