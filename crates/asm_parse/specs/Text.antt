@@ -1,5 +1,5 @@
 -- The statements of a text.
-use Rattle.std.specs.Prelude.{ℕ, ◌+◌, ◌==◌, Bool, List, [], ◌∷◌, Option, Some, None, Result, Ok, Err}
+use Rattle.std.specs.Prelude.{◌≡◌, ℕ, ◌+◌, ◌==◌, Bool, List, [], ◌∷◌, ◌++◌, Option, Some, None, Result, Ok, Err}
 use Rattle.std.specs.List.{slice_split}
 use Rattle.asm_parse.specs.declared.statement.Statement.{Statement}
 use Rattle.asm_parse.specs.Statement.{line_of}
@@ -8,6 +8,12 @@ use Rattle.asm_parse.specs.Statement.{line_of}
 abbrev pub at_line : {A : Type 0} → ℕ → Result A ℕ → Result A (ℕ × ℕ)
 at_line number (Ok value) = Ok value
 at_line number (Err kind) = Err (number, kind)
+
+-- a list of statements gains the one of a line, if the line has one
+abbrev pub Gains : List Statement → List Statement → Result (Option Statement) (ℕ × ℕ) → Type 0
+Gains old new (Ok (Some statement)) = new ≡ old ++ statement ∷ []
+Gains old new (Ok None) = new ≡ old
+Gains old new (Err fault) = ⊥
 
 -- whether a byte is a line feed
 abbrev pub is_feed : ℕ → Bool

@@ -1,11 +1,11 @@
-ghost use Rattle.std.specs.Prelude.{◌≡◌, ◌+◌, ◌≤◌, ◌<◌, ◌^◌, ◌==◌, ◌∷◌, not, nat_eq, codes, length, position, Some, IfOk, IfSome};
+ghost use Rattle.std.specs.Prelude.{◌≡◌, ◌+◌, ◌≤◌, ◌<◌, ◌^◌, ◌==◌, ◌∷◌, not, nat_eq, codes, length, position, Some, IfOk, IfSome, MatchResult};
 ghost use Rattle.std.specs.List.{before_first, starts_with};
 ghost use Rattle.std.specs.Option.{option_map};
 ghost use Rattle.asm_parse.specs.Cut.{behind_first};
 ghost use Rattle.asm_parse.specs.Operand.{expression_of};
 ghost use Rattle.asm_parse.specs.Statement.{access_of, behind_label, body_of, directive_of, instruction_of, is_label, label_of, line_of, named_body, space_of, statement_of, window_of};
-ghost use Rattle.asm_parse.specs.Text.{at_line, is_feed, parsed};
-ghost use Rattle.asm_parse.specs.Answers.{IsAnswer};
+ghost use Rattle.asm_parse.specs.Text.{Gains, at_line, is_feed, parsed};
+ghost use Rattle.asm_parse.specs.Answers.{IsAnswer, IsTextFaultOf};
 
 use super::fault::{AsmFault, LineFault, MNEMONIC, OPERANDS};
 use super::form::{form_of, sorts_of};
@@ -34,13 +34,31 @@ pub fn parse(alloc: Global, text: &[u8]) -> Result<Vec<Statement>, AsmFault>
     let mut left = Some(text);
     while let Some(rest) = left {
         let (line, behind) = first_line(rest);
-        if let Some(statement) = parse_line(alloc, number, line)? {
-            statements.push(statement)?;
-        }
+        push_line(alloc, &mut statements, number, line)?;
         number += 1;
         left = behind;
     }
     Ok(statements)
+}
+
+/// Appends the statement of a line, if it has one.
+fn push_line(
+    alloc: Global,
+    statements: &mut Vec<Statement>,
+    number: u32,
+    line: &[u8],
+) -> Result<(), AsmFault>
+    ensures { MatchResult result
+        (λ _. Gains statements.old.items statements.new.items (at_line number (line_of number line.now)))
+        (λ fault. IsTextFaultOf fault (at_line number (line_of number line.now))) }
+{
+    match parse_line(alloc, number, line)? {
+        Some(statement) => {
+            statements.push(statement)?;
+            Ok(())
+        }
+        None => Ok(()),
+    }
 }
 
 /// The statement of one line without its line feed; none where the line has neither a label nor a statement.
