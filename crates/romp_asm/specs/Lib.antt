@@ -1,0 +1,7 @@
+pub mod Size
+pub mod Value
+pub mod Labels
+pub mod Field
+pub mod Instruction
+pub mod Encoding
+pub mod Layout
