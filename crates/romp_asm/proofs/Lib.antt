@@ -1,1 +1,3 @@
 pub mod LegalLemmas
+pub mod ValueLemmas
+pub mod NoteLemmas

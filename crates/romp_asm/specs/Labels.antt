@@ -1,5 +1,5 @@
 -- The labels as they are looked up.
-use Rattle.std.specs.Prelude.{ℕ, ℤ, pos, ◌+◌, if◌then◌else◌, List, [], ◌∷◌, Option, Some, None}
+use Rattle.std.specs.Prelude.{ℕ, ℤ, pos, ◌+◌, if◌then◌else◌, Bool, List, [], ◌∷◌, Option, Some, None}
 use Rattle.std.specs.Option.{option_map}
 use denote.Ref.{Bor}
 use Rattle.std.specs.Ordering.{nat_cmp}
@@ -17,6 +17,11 @@ found_in labels word = get_by (λ key. slice_cmp nat_cmp word key.now) labels
 -- the addresses that a table has
 abbrev pub addresses_in : BTreeMap (Bor (List ℕ)) Place → List ℕ → Option ℤ
 addresses_in labels word = option_map (λ place. place.address) (found_in labels word)
+
+-- where a label stands after one statement more: where it stood, or else at that statement if it has the label
+abbrev pub noted : Option Place → Bool → Place → Option Place
+noted (Some before) labelled place = Some before
+noted None labelled place = if labelled then Some place else None
 
 -- the first statement that has a label, and its address, where the first of these statements has this number and stands at an address
 unfoldable pub place_from : ℕ → ℕ → List Statement → List ℕ → Option Place

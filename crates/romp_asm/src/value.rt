@@ -1,7 +1,7 @@
-ghost use Rattle.std.specs.Prelude.{◌≡◌, ◌≤◌, ◌<◌, ◌^◌, ℕ, List, length, IfOk, OnOk, MatchResult, Ok, Err};
+ghost use Rattle.std.specs.Prelude.{◌≡◌, ◌≤◌, ◌<◌, ◌^◌, ◌+ℤ◌, ℕ, List, length, IfOk, OnOk, MatchResult, Ok, Err};
 ghost use Rattle.std.specs.Option.{option_map};
-ghost use Rattle.romp_asm.specs.Value.{known_of, knowns_of, value_of};
-ghost use Rattle.romp_asm.specs.Labels.{addresses_in, found_in, place_of};
+ghost use Rattle.romp_asm.specs.Value.{is_labelled, known_of, knowns_of, value_of, within_reach};
+ghost use Rattle.romp_asm.specs.Labels.{addresses_in, found_in, noted, place_of};
 
 use super::field::{OUT_OF_REACH, UNKNOWN_LABEL};
 use super::size::size_of;
@@ -41,20 +41,34 @@ pub(crate) fn labels_of(alloc: Global, statements: &[Statement]) -> Result<Label
     ensures { IfOk result (λ labels. (word : List ℕ) → found_in labels word ≡ place_of statements.now word) }
 {
     let mut labels = BTreeMap::new(alloc);
-    let mut address: i64 = 0;
+    let mut address: u64 = 0;
     for (index, statement) in statements.iter().enumerate() {
-        if let Some(label) = &statement.label {
-            if !labels.contains_key(label.as_str()) {
-                let place = Place {
-                    statement: index,
-                    address,
-                };
-                labels.insert(label.as_str(), place)?;
-            }
-        }
-        address += i64::from(size_of(&statement.body));
+        let place = Place {
+            statement: index,
+            address: address as i64,
+        };
+        note(&mut labels, statement, place)?;
+        address += u64::from(size_of(&statement.body));
     }
     Ok(labels)
+}
+
+/// Notes the label of a statement, if it has one and no statement had it before.
+fn note<'a>(
+    labels: &mut Labels<'a>,
+    statement: &'a Statement,
+    place: Place,
+) -> Result<(), AllocError>
+    ensures { OnOk result ((word : List ℕ) →
+        found_in labels.new word ≡ noted (found_in labels.old word) (is_labelled word statement.now) place) }
+{
+    let Some(label) = &statement.label else {
+        return Ok(());
+    };
+    if !labels.contains_key(label.as_str()) {
+        labels.insert(label.as_str(), place)?;
+    }
+    Ok(())
 }
 
 /// The value of an expression.
@@ -63,15 +77,30 @@ pub(crate) fn value_of(labels: &Labels<'_>, value: &Expr) -> Result<i64, u8>
 {
     match value {
         Expr::Number(number) => Ok(*number),
-        Expr::Label(word, more) => {
-            let Some(place) = labels.get(word.as_str()) else {
-                return Err(UNKNOWN_LABEL);
-            };
-            match place.address.checked_add(*more) {
-                Some(value) => Ok(value),
-                None => Err(OUT_OF_REACH),
-            }
-        }
+        Expr::Label(word, more) => match address_in(labels, word.as_str()) {
+            Some(address) => sum_of(address, *more),
+            None => Err(UNKNOWN_LABEL),
+        },
+    }
+}
+
+/// The address of a label.
+fn address_in(labels: &Labels<'_>, word: &str) -> Option<i64>
+    ensures { result ≡ addresses_in labels.now word.now }
+{
+    match labels.get(word) {
+        Some(place) => Some(place.address),
+        None => None,
+    }
+}
+
+/// An address and what is added to it.
+fn sum_of(address: i64, more: i64) -> Result<i64, u8>
+    ensures { result ≡ within_reach (address +ℤ more) }
+{
+    match address.checked_add(more) {
+        Some(value) => Ok(value),
+        None => Err(OUT_OF_REACH),
     }
 }
 
