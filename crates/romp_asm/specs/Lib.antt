@@ -4,4 +4,5 @@ pub mod Labels
 pub mod Field
 pub mod Instruction
 pub mod Encoding
+pub mod Piece
 pub mod Layout

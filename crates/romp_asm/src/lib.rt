@@ -1,6 +1,7 @@
 //! Statements of assembler text as a program (docs/FORMATS.md, "Assembler").
 #![tactic(auto)]
 
+mod encoding;
 mod field;
 mod instruction;
 mod size;
