@@ -1,3 +1,5 @@
 pub mod LegalLemmas
 pub mod ValueLemmas
 pub mod NoteLemmas
+pub mod LayLemmas
+pub mod LayoutLemmas

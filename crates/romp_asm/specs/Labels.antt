@@ -1,6 +1,6 @@
 -- The labels as they are looked up.
-use Rattle.std.specs.Prelude.{ℕ, ℤ, pos, ◌+◌, if◌then◌else◌, Bool, List, [], ◌∷◌, Option, Some, None}
-use Rattle.std.specs.Option.{option_map}
+use Rattle.std.specs.Prelude.{ℕ, ℤ, pos, ◌+◌, nat_lt, false, if◌then◌else◌, Bool, List, [], ◌∷◌, Option, Some, None}
+use Rattle.std.specs.Option.{option_map, option_map_or}
 use denote.Ref.{Bor}
 use Rattle.std.specs.Ordering.{nat_cmp}
 use Rattle.std.specs.BTreeMap.{BTreeMap, get_by}
@@ -17,6 +17,15 @@ found_in labels word = get_by (λ key. slice_cmp nat_cmp word key.now) labels
 -- the addresses that a table has
 abbrev pub addresses_in : BTreeMap (Bor (List ℕ)) Place → List ℕ → Option ℤ
 addresses_in labels word = option_map (λ place. place.address) (found_in labels word)
+
+-- whether a place is that of an earlier statement than the one with this number
+abbrev pub stands_before : ℕ → Option Place → Bool
+stands_before index (Some place) = nat_lt place.statement index
+stands_before index None = false
+
+-- whether a statement's label stands before the statement with this number
+abbrev pub repeated_in : BTreeMap (Bor (List ℕ)) Place → ℕ → Statement → Bool
+repeated_in labels index statement = option_map_or (λ label. stands_before index (found_in labels label)) statement.label false
 
 -- where a label stands after one statement more: where it stood, or else at that statement if it has the label
 abbrev pub noted : Option Place → Bool → Place → Option Place

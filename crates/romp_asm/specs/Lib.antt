@@ -6,3 +6,4 @@ pub mod Instruction
 pub mod Encoding
 pub mod Piece
 pub mod Layout
+pub mod Laid

@@ -1,4 +1,4 @@
-ghost use Rattle.std.specs.Prelude.{◌≡◌, ℤ, pos, ◌+ℤ◌, ◌≤ℤ◌, ◌*◌, ◌≤◌, ◌<◌, ◌^◌, IfSome};
+ghost use Rattle.std.specs.Prelude.{◌≡◌, ℤ, pos, ◌+ℤ◌, ◌≤ℤ◌, ◌*◌, ◌%◌, ◌≤◌, ◌<◌, IfSome};
 ghost use Rattle.romp_table.specs.Encode.{bits_of};
 ghost use Rattle.romp_asm.specs.Value.{is_between};
 ghost use Rattle.romp_asm.specs.Field.{at_most, even_at_most, half_of, is_even, number_field, relative, scales_in, short_field, signed_field};
@@ -86,6 +86,7 @@ pub(crate) fn relative(below: u32, above: u32, at: u32, target: i64) -> Option<i
 pub(crate) fn even_at_most(most: u32, value: i64) -> Option<u32>
     ensures value { result ≡ even_at_most most value }
     ensures small { IfSome result (λ number. number ≤ most) }
+    ensures even { IfSome result (λ number. number % 2 ≡ 0) }
 {
     if is_even(value) {
         at_most(most, value)

@@ -4,5 +4,9 @@
 mod encoding;
 mod field;
 mod instruction;
+mod layout;
+mod output;
 mod size;
 mod value;
+
+pub use layout::assemble;
