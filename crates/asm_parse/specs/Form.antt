@@ -1,5 +1,5 @@
 -- The forms of the instructions.
-use Rattle.std.specs.Prelude.{ℕ, List, [], ◌∷◌}
+use Rattle.std.specs.Prelude.{List, [], ◌∷◌}
 use Rattle.romp_table.specs.declared.inst.Op.{Op}
 use Rattle.asm_parse.specs.declared.form.Form.{Form}
 use Rattle.asm_parse.specs.declared.form.Sort.{Sort}

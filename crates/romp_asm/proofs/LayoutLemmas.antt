@@ -1,7 +1,6 @@
 -- A program, as its statements are laid one after the other.
 use Rattle.std.proofs.Common.{◌≡◌, ℕ, ℤ, pos, suc, zero, ◌+◌, ◌<◌, ◌≤◌, nat_lt, Bool, true, false, is_some, cond, List, [], ◌∷◌, ◌++◌, length, take, drop, get_or, Option, Some, None, Result, Ok, Err, refl, sym, ap, ◌∙◌, arith, append_assoc, append-nil, add-one, length-append, replicate, unwrap_or}
 use Rattle.std.specs.Option.{option_map, option_map_or}
-
 use Rattle.std.proofs.Math.Path.{fun_ext}
 use Rattle.std.proofs.Math.Seq.{drop-cons}
 use Rattle.std.proofs.lemmas.Bool.Decides.{nat_tests}
@@ -21,7 +20,7 @@ use Rattle.romp_asm.specs.declared.output.Output.{Output}
 use Rattle.std.specs.BTreeMap.{BTreeMap}
 use denote.Ref.{Bor}
 use Rattle.romp_asm.specs.Labels.{addresses_in, found_in, place_from, place_of, repeated_in, stands_before}
-use Rattle.romp_asm.specs.Laid.{IsLaid, Lays}
+use Rattle.romp_asm.specs.Laid.{IsLaid}
 use Rattle.romp_asm.specs.Layout.{Parts, assembled, entry_of, has_label_of, image_behind, parts_of, piece_before, piece_of, windows_of, with_entry, with_image, with_window}
 use Rattle.romp_asm.specs.Size.{size_of, total}
 use Rattle.romp_asm.specs.Value.{address_from, address_of, addresses_of, is_labelled}

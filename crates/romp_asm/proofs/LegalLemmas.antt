@@ -1,5 +1,5 @@
 -- The instruction of a form is one that the table has.
-use Rattle.std.proofs.Common.{◌≡◌, ℕ, ℤ, ◌≤◌, ◌<◌, ◌^◌, Bool, true, Option, Some, None, refl, sym, ap, ◌∙◌, arith}
+use Rattle.std.proofs.Common.{◌≡◌, ℕ, ℤ, ◌≤◌, ◌<◌, ◌^◌, true, Option, Some, None, refl, sym, ap, ◌∙◌, arith}
 use Rattle.std.specs.Option.{option_map, IsSomeAnd}
 use Rattle.std.proofs.lemmas.Bool.{le-leb}
 use Rattle.romp_table.specs.declared.inst.Op.{Op}
@@ -73,53 +73,53 @@ pub legal_J : (op : Op) (form : Form) (cond : ℕ) (disp : ℤ) → form ≡ for
 legal_J op form cond disp e is small signed = record {
   widths = (omega arith, signed);
   of_row = rows op form (IsRowOf (Inst.J op cond disp)) e (λ row told.
-    let same = told ∙ ap shape_of is in
-    (ap (λ (shape : Shape). shape.format) same, rw (ap (λ (shape : Shape). shape.b) same) (le-leb cond 5 small)));
+      let same = told ∙ ap shape_of is in
+      (ap (λ (shape : Shape). shape.format) same, rw (ap (λ (shape : Shape). shape.b) same) (le-leb cond 5 small)));
 }
 
 pub legal_BI : (op : Op) (form : Form) (b : ℕ) (disp : ℤ) (usage : Use) → form ≡ form_of op → shape_of form ≡ record { format = Format.BI; b = usage; c = Use.Any } → is_used usage b ≡ true → b < 16 → IsSigned 20 disp → IsLegal (Inst.BI op b disp)
 legal_BI op form b disp usage e is used small signed = record {
   widths = (small, signed);
   of_row = rows op form (IsRowOf (Inst.BI op b disp)) e (λ row told.
-    let same = told ∙ is in
-    (ap (λ (shape : Shape). shape.format) same, rw (ap (λ (shape : Shape). shape.b) same) used));
+      let same = told ∙ is in
+      (ap (λ (shape : Shape). shape.format) same, rw (ap (λ (shape : Shape). shape.b) same) used));
 }
 
 pub legal_BA : (op : Op) (form : Form) (to : ℕ) → form ≡ form_of op → form ≡ Form.LinkAddress → to ≤ 16777214 → IsLegal (Inst.BA op to)
 legal_BA op form to e is small = record {
   widths = omega arith;
   of_row = rows op form (IsRowOf (Inst.BA op to)) e (λ row told.
-    (ap (λ (shape : Shape). shape.format) (told ∙ ap shape_of is), refl));
+      (ap (λ (shape : Shape). shape.format) (told ∙ ap shape_of is), refl));
 }
 
 pub legal_S : (op : Op) (form : Form) (scale k b c : ℕ) → form ≡ form_of op → form ≡ Form.Short scale → k < 16 → b < 16 → c < 16 → IsLegal (Inst.S op k b c)
 legal_S op form scale k b c e is small_k small_b small_c = record {
   widths = (small_k, small_b, small_c);
   of_row = rows op form (IsRowOf (Inst.S op k b c)) e (λ row told.
-    let same = told ∙ ap shape_of is in
-    (ap (λ (shape : Shape). shape.format) same, rw (ap (λ (shape : Shape). shape.b) same, ap (λ (shape : Shape). shape.c) same) refl));
+      let same = told ∙ ap shape_of is in
+      (ap (λ (shape : Shape). shape.format) same, rw (ap (λ (shape : Shape). shape.b) same, ap (λ (shape : Shape). shape.c) same) refl));
 }
 
 pub legal_X : (op : Op) (form : Form) (a b c : ℕ) → form ≡ form_of op → form ≡ Form.ThreeRegisters → a < 16 → b < 16 → c < 16 → IsLegal (Inst.X op a b c)
 legal_X op form a b c e is small_a small_b small_c = record {
   widths = (small_a, small_b, small_c);
   of_row = rows op form (IsRowOf (Inst.X op a b c)) e (λ row told.
-    let same = told ∙ ap shape_of is in
-    (ap (λ (shape : Shape). shape.format) same, rw (ap (λ (shape : Shape). shape.b) same, ap (λ (shape : Shape). shape.c) same) refl));
+      let same = told ∙ ap shape_of is in
+      (ap (λ (shape : Shape). shape.format) same, rw (ap (λ (shape : Shape). shape.b) same, ap (λ (shape : Shape). shape.c) same) refl));
 }
 
 pub legal_R : (op : Op) (form : Form) (b c : ℕ) (usage : Use) → form ≡ form_of op → shape_of form ≡ record { format = Format.R; b = usage; c = Use.Any } → is_used usage b ≡ true → b < 16 → c < 16 → IsLegal (Inst.R op b c)
 legal_R op form b c usage e is used small_b small_c = record {
   widths = (small_b, small_c);
   of_row = rows op form (IsRowOf (Inst.R op b c)) e (λ row told.
-    let same = told ∙ is in
-    (ap (λ (shape : Shape). shape.format) same, rw (ap (λ (shape : Shape). shape.b) same, ap (λ (shape : Shape). shape.c) same, used) refl));
+      let same = told ∙ is in
+      (ap (λ (shape : Shape). shape.format) same, rw (ap (λ (shape : Shape). shape.b) same, ap (λ (shape : Shape). shape.c) same, used) refl));
 }
 
 pub legal_D : (op : Op) (form : Form) (b c i : ℕ) (use_b use_c : Use) → form ≡ form_of op → shape_of form ≡ record { format = Format.D; b = use_b; c = use_c } → is_used use_b b ≡ true → is_used use_c c ≡ true → b < 16 → c < 16 → i < 2 ^ 16 → IsLegal (Inst.D op b c i)
 legal_D op form b c i use_b use_c e is used_b used_c small_b small_c small_i = record {
   widths = (small_b, small_c, small_i);
   of_row = rows op form (IsRowOf (Inst.D op b c i)) e (λ row told.
-    let same = told ∙ is in
-    (ap (λ (shape : Shape). shape.format) same, rw (ap (λ (shape : Shape). shape.b) same, ap (λ (shape : Shape). shape.c) same, used_b, used_c) refl));
+      let same = told ∙ is in
+      (ap (λ (shape : Shape). shape.format) same, rw (ap (λ (shape : Shape). shape.b) same, ap (λ (shape : Shape). shape.c) same, used_b, used_c) refl));
 }

@@ -3,3 +3,4 @@ pub mod ValueLemmas
 pub mod NoteLemmas
 pub mod LayLemmas
 pub mod LayoutLemmas
+pub mod LawLemmas

@@ -1,5 +1,5 @@
 -- The label of one statement more.
-use Rattle.std.proofs.Common.{◌≡◌, ℕ, Bool, true, false, cond, List, Option, Some, None, is_some, refl, sym, ap, ◌∙◌, arith}
+use Rattle.std.proofs.Common.{◌≡◌, ℕ, Bool, true, false, cond, List, Option, Some, None, is_some, refl, ap, ◌∙◌, arith}
 use Rattle.std.specs.Str.{bytes_eq}
 use Rattle.std.proofs.lemmas.Slice.Eq.{bytes_eq-Decides}
 use Rattle.romp_asm.specs.declared.value.Place.{Place}
@@ -17,6 +17,7 @@ noted_new before label word place none = by_test (bytes_eq label word) refl
     free : (o : Option Place) → false ≡ is_some o → Some place ≡ noted o true place
     free None e = refl
     free (Some p) e = absurd (cc e)
+
     by_test : (test : Bool) → bytes_eq label word ≡ test → cond test (Some place) (before word) ≡ noted (before word) test place
     by_test true e =
         let same : label ≡ word = same_bytes label word e in

@@ -1,17 +1,14 @@
 -- Labels and values, as they are collected one after the other.
-use Rattle.std.proofs.Common.{◌≡◌, ℕ, ℤ, pos, negsuc, zero, suc, ◌+◌, ◌*◌, ◌^◌, ◌<◌, ◌≤◌, Bool, true, false, cond, List, [], ◌∷◌, ◌++◌, length, take, drop, get_or, Option, Some, None, Result, Ok, Err, refl, sym, ap, ◌∙◌, arith, append_assoc, append-nil, add-one, length-take-le, to_z, w64}
+use Rattle.std.proofs.Common.{◌≡◌, ℕ, pos, suc, ◌+◌, ◌^◌, ◌<◌, Bool, true, false, cond, List, [], ◌∷◌, ◌++◌, length, take, get_or, Option, Some, None, Result, Ok, Err, refl, arith, length-take-le, to_z, w64}
 use Rattle.std.proofs.lemmas.Int.{ints}
 use Rattle.std.proofs.lemmas.List.{take_more}
-use Rattle.std.proofs.Math.Seq.{drop-cons}
-use Rattle.std.proofs.lemmas.Bool.Decides.{nat_tests}
 use Rattle.std.proofs.lemmas.List.Sums.{sum_by-cons, sum_by_push}
 use Rattle.asm_parse.specs.declared.statement.Statement.{Statement}
-use Rattle.asm_parse.specs.declared.statement.Operand.{Operand}
 use Rattle.romp_asm.specs.declared.value.Known.{Known}
 use Rattle.romp_asm.specs.declared.value.Place.{Place}
 use Rattle.romp_asm.specs.Labels.{noted, place_from, place_of}
 use Rattle.romp_asm.specs.Size.{size_of, total}
-use Rattle.romp_asm.specs.Value.{is_labelled, knowns_of}
+use Rattle.romp_asm.specs.Value.{is_labelled}
 
 -- operands behind those that were read
 abbrev pub knowns_behind : List Known → Result (List Known) ℕ → Result (List Known) ℕ

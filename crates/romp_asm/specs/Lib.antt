@@ -7,3 +7,4 @@ pub mod Encoding
 pub mod Piece
 pub mod Layout
 pub mod Laid
+pub mod Source

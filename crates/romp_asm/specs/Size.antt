@@ -1,5 +1,5 @@
 -- How many bytes a statement makes.
-use Rattle.std.specs.Prelude.{ℕ, ◌+◌, List, sum_by}
+use Rattle.std.specs.Prelude.{◌≡◌, ℕ, List, sum_by}
 use Rattle.asm_parse.specs.declared.form.Form.{Form}
 use Rattle.asm_parse.specs.declared.statement.Statement.{Statement}
 use Rattle.asm_parse.specs.declared.statement.Body.{Body}
@@ -36,3 +36,13 @@ size_of (Entry value) = 0
 -- the bytes of statements together
 abbrev pub total : List Statement → ℕ
 total statements = sum_by (λ statement. size_of statement.body) statements
+
+-- two statements have the same mnemonic, and the same number where it is `.space`
+abbrev pub SameMnemonic : Body → Body → Type 0
+SameMnemonic Nothing Nothing = Unit {0}
+SameMnemonic (Inst op operands) (Inst op' operands') = op ≡ op'
+SameMnemonic (Data count value) (Data count' value') = count ≡ count'
+SameMnemonic (Space count) (Space count') = count ≡ count'
+SameMnemonic (Window register segment write) (Window register' segment' write') = Unit {0}
+SameMnemonic (Entry value) (Entry value') = Unit {0}
+SameMnemonic _ _ = ⊥

@@ -1,15 +1,35 @@
-ghost use Rattle.std.specs.Prelude.{◌≡◌, ◌≤◌, ◌^◌, length, MatchResult};
+ghost use Rattle.std.specs.Prelude.{◌≡◌, ◌<◌, ◌≤◌, ◌^◌, length, MatchResult};
 ghost use Rattle.asm_parse.specs.Answers.{IsAnswer, IsTextFaultOf};
 ghost use Rattle.asm_parse.specs.Text.{at_line};
 ghost use Rattle.romp_asm.specs.Labels.{addresses_in, found_in, repeated_in, stands_before};
 ghost use Rattle.romp_asm.specs.Laid.{IsLaid};
+ghost use Rattle.romp_asm.specs.Source.{source_of};
 ghost use Rattle.romp_asm.specs.Layout.{assembled, parts_of, piece_of};
 
 use super::output::Output;
 use super::value::{Labels, labels_of};
-use asm_parse::{AsmFault, LineFault, Statement};
+use asm_parse::{AsmFault, LineFault, Statement, parse};
 use flat_machine::Program;
 use std::alloc::Global;
+
+/// The program of a source.
+///
+/// The rules are in docs/FORMATS.md, "Assembler".
+///
+/// # Errors
+///
+/// [`AsmFault::Fault`] with the first line that has a fault of kinds 1 to 4, and its kind, or if there is none with the
+/// first that has one of kinds 5 to 9, and its least kind; [`AsmFault::Memory`] where there is no memory.
+#[tactic(auto, unfolding(crate::specs::Source::source_of))]
+pub fn assemble_text(alloc: Global, text: &[u8]) -> Result<Program, AsmFault>
+    requires { length text.now < 2 ^ 30 }
+    ensures { IsAnswer parts_of result (source_of text.now) }
+{
+    match parse(alloc, text) {
+        Ok(statements) => assemble(alloc, statements.as_slice()),
+        Err(fault) => Err(fault),
+    }
+}
 
 /// The program that statements make.
 ///

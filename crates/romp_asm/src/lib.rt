@@ -4,9 +4,13 @@
 mod encoding;
 mod field;
 mod instruction;
+mod law;
 mod layout;
 mod output;
 mod size;
+#[cfg(test)]
+mod tests;
 mod value;
 
-pub use layout::assemble;
+pub use law::{a_source_has_one_answer, size_is_by_mnemonic};
+pub use layout::{assemble, assemble_text};

@@ -46,12 +46,7 @@ impl Output {
     }
 
     /// Lays a statement behind the others. `repeated` says whether its label stood before.
-    pub fn add(
-        &mut self,
-        labels: &Labels<'_>,
-        repeated: bool,
-        body: &Body,
-    ) -> Result<(), LineFault>
+    pub fn add(&mut self, labels: &Labels<'_>, repeated: bool, body: &Body) -> Result<(), LineFault>
         ensures { let reading = piece_of (addresses_in labels.now) repeated (length self.old.image.items) self.old.entry self.old.windows body.now in
             MatchResult result (λ _. IsLaid (addresses_in labels.now) self.old self.new body.now reading) (λ fault. IsFaultOf fault reading) }
     {

@@ -123,10 +123,7 @@ fn known_of(labels: &Labels<'_>, operand: &Operand) -> Result<Known, u8>
 }
 
 /// Operands with their values.
-pub(crate) fn knowns_of(
-    labels: &Labels<'_>,
-    operands: &[Operand],
-) -> Result<ArrayVec<Known, 4>, u8>
+pub(crate) fn knowns_of(labels: &Labels<'_>, operands: &[Operand]) -> Result<ArrayVec<Known, 4>, u8>
     requires { length operands.now ≤ 4 }
     ensures { MatchResult result (λ knowns. knowns_of (addresses_in labels.now) operands.now ≡ Ok knowns.items)
         (λ kind. knowns_of (addresses_in labels.now) operands.now ≡ Err kind) }

@@ -1,4 +1,4 @@
-use Rattle.std.proofs.Common.{sym, ap, ◌∙◌, append-nil}
+use Rattle.std.proofs.Common.{sym, ◌∙◌, append-nil}
 use Rattle.asm_parse.proofs.TokenLemmas.{step, behind_none, behind_one, behind_all}
 use Rattle.asm_parse.specs.declared.token.Begin.TheVariants.{Blank, Comment, Takes, Bad}
 use Rattle.asm_parse.proofs.token.tokens_of.Goals as goal

@@ -1,4 +1,4 @@
-use Rattle.std.proofs.Common.{refl, ap, arith, w8, w32}
+use Rattle.std.proofs.Common.{ap, arith, w8, w32}
 use Rattle.std.proofs.lemmas.Bool.{le-leb}
 use Rattle.std.proofs.lemmas.Int.{to_z-of_z}
 use Rattle.romp_table.specs.declared.table.Use.{Use}

@@ -1,6 +1,4 @@
-use Rattle.std.proofs.Common.{refl, ap, arith}
-use Rattle.std.proofs.lemmas.Bool.{le-leb}
-use Rattle.romp_table.specs.declared.table.Use.{Use}
+use Rattle.std.proofs.Common.{arith}
 use Rattle.romp_asm.proofs.LegalLemmas.{legal_X}
 use Rattle.romp_asm.proofs.instruction.three_registers.Goals as goal
 

@@ -1,4 +1,4 @@
-use Rattle.std.proofs.Common.{refl, ap, arith}
+use Rattle.std.proofs.Common.{ap, arith}
 use Rattle.std.proofs.lemmas.Bool.{le-leb}
 use Rattle.romp_table.specs.declared.table.Use.{Use}
 use Rattle.romp_asm.proofs.LegalLemmas.{legal_R, shape_of}

@@ -1,4 +1,3 @@
-use Rattle.std.proofs.Common.{arith}
 use Rattle.romp_asm.proofs.LayLemmas.{one_more, all_laid, still_short}
 use Rattle.romp_asm.proofs.output.lay_zeros.Goals as goal
 

@@ -1,6 +1,4 @@
-use Rattle.std.proofs.Common.{arith, refl, ap, sym, ◌∙◌}
-use Rattle.romp_asm.specs.Labels.{found_in, noted}
-use Rattle.romp_asm.specs.Value.{is_labelled}
+use Rattle.std.proofs.Common.{arith, refl, sym, ◌∙◌}
 use Rattle.romp_asm.proofs.ValueLemmas.{no_place, place_more, signed_same, total_more}
 use Rattle.romp_asm.proofs.value.labels_of.Goals as goal
 

@@ -1,4 +1,4 @@
-use Rattle.std.proofs.Common.{sym, ◌∙◌}
+use Rattle.std.proofs.Common.{◌∙◌}
 use Rattle.std.proofs.lemmas.Map.Text.{btree_map_updates_str}
 use Rattle.romp_asm.specs.Labels.{found_in}
 use Rattle.romp_asm.proofs.NoteLemmas.{noted_label}
