@@ -1,0 +1,4 @@
+pub mod NumberLemmas
+pub mod TokenLemmas
+pub mod OperandLemmas
+pub mod TextLemmas

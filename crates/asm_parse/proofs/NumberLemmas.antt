@@ -1,0 +1,51 @@
+-- Numbers in a radix.
+use Rattle.std.proofs.Common.{◌≡◌, ℕ, zero, suc, ◌+◌, ◌*◌, ◌^◌, ◌<◌, ◌≤◌, Bool, true, false, cond, List, [], ◌∷◌, length, get_or, take, Option, Some, None, refl, ap, arith, Decides}
+use Rattle.std.specs.Char.{digit_value, is_digit}
+use Rattle.std.specs.List.{list_all}
+use Rattle.std.specs.Option.{SomeIff}
+use Rattle.std.specs.Str.Parse.{AllDigits, digits_value}
+use Rattle.std.proofs.lemmas.Bool.{lt-ltb}
+use Rattle.std.proofs.lemmas.Bool.Decides.{Decides-and, Decides-ltb}
+use Rattle.std.proofs.lemmas.Grind.{common_steps}
+use Rattle.std.proofs.lemmas.Int.Digits.{digits_value_more}
+use Rattle.std.proofs.lemmas.Str.Parse.{digits_value-take-le}
+use Rattle.asm_parse.specs.Number.{number_in}
+
+-- each of the digits is one
+pub digit_at : (radix : ℕ) (digits : List ℕ) (i : ℕ) → AllDigits radix digits → i < length digits → digit_value (get_or digits i 0) < radix
+digit_at radix [] i all here = absurd (omega arith)
+digit_at radix (d ∷ digits) zero all here = all.0
+digit_at radix (d ∷ digits) (suc i) all here = digit_at radix digits i all.1 (omega arith)
+
+-- the number of the digits so far is no larger than that of all
+pub value_so_far : (radix : ℕ) (digits : List ℕ) (i : ℕ) → 2 ≤ radix → i < length digits → digits_value radix (take i digits) * radix + digit_value (get_or digits i 0) ≤ digits_value radix digits
+value_so_far radix digits i two here =
+    let more = digits_value_more radix digits i here in
+    let below = digits_value-take-le radix digits (i + 1) (omega arith) in
+    omega arith
+
+-- after all digits the number is theirs
+pub all_taken : (radix : ℕ) (digits : List ℕ) (i number : ℕ) → length digits ≤ i → AllDigits radix (take i digits) × (number ≡ digits_value radix (take i digits)) × (number < 2 ^ 32) → (AllDigits radix digits × (digits_value radix digits < 2 ^ 32)) × (number ≡ digits_value radix digits)
+all_taken radix digits i number past told =
+    let whole : take i digits ≡ digits = grind (arith, common_steps) in
+    let all = rw whole at told.0 in
+    let value : number ≡ digits_value radix digits = rw whole at told.1 in
+    ((all, omega (arith, told.2)), value)
+
+-- the test of the digits tells whether all are digits
+digits_told : (radix : ℕ) (digits : List ℕ) → Decides (list_all (λ byte. is_digit byte radix) digits) (AllDigits radix digits)
+digits_told radix [] = (λ _. tt, λ _. refl)
+digits_told radix (d ∷ digits) =
+    Decides-and (is_digit d radix) (list_all (λ byte. is_digit byte radix) digits) (Decides-ltb (digit_value d) radix) (digits_told radix digits)
+
+-- whether there is a number is the test of the definition
+by_test : (r : Option ℕ) (test : Bool) (P : Type 0) (value : ℕ) → Decides test P → SomeIff r P value → r ≡ cond test (Some value) None
+by_test None true P value told given = absurd (given (told.0 refl))
+by_test None false P value told given = refl
+by_test (Some x) true P value told given = ap Some given.1
+by_test (Some x) false P value told given = absurd (cc (told.1 given.0))
+
+pub as_number : (radix : ℕ) (digits : List ℕ) (r : Option ℕ) → 0 < length digits → SomeIff r (AllDigits radix digits × (digits_value radix digits < 2 ^ 32)) (digits_value radix digits) → r ≡ number_in radix digits
+as_number radix digits r some given =
+    let told = Decides-and _ _ (digits_told radix digits) (Decides-ltb (digits_value radix digits) (2 ^ 32)) in
+    rw (lt-ltb 0 (length digits) some) (by_test r _ (AllDigits radix digits × (digits_value radix digits < 2 ^ 32)) _ told given)

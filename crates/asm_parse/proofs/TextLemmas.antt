@@ -1,0 +1,103 @@
+-- The statements of a text, as its lines are read one after the other.
+use Rattle.std.proofs.Common.{◌≡◌, ℕ, suc, ◌+◌, ◌<◌, ◌≤◌, Bool, true, false, cond, nat_lt, List, [], ◌∷◌, ◌++◌, length, Option, Some, None, Result, Ok, Err, refl, sym, ap, ◌∙◌, arith, append_assoc, append-nil, length-append, length-drop}
+use Rattle.std.specs.List.{slice_split, position_or_len, before_first, after_first}
+use Rattle.std.proofs.lemmas.Bool.{lt-ltb}
+use Rattle.std.proofs.lemmas.Bool.Decides.{nat_tests}
+use Rattle.asm_parse.specs.declared.fault.AsmFault.{AsmFault}
+use Rattle.asm_parse.specs.declared.fault.AsmFault.TheVariants.{Fault, Memory}
+use Rattle.asm_parse.specs.Answers.{IsTextFaultOf}
+use Rattle.asm_parse.specs.Cut.{behind_first}
+use Rattle.asm_parse.specs.declared.statement.Statement.{Statement}
+use Rattle.asm_parse.specs.Statement.{line_of}
+use Rattle.asm_parse.specs.Text.{Gains, at_line, is_feed, lines_of, statements_from, then_statements}
+
+-- the parts of what stands behind a cut, if there was one
+abbrev pub parts_behind : {X : Type 0} → (X → Bool) → Option (List X) → List (List X)
+parts_behind test (Some xs) = slice_split test xs
+parts_behind test None = []
+
+less : (m n : ℕ) → nat_lt (suc m) (suc n) ≡ nat_lt m n
+less m n = grind (arith, nat_tests)
+
+-- the first part, and the parts behind it
+pub cut : {X : Type 0} (test : X → Bool) (xs : List X) → slice_split test xs ≡ before_first test xs ∷ parts_behind test (behind_first test xs)
+cut test [] = refl
+cut test (x ∷ xs) = cut_by (test x) refl (cut test xs)
+  where
+    cut_by : (passes : Bool) → test x ≡ passes → slice_split test xs ≡ before_first test xs ∷ parts_behind test (behind_first test xs) → slice_split test (x ∷ xs) ≡ before_first test (x ∷ xs) ∷ parts_behind test (behind_first test (x ∷ xs))
+    cut_by true e others = rw (e, lt-ltb 0 (suc (length xs)) (omega arith)) refl
+    cut_by false e others =
+        let n = position_or_len test xs in
+        let one_more : 1 + n ≡ suc n = omega arith in
+        let behind : suc n + 1 ≡ suc (n + 1) = omega arith in
+        rw (e, one_more, behind, less n (length xs), others) refl
+
+-- how many bytes stand behind a line feed, counting it
+abbrev pub left_of : Option (List ℕ) → ℕ
+left_of (Some text) = length text + 1
+left_of None = 0
+
+-- statements behind those that were read
+abbrev pub statements_behind : List Statement → Result (List Statement) (ℕ × ℕ) → Result (List Statement) (ℕ × ℕ)
+statements_behind read (Ok others) = Ok (read ++ others)
+statements_behind read (Err fault) = Err fault
+
+pub behind_nothing : (others : Result (List Statement) (ℕ × ℕ)) → statements_behind [] others ≡ others
+behind_nothing (Ok others) = refl
+behind_nothing (Err fault) = refl
+
+-- what a line's answer adds to what was read
+gained : (read more : List Statement) (number : ℕ) (answer : Result (Option Statement) ℕ) (others : Result (List Statement) (ℕ × ℕ)) → Gains read more (at_line number answer) → statements_behind more others ≡ statements_behind read (then_statements number answer others)
+gained read more number (Ok (Some statement)) (Ok others) new = ap Ok (ap (λ list. list ++ others) new ∙ append_assoc read (statement ∷ []) others)
+gained read more number (Ok (Some statement)) (Err fault) new = refl
+gained read more number (Ok None) others new = ap (λ list. statements_behind list others) new
+gained read more number (Err kind) others new = absurd new
+
+-- the statements of a text by its first line
+by_first : (number : ℕ) (text : List ℕ) → statements_from number (lines_of text) ≡ then_statements number (line_of number (before_first is_feed text)) (statements_from (number + 1) (parts_behind is_feed (behind_first is_feed text)))
+unfolding statements_from
+by_first number text = rw (cut is_feed text) refl
+
+-- one line more was read
+pub line_read : (read more : List Statement) (number : ℕ) (text line : List ℕ) (behind : Option (List ℕ)) (whole : Result (List Statement) (ℕ × ℕ)) → line ≡ before_first is_feed text → behind ≡ behind_first is_feed text → Gains read more (at_line number (line_of number line)) → statements_behind read (statements_from number (lines_of text)) ≡ whole → statements_behind more (statements_from (number + 1) (parts_behind is_feed behind)) ≡ whole
+line_read read more number text line behind whole first rest new so_far =
+    rw (rest, gained read more number (line_of number line) _ new, first, ← by_first number text) so_far
+
+faulty : (read : List Statement) (number : ℕ) (answer : Result (Option Statement) ℕ) (others whole : Result (List Statement) (ℕ × ℕ)) (fault : AsmFault) → IsTextFaultOf fault (at_line number answer) → statements_behind read (then_statements number answer others) ≡ whole → IsTextFaultOf fault whole
+faulty read number answer others whole Memory told so_far = tt
+faulty read number (Ok value) others whole (Fault line kind) told so_far = absurd (cc told)
+faulty read number (Err kind') others whole (Fault line kind) told so_far =
+    let same : (number, kind') ≡ (line, kind) = cc told in
+    sym so_far ∙ ap Err same
+
+-- a line has a fault
+pub line_faulty : (read : List Statement) (number : ℕ) (text line : List ℕ) (whole : Result (List Statement) (ℕ × ℕ)) (fault : AsmFault) → line ≡ before_first is_feed text → IsTextFaultOf fault (at_line number (line_of number line)) → statements_behind read (statements_from number (lines_of text)) ≡ whole → IsTextFaultOf fault whole
+line_faulty read number text line whole fault first told so_far =
+    faulty read number (line_of number line) (statements_from (number + 1) (parts_behind is_feed (behind_first is_feed text))) whole fault told (ap (λ line. statements_behind read (then_statements number (line_of number line) (statements_from (number + 1) (parts_behind is_feed (behind_first is_feed text))))) first ∙ rw (by_first number text) at so_far)
+
+-- all lines were read
+pub all_read : (read : List Statement) (number : ℕ) (behind : Option (List ℕ)) (whole : Result (List Statement) (ℕ × ℕ)) → behind ≡ None → statements_behind read (statements_from number (parts_behind is_feed behind)) ≡ whole → whole ≡ Ok read
+unfolding statements_from
+all_read read number behind whole none so_far = sym (rw none at so_far) ∙ ap Ok (append-nil read)
+
+below : (m n : ℕ) → nat_lt m n ≡ true → m < n
+below m n e = grind (arith, nat_tests)
+
+-- behind a line feed stands less than the whole
+pub behind_shorter : (text : List ℕ) (behind : Option (List ℕ)) → behind ≡ behind_first is_feed text → left_of behind ≤ length text
+behind_shorter text behind is = rw is (by_test (nat_lt n (length text)) refl)
+  where
+    n : ℕ
+    n = position_or_len is_feed text
+
+    by_test : (inside : Bool) → nat_lt n (length text) ≡ inside → left_of (cond inside (Some (after_first is_feed text)) None) ≤ length text
+    by_test true e =
+        let inside : n < length text = below n (length text) e in
+        omega (arith, length-drop (n + 1) text)
+    by_test false e = omega arith
+
+-- a line gives one statement at the most
+pub gained_one : (old new : List Statement) (answer : Result (Option Statement) (ℕ × ℕ)) → Gains old new answer → length new ≤ length old + 1
+gained_one old new (Ok (Some statement)) e = omega (arith, ap length e, length-append old (statement ∷ []))
+gained_one old new (Ok None) e = omega (arith, ap length e)
+gained_one old new (Err fault) e = absurd e

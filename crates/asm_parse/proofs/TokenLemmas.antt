@@ -1,0 +1,103 @@
+-- The tokens of a line, as they are found one after the other.
+use Rattle.std.proofs.Common.{◌≡◌, ℕ, zero, suc, ◌+◌, ◌<◌, ◌≤◌, ◌≢◌, nat_le, cond, ◌==◌, Bool, true, false, List, [], ◌∷◌, ◌++◌, length, take, drop, Option, Some, None, Result, Ok, Err, refl, sym, ap, ◌∙◌, arith, append_assoc, append-nil, add-one}
+use Rattle.std.specs.Char.{is_ascii_alphanumeric, is_ascii_digit}
+use Rattle.std.specs.List.{prefix_len}
+use Rattle.std.specs.Str.{IsAscii}
+use Rattle.std.proofs.lemmas.Bool.Decides.{nat_tests}
+use Rattle.std.proofs.lemmas.Str.Ascii.{IsAscii-nil, IsAscii-cons}
+use Rattle.asm_parse.specs.Number.{number_of}
+use Rattle.asm_parse.specs.declared.token.Token.{Token}
+use Rattle.asm_parse.specs.declared.token.Token.TheVariants.{Word}
+use Rattle.asm_parse.specs.declared.token.Begin.{Begin}
+use Rattle.asm_parse.specs.declared.token.Begin.TheVariants.{Takes, Bad}
+use Rattle.asm_parse.specs.Token.{begins, begins_word, before, continues_word, is_blank, more_of, number_begins, then_tokens, tokens_past, word_begins}
+
+-- tokens behind those that were found
+abbrev pub behind : List Token → Result (List Token) ℕ → Result (List Token) ℕ
+behind found (Ok tokens) = Ok (found ++ tokens)
+behind found (Err kind) = Err kind
+
+pub behind_none : (others : Result (List Token) ℕ) → behind [] others ≡ others
+behind_none (Ok tokens) = refl
+behind_none (Err kind) = refl
+
+pub behind_one : (found : List Token) (token : Token) (others : Result (List Token) ℕ) → behind (found ++ token ∷ []) others ≡ behind found (before token others)
+behind_one found token (Ok tokens) = ap Ok (append_assoc found (token ∷ []) tokens)
+behind_one found token (Err kind) = refl
+
+-- what is passed over is left out
+pub passed : (bytes : List ℕ) (n : ℕ) → tokens_past bytes n ≡ tokens_past (drop n bytes) 0
+unfolding tokens_past
+passed bytes zero = refl
+passed [] (suc n) = refl
+passed (byte ∷ rest) (suc n) = passed rest n
+
+-- the tokens from a byte on are what begins there and the tokens behind it
+pub from_byte : (byte : ℕ) (rest : List ℕ) → tokens_past (byte ∷ rest) 0 ≡ then_tokens (begins byte rest) (tokens_past (drop (more_of (begins byte rest)) rest) 0)
+unfolding tokens_past
+from_byte byte rest = ap (then_tokens (begins byte rest)) (passed rest (more_of (begins byte rest)))
+
+pub from_none : tokens_past [] 0 ≡ Ok []
+unfolding tokens_past
+from_none = refl
+
+-- what was found and the tokens from a byte on, by what begins there
+pub step : (found : List Token) (left rest : List ℕ) (first : ℕ) (begin : Begin) (whole : Result (List Token) ℕ) → left ≡ first ∷ rest → begin ≡ begins first rest → behind found (tokens_past left 0) ≡ whole → behind found (then_tokens begin (tokens_past (drop (more_of begin) rest) 0)) ≡ whole
+step found left rest first begin whole split is so_far =
+    rw (is, ← from_byte first rest, ← split) so_far
+
+-- a byte that may stand in a word is below 128
+word_byte : (byte : ℕ) → continues_word byte ≡ true → byte < 128
+word_byte byte e = grind (arith, nat_tests)
+
+first_byte : (byte : ℕ) → begins_word byte ≡ true → byte < 128
+first_byte byte e = grind (arith, nat_tests)
+
+tail_ascii : (rest : List ℕ) → IsAscii (take (prefix_len continues_word rest) rest)
+tail_ascii [] = IsAscii-nil
+tail_ascii (byte ∷ rest) = tail_by byte rest (continues_word byte) refl (tail_ascii rest)
+  where
+    tail_by : (byte : ℕ) (rest : List ℕ) (test : Bool) → continues_word byte ≡ test → IsAscii (take (prefix_len continues_word rest) rest) → IsAscii (take (prefix_len continues_word (byte ∷ rest)) (byte ∷ rest))
+    tail_by byte rest true e others =
+        let same : 1 + prefix_len continues_word rest ≡ suc (prefix_len continues_word rest) = omega arith in
+        rw (e, same) (IsAscii-cons byte _ (word_byte byte e) others)
+    tail_by byte rest false e others = rw e IsAscii-nil
+
+-- the first byte and those behind it
+pub front : (left rest : List ℕ) (first more : ℕ) → left ≡ first ∷ rest → take (more + 1) left ≡ first ∷ take more rest
+front left rest first more split = rw (split, add-one) refl
+
+-- a word is of bytes below 128
+pub word_ascii : (left rest : List ℕ) (first more : ℕ) → left ≡ first ∷ rest → begins_word first ≡ true → more ≡ prefix_len continues_word rest → IsAscii (take (more + 1) left)
+word_ascii left rest first more split begins is =
+    rw (front left rest first more split, is) (IsAscii-cons first _ (first_byte first begins) (tail_ascii rest))
+
+-- how far what begins reaches
+pub word_inside : (more n : ℕ) (bytes : List ℕ) → more ≤ n → more_of (word_begins more bytes) ≤ n
+word_inside more n bytes h = by_test (nat_le (length bytes) 31)
+  where
+    by_test : (test : Bool) → more_of (cond test (Takes (Word bytes) more) (Bad 1)) ≤ n
+    by_test true = h
+    by_test false = omega arith
+
+pub number_inside : (more n : ℕ) (o : Option ℕ) → more ≤ n → more_of (number_begins more o) ≤ n
+number_inside more n None h = omega arith
+number_inside more n (Some x) h = h
+
+-- a semicolon is no other byte
+no_comment : (first : ℕ) → first ≢ 59 → (first == 59) ≡ false
+no_comment first h = grind (arith, nat_tests)
+
+-- what begins where a word does, and where a number does
+pub begins_with_word : (left rest : List ℕ) (first more : ℕ) (begin : Begin) → left ≡ first ∷ rest → false ≡ is_blank first → first ≢ 59 → true ≡ begins_word first → more ≡ prefix_len continues_word rest → begin ≡ word_begins more (take (more + 1) left) → begin ≡ begins first rest
+begins_with_word left rest first more begin split blank comment word is made =
+    rw (sym blank, no_comment first comment, sym word) (made ∙ rw (front left rest first more split, is) refl)
+
+pub begins_with_digit : (left rest : List ℕ) (first more : ℕ) (begin : Begin) → left ≡ first ∷ rest → false ≡ is_blank first → first ≢ 59 → false ≡ begins_word first → true ≡ is_ascii_digit first → more ≡ prefix_len is_ascii_alphanumeric rest → begin ≡ number_begins more (number_of (take (more + 1) left)) → begin ≡ begins first rest
+begins_with_digit left rest first more begin split blank comment word digit is made =
+    rw (sym blank, no_comment first comment, sym word, sym digit) (made ∙ rw (front left rest first more split, is) refl)
+
+-- what was found is all where no byte is left
+pub behind_all : (found : List Token) (left : List ℕ) (whole : Result (List Token) ℕ) → length left ≡ 0 → behind found (tokens_past left 0) ≡ whole → whole ≡ Ok found
+behind_all found [] whole none so_far = sym so_far ∙ ap (behind found) from_none ∙ ap Ok (append-nil found)
+behind_all found (byte ∷ left) whole none so_far = absurd (omega arith)

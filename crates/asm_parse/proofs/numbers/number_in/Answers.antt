@@ -1,0 +1,6 @@
+use Rattle.std.proofs.Common.{rules}
+use Rattle.asm_parse.proofs.NumberLemmas.{as_number}
+use Rattle.asm_parse.proofs.numbers.number_in.Goals as goal
+
+pub returns : goal.returns
+returns c = as_number c.args.radix c.args.digits.now c.value_of.result (search rules) c.value_of.ensures

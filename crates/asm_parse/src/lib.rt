@@ -1,0 +1,18 @@
+//! Assembler text as statements (docs/FORMATS.md, "Assembler").
+#![tactic(auto)]
+
+mod fault;
+mod form;
+mod line;
+mod numbers;
+mod operand;
+mod statement;
+mod token;
+mod word;
+
+pub use fault::{AsmFault, LineFault};
+pub use form::{Form, form_of};
+pub use line::{parse, parse_line};
+pub use statement::{Body, Expr, Operand, Statement};
+pub use token::{Token, tokens_of};
+pub use word::Word;

@@ -1,0 +1,26 @@
+-- What the definitions say of all statements and sources.
+use Rattle.std.proofs.Common.{◌≡◌, ℕ, ◌⊎◌, Result, Ok, Err, refl, ap, inl, inr}
+use Rattle.asm_parse.specs.declared.statement.Body.{Body}
+use Rattle.asm_parse.specs.declared.statement.Body.TheVariants.{Nothing, Inst, Data, Space, Window, Entry}
+use Rattle.asm_parse.specs.Form.{form_of}
+use Rattle.romp_asm.specs.Layout.{Parts}
+use Rattle.romp_asm.specs.Size.{SameMnemonic, form_size, size_of}
+
+-- statements of the same mnemonic have the same size
+pub same_size : (one other : Body) → SameMnemonic one other → size_of one ≡ size_of other
+same_size Nothing Nothing same = refl
+same_size (Inst op operands) (Inst op' operands') same = ap (λ op. form_size (form_of op)) same
+same_size (Data count value) (Data count' value') same = same
+same_size (Space count) (Space count') same = same
+same_size (Window register segment write) (Window register' segment' write') same = refl
+same_size (Entry value) (Entry value') same = refl
+same_size _ _ same = absurd same
+
+-- an answer is a program or a fault
+pub one_of : (answer : Result Parts (ℕ × ℕ)) → ((parts : Parts) × (answer ≡ Ok parts)) ⊎ ((fault : ℕ × ℕ) × (answer ≡ Err fault))
+one_of (Ok parts) = inl (parts, refl)
+one_of (Err fault) = inr (fault, refl)
+
+-- no answer is both
+pub not_both : (answer : Result Parts (ℕ × ℕ)) (parts : Parts) (fault : ℕ × ℕ) → answer ≡ Ok parts → ¬ (answer ≡ Err fault)
+not_both answer parts fault made refused = cc

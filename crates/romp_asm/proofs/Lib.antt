@@ -1,0 +1,6 @@
+pub mod LegalLemmas
+pub mod ValueLemmas
+pub mod NoteLemmas
+pub mod LayLemmas
+pub mod LayoutLemmas
+pub mod LawLemmas

@@ -1,0 +1,34 @@
+-- The label of one statement more.
+use Rattle.std.proofs.Common.{◌≡◌, ℕ, Bool, true, false, cond, List, Option, Some, None, is_some, refl, ap, ◌∙◌, arith}
+use Rattle.std.specs.Str.{bytes_eq}
+use Rattle.std.proofs.lemmas.Slice.Eq.{bytes_eq-Decides}
+use Rattle.romp_asm.specs.declared.value.Place.{Place}
+use Rattle.asm_parse.specs.declared.statement.Statement.{Statement}
+use Rattle.romp_asm.specs.Labels.{noted}
+use Rattle.romp_asm.specs.Value.{is_labelled}
+
+same_bytes : (xs ys : List ℕ) → bytes_eq xs ys ≡ true → xs ≡ ys
+same_bytes xs ys e = grind (arith, bytes_eq-Decides)
+
+-- a label that had no place gets this one, and the others keep theirs
+pub noted_new : (before : List ℕ → Option Place) (label word : List ℕ) (place : Place) → false ≡ is_some (before label) → cond (bytes_eq label word) (Some place) (before word) ≡ noted (before word) (bytes_eq label word) place
+noted_new before label word place none = by_test (bytes_eq label word) refl
+  where
+    free : (o : Option Place) → false ≡ is_some o → Some place ≡ noted o true place
+    free None e = refl
+    free (Some p) e = absurd (cc e)
+
+    by_test : (test : Bool) → bytes_eq label word ≡ test → cond test (Some place) (before word) ≡ noted (before word) test place
+    by_test true e =
+        let same : label ≡ word = same_bytes label word e in
+        free (before word) (none ∙ ap (λ bytes. is_some (before bytes)) same)
+    by_test false e = by_place (before word)
+      where
+        by_place : (o : Option Place) → o ≡ noted o false place
+        by_place (Some p) = refl
+        by_place None = refl
+
+-- the same at a statement with this label
+pub noted_label : (before : List ℕ → Option Place) (statement : Statement) (label text word : List ℕ) (place : Place) → statement.label ≡ Some label → text ≡ label → false ≡ is_some (before text) → cond (bytes_eq text word) (Some place) (before word) ≡ noted (before word) (is_labelled word statement) place
+noted_label before statement label text word place has same none =
+    rw (has, ← same) (noted_new before text word place none)

@@ -1,0 +1,58 @@
+-- Labels and values, as they are collected one after the other.
+use Rattle.std.proofs.Common.{◌≡◌, ℕ, pos, suc, ◌+◌, ◌^◌, ◌<◌, Bool, true, false, cond, List, [], ◌∷◌, ◌++◌, length, take, get_or, Option, Some, None, Result, Ok, Err, refl, arith, length-take-le, to_z, w64}
+use Rattle.std.proofs.lemmas.Int.{ints}
+use Rattle.std.proofs.lemmas.List.{take_more}
+use Rattle.std.proofs.lemmas.List.Sums.{sum_by-cons, sum_by_push}
+use Rattle.asm_parse.specs.declared.statement.Statement.{Statement}
+use Rattle.romp_asm.specs.declared.value.Known.{Known}
+use Rattle.romp_asm.specs.declared.value.Place.{Place}
+use Rattle.romp_asm.specs.Labels.{noted, place_from, place_of}
+use Rattle.romp_asm.specs.Size.{size_of, total}
+use Rattle.romp_asm.specs.Value.{is_labelled}
+
+-- operands behind those that were read
+abbrev pub knowns_behind : List Known → Result (List Known) ℕ → Result (List Known) ℕ
+knowns_behind read (Ok others) = Ok (read ++ others)
+knowns_behind read (Err kind) = Err kind
+
+pub behind_nothing : (others : Result (List Known) ℕ) → knowns_behind [] others ≡ others
+behind_nothing (Ok others) = refl
+behind_nothing (Err kind) = refl
+
+noted_first : (first labelled : Bool) (place later : Place) (others after : Option Place) → after ≡ noted others labelled later → cond first (Some place) after ≡ noted (cond first (Some place) others) labelled later
+noted_first true labelled place later others after e = refl
+noted_first false labelled place later others after e = e
+
+-- where a label stands after one statement more
+pub place_push : (index at : ℕ) (xs : List Statement) (x : Statement) (word : List ℕ) → place_from index at (xs ++ x ∷ []) word ≡ noted (place_from index at xs word) (is_labelled word x) (record { statement = index + length xs; address = pos (at + total xs) })
+unfolding place_from
+place_push index at [] x word =
+    let same_index : index + 0 ≡ index = omega arith in
+    let same_address : at + 0 ≡ at = omega arith in
+    rw (same_index, same_address) refl
+place_push index at (y ∷ xs) x word =
+    let same_index : index + suc (length xs) ≡ index + 1 + length xs = omega arith in
+    let same_address : at + total (y ∷ xs) ≡ at + size_of y.body + total xs = omega (arith, sum_by-cons (λ (statement : Statement). size_of statement.body) y xs) in
+    rw (same_index, same_address) (noted_first (is_labelled word y) (is_labelled word x) (record { statement = index; address = pos at }) _ _ _ (place_push (index + 1) (at + size_of y.body) xs x word))
+
+-- the first label is noted at address 0
+pub no_place : (word : List ℕ) → place_of [] word ≡ None
+unfolding place_from
+no_place word = refl
+
+-- the table after one statement more
+pub place_more : (statements : List Statement) (i : ℕ) (statement : Statement) (word : List ℕ) (address : ℕ) → i < length statements → statement ≡ get_or statements i statement → address ≡ total (take i statements) → place_of (take (i + 1) statements) word ≡ noted (place_of (take i statements) word) (is_labelled word statement) (record { statement = i; address = pos address })
+place_more statements i statement word address inside here is =
+    let front : length (take i statements) ≡ i = length-take-le i statements (omega arith) in
+    let same_index : 0 + length (take i statements) ≡ i = omega arith in
+    let same_address : 0 + total (take i statements) ≡ address = omega arith in
+    rw (take_more statements i statement inside, ← here, place_push 0 0 (take i statements) statement word, same_index, same_address) refl
+
+-- a number below 2^63 keeps its value with a sign
+pub signed_same : (n : ℕ) → n < 2 ^ 63 → to_z w64 n ≡ pos n
+signed_same n small = omega (arith, ints)
+
+-- the bytes of one statement more
+pub total_more : (statements : List Statement) (i : ℕ) (statement : Statement) → i < length statements → statement ≡ get_or statements i statement → total (take (i + 1) statements) ≡ total (take i statements) + size_of statement.body
+total_more statements i statement inside here =
+    rw (take_more statements i statement inside, ← here) (sum_by_push (λ statement. size_of statement.body) (take i statements) statement)

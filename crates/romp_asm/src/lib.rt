@@ -1,0 +1,16 @@
+//! Statements of assembler text as a program (docs/FORMATS.md, "Assembler").
+#![tactic(auto)]
+
+mod encoding;
+mod field;
+mod instruction;
+mod law;
+mod layout;
+mod output;
+mod size;
+#[cfg(test)]
+mod tests;
+mod value;
+
+pub use law::{a_source_has_one_answer, size_is_by_mnemonic};
+pub use layout::{assemble, assemble_text};

@@ -1,0 +1,139 @@
+ghost use Rattle.std.specs.Prelude.{◌≡◌, ◌≤◌, ◌<◌, ◌^◌, ◌+ℤ◌, ℕ, List, length, IfOk, OnOk, MatchResult, Ok, Err};
+ghost use Rattle.std.specs.Option.{option_map};
+ghost use Rattle.romp_asm.specs.Value.{is_labelled, known_of, knowns_of, value_of, within_reach};
+ghost use Rattle.romp_asm.specs.Labels.{addresses_in, found_in, noted, place_of};
+
+use super::field::{OUT_OF_REACH, UNKNOWN_LABEL};
+use super::size::size_of;
+use arrayvec::ArrayVec;
+use asm_parse::{Expr, Operand, Statement};
+use std::alloc::{AllocError, Global};
+use std::collections::BTreeMap;
+
+/// Where a label stands: its statement, counted from 0, and its address.
+#[derive(Clone, Copy)]
+pub(crate) struct Place {
+    pub statement: usize,
+    pub address: i64,
+}
+
+/// The labels of statements, each where it stands first.
+pub(crate) type Labels<'a> = BTreeMap<&'a str, Place>;
+
+/// An operand whose labels are replaced by their addresses.
+#[derive(Drop)]
+pub(crate) enum Known {
+    Register(u8),
+    Condition(u8),
+    Value(i64),
+    Place(i64, u8),
+}
+
+impl Default for Known {
+    fn default() -> Self {
+        Known::Register(0)
+    }
+}
+
+/// The labels of statements.
+pub(crate) fn labels_of(alloc: Global, statements: &[Statement]) -> Result<Labels<'_>, AllocError>
+    requires { length statements.now ≤ 2 ^ 30 }
+    ensures { IfOk result (λ labels. (word : List ℕ) → found_in labels word ≡ place_of statements.now word) }
+{
+    let mut labels = BTreeMap::new(alloc);
+    let mut address: u64 = 0;
+    for (index, statement) in statements.iter().enumerate() {
+        let place = Place {
+            statement: index,
+            address: address as i64,
+        };
+        note(&mut labels, statement, place)?;
+        address += u64::from(size_of(&statement.body));
+    }
+    Ok(labels)
+}
+
+/// Notes the label of a statement, if it has one and no statement had it before.
+fn note<'a>(
+    labels: &mut Labels<'a>,
+    statement: &'a Statement,
+    place: Place,
+) -> Result<(), AllocError>
+    ensures { OnOk result ((word : List ℕ) →
+        found_in labels.new word ≡ noted (found_in labels.old word) (is_labelled word statement.now) place) }
+{
+    let Some(label) = &statement.label else {
+        return Ok(());
+    };
+    if !labels.contains_key(label.as_str()) {
+        labels.insert(label.as_str(), place)?;
+    }
+    Ok(())
+}
+
+/// The value of an expression.
+pub(crate) fn value_of(labels: &Labels<'_>, value: &Expr) -> Result<i64, u8>
+    ensures { result ≡ value_of (addresses_in labels.now) value.now }
+{
+    match value {
+        Expr::Number(number) => Ok(*number),
+        Expr::Label(word, more) => match address_in(labels, word.as_str()) {
+            Some(address) => sum_of(address, *more),
+            None => Err(UNKNOWN_LABEL),
+        },
+    }
+}
+
+/// The address of a label.
+fn address_in(labels: &Labels<'_>, word: &str) -> Option<i64>
+    ensures { result ≡ addresses_in labels.now word.now }
+{
+    match labels.get(word) {
+        Some(place) => Some(place.address),
+        None => None,
+    }
+}
+
+/// An address and what is added to it.
+fn sum_of(address: i64, more: i64) -> Result<i64, u8>
+    ensures { result ≡ within_reach (address +ℤ more) }
+{
+    match address.checked_add(more) {
+        Some(value) => Ok(value),
+        None => Err(OUT_OF_REACH),
+    }
+}
+
+/// An operand with its value.
+fn known_of(labels: &Labels<'_>, operand: &Operand) -> Result<Known, u8>
+    ensures { result ≡ known_of (addresses_in labels.now) operand.now }
+{
+    match operand {
+        Operand::Register(register) => Ok(Known::Register(*register)),
+        Operand::Condition(condition) => Ok(Known::Condition(*condition)),
+        Operand::Value(value) => match value_of(labels, value) {
+            Ok(number) => Ok(Known::Value(number)),
+            Err(kind) => Err(kind),
+        },
+        Operand::Place(displacement, register) => match value_of(labels, displacement) {
+            Ok(number) => Ok(Known::Place(number, *register)),
+            Err(kind) => Err(kind),
+        },
+    }
+}
+
+/// Operands with their values.
+pub(crate) fn knowns_of(labels: &Labels<'_>, operands: &[Operand]) -> Result<ArrayVec<Known, 4>, u8>
+    requires { length operands.now ≤ 4 }
+    ensures { MatchResult result (λ knowns. knowns_of (addresses_in labels.now) operands.now ≡ Ok knowns.items)
+        (λ kind. knowns_of (addresses_in labels.now) operands.now ≡ Err kind) }
+{
+    let mut knowns = ArrayVec::new();
+    for operand in operands {
+        match known_of(labels, operand) {
+            Ok(known) => knowns.push(known),
+            Err(kind) => return Err(kind),
+        }
+    }
+    Ok(knowns)
+}
