@@ -10,7 +10,8 @@ use Rattle.flat_machine.specs.declared.machine.Program.{Program}
 use Rattle.flat_machine.specs.declared.machine.Plain.{Plain}
 use Rattle.flat_machine.specs.declared.touch.Touch.{Touch}
 use Rattle.flat_machine.specs.declared.machine.Went.{Went}
-use Rattle.flat_machine.specs.Row.{Outcome, On, Commit, Check, Plan, Does, Fails, outcome_by, plan_at, row}
+use Rattle.flat_machine.specs.declared.machine.Plan.{Plan}
+use Rattle.flat_machine.specs.Row.{Outcome, On, Commit, Check, outcome_by, plan_at, row}
 use Rattle.flat_machine.specs.Touched.{touch_lines, touched, touched_by}
 use Rattle.flat_machine.specs.After.{after, next_state}
 use Rattle.flat_machine.specs.Due.{touched_within}
@@ -89,8 +90,7 @@ same_desk one other a b c d e f g h j k l =
 
 -- the commit call touches nothing
 touched-commit : (program : Program) (directory : Layout) (outcome : Outcome) (plan : Plan) → outcome ≡ Commit → touched_by program directory outcome plan ≡ no_lines
-touched-commit program directory outcome (Does effect next link) is = ap (λ (this : Outcome). touched_by program directory this (Does effect next link)) is
-touched-commit program directory outcome (Fails code) is = ap (λ (this : Outcome). touched_by program directory this (Fails code)) is
+touched-commit program directory outcome plan is = ap (λ (this : Outcome). touched_by program directory this plan) is
 
 -- a row that isn't a check goes on, or to the commit call
 pub goes : (went : Went) (new : Plain) → ((code : ℕ) → went ≡ Went.Check code → ⊥) → GoesOn (outcome_by went new)
