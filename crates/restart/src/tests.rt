@@ -23,7 +23,14 @@ const IMAGES: [(&[Change], Result<u64, OpenFault>); 10] = [
     (&[], Ok(1)),
     (&[Change::Byte(264, 0)], Ok(0)),
     (&[Change::Byte(264, 7)], Ok(0)),
-    (&[Change::Byte(264, 0), Change::Byte(266, 0xa5), Change::Byte(300, 9)], Ok(0)),
+    (
+        &[
+            Change::Byte(264, 0),
+            Change::Byte(266, 0xa5),
+            Change::Byte(300, 9),
+        ],
+        Ok(0),
+    ),
     (&[Change::Byte(128, 1)], Ok(0)),
     (&[Change::Byte(9, 3)], Err(OpenFault::NotAStore(8))),
     (&[Change::Cut(100)], Err(OpenFault::NotAStore(100))),
@@ -61,7 +68,11 @@ fn committed(rt: &impl Abort, alloc: Global) -> Result<Vec<u8>, AllocError> {
     Ok(image)
 }
 
-fn disk_of(alloc: Global, image: Vec<u8>, refused: Vec<Refusal>) -> Joint<MemoryDisk, MemoryScreen> {
+fn disk_of(
+    alloc: Global,
+    image: Vec<u8>,
+    refused: Vec<Refusal>,
+) -> Joint<MemoryDisk, MemoryScreen> {
     Joint::new(
         MemoryDisk::new(alloc, image, refused),
         MemoryScreen::new(alloc, Vec::new(alloc)),
@@ -95,7 +106,14 @@ fn a_commit_is_kept_or_not(rt: HostRuntime) -> Result<(), Fail> {
     let mut line = [0; 128];
     line[3] = 5;
     for (call, from, to, skip, wanted) in REFUSALS {
-        let refused = vec![in alloc; Refusal { call, from, to, skip }]?;
+        let refused = vec![in alloc;
+            Refusal {
+                call,
+                from,
+                to,
+                skip
+            },
+        ]?;
         let mut disk = disk_of(alloc, fresh_store(&rt, alloc)?, refused);
         let mut store = Durable::open(alloc, &mut disk).expect(&rt, "a store");
         let room = store.room().expect(&rt, "room");
@@ -110,7 +128,9 @@ fn a_commit_is_kept_or_not(rt: HostRuntime) -> Result<(), Fail> {
             assert_eq!(rt; store.number(), 1);
             let mut page = [0; 2048];
             assert!(rt; store.header().directory().pages() == 6);
-            store.read_page(&mut disk, 0, &mut page).expect(&rt, "a page");
+            store
+                .read_page(&mut disk, 0, &mut page)
+                .expect(&rt, "a page");
             assert_eq!(rt; &page[..4], [0, 0, 0, 5].as_slice());
             let (disk, _) = disk.into_parts();
             assert_eq!(rt; disk.bytes(), committed(&rt, alloc)?.as_slice());
