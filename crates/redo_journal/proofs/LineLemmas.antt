@@ -1,7 +1,7 @@
 -- One line more in a record that is begun.
 use Rattle.std.proofs.Common.{◌≡◌, ℕ, suc, ◌+◌, ◌*◌, ◌^◌, ◌<◌, ◌≤◌, List, [], ◌∷◌, ◌++◌, length, take, drop, refl, sym, ◌∙◌, ap, arith}
-use Rattle.std.specs.Prelude.{All, None}
-use Rattle.std.proofs.lemmas.List.{take_at, drop_at, drop-drop}
+use Rattle.std.specs.Prelude.{All}
+use Rattle.std.proofs.lemmas.List.{take_at, drop-drop}
 use Rattle.std.proofs.lemmas.List.Elements.{All-head, All-tail}
 use Rattle.byteorder.specs.Endian.{big_bytes, big_number}
 use Rattle.byteorder.specs.Numbers.{big_number-reads_back, big_from-take}
@@ -10,7 +10,7 @@ use Rattle.owned_list.proofs.Overlay.{length-overlaid}
 use Rattle.store_format.specs.Bank.{RecordLine, lines_from, record_bytes}
 use Rattle.store_format.proofs.Fronts.{same_lines, later_front, shorter_front}
 use Rattle.store_format.proofs.Lines.{line_at, lines_more, least_after}
-use Rattle.redo_journal.proofs.Overlaid.{take-overlaid, drop-overlaid, behind-overlaid}
+use Rattle.redo_journal.proofs.Overlaid.{take-overlaid, drop-overlaid}
 
 module _ (body piece : List ℕ) (count gate line : ℕ) (whole : length piece ≡ 128) (small : line < 2 ^ 32) (room : 10 + 132 * count + 132 ≤ length body) where
   abbrev at : ℕ

@@ -1,8 +1,8 @@
 -- The newest place of a line has its bytes of the store.
-use Rattle.std.proofs.Common.{◌≡◌, inl, inr, ℕ, zero, suc, ◌+◌, ◌*◌, ◌-◌, ◌<◌, ◌≤◌, List, [], ◌∷◌, ◌++◌, length, take, drop, get_or, refl, sym, ◌∙◌, ap, subst, arith, append_assoc, length-append, replicate}
+use Rattle.std.proofs.Common.{◌≡◌, inl, inr, ℕ, zero, suc, ◌+◌, ◌*◌, ◌-◌, ◌<◌, ◌≤◌, List, [], ◌∷◌, length, take, drop, get_or, refl, sym, ◌∙◌, ap, subst, arith, replicate}
 use Rattle.std.specs.Prelude.{Option, None, Some, fold}
 use Rattle.std.proofs.lemmas.Bool.{cases_lt, cases_eq}
-use Rattle.std.proofs.lemmas.List.{take_at, drop_at, drop-drop, length-drop, length-take-le, get_or-take, get_or-drop, get_or-replicate, length-replicate}
+use Rattle.std.proofs.lemmas.List.{take_at, drop-drop, length-drop, length-take-le, get_or-take, get_or-drop, get_or-replicate, length-replicate}
 use Rattle.owned_list.specs.Overlay.{overlaid}
 use Rattle.std.specs.Prelude.{◌%◌, ◌^◌, ◌==◌, slice_index}
 use Rattle.byteorder.specs.Endian.{big_number}

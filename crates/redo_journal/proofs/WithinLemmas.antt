@@ -1,6 +1,6 @@
 -- Newest places that lie in front of an end.
-use Rattle.std.proofs.Common.{◌≡◌, ℕ, ◌+◌, ◌≤◌, List, [], ◌∷◌, ◌++◌, length, take, drop, refl, replicate}
-use Rattle.std.specs.Prelude.{Option, None, Some, All, IfSome}
+use Rattle.std.proofs.Common.{ℕ, ◌+◌, ◌≤◌, List, [], ◌∷◌, ◌++◌, length, take, drop}
+use Rattle.std.specs.Prelude.{Option, Some, IfSome}
 use Rattle.std.proofs.lemmas.List.Elements.{All-nil, All-cons, All-append, All-take, All-drop}
 use Rattle.owned_list.specs.Overlay.{overlaid}
 use Rattle.redo_journal.specs.Noted.{AreWithin}

@@ -1,5 +1,5 @@
 -- The fields of a bank, and what is kept of them.
-use Rattle.std.specs.Prelude.{◌≡◌, ℕ, ◌+◌, ◌*◌, ◌<◌, ◌≤◌, List, length, drop, None}
+use Rattle.std.specs.Prelude.{◌≡◌, ◌+◌, ◌*◌, ◌<◌, ◌≤◌, List, length, drop, None}
 use Rattle.store_format.specs.Bank.{RecordLine, lines_from, wrong_line}
 use Rattle.redo_journal.specs.declared.bank.Bank.TheInside.{Inside}
 use Rattle.redo_journal.specs.Kept.{KeptBank, end_of}

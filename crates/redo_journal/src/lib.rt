@@ -10,3 +10,6 @@ mod record;
 pub use bank::{Appended, Bank};
 pub use fault::{OpenFault, ReopenFault};
 pub use keep::Kept;
+
+#[cfg(test)]
+mod tests;

@@ -1,15 +1,14 @@
 -- A page whose home lines have the newest lines over them.
 use Rattle.std.proofs.Common.{◌≡◌, inl, inr, ℕ, zero, suc, ◌+◌, ◌*◌, ◌-◌, ◌<◌, ◌≤◌, List, [], ◌∷◌, ◌++◌, length, take, drop, get_or, refl, sym, ◌∙◌, ap, subst, arith}
 use Rattle.std.specs.Prelude.{Option, None, Some, IfSome, fold}
-use Rattle.std.proofs.lemmas.Bool.{cases_lt, cases_eq}
-use Rattle.std.proofs.lemmas.List.{drop-drop, drop-take, take-take, take-append-drop, length-take, length-drop, length-take-le}
+use Rattle.std.proofs.lemmas.Bool.{cases_eq}
+use Rattle.std.proofs.lemmas.List.{drop-drop, drop-take, take-take, take-append-drop, length-drop, length-take-le}
 use Rattle.line_geometry.specs.Directory.{page_count}
 use Rattle.line_geometry.specs.Lines.{line_count}
 use Rattle.store_format.specs.Header.{Header, home_at}
 use Rattle.store_format.specs.Stands.{Standing, laid, home_of, stands}
 use Rattle.store_format.proofs.Stores.{stands_is}
 use Rattle.outside.specs.Bytes.{bytes_at}
-use Rattle.owned_list.specs.Overlay.{overlaid}
 use Rattle.redo_journal.specs.Noted.{newest_of}
 use Rattle.redo_journal.proofs.Newest.{line_bytes, newest_bytes, same_line, other_line, Agree, store_agrees}
 use Rattle.restart.specs.Kept.{KeptStore}

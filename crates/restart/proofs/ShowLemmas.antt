@@ -1,26 +1,25 @@
 -- What a store shows of bytes, and what these stand for.
-use Rattle.std.proofs.Common.{◌≡◌, ℕ, ◌+◌, ◌*◌, ◌-◌, ◌%◌, ◌^◌, ◌<◌, ◌≤◌, List, [], ◌∷◌, length, take, drop, refl, sym, ◌∙◌, ap, subst, arith, IsSome, IsTrue}
-use Rattle.std.specs.Prelude.{Option, None, Some, fold, unwrap_or}
-use Rattle.line_geometry.specs.FlatStore.{FlatStore}
+use Rattle.std.proofs.Common.{◌≡◌, ℕ, ◌+◌, ◌-◌, ◌%◌, ◌^◌, ◌≤◌, List, [], length, take, refl, sym, ◌∙◌, ap, subst, arith, IsSome, IsTrue}
+use Rattle.std.specs.Prelude.{Option, None, fold, unwrap_or}
 use Rattle.line_geometry.specs.Lines.{line_count}
 use Rattle.store_format.specs.declared.header.Which.{Which}
 use Rattle.store_format.specs.declared.header.Which.TheVariants.{A, B}
-use Rattle.store_format.specs.Header.{Header, bank_at, number_at, fields, first_fault, header_of, total}
-use Rattle.store_format.specs.Bank.{Bank, RecordLine, Holds, Faulty, base_of, bank_of, bank_held}
-use Rattle.store_format.specs.Stands.{Standing, Stands, Damaged, stands, standing_if, standing_by, HasHeader, IsStore, chosen, laid, home_of}
-use Rattle.store_format.proofs.Stores.{stands_is, stood, not_less}
+use Rattle.store_format.specs.Header.{Header, bank_at, number_at, header_of, total}
+use Rattle.store_format.specs.Bank.{Faulty, base_of, bank_of, bank_held}
+use Rattle.store_format.specs.Stands.{Stands, Damaged, stands, standing_if, standing_by, HasHeader, IsStore, chosen, laid, home_of}
+use Rattle.store_format.proofs.Stores.{stands_is, not_less}
 use Rattle.outside.specs.declared.world.Outside.{Ghosts}
 use Rattle.outside.specs.Runs.{OnlyAsks, FewerLater, held_of}
 use Rattle.outside.specs.Bytes.{AreTold}
 use Rattle.outside.specs.Durable.{IsSure}
 use Rattle.redo_journal.specs.Kept.{KeptBank, place_of, end_of}
-use Rattle.redo_journal.specs.Opened.{IsRead, IsBankOf, bank_in}
+use Rattle.redo_journal.specs.Opened.{IsRead, bank_in}
 use Rattle.redo_journal.specs.Opened as opened
 use Rattle.redo_journal.specs.declared.fault.OpenFault.{OpenFault}
 use Rattle.redo_journal.specs.declared.fault.OpenFault.TheVariants as opening
 use Rattle.redo_journal.specs.Tracks as journal
 use Rattle.restart.specs.Faults.{IsOpenFault}
-use Rattle.restart.specs.Kept.{KeptStore, Fits, number_of}
+use Rattle.restart.specs.Kept.{KeptStore, Fits}
 use Rattle.restart.specs.Shows.{Shows, Tracks, ShownStands}
 
 place_is : (header : Header) (which : Which) (bytes : ℕ) → header.bank_bytes ≡ bytes → bank_at header which ≡ place_of which bytes

@@ -1,5 +1,5 @@
 -- Why a store isn't opened, or opened again.
-use Rattle.std.specs.Prelude.{◌≡◌, ℕ, List, IsSome}
+use Rattle.std.specs.Prelude.{◌≡◌, IsSome}
 use Rattle.store_format.specs.Header.{Header}
 use Rattle.store_format.specs.Bank.{Faulty, bank_of}
 use Rattle.store_format.specs.Stands.{stands, chosen, NotAStore, Damaged}

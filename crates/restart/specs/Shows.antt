@@ -1,7 +1,6 @@
 -- What a store that is kept says of the bytes on the disk.
 use Rattle.std.specs.Prelude.{◌≡◌, ℕ, ◌*◌, List, [], take, drop}
 use Rattle.line_geometry.specs.FlatStore.{FlatStore}
-use Rattle.store_format.specs.Bank.{RecordLine}
 use Rattle.store_format.specs.Stands.{Standing, Stands, NotAStore, Damaged, HasHeader, chosen, stands, one_more}
 use Rattle.outside.specs.declared.world.Outside.{Ghosts}
 use Rattle.outside.specs.Runs.{held_of}

@@ -9,3 +9,6 @@ mod start;
 pub use durable::Durable;
 pub use law::what_is_shown_stands;
 pub use redo_journal::{Kept, OpenFault, ReopenFault};
+
+#[cfg(test)]
+mod tests;

@@ -1,13 +1,11 @@
-use Rattle.std.proofs.Common.{◌≡◌, List, ℕ, ◌+◌, ◌≤◌, ◌∷◌, [], length, sym, subst, ap, ◌∙◌, arith, IsSome}
-use Rattle.std.specs.Prelude.{Option, Some, unwrap_or}
-use Rattle.std.specs.Option.{ForSome}
+use Rattle.std.proofs.Common.{◌≡◌, List, ℕ, ◌+◌, ◌≤◌, ◌∷◌, [], length, sym, subst, ap, ◌∙◌}
 use Rattle.outside.specs.Bytes.{Torn, written}
 use Rattle.outside.specs.Runs.{held_of, Leaves}
 use Rattle.outside.specs.Durable.{IsWritten}
 use Rattle.outside.proofs.Durable.{told_some}
 use Rattle.outside.proofs.Runs.{leaves_on, calls_on}
 use Rattle.redo_journal.specs.Gate.{IsSafe, IsShut, is_open}
-use Rattle.redo_journal.proofs.GateLemmas.{safe_behind, safe_at, opened, opened_torn, held_is, twice}
+use Rattle.redo_journal.proofs.GateLemmas.{safe_behind, safe_at, opened, opened_torn, held_is}
 use Rattle.redo_journal.proofs.keep.keep_body.Given.{Over}
 use Rattle.redo_journal.proofs.keep.keep_body.Goals as goal
 use Rattle.redo_journal.proofs.keep.keep_body.Goals.{After-write_sure, After-write_sure-2}

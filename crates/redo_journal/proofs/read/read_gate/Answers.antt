@@ -6,7 +6,7 @@ use Rattle.outside.specs.Runs.{held_of}
 use Rattle.redo_journal.specs.Noted.{noted}
 use Rattle.store_format.proofs.Padded.{read_is}
 use Rattle.outside.proofs.Runs.{asks_on}
-use Rattle.redo_journal.proofs.ReadLemmas.{first_read, gate_read, reads_within}
+use Rattle.redo_journal.proofs.ReadLemmas.{first_read, gate_read}
 use Rattle.redo_journal.proofs.read.read_gate.Given.{Over}
 use Rattle.redo_journal.proofs.read.read_gate.Goals as goal
 use Rattle.redo_journal.proofs.read.read_gate.Goals.{After-read_lines}

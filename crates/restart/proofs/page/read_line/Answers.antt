@@ -1,5 +1,4 @@
-use Rattle.std.proofs.Common.{◌≡◌, ℕ, ◌+◌, ◌++◌, List, [], length, take, drop, sym, ◌∙◌, ap, arith}
-use Rattle.std.specs.Prelude.{Option, Result, Ok, Err, OnOk, IsSome, unwrap_or}
+use Rattle.std.proofs.Common.{◌≡◌, [], length, drop, ◌∙◌, ap, arith}
 use Rattle.std.proofs.lemmas.List.{length-take-le, length-drop}
 use Rattle.outside.proofs.Durable.{told_some}
 use Rattle.outside.specs.Bytes.{bytes_at}

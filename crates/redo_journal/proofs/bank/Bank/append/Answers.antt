@@ -1,4 +1,4 @@
-use Rattle.std.proofs.Common.{◌≡◌, ℕ, ◌+◌, ◌*◌, ◌<◌, List, [], ◌∷◌, ◌++◌, length, slice_set, refl, sym, subst, ◌∙◌, ap, arith, length-append}
+use Rattle.std.proofs.Common.{◌≡◌, ℕ, ◌+◌, ◌*◌, List, [], ◌∷◌, ◌++◌, length, slice_set, refl, sym, subst, ◌∙◌, ap, arith, length-append}
 use Rattle.store_format.specs.Bank.{RecordLine, wrong_line}
 use Rattle.store_format.specs.Stands.{IsStore, stands, one_more}
 use Rattle.outside.specs.Runs.{held_of}

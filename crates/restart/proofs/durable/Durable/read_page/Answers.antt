@@ -1,5 +1,5 @@
 use Rattle.std.proofs.Common.{◌≡◌, ℕ, ◌+◌, ◌*◌, ◌≤◌, List, [], length, get_or, ap, subst, sym, IsSome, ◌∙◌, arith, refl, ◌<◌}
-use Rattle.std.specs.Prelude.{Option, None, Some, IfSome, unwrap_or}
+use Rattle.std.specs.Prelude.{Option, None, unwrap_or}
 use Rattle.line_geometry.specs.Directory.{page_count}
 use Rattle.store_format.specs.Header.{home_at, total}
 use Rattle.store_format.specs.Stands.{home_of}

@@ -1,10 +1,8 @@
-use Rattle.std.proofs.Common.{◌≡◌, ℕ, List, [], length, ap, subst, sym, IsSome, ◌∙◌}
+use Rattle.std.proofs.Common.{◌≡◌, ℕ, List, [], ap, subst, sym, IsSome, ◌∙◌}
 use Rattle.std.specs.Prelude.{Option, unwrap_or}
-use Rattle.store_format.specs.Header.{Header}
-use Rattle.store_format.specs.Stands.{HasHeader, chosen}
+use Rattle.store_format.specs.Stands.{HasHeader}
 use Rattle.outside.specs.Runs.{held_of}
 use Rattle.redo_journal.specs.Opened.{IsRead}
-use Rattle.redo_journal.specs.Kept.{KeptBank}
 use Rattle.restart.specs.Kept.{KeptStore}
 use Rattle.restart.specs.Shows.{Shows}
 use Rattle.restart.proofs.ShowLemmas.{sure_on, shows_read}
