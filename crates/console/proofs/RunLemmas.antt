@@ -1,6 +1,6 @@
 -- What runs on the store of `try`.
 use Rattle.std.proofs.Common.{◌≡◌, ℕ, zero, suc, ◌+◌, ◌*◌, ◌%◌, ◌^◌, ◌<◌, ◌≤◌, ◌⊎◌, inl, inr, Bool, true, false, List, [], ◌∷◌, ◌++◌, length, get_or, All, refl, sym, ◌∙◌, ap, subst, arith, append-nil, Option, Some, None}
-use Rattle.std.specs.Prelude.{Result, Ok, Err, IsSome, unwrap_or}
+use Rattle.std.specs.Prelude.{Result, Ok, Err, IsSome, unwrap_or, slice_index}
 use Rattle.std.specs.List.{flat_map}
 use Rattle.std.specs.Option.{ForSome}
 use Rattle.std.proofs.lemmas.Bool.{cases_lt}
@@ -13,9 +13,10 @@ use Rattle.line_geometry.specs.FlatStore.{FlatStore}
 use Rattle.flat_machine.specs.declared.machine.Program.{Program}
 use Rattle.flat_machine.specs.Serial.{serial}
 use Rattle.store_format.specs.declared.header.Which.{Which}
-use Rattle.store_format.specs.Header.{Field, segment_fields, fresh, IsLegal}
+use Rattle.line_geometry.specs.Legal.{IsInRange, IsLegal}
+use Rattle.store_format.specs.Header.{HasRanges, fresh}
 use Rattle.store_format.specs.Stands.{Stands, stands}
-use Rattle.store_format.proofs.Fresh.{fresh_store}
+use Rattle.store_format.proofs.Fresh.{fresh_is_store}
 use Rattle.store_format.proofs.Stores.{stands_is}
 use Rattle.desk.specs.declared.event.Event.{Event}
 use Rattle.desk.specs.declared.event.Event.TheVariants.{Begin, Turn}
@@ -77,16 +78,21 @@ held-some : (held : Option (List ℕ)) (bytes : List ℕ) → IsSome held → Fo
 held-some None bytes some is = absurd (cc)
 held-some (Some those) bytes some is = is those refl
 
-right_fields : (k : ℕ) (field : Field) → k < 4 → (get_or (segment_fields 16 1 1024 try_layout.directory.segments) k field).wrong ≡ false
-right_fields zero field within = refl
-right_fields (suc zero) field within = refl
-right_fields (suc (suc zero)) field within = refl
-right_fields (suc (suc (suc zero))) field within = refl
-right_fields (suc (suc (suc (suc k)))) field within = absurd (omega arith)
+in_range : (k : ℕ) (segment : ℕ × ℕ) → k < 2 → IsInRange (get_or try_layout.directory.segments k segment)
+in_range zero segment within = (omega arith, omega arith, omega arith, omega arith)
+in_range (suc zero) segment within = (omega arith, omega arith, omega arith, omega arith)
+in_range (suc (suc k)) segment within = absurd (omega arith)
+
+ascends : (k : ℕ) → k + 1 < 2 → slice_index (1 ∷ 2 ∷ []) k < slice_index (1 ∷ 2 ∷ []) (k + 1)
+ascends zero within = omega arith
+ascends (suc k) within = absurd (omega arith)
 
 -- the header of the store of `try` may be written
-try_legal : IsLegal try_layout
-try_legal = record { page = refl; some = omega arith; few = omega arith; least_bank = omega arith; most_bank = omega arith; segments = right_fields }
+try_ranges : HasRanges try_layout
+try_ranges = record { page = refl; least_bank = omega arith; most_bank = omega arith }
+
+try_legal : IsLegal try_layout.directory.segments
+try_legal = record { some = omega arith; few = omega arith; in_range = in_range; ascending = ascends; pages = omega arith }
 
 -- and its fresh image is kept by a desk that has just opened
 keeps-fresh : Keeps try_layout 0 0 try_bytes (fresh try_layout)
@@ -94,8 +100,8 @@ keeps-fresh = record {
   base = 0;
   records = [];
   stand = record {
-      store = fresh_store try_layout try_legal;
-      standing = stands_is (fresh try_layout) try_layout Which.A 0 264 [] (fresh_store try_layout try_legal);
+      store = fresh_is_store try_layout try_ranges try_legal;
+      standing = stands_is (fresh try_layout) try_layout Which.A 0 264 [] (fresh_is_store try_layout try_ranges try_legal);
     };
 }
 
