@@ -2,11 +2,15 @@
 //! turn.
 #![tactic(auto)]
 
+mod grammar;
 mod job;
 mod parts;
+mod reader;
 mod small_form;
+mod stage;
 #[cfg(test)]
 mod tests;
 
+pub use grammar::read_whole_job;
 pub use job::{Job, JobFault, Name};
 pub use small_form::read_job;
