@@ -1,11 +1,11 @@
 -- The job of a text, as its lines are read one after the other.
-use Rattle.std.proofs.Common.{◌≡◌, ℕ, suc, ◌+◌, ◌<◌, ◌≤◌, Bool, true, false, cond, nat_lt, List, [], ◌∷◌, length, take, Option, Some, None, Result, Ok, Err, refl, sym, ap, ◌∙◌, arith}
+use Rattle.std.proofs.Common.{◌≡◌, ℕ, ◌+◌, ◌<◌, ◌≤◌, Bool, true, false, cond, nat_lt, List, [], ◌∷◌, length, take, Option, Some, None, Result, Ok, Err, refl, sym, ap, ◌∙◌, arith}
 use Rattle.std.specs.List.{after_first, before_first, position_or_len}
 use Rattle.std.proofs.lemmas.Bool.Decides.{nat_tests}
 use Rattle.std.proofs.lemmas.Grind.{common_steps}
 use Rattle.asm_parse.specs.Cut.{behind_first}
 use Rattle.asm_parse.specs.Text.{is_feed, lines_of}
-use Rattle.asm_parse.proofs.TextLemmas.{behind_shorter, cut, left_of, parts_behind}
+use Rattle.asm_parse.proofs.TextLemmas.{behind_shorter, cut, left_of}
 use Rattle.job_text.specs.declared.job.JobFault.{JobFault}
 use Rattle.job_text.specs.declared.job.JobFault.TheVariants.{Fault, Memory}
 use Rattle.job_text.specs.Grammar.{Content, job_of, last_part, read_from, then_read}

@@ -1,11 +1,11 @@
 -- The job that a text is, or its first fault.
-use Rattle.std.specs.Prelude.{ℕ, ◌+◌, ◌==◌, if◌then◌else◌, Bool, true, false, List, [], ◌∷◌, length, map, Result, Ok, Err}
+use Rattle.std.specs.Prelude.{ℕ, ◌+◌, List, [], ◌∷◌, map, Result, Ok, Err}
 use Rattle.arrayvec.specs.ArrayVec.{ArrayVec}
 use Rattle.desk.specs.declared.event.Event.{Event}
 use Rattle.asm_parse.specs.Text.{lines_of}
 use Rattle.romp_asm.specs.Layout.{Parts, parts_of}
 use Rattle.job_text.specs.declared.stage.Stage.{Stage}
-use Rattle.job_text.specs.declared.stage.Stage.TheVariants.{Frames, Programs, Source, Schedule, Ended}
+use Rattle.job_text.specs.declared.stage.Stage.TheVariants.{Ended}
 use Rattle.job_text.specs.declared.job.Job.{Job}
 use Rattle.job_text.specs.Reading.{Reading, line_read, nothing_read}
 
@@ -19,11 +19,11 @@ pub record Content : Type 0 where
 -- what a job says
 abbrev pub content_of : Job → Content
 content_of job = record {
-    frames = job.frames;
-    names = map (λ (name : ArrayVec ℕ). name.items) job.names.items;
-    programs = map parts_of job.programs.items;
-    events = job.events.items;
-  }
+  frames = job.frames;
+  names = map (λ (name : ArrayVec ℕ). name.items) job.names.items;
+  programs = map parts_of job.programs.items;
+  events = job.events.items;
+}
 
 -- what has been read at the end of a text; a line that is owed is a fault of kind 10 of the line after the last
 abbrev pub whole : Stage → Reading → ℕ → Result Content (ℕ × ℕ)

@@ -1,5 +1,5 @@
 -- What a reader of jobs has read.
-use Rattle.std.specs.Prelude.{◌≡◌, ℕ, ⊤, List, map, Result, Ok, Err}
+use Rattle.std.specs.Prelude.{◌≡◌, ℕ, List, map, Result, Ok, Err}
 use Rattle.arrayvec.specs.ArrayVec.{ArrayVec}
 use Rattle.asm_parse.specs.declared.fault.LineFault.{LineFault}
 use Rattle.asm_parse.specs.declared.token.Token.{Token}
@@ -15,14 +15,14 @@ use Rattle.job_text.specs.Reading.{Reading, ended_line, frames_line, programs_li
 -- what a reader has read
 abbrev pub reading_of : Reader → Reading
 reading_of reader = record {
-    stage = reader.stage;
-    frames = reader.frames;
-    names = map (λ (name : ArrayVec ℕ). name.items) reader.names.items;
-    programs = map parts_of reader.programs.items;
-    statements = reader.statements.items;
-    events = reader.events.items;
-    begins = reader.begins;
-  }
+  stage = reader.stage;
+  frames = reader.frames;
+  names = map (λ (name : ArrayVec ℕ). name.items) reader.names.items;
+  programs = map parts_of reader.programs.items;
+  statements = reader.statements.items;
+  events = reader.events.items;
+  begins = reader.begins;
+}
 
 -- what tokens give where no source line is due
 abbrev pub tokens_read : Stage → Reading → List Token → Result Reading ℕ

@@ -3,9 +3,9 @@ ghost use Rattle.job_text.specs.declared.job.JobFault.TheVariants.{Memory};
 ghost use Rattle.job_text.specs.Faults.{job_fault};
 
 use arrayvec::ArrayVec;
+use asm_parse::AsmFault;
 use desk::Event;
 use flat_machine::Program;
-use asm_parse::AsmFault;
 use std::alloc::{AllocError, AllocFailed};
 
 /// The name of a program: 1 to 31 bytes.

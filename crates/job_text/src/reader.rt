@@ -136,10 +136,7 @@ impl Reader {
                 Ok(())
             }
             [Token::Word(word), Token::Word(name)]
-                if word.as_str() == "program" && name.is_label() =>
-            {
-                self.program_begins(name)
-            }
+                if word.as_str() == "program" && name.is_label() => { self.program_begins(name) }
             _ => Err(LineFault::Kind(FORM)),
         }
     }
@@ -198,10 +195,7 @@ impl Reader {
                 _ => Err(LineFault::Kind(FORM)),
             },
             [Token::Word(word), Token::Word(name), values @ ..]
-                if word.as_str() == "begin" && name.is_label() =>
-            {
-                self.begin_line(name, values)
-            }
+                if word.as_str() == "begin" && name.is_label() => { self.begin_line(name, values) }
             _ => Err(LineFault::Kind(FORM)),
         }
     }

@@ -2,7 +2,6 @@ use Rattle.std.proofs.Common.{arith, ap, length}
 use Rattle.job_text.specs.Reading.{Reading}
 use Rattle.job_text.specs.Grammar.{read_from}
 use Rattle.asm_parse.specs.Text.{lines_of}
-use Rattle.job_text.specs.JobAnswers.{IsJobAnswer}
 use Rattle.job_text.specs.Reader.{reading_of}
 use Rattle.job_text.proofs.GrammarLemmas.{last_left, line_faulty, line_more}
 use Rattle.job_text.proofs.grammar.read_whole_job.Goals as goal

@@ -1,4 +1,4 @@
-use Rattle.std.proofs.Common.{arith, sym, append-nil}
+use Rattle.std.proofs.Common.{sym, append-nil}
 use Rattle.job_text.proofs.DrainLemmas.{no_rounds, round_more, rounds_short, rounds_within, round_fits}
 use Rattle.job_text.proofs.reader.drain.Goals as goal
 

@@ -1,6 +1,5 @@
-use Rattle.std.proofs.Common.{arith, sym, ap, append-nil, length, length-append}
-use Rattle.job_text.specs.Reading.{turns_to}
-use Rattle.job_text.proofs.DrainLemmas.{length-turns_to, no_turns, turn_more, turns_short}
+use Rattle.std.proofs.Common.{arith, sym, ap, append-nil, length}
+use Rattle.job_text.proofs.DrainLemmas.{no_turns, turn_more, turns_short}
 use Rattle.job_text.proofs.reader.turns_to.Goals as goal
 
 pub loop-before-init : goal.loop-before-init
