@@ -3,7 +3,7 @@ ghost use Rattle.std.specs.List.{before_first, starts_with};
 ghost use Rattle.std.specs.Option.{option_map};
 ghost use Rattle.asm_parse.specs.Cut.{behind_first};
 ghost use Rattle.asm_parse.specs.Operand.{expression_of};
-ghost use Rattle.asm_parse.specs.Statement.{access_of, behind_label, body_of, directive_of, instruction_of, is_label, label_of, line_of, named_body, space_of, statement_of, window_of};
+ghost use Rattle.asm_parse.specs.Statement.{access_of, behind_label, body_of, directive_of, instruction_of, label_of, line_of, named_body, space_of, statement_of, window_of};
 ghost use Rattle.asm_parse.specs.Text.{Gains, at_line, is_feed, parsed};
 ghost use Rattle.asm_parse.specs.Answers.{IsAnswer, IsTextFaultOf};
 
@@ -82,7 +82,9 @@ pub fn parse_line(alloc: Global, number: u32, line: &[u8]) -> Result<Option<Stat
 }
 
 /// The first line of a text, and what stands behind its line feed, if it has one.
-fn first_line(text: &[u8]) -> (&[u8], Option<&[u8]>)
+///
+/// Lines are those of docs/FORMATS.md, "Assembler".
+pub fn first_line(text: &[u8]) -> (&[u8], Option<&[u8]>)
     ensures line { result.0.now ≡ before_first is_feed text.now }
     ensures behind { option_map (λ behind. behind.now) result.1 ≡ behind_first is_feed text.now }
 {
@@ -122,18 +124,11 @@ fn split_label(tokens: &[Token]) -> (Option<Word>, &[Token])
     ensures behind { result.1.now ≡ behind_label tokens.now }
 {
     match tokens {
-        [Token::Word(word), Token::Colon, rest @ ..] if is_label(word.as_bytes()) => {
+        [Token::Word(word), Token::Colon, rest @ ..] if word.is_label() => {
             (Some(word.copied()), rest)
         }
         _ => (None, tokens),
     }
-}
-
-/// Whether a word may be a label.
-fn is_label(word: &[u8]) -> bool
-    ensures { result ≡ is_label word.now }
-{
-    !word.starts_with(b".")
 }
 
 /// What tokens say behind a label.

@@ -1,5 +1,6 @@
-ghost use Rattle.std.specs.Prelude.{◌≡◌, nat_le, if◌then◌else◌, length, Some, None};
+ghost use Rattle.std.specs.Prelude.{◌≡◌, ◌≤◌, nat_le, if◌then◌else◌, length, Some, None};
 ghost use Rattle.std.specs.Str.{IsAscii};
+ghost use Rattle.asm_parse.specs.Statement.{is_label};
 
 use arrayvec::ArrayString;
 use std::marker::Model;
@@ -47,9 +48,17 @@ impl Word {
         self.text.as_str()
     }
 
+    /// Whether it may be a label or a name: it doesn't begin with `.`.
+    pub fn is_label(&self) -> bool
+        ensures { result ≡ is_label self.now }
+    {
+        !self.as_bytes().starts_with(b".")
+    }
+
     /// Its bytes.
     pub fn as_bytes(&self) -> &[u8]
-        ensures { result.now ≡ self.now }
+        ensures value { result.now ≡ self.now }
+        ensures fits { length result.now ≤ 31 }
     {
         self.text.as_str().as_bytes()
     }

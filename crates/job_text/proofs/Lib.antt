@@ -1,2 +1,4 @@
 pub mod PartLemmas
 pub mod WholeLemmas
+pub mod DrainLemmas
+pub mod GrammarLemmas

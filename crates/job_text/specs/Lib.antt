@@ -3,3 +3,8 @@ pub mod Parts
 pub mod Means
 pub mod Ready
 pub mod Answers
+pub mod Reading
+pub mod Grammar
+pub mod JobAnswers
+pub mod Reader
+pub mod Faults

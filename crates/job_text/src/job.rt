@@ -1,10 +1,12 @@
 ghost use Rattle.std.specs.Prelude.{◌≡◌};
 ghost use Rattle.job_text.specs.declared.job.JobFault.TheVariants.{Memory};
+ghost use Rattle.job_text.specs.Faults.{job_fault};
 
 use arrayvec::ArrayVec;
+use asm_parse::AsmFault;
 use desk::Event;
 use flat_machine::Program;
-use std::alloc::AllocError;
+use std::alloc::{AllocError, AllocFailed};
 
 /// The name of a program: 1 to 31 bytes.
 pub type Name = ArrayVec<u8, 31>;
@@ -33,5 +35,24 @@ impl From<AllocError> for JobFault {
 
     fn from(_error: AllocError) -> Self {
         JobFault::Memory
+    }
+}
+
+impl<T: Drop> From<AllocFailed<T>> for JobFault {
+    ghost from_gives = { λ _ fault. fault ≡ Memory };
+
+    fn from(_error: AllocFailed<T>) -> Self {
+        JobFault::Memory
+    }
+}
+
+impl From<AsmFault> for JobFault {
+    ghost from_gives = { λ fault told. told ≡ job_fault fault };
+
+    fn from(fault: AsmFault) -> Self {
+        match fault {
+            AsmFault::Fault { line, kind } => JobFault::Fault { line, kind },
+            AsmFault::Memory => JobFault::Memory,
+        }
     }
 }

@@ -1,0 +1,15 @@
+use Rattle.std.proofs.Common.{List, ℕ, Bor, ap}
+use Rattle.std.specs.Option.{option_map}
+use Rattle.job_text.proofs.GrammarLemmas.{first_cut, first_shorter, only_part}
+use Rattle.job_text.proofs.grammar.next_line.Goals as goal
+
+pub returns-in-Some : goal.returns-in-Some
+returns-in-Some c =
+    let some = ap (option_map (λ (behind : Bor (List ℕ)). behind.now)) c.in-Some.is in (
+      first_cut c.args.left.now c.first_line.result.0.now c.in-Some.behind.now _ c.first_line.ensures.line c.first_line.ensures.behind some,
+      first_shorter c.args.left.now c.in-Some.behind.now _ c.first_line.ensures.behind some,
+    )
+
+pub returns-in-None : goal.returns-in-None
+returns-in-None c =
+    only_part c.args.left.now _ c.first_line.ensures.behind (ap (option_map (λ (behind : Bor (List ℕ)). behind.now)) c.in-None.is)

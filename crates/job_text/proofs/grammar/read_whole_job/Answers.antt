@@ -1,0 +1,29 @@
+use Rattle.std.proofs.Common.{arith, ap, length}
+use Rattle.job_text.specs.Reading.{Reading}
+use Rattle.job_text.specs.Grammar.{read_from}
+use Rattle.asm_parse.specs.Text.{lines_of}
+use Rattle.job_text.specs.Reader.{reading_of}
+use Rattle.job_text.proofs.GrammarLemmas.{last_left, line_faulty, line_more}
+use Rattle.job_text.proofs.grammar.read_whole_job.Goals as goal
+
+pub loop-line-init : goal.loop-line-init
+loop-line-init c = record {
+  so_far = ap (λ reading. read_from reading 1 (lines_of c.args.text.now)) c.new-reader.ensures;
+  number = omega arith;
+  few = omega (arith, ap (λ (reading : Reading). length reading.statements) c.new-reader.ensures);
+}
+
+pub loop-line-preserved : goal.loop-line-preserved
+loop-line-preserved c = record {
+  so_far = line_more (reading_of c.loop-line.reader) (reading_of c.line.new.self) c.loop-line.number c.loop-line.left.now c.in-Some.line.now c.in-Some.behind.now c.args.text.now c.in-Some.ensures.0 c.in-Ok.ensures.read c.loop-line.invariant.so_far;
+  number = omega (arith, c.in-Some.ensures.1);
+  few = omega (arith, c.in-Some.ensures.1, c.line.ensures.few);
+}
+
+pub returns-in-Err : goal.returns-in-Err
+returns-in-Err c =
+    line_faulty (reading_of c.loop-line.reader) c.loop-line.number c.loop-line.left.now c.in-Some.line.now c.in-Some.behind.now c.args.text.now c.in-Err.fault c.in-Some.ensures.0 c.in-Err.ensures.read c.loop-line.invariant.so_far
+
+pub returns : goal.returns
+returns c =
+    rw (last_left (reading_of c.loop-line.reader) c.loop-line.number c.loop-line.left.now c.args.text.now c.in_default.ensures c.loop-line.invariant.so_far) at c.finish.ensures

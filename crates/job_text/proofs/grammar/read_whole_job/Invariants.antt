@@ -1,0 +1,15 @@
+use Rattle.std.proofs.Common.{◌≡◌, ◌+◌, ◌≤◌, length}
+use Rattle.asm_parse.specs.Text.{lines_of}
+use Rattle.job_text.specs.Grammar.{job_of, read_from}
+use Rattle.job_text.specs.Reader.{reading_of}
+use Rattle.job_text.proofs.grammar.read_whole_job.Given as goal
+
+abbrev pub invariant-loop-line : goal.invariant-loop-line
+invariant-loop-line l = record {
+  so_far : read_from (reading_of l.reader) l.number (lines_of l.left) ≡ job_of l.text;
+  number : l.number + length l.left ≤ length l.text + 1;
+  few : length l.reader.statements.items + length l.left ≤ length l.text;
+}
+
+abbrev pub decreases-loop-line : goal.decreases-loop-line
+decreases-loop-line l = length l.left

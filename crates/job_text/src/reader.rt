@@ -1,0 +1,393 @@
+ghost use Rattle.std.specs.Prelude.{◌≡◌, ℕ, ◌+◌, ◌*◌, ◌≤◌, ◌<◌, ◌^◌, ◌++◌, length, map, position, is_some, Some, Ok, OnOk, IfOk, IfSome};
+ghost use Rattle.std.specs.Option.{option_map};
+ghost use Rattle.std.specs.Str.{bytes_eq};
+ghost use Rattle.asm_parse.specs.Operand.{place_among};
+ghost use Rattle.asm_parse.specs.Token.{tokens};
+ghost use Rattle.job_text.specs.Reading.{four_of, is_end, is_limit, rounds_of, turns_to, values_of};
+
+use super::job::{JobFault, Name};
+use super::stage::{Stage, TAKES_CHECKPOINT, TAKES_CRASH};
+use asm_parse::{AsmFault, LineFault, Statement, Token, Word, parse_line, tokens_of};
+use desk::Event;
+use flat_machine::Program;
+use romp_asm::assemble;
+use std::alloc::{AllocError, Global};
+
+/// A line of another form than those that are due.
+pub(crate) const FORM: u8 = 10;
+/// A number out of its range, a program or an event too many.
+const LIMIT: u8 = 11;
+/// No program has the name.
+const UNKNOWN_PROGRAM: u8 = 12;
+/// A program has the name already.
+const DUPLICATE_PROGRAM: u8 = 13;
+/// No begin before makes the activation.
+const UNKNOWN_ACTIVATION: u8 = 14;
+
+/// The most programs of a job.
+const MOST_PROGRAMS: usize = 64;
+/// The most events of a job.
+const MOST_EVENTS: usize = 10_000;
+
+/// What has been read of a job.
+#[derive(Drop)]
+pub(crate) struct Reader {
+    pub stage: Stage,
+    pub frames: u16,
+    pub names: Vec<Name>,
+    pub programs: Vec<Program>,
+    /// The statements of the program that is being read.
+    pub statements: Vec<Statement>,
+    pub events: Vec<Event>,
+    /// How many of the events are begins.
+    pub begins: u32,
+    ghost names_few: { length names.items ≤ 64 },
+    ghost events_few: { length events.items ≤ 10000 },
+    ghost begins_few: { begins ≤ length events.items },
+}
+
+impl Reader {
+    ghost use Rattle.job_text.specs.Reading.{begin_line, begin_of, drain_line, ended_line, frames_line, line_read, nothing_read, program_begins, programs_line, schedule_line, single_line, source_line, turn_line, with_event};
+    ghost use Rattle.job_text.specs.Reader.{IsRead, IsStep, reading_of, tokens_read};
+
+    /// Nothing yet.
+    pub fn new(alloc: Global) -> Self
+        ensures { reading_of result ≡ nothing_read }
+    {
+        Reader {
+            stage: Stage::Frames,
+            frames: 0,
+            names: Vec::new(alloc),
+            programs: Vec::new(alloc),
+            statements: Vec::new(alloc),
+            events: Vec::new(alloc),
+            begins: 0,
+        }
+    }
+
+    /// Reads one line more.
+    pub fn line(&mut self, alloc: Global, number: u32, line: &[u8]) -> Result<(), JobFault>
+        requires { length self.old.statements.items ≤ 2 ^ 30 }
+        ensures read { IsRead result self.new (line_read self.old.stage (reading_of self.old) number line.now) }
+        ensures few { length self.new.statements.items ≤ length self.old.statements.items + 1 }
+    {
+        if self.stage == Stage::Source {
+            return self.source_line(alloc, number, line);
+        }
+        let tokens = match tokens_of(alloc, line) {
+            Ok(tokens) => tokens,
+            Err(LineFault::Kind(_)) => {
+                return Err(JobFault::Fault {
+                    line: number,
+                    kind: FORM,
+                });
+            }
+            Err(LineFault::Memory) => return Err(JobFault::Memory),
+        };
+        match self.tokens(tokens.as_slice()) {
+            Ok(()) => Ok(()),
+            Err(LineFault::Kind(kind)) => Err(JobFault::Fault { line: number, kind }),
+            Err(LineFault::Memory) => Err(JobFault::Memory),
+        }
+    }
+
+    /// Reads the tokens of a line that is no source line.
+    fn tokens(&mut self, tokens: &[Token]) -> Result<(), LineFault>
+        ensures read { IsStep result self.new (tokens_read self.old.stage (reading_of self.old) tokens.now) }
+        ensures few { length self.new.statements.items ≤ length self.old.statements.items }
+    {
+        match self.stage {
+            Stage::Frames => self.frames_line(tokens),
+            Stage::Programs => self.programs_line(tokens),
+            Stage::Source => Ok(()),
+            Stage::Schedule => self.schedule_line(tokens),
+            Stage::Ended => self.ended_line(tokens),
+        }
+    }
+
+    /// `frames C`.
+    fn frames_line(&mut self, tokens: &[Token]) -> Result<(), LineFault>
+        ensures read { IsStep result self.new (frames_line (reading_of self.old) tokens.now) }
+        ensures few { length self.new.statements.items ≤ length self.old.statements.items }
+    {
+        match tokens {
+            [] => Ok(()),
+            [Token::Word(word), Token::Number(count)] if word.as_str() == "frames" => {
+                if *count < 2 || *count > 1024 {
+                    return Err(LineFault::Kind(LIMIT));
+                }
+                self.stage = Stage::Programs;
+                self.frames = *count as u16;
+                Ok(())
+            }
+            _ => Err(LineFault::Kind(FORM)),
+        }
+    }
+
+    /// `program NAME` or `schedule`.
+    fn programs_line(&mut self, tokens: &[Token]) -> Result<(), LineFault>
+        ensures read { IsStep result self.new (programs_line (reading_of self.old) tokens.now) }
+        ensures few { length self.new.statements.items ≤ length self.old.statements.items }
+    {
+        match tokens {
+            [] => Ok(()),
+            [Token::Word(word)] if word.as_str() == "schedule" => {
+                self.stage = Stage::Schedule;
+                Ok(())
+            }
+            [Token::Word(word), Token::Word(name)]
+                if word.as_str() == "program" && name.is_label() => { self.program_begins(name) }
+            _ => Err(LineFault::Kind(FORM)),
+        }
+    }
+
+    /// A program of this name begins.
+    fn program_begins(&mut self, name: &Word) -> Result<(), LineFault>
+        ensures read { IsStep result self.new (program_begins (reading_of self.old) name.now) }
+        ensures few { length self.new.statements.items ≤ length self.old.statements.items }
+    {
+        if place_of(self.names.as_slice(), name.as_bytes()).is_some() {
+            return Err(LineFault::Kind(DUPLICATE_PROGRAM));
+        }
+        if self.names.len() >= MOST_PROGRAMS {
+            return Err(LineFault::Kind(LIMIT));
+        }
+        self.names.push(name_of(name))?;
+        self.statements.clear();
+        self.stage = Stage::Source;
+        Ok(())
+    }
+
+    /// A line between `program` and its `end`.
+    fn source_line(&mut self, alloc: Global, number: u32, line: &[u8]) -> Result<(), JobFault>
+        requires { length self.old.statements.items ≤ 2 ^ 30 }
+        ensures read { IsRead result self.new (source_line (reading_of self.old) number line.now) }
+        ensures few { length self.new.statements.items ≤ length self.old.statements.items + 1 }
+    {
+        if is_end(alloc, line)? {
+            let program = assemble(alloc, self.statements.as_slice())?;
+            self.programs.push(program)?;
+            self.statements.clear();
+            self.stage = Stage::Programs;
+            return Ok(());
+        }
+        if let Some(statement) = parse_line(alloc, number, line)? {
+            self.statements.push(statement)?;
+        }
+        Ok(())
+    }
+
+    /// An event, or the `end` of the schedule.
+    fn schedule_line(&mut self, tokens: &[Token]) -> Result<(), LineFault>
+        ensures read { IsStep result self.new (schedule_line (reading_of self.old) tokens.now) }
+        ensures few { self.new.statements.items ≡ self.old.statements.items }
+    {
+        match tokens {
+            [] => Ok(()),
+            [Token::Word(word)] => self.single_line(word.as_str()),
+            [
+                Token::Word(word),
+                Token::Number(first),
+                Token::Number(second),
+            ] => match word.as_str() {
+                "turn" => self.turn_line(*first, *second),
+                "drain" => self.drain_line(*first, *second),
+                _ => Err(LineFault::Kind(FORM)),
+            },
+            [Token::Word(word), Token::Word(name), values @ ..]
+                if word.as_str() == "begin" && name.is_label() => { self.begin_line(name, values) }
+            _ => Err(LineFault::Kind(FORM)),
+        }
+    }
+
+    /// `end`, `checkpoint` or `crash`.
+    fn single_line(&mut self, word: &str) -> Result<(), LineFault>
+        ensures read { IsStep result self.new (single_line (reading_of self.old) word.now) }
+        ensures few { self.new.statements.items ≡ self.old.statements.items }
+    {
+        if word == "end" {
+            self.stage = Stage::Ended;
+            return Ok(());
+        }
+        if word == "checkpoint" && TAKES_CHECKPOINT {
+            return self.add(Event::Checkpoint);
+        }
+        if word == "crash" && TAKES_CRASH {
+            return self.add(Event::Crash);
+        }
+        Err(LineFault::Kind(FORM))
+    }
+
+    /// `begin NAME v ..`.
+    fn begin_line(&mut self, name: &Word, values: &[Token]) -> Result<(), LineFault>
+        ensures read { IsStep result self.new (begin_line (reading_of self.old) name.now (values_of values.now)) }
+        ensures few { self.new.statements.items ≡ self.old.statements.items }
+    {
+        let Some(args) = args_of(values) else {
+            return Err(LineFault::Kind(FORM));
+        };
+        let Some(place) = place_of(self.names.as_slice(), name.as_bytes()) else {
+            return Err(LineFault::Kind(UNKNOWN_PROGRAM));
+        };
+        if self.events.len() >= MOST_EVENTS {
+            return Err(LineFault::Kind(LIMIT));
+        }
+        self.events.push(Event::Begin {
+            program: place as u16,
+            args,
+        })?;
+        self.begins += 1;
+        Ok(())
+    }
+
+    /// `turn A K`.
+    fn turn_line(&mut self, activation: u32, limit: u32) -> Result<(), LineFault>
+        ensures read { IsStep result self.new (turn_line (reading_of self.old) activation limit) }
+        ensures few { self.new.statements.items ≡ self.old.statements.items }
+    {
+        if activation < 1 || activation > self.begins {
+            return Err(LineFault::Kind(UNKNOWN_ACTIVATION));
+        }
+        if !is_limit(limit) {
+            return Err(LineFault::Kind(LIMIT));
+        }
+        self.add(Event::Turn { activation, limit })
+    }
+
+    /// `drain R K`.
+    fn drain_line(&mut self, rounds: u32, limit: u32) -> Result<(), LineFault>
+        ensures read { IsStep result self.new (drain_line (reading_of self.old) rounds limit) }
+        ensures few { self.new.statements.items ≡ self.old.statements.items }
+    {
+        if rounds < 1 || rounds > 10_000 || !is_limit(limit) {
+            return Err(LineFault::Kind(LIMIT));
+        }
+        if self.events.len() as u64 + u64::from(rounds) * u64::from(self.begins) > 10_000 {
+            return Err(LineFault::Kind(LIMIT));
+        }
+        drain(&mut self.events, rounds, self.begins, limit)?;
+        Ok(())
+    }
+
+    /// Nothing behind the schedule's `end`.
+    fn ended_line(&mut self, tokens: &[Token]) -> Result<(), LineFault>
+        ensures read { IsStep result self.new (ended_line (reading_of self.old) tokens.now) }
+        ensures few { length self.new.statements.items ≤ length self.old.statements.items }
+    {
+        match tokens {
+            [] => Ok(()),
+            _ => Err(LineFault::Kind(FORM)),
+        }
+    }
+
+    /// One event more that is no begin.
+    fn add(&mut self, event: Event) -> Result<(), LineFault>
+        ensures read { IsStep result self.new (with_event (reading_of self.old) event) }
+        ensures few { self.new.statements.items ≡ self.old.statements.items }
+    {
+        if self.events.len() >= MOST_EVENTS {
+            return Err(LineFault::Kind(LIMIT));
+        }
+        self.events.push(event)?;
+        Ok(())
+    }
+}
+
+/// Whether a line is `end` alone.
+fn is_end(alloc: Global, line: &[u8]) -> Result<bool, AllocError>
+    ensures { IfOk result (λ end. end ≡ is_end (tokens line.now)) }
+{
+    match tokens_of(alloc, line) {
+        Ok(tokens) => Ok(is_end_word(tokens.as_slice())),
+        Err(LineFault::Kind(_)) => Ok(false),
+        Err(LineFault::Memory) => Err(AllocError),
+    }
+}
+
+/// Whether tokens are `end` alone.
+fn is_end_word(tokens: &[Token]) -> bool
+    ensures { result ≡ is_end (Ok tokens.now) }
+{
+    match tokens {
+        [Token::Word(word)] => word.as_str() == "end",
+        _ => false,
+    }
+}
+
+/// Whether a number is a turn's limit.
+fn is_limit(limit: u32) -> bool
+    ensures { result ≡ is_limit limit }
+{
+    1 <= limit && limit <= 1_000_000
+}
+
+/// The values of a begin, filled up with zeros, if there are at most four and they are numbers.
+fn args_of(values: &[Token]) -> Option<[u32; 4]>
+    ensures { result ≡ option_map four_of (values_of values.now) }
+{
+    match values {
+        [] => Some([0; 4]),
+        [Token::Number(a)] => Some([*a, 0, 0, 0]),
+        [Token::Number(a), Token::Number(b)] => Some([*a, *b, 0, 0]),
+        [Token::Number(a), Token::Number(b), Token::Number(c)] => Some([*a, *b, *c, 0]),
+        [
+            Token::Number(a),
+            Token::Number(b),
+            Token::Number(c),
+            Token::Number(d),
+        ] => Some([*a, *b, *c, *d]),
+        _ => None,
+    }
+}
+
+/// A word as a name.
+fn name_of(word: &Word) -> Name
+    ensures { result.items ≡ word.now }
+{
+    let mut name = Name::new();
+    let _ = name.try_extend_from_slice(word.as_bytes());
+    name
+}
+
+/// The place of a name.
+fn place_of(names: &[Name], word: &[u8]) -> Option<usize>
+    ensures value { result ≡ place_among (map (λ name. name.items) names.now) word.now }
+    ensures inside { IfSome result (λ place. place < length names.now) }
+{
+    first_named(names, word)
+}
+
+/// The place of the first of these names that a word is.
+fn first_named(names: &[Name], word: &[u8]) -> Option<usize>
+    ensures value { result ≡ position (λ name. bytes_eq name.items word.now) names.now }
+    ensures inside { IfSome result (λ place. place < length names.now) }
+{
+    names.iter().position(|name| name.as_slice() == word)
+}
+
+/// Appends so many rounds of a turn for each activation from 1 to the last.
+fn drain(events: &mut Vec<Event>, rounds: u32, last: u32, limit: u32) -> Result<(), AllocError>
+    ensures value { OnOk result (events.new.items ≡ events.old.items ++ rounds_of limit last rounds) }
+    ensures more { length events.old.items ≤ length events.new.items }
+    ensures short { length events.new.items ≤ length events.old.items + rounds * last }
+{
+    for _round in 0..rounds {
+        turns_to(events, last, limit)?;
+    }
+    Ok(())
+}
+
+/// Appends a turn for each activation from 1 to the last.
+fn turns_to(events: &mut Vec<Event>, last: u32, limit: u32) -> Result<(), AllocError>
+    ensures value { OnOk result (events.new.items ≡ events.old.items ++ turns_to limit last) }
+    ensures more { length events.old.items ≤ length events.new.items }
+    ensures short { length events.new.items ≤ length events.old.items + last }
+{
+    for before in 0..last {
+        events.push(Event::Turn {
+            activation: before + 1,
+            limit,
+        })?;
+    }
+    Ok(())
+}

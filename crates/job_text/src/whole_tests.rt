@@ -1,0 +1,149 @@
+//! Texts of the whole language and their jobs, and texts that are refused, with the line and the kind of the fault.
+use super::{Job, JobFault, read_whole_job};
+use desk::Event;
+use std::alloc::Global;
+use std::test::Fail;
+
+/// Texts that are no job, and the line and the kind of the fault.
+const REFUSED: [(&str, u32, u8); 36] = [
+    ("", 1, 10),
+    ("frames 1\n", 1, 11),
+    ("frames 1025\n", 1, 11),
+    ("frames 4294967296\n", 1, 10),
+    ("frames 2\n", 2, 10),
+    ("frames 2\nschedule\nbegin p\n", 3, 12),
+    ("frames 2\nprogram p\nend\nprogram p\n", 4, 13),
+    ("frames 2\nprogram .p\n", 2, 10),
+    ("frames 2\nprogram p q\n", 2, 10),
+    ("frames 2\nprogram p\n.space 16385\nend\n", 3, 8),
+    ("frames 2\nprogram p\n.window 16, 1, r\nend\n", 3, 9),
+    ("frames 2\nprogram p\nq r1, r2\n", 3, 2),
+    ("frames 2\nprogram p\n$\n", 3, 1),
+    ("frames 2\nprogram p\nx: svc 0\nx: svc 0\nend\n", 4, 5),
+    (
+        "frames 2\nprogram p\njb eq, far\n.space 300\nfar: svc 0\nend\n",
+        3,
+        7,
+    ),
+    ("frames 2\nprogram p\n.word 4294967296\n", 3, 4),
+    ("frames 2\nprogram p\nx: svc 0\nx: svc 0\n", 5, 10),
+    ("frames 2\nprogram p\nx: end\n", 3, 2),
+    ("frames 2\nprogram p\nend x\n", 3, 2),
+    ("frames 2\nprogram p\nsvc 0 ; end\n", 4, 10),
+    ("frames 2\nschedule\nend", 3, 10),
+    ("frames 2\nschedule\nturn 1 5\n", 3, 14),
+    ("frames 2\nschedule\nturn 0 0\n", 3, 14),
+    (
+        "frames 2\nprogram p\nend\nschedule\nbegin p\nturn 1 0\n",
+        6,
+        11,
+    ),
+    (
+        "frames 2\nprogram p\nend\nschedule\nbegin p\nturn 1 1000001\n",
+        6,
+        11,
+    ),
+    (
+        "frames 2\nprogram p\nend\nschedule\nbegin p\nturn 2 1\n",
+        6,
+        14,
+    ),
+    (
+        "frames 2\nprogram p\nend\nschedule\nbegin p\nbegin p\ndrain 5001 1\n",
+        7,
+        11,
+    ),
+    (
+        "frames 2\nprogram p\nend\nschedule\nbegin p\ndrain 10000 1\n",
+        6,
+        11,
+    ),
+    ("frames 2\nprogram p\nend\nschedule\ndrain 10001 1\n", 5, 11),
+    (
+        "frames 2\nprogram p\nend\nschedule\nbegin p 1 2 3 4 5\n",
+        5,
+        10,
+    ),
+    (
+        "frames 2\nprogram p\nend\nschedule\nbegin q 1 2 3 4 5\n",
+        5,
+        10,
+    ),
+    ("frames 2\nschedule\ncrash\n", 3, 10),
+    ("frames 2\nschedule\ncheckpoint\n", 3, 10),
+    ("frames 2\nschedule\nend\nend\n", 4, 10),
+    ("frames 2\nschedule\nend\n; behind", 4, 10),
+    ("schedule\n", 1, 10),
+];
+
+/// A job with comments and blank lines, an entry address, and drains over the begins before them.
+const ACCEPTED: &str =
+    "; a job\n\nframes 0x3 ; frames\nprogram a\n.window 1, 1, rw\nhere: svc 0\n.entry here\nend ; of a\nprogram _b\nend\n schedule\nbegin a 1 2\ndrain 2 050\nbegin _b\nturn 2 7\ndrain 1 9\nend\n ; behind\n";
+
+/// What a text is refused for.
+fn fault_of(alloc: Global, text: &str) -> Option<JobFault> {
+    if text.len() > 4096 {
+        return None;
+    }
+    read_whole_job(alloc, text.as_bytes()).err()
+}
+
+/// The job of a short text.
+fn read(alloc: Global, text: &str) -> Result<Job, JobFault> {
+    if text.len() > 4096 {
+        return Err(JobFault::Memory);
+    }
+    read_whole_job(alloc, text.as_bytes())
+}
+
+/// A turn of an activation.
+fn turn(activation: u32, limit: u32) -> Event {
+    Event::Turn { activation, limit }
+}
+
+#[test]
+fn a_text_is_its_job(rt: HostRuntime) -> Result<(), Fail> {
+    let job = read(rt.alloc(), ACCEPTED)?;
+    assert_eq!(rt; job.frames, 3);
+    assert_eq!(rt; job.names.len(), 2);
+    assert_eq!(rt; job.names[1].as_slice(), b"_b".as_slice());
+    assert_eq!(rt; job.programs.len(), 2);
+    assert_eq!(rt;
+        job.programs[0].image.as_slice(),
+        [0xC0, 0, 0, 0].as_slice()
+    );
+    let begin = Event::Begin {
+        program: 0,
+        args: [1, 2, 0, 0],
+    };
+    let other = Event::Begin {
+        program: 1,
+        args: [0; 4],
+    };
+    let events = [
+        begin,
+        turn(1, 50),
+        turn(1, 50),
+        other,
+        turn(2, 7),
+        turn(1, 9),
+        turn(2, 9),
+    ];
+    assert_eq!(rt; job.events.as_slice(), events.as_slice());
+    Ok(())
+}
+
+#[test]
+fn the_first_fault_is_told(rt: HostRuntime) -> Result<(), Fail> {
+    for (text, line, kind) in REFUSED {
+        assert_eq!(rt;
+            fault_of(rt.alloc(), text),
+            Some(JobFault::Fault { line, kind }),
+            "{text}"
+        );
+    }
+    let full = "frames 2\nprogram p\nend\nschedule\nbegin p\ndrain 9999 1\nend\n";
+    let job = read(rt.alloc(), full)?;
+    assert_eq!(rt; job.events.len(), 10_000);
+    Ok(())
+}
