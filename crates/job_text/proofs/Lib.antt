@@ -1,4 +1,3 @@
-pub mod PartLemmas
-pub mod WholeLemmas
+pub mod ReadyLemmas
 pub mod DrainLemmas
 pub mod GrammarLemmas

@@ -1,8 +1,4 @@
-pub mod SmallJob
-pub mod Parts
-pub mod Means
 pub mod Ready
-pub mod Answers
 pub mod Reading
 pub mod Grammar
 pub mod JobAnswers

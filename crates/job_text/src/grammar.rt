@@ -1,9 +1,10 @@
 // Jobs of the whole language (docs/FORMATS.md, "Job").
-ghost use Rattle.std.specs.Prelude.{◌≡◌, ◌<◌, ◌^◌, [], ◌∷◌, length, MatchOption};
+ghost use Rattle.std.specs.Prelude.{◌≡◌, ◌<◌, ◌^◌, [], ◌∷◌, length, IfOk, MatchOption};
 ghost use Rattle.asm_parse.specs.Text.{lines_of};
 ghost use Rattle.job_text.specs.Grammar.{job_of, last_part};
 ghost use Rattle.job_text.specs.JobAnswers.{IsJobAnswer};
 ghost use Rattle.job_text.specs.Reader.{reading_of};
+ghost use Rattle.job_text.specs.Ready.{IsReady};
 
 use super::job::{Job, JobFault};
 use super::reader::{FORM, Reader};
@@ -17,9 +18,10 @@ use std::alloc::Global;
 ///
 /// [`JobFault::Fault`] with the first line from the top that has a fault, and its kind; [`JobFault::Memory`] where there
 /// is no memory.
-pub fn read_whole_job(alloc: Global, text: &[u8]) -> Result<Job, JobFault>
+pub fn read_job(alloc: Global, text: &[u8]) -> Result<Job, JobFault>
     requires { length text.now < 2 ^ 30 }
-    ensures { IsJobAnswer result (job_of text.now) }
+    ensures answer { IsJobAnswer result (job_of text.now) }
+    ensures ready { IfOk result IsReady }
 {
     let mut reader = Reader::new(alloc);
     let mut number: u32 = 1;

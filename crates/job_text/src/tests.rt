@@ -1,92 +1,149 @@
-//! Texts of the small form, and texts that miss it by little; the image is worked out by hand.
+//! Texts of the whole language and their jobs, and texts that are refused, with the line and the kind of the fault.
 use super::{Job, JobFault, read_job};
 use desk::Event;
-use std::alloc::{AllocError, Global};
+use std::alloc::Global;
 use std::test::Fail;
 
-/// A program that adds five.
-const ROW: &[u8] =
-    b"frames 2\nprogram add5\n.window 1, 1, rw\n.word 0xD8601000\n.word 0xCD360000\n.word 0xC1330005\n.word 0xDD360000\n.word 0xC0000000\nend\nschedule\nbegin add5\nturn 1 100\nend\n";
-
-/// The bytes of its words.
-const IMAGE: [u8; 20] = [
-    0xD8, 0x60, 0x10, 0, 0xCD, 0x36, 0, 0, 0xC1, 0x33, 0, 5, 0xDD, 0x36, 0, 0, 0xC0, 0, 0, 0,
+/// Texts that are no job, and the line and the kind of the fault.
+const REFUSED: [(&str, u32, u8); 36] = [
+    ("", 1, 10),
+    ("frames 1\n", 1, 11),
+    ("frames 1025\n", 1, 11),
+    ("frames 4294967296\n", 1, 10),
+    ("frames 2\n", 2, 10),
+    ("frames 2\nschedule\nbegin p\n", 3, 12),
+    ("frames 2\nprogram p\nend\nprogram p\n", 4, 13),
+    ("frames 2\nprogram .p\n", 2, 10),
+    ("frames 2\nprogram p q\n", 2, 10),
+    ("frames 2\nprogram p\n.space 16385\nend\n", 3, 8),
+    ("frames 2\nprogram p\n.window 16, 1, r\nend\n", 3, 9),
+    ("frames 2\nprogram p\nq r1, r2\n", 3, 2),
+    ("frames 2\nprogram p\n$\n", 3, 1),
+    ("frames 2\nprogram p\nx: svc 0\nx: svc 0\nend\n", 4, 5),
+    (
+        "frames 2\nprogram p\njb eq, far\n.space 300\nfar: svc 0\nend\n",
+        3,
+        7,
+    ),
+    ("frames 2\nprogram p\n.word 4294967296\n", 3, 4),
+    ("frames 2\nprogram p\nx: svc 0\nx: svc 0\n", 5, 10),
+    ("frames 2\nprogram p\nx: end\n", 3, 2),
+    ("frames 2\nprogram p\nend x\n", 3, 2),
+    ("frames 2\nprogram p\nsvc 0 ; end\n", 4, 10),
+    ("frames 2\nschedule\nend", 3, 10),
+    ("frames 2\nschedule\nturn 1 5\n", 3, 14),
+    ("frames 2\nschedule\nturn 0 0\n", 3, 14),
+    (
+        "frames 2\nprogram p\nend\nschedule\nbegin p\nturn 1 0\n",
+        6,
+        11,
+    ),
+    (
+        "frames 2\nprogram p\nend\nschedule\nbegin p\nturn 1 1000001\n",
+        6,
+        11,
+    ),
+    (
+        "frames 2\nprogram p\nend\nschedule\nbegin p\nturn 2 1\n",
+        6,
+        14,
+    ),
+    (
+        "frames 2\nprogram p\nend\nschedule\nbegin p\nbegin p\ndrain 5001 1\n",
+        7,
+        11,
+    ),
+    (
+        "frames 2\nprogram p\nend\nschedule\nbegin p\ndrain 10000 1\n",
+        6,
+        11,
+    ),
+    ("frames 2\nprogram p\nend\nschedule\ndrain 10001 1\n", 5, 11),
+    (
+        "frames 2\nprogram p\nend\nschedule\nbegin p 1 2 3 4 5\n",
+        5,
+        10,
+    ),
+    (
+        "frames 2\nprogram p\nend\nschedule\nbegin q 1 2 3 4 5\n",
+        5,
+        10,
+    ),
+    ("frames 2\nschedule\ncrash\n", 3, 10),
+    ("frames 2\nschedule\ncheckpoint\n", 3, 10),
+    ("frames 2\nschedule\nend\nend\n", 4, 10),
+    ("frames 2\nschedule\nend\n; behind", 4, 10),
+    ("schedule\n", 1, 10),
 ];
 
-/// Texts of the small form: no words, digits of either case, the longest name, the largest limit.
-const ACCEPTED: [&[u8]; 4] = [
-    b"frames 2\nprogram a\n.window 1, 1, rw\nend\nschedule\nbegin a\nturn 1 1\nend\n",
-    b"frames 2\nprogram a\n.window 1, 1, rw\n.word 0xabcdEF09\nend\nschedule\nbegin a\nturn 1 9\nend\n",
-    b"frames 2\nprogram abcdefghijklmnopqrstuvwxyz01234\n.window 1, 1, rw\nend\nschedule\nbegin abcdefghijklmnopqrstuvwxyz01234\nturn 1 1\nend\n",
-    b"frames 2\nprogram a\n.window 1, 1, rw\nend\nschedule\nbegin a\nturn 1 1000000\nend\n",
-];
+/// A job with comments and blank lines, an entry address, and drains over the begins before them.
+const ACCEPTED: &str =
+    "; a job\n\nframes 0x3 ; frames\nprogram a\n.window 1, 1, rw\nhere: svc 0\n.entry here\nend ; of a\nprogram _b\nend\n schedule\nbegin a 1 2\ndrain 2 050\nbegin _b\nturn 2 7\ndrain 1 9\nend\n ; behind\n";
 
-/// Texts of other forms.
-const REFUSED: [&[u8]; 16] = [
-    b"",
-    b"frames 3\nprogram a\n.window 1, 1, rw\nend\nschedule\nbegin a\nturn 1 1\nend\n",
-    b"frames 2\nprogram A\n.window 1, 1, rw\nend\nschedule\nbegin A\nturn 1 1\nend\n",
-    b"frames 2\nprogram 1a\n.window 1, 1, rw\nend\nschedule\nbegin 1a\nturn 1 1\nend\n",
-    b"frames 2\nprogram abcdefghijklmnopqrstuvwxyz012345\n.window 1, 1, rw\nend\nschedule\nbegin abcdefghijklmnopqrstuvwxyz012345\nturn 1 1\nend\n",
-    b"frames 2\nprogram a\n.window 1,1,rw\nend\nschedule\nbegin a\nturn 1 1\nend\n",
-    b"frames 2\nprogram a\n.window 1, 1, rw\n.word 0xD860100\nend\nschedule\nbegin a\nturn 1 1\nend\n",
-    b"frames 2\nprogram a\n.window 1, 1, rw\n.word 0xD860100g\nend\nschedule\nbegin a\nturn 1 1\nend\n",
-    b"frames 2\nprogram a\n.window 1, 1, rw\n.word 0xD8601000 \nend\nschedule\nbegin a\nturn 1 1\nend\n",
-    b"frames 2\nprogram a\n.window 1, 1, rw\nend\nschedule\nbegin b\nturn 1 1\nend\n",
-    b"frames 2\nprogram a\n.window 1, 1, rw\nend\nschedule\nbegin a\nturn 1 01\nend\n",
-    b"frames 2\nprogram a\n.window 1, 1, rw\nend\nschedule\nbegin a\nturn 1 0\nend\n",
-    b"frames 2\nprogram a\n.window 1, 1, rw\nend\nschedule\nbegin a\nturn 1 \nend\n",
-    b"frames 2\nprogram a\n.window 1, 1, rw\nend\nschedule\nbegin a\nturn 1 1000001\nend\n",
-    b"frames 2\nprogram a\n.window 1, 1, rw\nend\nschedule\nbegin a\nturn 1 1\nend",
-    b"frames 2\nprogram a\n.window 1, 1, rw\nend\nschedule\nbegin a\nturn 1 1\nend\n\n",
-];
-
-/// A text of the small form with so many words.
-fn with_words(alloc: Global, count: u32) -> Result<Vec<u8>, AllocError> {
-    let mut text = Vec::from_slice(alloc, b"frames 2\nprogram a\n.window 1, 1, rw\n")?;
-    for _ in 0..count {
-        text.extend_from_slice(b".word 0xC0000000\n")?;
+/// What a text is refused for.
+fn fault_of(alloc: Global, text: &str) -> Option<JobFault> {
+    if text.len() > 4096 {
+        return None;
     }
-    text.extend_from_slice(b"end\nschedule\nbegin a\nturn 1 1\nend\n")?;
-    Ok(text)
+    read_job(alloc, text.as_bytes()).err()
 }
 
-/// The image's length, where there is one program.
-fn image_length(job: &Job) -> Option<usize> {
-    let program = job.programs.first()?;
-    Some(program.image.len())
+/// The job of a short text.
+fn read(alloc: Global, text: &str) -> Result<Job, JobFault> {
+    if text.len() > 4096 {
+        return Err(JobFault::Memory);
+    }
+    read_job(alloc, text.as_bytes())
+}
+
+/// A turn of an activation.
+fn turn(activation: u32, limit: u32) -> Event {
+    Event::Turn { activation, limit }
 }
 
 #[test]
-fn texts_of_the_small_form_alone_are_read(rt: HostRuntime) -> Result<(), Fail> {
-    let job = read_job(rt.alloc(), ROW)?;
-    assert_eq!(rt; job.frames, 2);
-    assert_eq!(rt; job.names.len(), 1);
-    assert_eq!(rt; job.names[0].as_slice(), b"add5".as_slice());
-    assert_eq!(rt; job.programs.len(), 1);
-    assert_eq!(rt; job.programs[0].image.as_slice(), IMAGE.as_slice());
+fn a_text_is_its_job(rt: HostRuntime) -> Result<(), Fail> {
+    let job = read(rt.alloc(), ACCEPTED)?;
+    assert_eq!(rt; job.frames, 3);
+    assert_eq!(rt; job.names.len(), 2);
+    assert_eq!(rt; job.names[1].as_slice(), b"_b".as_slice());
+    assert_eq!(rt; job.programs.len(), 2);
+    assert_eq!(rt;
+        job.programs[0].image.as_slice(),
+        [0xC0, 0, 0, 0].as_slice()
+    );
     let begin = Event::Begin {
         program: 0,
+        args: [1, 2, 0, 0],
+    };
+    let other = Event::Begin {
+        program: 1,
         args: [0; 4],
     };
-    let turn = Event::Turn {
-        activation: 1,
-        limit: 100,
-    };
-    assert_eq!(rt; job.events.as_slice(), [begin, turn].as_slice());
-    for text in ACCEPTED {
-        assert!(rt; read_job(rt.alloc(), text).is_ok());
+    let events = [
+        begin,
+        turn(1, 50),
+        turn(1, 50),
+        other,
+        turn(2, 7),
+        turn(1, 9),
+        turn(2, 9),
+    ];
+    assert_eq!(rt; job.events.as_slice(), events.as_slice());
+    Ok(())
+}
+
+#[test]
+fn the_first_fault_is_told(rt: HostRuntime) -> Result<(), Fail> {
+    for (text, line, kind) in REFUSED {
+        assert_eq!(rt;
+            fault_of(rt.alloc(), text),
+            Some(JobFault::Fault { line, kind }),
+            "{text}"
+        );
     }
-    let refusal = JobFault::Fault { line: 1, kind: 10 };
-    for text in REFUSED {
-        assert_eq!(rt; read_job(rt.alloc(), text).err(), Some(refusal));
-    }
-    let full = with_words(rt.alloc(), 4096)?;
-    assert_eq!(rt;
-        image_length(&read_job(rt.alloc(), full.as_slice())?),
-        Some(16_384)
-    );
-    let more = with_words(rt.alloc(), 4097)?;
-    assert_eq!(rt; read_job(rt.alloc(), more.as_slice()).err(), Some(refusal));
+    let full = "frames 2\nprogram p\nend\nschedule\nbegin p\ndrain 9999 1\nend\n";
+    let job = read(rt.alloc(), full)?;
+    assert_eq!(rt; job.events.len(), 10_000);
     Ok(())
 }

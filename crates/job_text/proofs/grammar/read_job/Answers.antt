@@ -4,7 +4,8 @@ use Rattle.job_text.specs.Grammar.{read_from}
 use Rattle.asm_parse.specs.Text.{lines_of}
 use Rattle.job_text.specs.Reader.{reading_of}
 use Rattle.job_text.proofs.GrammarLemmas.{last_left, line_faulty, line_more}
-use Rattle.job_text.proofs.grammar.read_whole_job.Goals as goal
+use Rattle.job_text.proofs.ReadyLemmas.{answer-ready}
+use Rattle.job_text.proofs.grammar.read_job.Goals as goal
 
 pub loop-line-init : goal.loop-line-init
 loop-line-init c = record {
@@ -20,10 +21,15 @@ loop-line-preserved c = record {
   few = omega (arith, c.in-Some.ensures.1, c.line.ensures.few);
 }
 
-pub returns-in-Err : goal.returns-in-Err
-returns-in-Err c =
+pub returns-in-Err-clause-answer : goal.returns-in-Err-clause-answer
+returns-in-Err-clause-answer c =
     line_faulty (reading_of c.loop-line.reader) c.loop-line.number c.loop-line.left.now c.in-Some.line.now c.in-Some.behind.now c.args.text.now c.in-Err.fault c.in-Some.ensures.0 c.in-Err.ensures.read c.loop-line.invariant.so_far
 
-pub returns : goal.returns
-returns c =
+pub returns-clause-answer : goal.returns-clause-answer
+returns-clause-answer c =
     rw (last_left (reading_of c.loop-line.reader) c.loop-line.number c.loop-line.left.now c.args.text.now c.in_default.ensures c.loop-line.invariant.so_far) at c.finish.ensures
+
+pub returns-clause-ready : goal.returns-clause-ready
+returns-clause-ready c =
+    answer-ready c.args.text.now c.finish.result
+    (rw (last_left (reading_of c.loop-line.reader) c.loop-line.number c.loop-line.left.now c.args.text.now c.in_default.ensures c.loop-line.invariant.so_far) at c.finish.ensures)

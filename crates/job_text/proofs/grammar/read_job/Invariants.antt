@@ -2,7 +2,7 @@ use Rattle.std.proofs.Common.{◌≡◌, ◌+◌, ◌≤◌, length}
 use Rattle.asm_parse.specs.Text.{lines_of}
 use Rattle.job_text.specs.Grammar.{job_of, read_from}
 use Rattle.job_text.specs.Reader.{reading_of}
-use Rattle.job_text.proofs.grammar.read_whole_job.Given as goal
+use Rattle.job_text.proofs.grammar.read_job.Given as goal
 
 abbrev pub invariant-loop-line : goal.invariant-loop-line
 invariant-loop-line l = record {

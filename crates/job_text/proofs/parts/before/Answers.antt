@@ -1,7 +1,0 @@
-use Rattle.std.proofs.Common.{◌==◌, ℕ}
-use Rattle.std.proofs.lemmas.Slice.Eq.{strip_suffix_is}
-use Rattle.std.proofs.lemmas.Bool.Decides.{Decides-eqb}
-use Rattle.job_text.proofs.parts.before.Goals as goal
-
-pub returns : goal.returns
-returns c = strip_suffix_is {A = ℕ} {E = ◌==◌} Decides-eqb c.args.text.now c.args.suffix.now c.strip_suffix.result c.strip_suffix.ensures.cases

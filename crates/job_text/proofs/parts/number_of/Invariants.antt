@@ -1,6 +1,0 @@
-use Rattle.std.proofs.Common.{◌≡◌, ◌<◌, ◌^◌, take}
-use Rattle.std.specs.Str.Parse.{AllDigits, digits_value}
-use Rattle.job_text.proofs.parts.number_of.Given as goal
-
-abbrev pub invariant-loop-byte : goal.invariant-loop-byte
-invariant-loop-byte l = AllDigits l.radix (take l.byte-index l.digits) × (l.number ≡ digits_value l.radix (take l.byte-index l.digits)) × (l.number < 2 ^ 32)
