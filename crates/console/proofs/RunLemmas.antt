@@ -19,7 +19,7 @@ use Rattle.store_format.specs.Stands.{Stands, stands}
 use Rattle.store_format.proofs.Fresh.{fresh_is_store}
 use Rattle.store_format.proofs.Stores.{stands_is}
 use Rattle.desk.specs.declared.event.Event.{Event}
-use Rattle.desk.specs.declared.event.Event.TheVariants.{Begin, Turn}
+use Rattle.desk.specs.declared.event.Event.TheVariants.{Begin, Turn, Checkpoint, Crash}
 use Rattle.desk.specs.Desk.{Desk}
 use Rattle.desk.specs.Instruction.{Word}
 use Rattle.desk.specs.Run.{run, faulted, IsRunOf}
@@ -38,7 +38,8 @@ use Rattle.schedule_replay.specs.declared.events.Replayed.TheVariants as replaye
 use Rattle.schedule_replay.specs.Ran.{PrintsEarlier, HasOpened}
 use Rattle.schedule_replay.specs.Replays.{Reports, Replays}
 use Rattle.job_text.specs.declared.job.Job.{Job}
-use Rattle.job_text.specs.Answers.{IsJobOfText}
+use Rattle.job_text.specs.Grammar.{job_of, content_of}
+use Rattle.job_text.specs.Ready.{IsEventAmong}
 use Rattle.console.specs.declared.status.Status.{Status}
 use Rattle.console.specs.declared.status.Status.TheVariants as status
 use Rattle.console.specs.Statuses.{status_of_replay}
@@ -46,14 +47,15 @@ use Rattle.console.specs.Opening.{IsOpened, try_layout, try_bytes}
 use Rattle.console.specs.SourceText.{IsWhole}
 use Rattle.console.specs.Headline.{HasRun, Happened, HappenedTo, put_by, names_of, try_desk, try_flat}
 
-two_askable : (programs limit : ℕ) (args : List ℕ) → 0 < programs → limit ≤ 1000000 → All (IsAskable programs) (Begin 0 args ∷ Turn 1 limit ∷ [])
-two_askable programs limit args some few zero other within = some
-two_askable programs limit args some few (suc zero) other within = few
-two_askable programs limit args some few (suc (suc index)) other within = absurd (omega arith)
-
--- the events of a job of the small form can be asked
-pub askable : (programs limit : ℕ) (args : List ℕ) (events : List Event) → events ≡ Begin 0 args ∷ Turn 1 limit ∷ [] → 0 < programs → limit ≤ 1000000 → All (IsAskable programs) events
-askable programs limit args events is some few = rw is (two_askable programs limit args some few)
+-- the events of a job can be asked
+pub askable : (programs other : ℕ) (events : List Event) → programs ≡ other → All (IsEventAmong programs) events → All (IsAskable other) events
+askable programs other events same among k event within = as_asked programs other (get_or events k event) same (among k event within)
+  where
+    as_asked : (programs other : ℕ) (event : Event) → programs ≡ other → IsEventAmong programs event → IsAskable other event
+    as_asked programs other (Begin program args) same is = omega (arith, same, is)
+    as_asked programs other (Turn activation limit) same is = is
+    as_asked programs other Checkpoint same is = is
+    as_asked programs other Crash same is = is
 
 -- a put of another type that failed likewise
 prints_failed : (T U : Type 0) (old new : Option (List ℕ)) (bytes : List ℕ) (failed : Failed) → Prints {T = T} old new bytes (Err failed) → Prints {T = U} old new bytes (Err failed)
@@ -105,8 +107,8 @@ keeps-fresh = record {
     };
 }
 
-module _ {W : Type 0} (G : Ghosts W) (job : Job) (before start after : W) (desk new : PrivateDesk)
-    (opened : IsOpened job.frames job.programs.items G start desk) (asks : OnlyAsks G before start) (same_number : new.opened ≡ desk.opened) where
+module _ {W : Type 0} (G : Ghosts W) (job : Job) (before start after : W) (desk new : PrivateDesk) (begins : ℕ)
+    (opened : IsOpened job.frames begins job.programs.items G start desk) (asks : OnlyAsks G before start) (same_number : new.opened ≡ desk.opened) where
   -- the programs, the desk and the number of the run are the job's
   these : desk_facts desk ≡ record { programs = job.programs.items; start = try_desk job; number = 0 }
   these = λ i. record { programs = opened.programs_are i; start = opened.opens i; number = opened.number i }
@@ -221,7 +223,7 @@ put_failed replayed.PutFault is = refl
 
 -- what happened to the job of a text
 pub happens : {W : Type 0} (G : Ghosts W) (left left_now : Option (List ℕ)) (before after : W) (text : List ℕ) (job : Job) (order : List (ℕ × ℕ)) (now : Status)
-    → IsWhole left left_now text → IsJobOfText text job → HappenedTo G job before after order now → Happened G left left_now before after order now
+    → IsWhole left left_now text → job_of text ≡ Ok (content_of job) → HappenedTo G job before after order now → Happened G left left_now before after order now
 happens G left left_now before after text job order status.Done whole means did = record { text = text; whole = whole; job = job; means = means; has_run = did }
 happens G left left_now before after text job order status.PutFault whole means did = record { text = text; whole = whole; job = job; means = means; has_run = did }
 happens G left left_now before after text job order status.DiskFault whole means (inl did) = inl (record { text = text; whole = whole; job = job; means = means; has_run = did })

@@ -4,9 +4,7 @@ use Rattle.std.specs.Option.{ForSome}
 use Rattle.std.specs.declared.alloc.Global.{Global}
 use Rattle.outside.specs.Causes.{Rose}
 use Rattle.store_format.specs.Header.{fresh}
-use Rattle.job_text.specs.SmallJob.{SmallJob}
-use Rattle.job_text.specs.Answers.{IsTextOf, IsJobOfText}
-use Rattle.job_text.specs.declared.job.Job.{Job}
+use Rattle.job_text.specs.Grammar.{Content, job_of}
 use Rattle.console.specs.declared.status.Status.{Status}
 use Rattle.console.specs.declared.status.Status.TheVariants as status
 use Rattle.console.specs.Opening.{try_layout}
@@ -40,14 +38,9 @@ IsPastOpening status.Done = Unit {0}
 IsPastOpening status.PutFault = Unit {0}
 IsPastOpening _ = ⊥
 
--- a job that some text gives
-pub record IsJob (job : Job) : Type 0 where
-  pub text : List ℕ
-  pub gives : IsJobOfText text job
-
 -- the text is that of some job
 abbrev pub IsSomeJob : List ℕ → Type 0
-IsSomeJob text = (small : SmallJob) × IsTextOf text small
+IsSomeJob text = (content : Content) × (job_of text ≡ Ok content)
 
 -- a status of reading a job
 abbrev pub IsOfReading : Status → Type 0
@@ -69,7 +62,7 @@ pub record ReadsBy (left left_now : Option (List ℕ)) (faults faults_now : ℕ)
   pub source : status ≡ Status.SourceFault → Rose faults faults_now
   pub big : status ≡ Status.TooBig → HasRead left left_now 1048577
   pub text : IsPastText status → (text : List ℕ) × IsWhole left left_now text
-  pub no_job : (line kind : ℕ) → status ≡ Status.Job line kind → (line ≡ 1) × (kind ≡ 10) × ((text : List ℕ) × IsWhole left left_now text × (IsSomeJob text → ⊥))
+  pub no_job : (line kind : ℕ) → status ≡ Status.Job line kind → (text : List ℕ) × IsWhole left left_now text × (job_of text ≡ Err (line, kind))
   pub job : IsPastJob status → (text : List ℕ) × IsWhole left left_now text × IsSomeJob text
 
 -- what the bytes of a disk tell of the status with which it was opened

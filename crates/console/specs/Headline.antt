@@ -19,7 +19,7 @@ use Rattle.desk.specs.Report.{report, event_lines}
 use Rattle.desk.specs.Commits.{begun, IsSerial}
 use Rattle.schedule_replay.specs.Ran.{PrintsEarlier}
 use Rattle.job_text.specs.declared.job.Job.{Job}
-use Rattle.job_text.specs.Answers.{IsJobOfText}
+use Rattle.job_text.specs.Grammar.{job_of, content_of}
 use Rattle.console.specs.declared.status.Status.{Status}
 use Rattle.console.specs.declared.status.Status.TheVariants as status
 use Rattle.console.specs.SourceText.{IsWhole}
@@ -76,7 +76,7 @@ pub record RanJob {W : Type 0} (G : Ghosts W) (left left_now : Option (List ℕ)
   pub text : List ℕ
   pub whole : IsWhole left left_now text
   pub job : Job
-  pub means : IsJobOfText text job
+  pub means : job_of text ≡ Ok (content_of job)
   pub has_run : HasRun G job before after order status
 
 -- no event was run: nothing was printed, and the disk was only asked

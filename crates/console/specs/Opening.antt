@@ -19,13 +19,13 @@ try_layout = record { directory = record { page = Two; segments = (1, 4) ∷ (2,
 abbrev pub try_bytes : List ℕ
 try_bytes = drop (home_at try_layout 0) (fresh try_layout)
 
--- a desk that has just opened on it, for one begin of these programs; a disk that tells its bytes holds the store
-pub record IsOpened {W : Type 0} (frames : ℕ) (programs : List Program) (G : Ghosts W) (outside : W) (desk : PrivateDesk) : Type 0 where
+-- a desk that has just opened on it, for so many begins of these programs; a disk that tells its bytes holds the store
+pub record IsOpened {W : Type 0} (frames most_begins : ℕ) (programs : List Program) (G : Ghosts W) (outside : W) (desk : PrivateDesk) : Type 0 where
   pub sound : IsSound desk
   pub opens : desk_of desk ≡ opened frames 1 65536 0 (record { directory = try_layout.directory; bytes = try_bytes })
   pub header : header_told desk ≡ try_layout
   pub programs_are : programs_told desk ≡ programs
-  pub begins : begins_told desk ≡ 1
+  pub begins : begins_told desk ≡ most_begins
   pub turns : turns_told desk ≡ 0
   pub number : opened_told desk ≡ 0
   pub follows : Follows desk

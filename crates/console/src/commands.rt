@@ -1,17 +1,19 @@
-ghost use Rattle.std.specs.Prelude.{◌≡◌, ◌≢◌, ◌<◌, ◌≤◌, ◌⊎◌, ◌↔◌, ℕ, List, IfOk, IfErr, IsTrue, Err};
+ghost use Rattle.std.specs.Prelude.{◌≡◌, ◌≢◌, ◌<◌, ◌≤◌, ◌⊎◌, ◌↔◌, ◌-◌, ◌^◌, ℕ, List, length, IfOk, IfErr, IsTrue, Ok, Err};
 ghost use Rattle.outside.specs.Causes.{Rose};
 ghost use Rattle.outside.specs.Runs.{OnlyAsks};
 ghost use Rattle.console.specs.Opening.{IsOpened};
 ghost use Rattle.desk.specs.Answers.{order_told};
-ghost use Rattle.job_text.specs.Answers.{IsJobOfText};
+ghost use Rattle.job_text.specs.Grammar.{job_of, content_of};
+ghost use Rattle.job_text.specs.Ready.{IsReady};
+ghost use Rattle.schedule_replay.specs.Asked.{begins_in};
 ghost use Rattle.console.specs.SourceText.{IsWhole};
-ghost use Rattle.console.specs.Causes.{IsTry, IsJob, IsComplete, ReadsBy, OpensBy, IsPastJob, IsOfReading, IsOfOpening, status_of};
+ghost use Rattle.console.specs.Causes.{IsTry, IsComplete, ReadsBy, OpensBy, IsPastJob, IsOfReading, IsOfOpening, status_of};
 ghost use Rattle.console.specs.Headline.{Happened, HappenedTo};
 
 use super::opening::{check_store, try_header, try_store};
 use super::source_text::read_text;
 use super::status::{Ended, Status};
-use desk::Committed;
+use desk::{Committed, Event};
 use flat_machine::Program;
 use job_text::{Job, read_job};
 use outside::{Outside, Source};
@@ -67,7 +69,8 @@ fn is_try(words: &[String]) -> bool
 fn read<S: Source>(alloc: Global, source: &mut S) -> Result<Job, Status>
     ensures read { ReadsBy (S.left source.old) (S.left source.new) (S.faults source.old) (S.faults source.new) (status_of result) }
     ensures only { IfErr result IsOfReading }
-    ensures means { IfOk result (λ job. (text : List ℕ) × IsWhole (S.left source.old) (S.left source.new) text × IsJobOfText text job) }
+    ensures means { IfOk result (λ job. (text : List ℕ) × IsWhole (S.left source.old) (S.left source.new) text × (job_of text ≡ Ok (content_of job))) }
+    ensures ready { IfOk result IsReady }
 {
     let text = read_text(alloc, source)?;
     Ok(read_job(alloc, &text)?)
@@ -75,7 +78,7 @@ fn read<S: Source>(alloc: Global, source: &mut S) -> Result<Job, Status>
 
 /// The store is opened, and the events of the job run.
 fn try_job<W: Outside>(alloc: Global, job: Job, outside: &mut W) -> Ended
-    requires { IsJob job }
+    requires { IsReady job }
     ensures opened { OpensBy (W.held outside.old) result.status }
     ensures put { result.status ≡ Status.PutFault → Rose (W.put_faults outside.old) (W.put_faults outside.new) }
     ensures disk { result.status ≡ Status.DiskFault → Rose (W.disk_faults outside.old) (W.disk_faults outside.new) }
@@ -83,7 +86,8 @@ fn try_job<W: Outside>(alloc: Global, job: Job, outside: &mut W) -> Ended
     ensures only { IsPastJob result.status ⊎ (result.status ≡ Status.NoMemory) }
     ensures never { (result.status ≢ Status.Exists) × (result.status ≢ Status.NoRange) }
 {
-    let mut desk = match open(alloc, job.frames, job.programs, outside) {
+    let begins = begins_in(&job.events);
+    let mut desk = match open(alloc, job.frames, job.programs, begins, outside) {
         Ok(desk) => desk,
         Err(status) => {
             return Ended {
@@ -99,25 +103,38 @@ fn try_job<W: Outside>(alloc: Global, job: Job, outside: &mut W) -> Ended
     }
 }
 
+/// How many of the events are begins.
+fn begins_in(events: &[Event]) -> u32
+    requires { length events.now ≤ 10000 }
+    ensures { result ≡ begins_in events.now }
+{
+    events
+        .iter()
+        .filter(|event| matches!(event, Event::Begin { .. }))
+        .count() as u32
+}
+
 /// The desk over the store that the disk holds. All memory that the events need is taken first.
 fn open<W: Outside>(
     alloc: Global,
     frames: u16,
     programs: Vec<Program>,
+    begins: u32,
     outside: &mut W,
 ) -> Result<PrivateDesk, Status>
     requires frames { 0 < frames }
+    requires begins { begins < 2 ^ 32 - 1 }
     ensures disk { result ≡ Err Status.DiskFault → Rose (W.disk_faults outside.old) (W.disk_faults outside.new) }
     ensures asks { OnlyAsks W.Outside outside.old outside.new }
     ensures store { OpensBy (W.held outside.old) (status_of result) }
     ensures only { IfErr result IsOfOpening }
-    ensures opened { IfOk result (IsOpened frames programs.items W.Outside outside.new) }
+    ensures opened { IfOk result (IsOpened frames begins programs.items W.Outside outside.new) }
 {
     let wanted = try_store(alloc)?;
     let mut read = vec![in alloc; 0; wanted.len()]?;
     let header = try_header();
     let home = header.home_at(0) as usize;
-    let desk = PrivateDesk::open(alloc, header, &wanted[home..], programs, frames, 1)?;
+    let desk = PrivateDesk::open(alloc, header, &wanted[home..], programs, frames, begins)?;
     check_store(outside, &wanted, &mut read)?;
     Ok(desk)
 }

@@ -1,11 +1,13 @@
-use Rattle.std.proofs.Common.{◌≡◌, ◌∙◌, ap, sym, subst, arith, length, map, List, ℕ}
+use Rattle.std.proofs.Common.{◌≡◌, ◌∙◌, ap, sym, ◌≤◌, subst, arith, length, map, All, List, ℕ}
 use Rattle.outside.specs.declared.world.Outside.{Ghosts}
 use Rattle.std.specs.Option.{ForSome}
 use Rattle.store_format.specs.Header.{Header, fresh, total}
 use Rattle.flat_machine.specs.declared.machine.Program.{Program}
 use Rattle.desk.specs.Desk.{Desk}
 use Rattle.desk.specs.declared.event.Event.{Event}
-use Rattle.schedule_replay.specs.Asked.{begins_in, turns_in}
+use Rattle.std.proofs.lemmas.List.Sums.{count_by-le-length}
+use Rattle.schedule_replay.specs.Asked.{is_turn, begins_in, turns_in}
+use Rattle.job_text.specs.Ready.{IsEventAmong}
 use Rattle.console.specs.Opening.{try_layout}
 use Rattle.desk.specs.Answers.{order_told}
 use Rattle.private_desk.specs.declared.single.PrivateDesk.{PrivateDesk}
@@ -24,18 +26,19 @@ use Rattle.console.proofs.commands.try_job.Goals as goal
 pub replay-replayed-requires-clause-ready : goal.replay-replayed-requires-clause-ready
 replay-replayed-requires-clause-ready g c =
     let opened = c.in-Ok.ensures.opened in
-    let means = c.requires.gives.means in
-    let events = c.deref-2.ensures.value ∙ means.events in
+    let ready = c.requires in
+    let events = c.deref-3.ensures.value in
     let next : c.in-Ok.desk.next ≡ 1 = ap (λ (these : Desk). these.next) opened.opens in
-    let begins : begins_in c.deref-2.result.now ≡ 1 = ap (λ (these : List Event). begins_in these) events in
-    let turns : turns_in c.deref-2.result.now ≡ 1 = ap (λ (these : List Event). turns_in these) events in
-    let programs : length c.in-Ok.desk.programs.items ≡ 1 = ap (λ (these : List Program). length these) (opened.programs_are ∙ means.programs.1) in
+    let begins : begins_in c.deref-3.result.now ≡ c.begins_in-begins.result = ap (λ (these : List Event). begins_in these) (events ∙ sym c.deref.ensures.value) ∙ sym c.begins_in-begins.ensures in
+    let turns : turns_in c.deref-3.result.now ≤ length c.deref-3.result.now = count_by-le-length is_turn c.deref-3.result.now in
+    let few : length c.deref-3.result.now ≡ length c.args.job.events.items = ap (λ (these : List Event). length these) events in
+    let programs : length c.args.job.programs.items ≡ length c.in-Ok.desk.programs.items = sym (ap (λ (these : List Program). length these) opened.programs_are) in
     let header : total c.in-Ok.desk.header ≡ total try_layout = ap (λ (these : Header). total these) opened.header in
     record {
       sound = opened.sound;
-      asked = askable (length c.in-Ok.desk.programs.items) c.requires.gives.small.limit _ c.deref-2.result.now events (omega (arith, programs)) c.requires.gives.text_is.legal.limit.million;
+      asked = askable (length c.args.job.programs.items) (length c.in-Ok.desk.programs.items) c.deref-3.result.now programs (subst (All (IsEventAmong (length c.args.job.programs.items))) (sym events) ready.events);
       begins = omega (arith, next, begins, opened.begins);
-      turns = omega (arith, turns, opened.turns);
+      turns = omega (arith, turns, few, ready.few, opened.turns);
       bytes = λ x is. omega (arith, header, opened.long x is);
     }
 
@@ -66,12 +69,12 @@ returns-clause-happened g c =
     let before = c.args.outside.now in
     let start = c.open.new.outside in
     let after = c.replay-replayed.new.outside in
-    let did = replays G _ c.deref-2.result.now c.args.job desk new start after c.replay-replayed.result
-    (ap (map (λ name. name.items)) c.deref.ensures.value) c.deref-2.ensures.value
-    (c.replay-replayed.ensures.replays opened.follows (has_opened G c.args.job before start after desk new opened asks c.replay-replayed.ensures.opened)) in
+    let did = replays G _ c.deref-3.result.now c.args.job desk new start after c.replay-replayed.result
+    (ap (map (λ name. name.items)) c.deref-2.ensures.value) c.deref-3.ensures.value
+    (c.replay-replayed.ensures.replays opened.follows (has_opened G c.args.job before start after desk new c.begins_in-begins.result opened asks c.replay-replayed.ensures.opened)) in
     subst (λ (now : Status). HappenedTo G c.args.job before after (order_told c.into_order.result.items) now) (sym c.from.ensures)
     (subst (λ (order : List (ℕ × ℕ)). HappenedTo G c.args.job before after order (status_of_replay c.replay-replayed.result)) (sym c.into_order.ensures)
-    (happened G c.args.job before start after desk new opened asks c.replay-replayed.ensures.opened c.replay-replayed.result did))
+    (happened G c.args.job before start after desk new c.begins_in-begins.result opened asks c.replay-replayed.ensures.opened c.replay-replayed.result did))
 
 pub returns-clause-disk : goal.returns-clause-disk
 returns-clause-disk g c = λ is.
@@ -83,7 +86,7 @@ returns-clause-disk g c = λ is.
     let before = c.args.outside.now in
     let start = c.open.new.outside in
     let after = c.replay-replayed.new.outside in
-    let did = replays G _ c.deref-2.result.now c.args.job desk new start after c.replay-replayed.result
-    (ap (map (λ name. name.items)) c.deref.ensures.value) c.deref-2.ensures.value
-    (c.replay-replayed.ensures.replays opened.follows (has_opened G c.args.job before start after desk new opened asks c.replay-replayed.ensures.opened)) in
-    rose-by G c.args.job before start after desk new opened asks c.replay-replayed.ensures.opened c.replay-replayed.result did (sym c.from.ensures ∙ is)
+    let did = replays G _ c.deref-3.result.now c.args.job desk new start after c.replay-replayed.result
+    (ap (map (λ name. name.items)) c.deref-2.ensures.value) c.deref-3.ensures.value
+    (c.replay-replayed.ensures.replays opened.follows (has_opened G c.args.job before start after desk new c.begins_in-begins.result opened asks c.replay-replayed.ensures.opened)) in
+    rose-by G c.args.job before start after desk new c.begins_in-begins.result opened asks c.replay-replayed.ensures.opened c.replay-replayed.result did (sym c.from.ensures ∙ is)
