@@ -102,9 +102,9 @@ keeps-fresh = record {
   base = 0;
   records = [];
   stand = record {
-      store = fresh_is_store try_layout try_ranges try_legal;
-      standing = stands_is (fresh try_layout) try_layout Which.A 0 264 [] (fresh_is_store try_layout try_ranges try_legal);
-    };
+    store = fresh_is_store try_layout try_ranges try_legal;
+    standing = stands_is (fresh try_layout) try_layout Which.A 0 264 [] (fresh_is_store try_layout try_ranges try_legal);
+  };
 }
 
 module _ {W : Type 0} (G : Ghosts W) (job : Job) (before start after : W) (desk new : PrivateDesk) (begins : ℕ)
@@ -154,12 +154,13 @@ module _ {W : Type 0} (G : Ghosts W) (job : Job) (before start after : W) (desk 
     stands-now : (desk_of new).closed ≡ false → IsSome (G.held before) → IsSome (G.held after) × ForSome (G.held after) (λ bytes. stands bytes ≡ Stands (length (desk_of new).order % 2 ^ 64) (desk_of new).committed)
     stands-now still told =
         let kept = reports.kept (subst (λ (held : Option (List ℕ)). IsSome held) (sym asks.held) told) (keeps-first told) still in
-        let number : number_after new.opened (desk_of new) ≡ length (desk_of new).order % 2 ^ 64 = ap (λ (n : ℕ). (n + length (desk_of new).order) % 2 ^ 64) (same_number ∙ opened.number) ∙ ap (λ (n : ℕ). n % 2 ^ 64) (omega arith) in
-        (kept.0,
-        λ bytes is.
-        ap stands (sym (ap (λ (held : Option (List ℕ)). unwrap_or held []) is))
-        ∙ kept.1.stand.standing
-        ∙ ap (λ (n : ℕ). Stands n (desk_of new).committed) number)
+        let number : number_after new.opened (desk_of new) ≡ length (desk_of new).order % 2 ^ 64 = ap (λ (n : ℕ). (n + length (desk_of new).order) % 2 ^ 64) (same_number ∙ opened.number) ∙ ap (λ (n : ℕ). n % 2 ^ 64) (omega arith) in (
+          kept.0,
+          λ bytes is.
+              ap stands (sym (ap (λ (held : Option (List ℕ)). unwrap_or held []) is))
+              ∙ kept.1.stand.standing
+              ∙ ap (λ (n : ℕ). Stands n (desk_of new).committed) number,
+        )
 
     in_order : (desk_of new).closed ≡ false → serial (begun job.programs.items job.events.items) (desk_of new).order try_flat ≡ Some (desk_of new).committed
     in_order still =

@@ -49,24 +49,19 @@ pub record HasRun {W : Type 0} (G : Ghosts W) (job : Job) (before after : W) (or
   pub rest : List Event
   pub is_run : IsRunOf job.programs.items job.events.items (try_desk job) taken rest
   pub order_is : order ≡ (run job.programs.items taken (try_desk job)).order
-
   -- at Done all events were run and the desk is open, and a disk fault closed it
   pub all : status ≡ Status.Done → rest ≡ []
   pub still_open : status ≡ Status.Done → (run job.programs.items taken (try_desk job)).closed ≡ false
   pub shut : status ≡ Status.DiskFault → (run job.programs.items taken (try_desk job)).closed ≡ true
-
   pub put : Result ℕ Failed
   pub put_is : put_by status put
   pub printed : Prints (G.printed before) (G.printed after) (report (names_of job) job.programs.items 0 taken (try_desk job)) put
   pub earlier : PrintsEarlier (G.printed before) (G.printed after) (λ front. line_text (Open 0) ++ flat_map line_text (event_lines (names_of job) job.programs.items 0 front (try_desk job))) taken
-
   -- the disk's faults rose by at least the number of events whose word isn't fine, and all are fine where they didn't rise
   pub faults : RoseBy (faulted taken) (G.disk_faults before) (G.disk_faults after)
   pub all_fine : (Rose (G.disk_faults before) (G.disk_faults after) → ⊥) → faulted taken ≡ 0
-
   -- the commits are those of the job's activations, one after another, and so are the commit lines
   pub serial_run : IsSerial (begun job.programs.items job.events.items) 0 try_flat order (event_lines (names_of job) job.programs.items 0 taken (try_desk job)) (run job.programs.items taken (try_desk job)).committed (run job.programs.items taken (try_desk job)).closed
-
   -- at Done the disk, as it reads, stands for the number of commits and the store that they leave one after another
   pub told : IsSome (G.held before) → status ≡ Status.Done → IsSome (G.held after)
   pub leaves : status ≡ Status.Done → (store : FlatStore) × (serial (begun job.programs.items job.events.items) order try_flat ≡ Some store) × (IsSome (G.held before) → ForSome (G.held after) (λ bytes. stands bytes ≡ Stands (length order % 2 ^ 64) store))

@@ -1,4 +1,5 @@
-//! One job with every part in memory, and each way in which it can end; the expected bytes are worked out by hand.
+//! Jobs with every part in memory: one job and each way in which it can end, and the reports of more schedules; the
+//! expected bytes are worked out by hand.
 use super::*;
 use desk::Committed;
 use outside::{Call, Joint, MemoryDisk, MemoryScreen, MemorySource, Refusal};
@@ -66,7 +67,7 @@ const PLAIN: Case = Case {
     record: [0; 19],
 };
 
-const CASES: [Case; 11] = [
+const CASES: [Case; 12] = [
     Case {
         name: "one add",
         printed: b"open 0\nbegin 1 add5\nturn 1 ran 5 page 1 lock 2\ncommit 1 number 1 steps 5 out -\nend 1\n",
@@ -96,6 +97,12 @@ const CASES: [Case; 11] = [
         name: "no job",
         text: Text::Bytes(b"no job\n"),
         status: Status::Job(1, 10),
+        ..PLAIN
+    },
+    Case {
+        name: "a label that stands twice",
+        text: Text::Bytes(b"frames 2\nprogram p\nx: svc 0\nx: svc 0\nend\n"),
+        status: Status::Job(4, 5),
         ..PLAIN
     },
     Case {
@@ -142,6 +149,85 @@ const CASES: [Case; 11] = [
         record: RECORD,
         ..PLAIN
     },
+];
+
+/// The programs of the schedules below.
+const PROGRAMS: &str = "frames 2\n\
+    program add\n.window 1, 1, rw\ncau r6, r0, 0x1000\nl r3, 0(r6)\na r3, r2\nst r3, 0(r6)\nsvc 0\nend\n\
+    program rd\n.window 1, 1, r\ncau r6, r0, 0x1000\nl r3, 0(r6)\nl r2, 0(r6)\nsvc 1\nsvc 0\nend\n\
+    program quit\n.window 1, 1, rw\ncau r6, r0, 0x1000\nst r2, 0(r6)\nsvc 2\nend\n\
+    program fill\n.window 1, 1, rw\ncau r6, r0, 0x1000\nloop: st r2, 0(r6)\nai r6, r6, 128\nsis r2, 1\njnb eq, loop\nsvc 0\nend\n\
+    program put\n.window 1, 1, rw\ncau r6, r0, 0x1000\nst r2, 2048(r6)\nst r2, 4096(r6)\nst r2, 6144(r6)\nsvc 0\nend\n\
+    program mv\n.window 1, 1, r\ncau r5, r0, 0x1000\nai r5, r5, 2040\nlm r3, 0(r5)\ncas r2, r5, r0\nsvc 1\nsvc 0\nend\n\
+    program sub\n.window 1, 1, rw\ncau r6, r0, 0x1000\ncis r2, 3\nbbx eq, over\nst r2, 0(r6)\nsvc 0\nover: svc 1\nsvc 0\nend\n\
+    program two\n.window 1, 2, rw\n.window 2, 2, r\ncau r6, r0, 0x1000\ncau r7, r0, 0x2000\nst r2, 0(r6)\nlis r2, 0\nl r2, 0(r7)\nsvc 1\nsvc 0\nend\n\
+    program bad\n.window 2, 2, r\ncau r7, r0, 0x2000\nst r2, 0(r7)\nsvc 0\nend\n\
+    program edge\n.window 1, 2, rw\ncau r6, r0, 0x1000\na r6, r2\nstm r14, 0(r6)\nsvc 0\nend\n\
+    program far\n.window 1, 9, r\nsvc 0\nend\n\
+    program call\nsvc 3\nend\n\
+    program out\nbala 16384\nend\n\
+    program z\nend\n\
+    schedule\n";
+
+/// The events of a schedule, and the report of it behind the line that opens it.
+const SCHEDULES: [(&str, &str); 11] = [
+    ("", "end 0\n"),
+    (
+        "begin add 5\nturn 1 9\nbegin add 7\nbegin add 1\nturn 2 9\n",
+        "begin 1 add\nturn 1 ran 5 page 1 lock 2\ncommit 1 number 1 steps 5 out -\nbegin 2 add\nbusy 3 add\n\
+         turn 2 ran 5 page 0 lock 2\ncommit 2 number 2 steps 5 out -\nend 2\n",
+    ),
+    (
+        "begin quit 9\nturn 1 9\nbegin rd\nturn 1 9\nturn 2 2\nturn 2 9\n",
+        "begin 1 quit\nturn 1 ran 2 page 1 lock 1\ncheck 1 code 8 at 00000008\nbegin 2 rd\nidle 1\n\
+         turn 2 ran 2 page 1 lock 1\nturn 2 ran 3 page 0 lock 0\ncommit 2 number 1 steps 5 out 00\nend 1\n",
+    ),
+    (
+        "begin put 7\nturn 1 9\nbegin mv\nturn 2 9\n",
+        "begin 1 put\nturn 1 ran 5 page 3 lock 3\ncommit 1 number 1 steps 5 out -\nbegin 2 mv\n\
+         turn 2 ran 6 page 2 lock 2\ncommit 2 number 2 steps 6 out 07\nend 2\n",
+    ),
+    (
+        "begin sub 3\nturn 1 9\nbegin sub 4\nturn 2 9\n",
+        "begin 1 sub\nturn 1 ran 5 page 1 lock 1\ncommit 1 number 1 steps 5 out 03\nbegin 2 sub\n\
+         turn 2 ran 4 page 0 lock 1\ncommit 2 number 2 steps 4 out -\nend 2\n",
+    ),
+    (
+        "begin two 66\nturn 1 9\nbegin bad\nturn 2 9\n",
+        "begin 1 two\nturn 1 ran 7 page 1 lock 1\ncommit 1 number 1 steps 7 out 42\nbegin 2 bad\n\
+         turn 2 ran 1 page 0 lock 0\ncheck 2 code 7 at 00000004\nend 1\n",
+    ),
+    (
+        "begin edge 4088\nturn 1 9\nbegin edge 4092\nturn 2 9\n",
+        "begin 1 edge\nturn 1 ran 4 page 1 lock 1\ncommit 1 number 1 steps 4 out -\nbegin 2 edge\n\
+         turn 2 ran 2 page 0 lock 0\ncheck 2 code 2 at 00000006\nend 1\n",
+    ),
+    (
+        "begin far\nbegin call\nturn 1 1\nturn 2 9\nbegin out\nturn 3 9\n",
+        "nosegment 1 far 9\nbegin 2 call\nidle 1\nturn 2 ran 0 page 0 lock 0\ncheck 2 code 6 at 00000000\nbegin 3 out\n\
+         turn 3 ran 1 page 0 lock 0\ncheck 3 code 2 at 00004000\nend 0\n",
+    ),
+    (
+        "begin z\nturn 1 1000000\n",
+        "begin 1 z\nturn 1 ran 1000000 page 0 lock 0\nleft 1\nend 0\n",
+    ),
+    (
+        "begin add 1\ndrain 3 2\n",
+        "begin 1 add\nturn 1 ran 2 page 1 lock 1\nturn 1 ran 2 page 0 lock 1\nturn 1 ran 1 page 0 lock 0\n\
+         commit 1 number 1 steps 5 out -\nend 1\n",
+    ),
+    (
+        "begin fill 64\nturn 1 999\nbegin fill 64\nturn 2 999\nbegin fill 64\nturn 3 999\nbegin fill 64\nturn 4 999\n\
+         begin fill 64\nturn 5 999\nbegin fill 64\nturn 6 999\nbegin fill 64\nturn 7 999\nbegin fill 64\nturn 8 999\n",
+        "begin 1 fill\nturn 1 ran 258 page 4 lock 64\ncommit 1 number 1 steps 258 out -\n\
+         begin 2 fill\nturn 2 ran 258 page 4 lock 64\ncommit 2 number 2 steps 258 out -\n\
+         begin 3 fill\nturn 3 ran 258 page 4 lock 64\ncommit 3 number 3 steps 258 out -\n\
+         begin 4 fill\nturn 4 ran 258 page 4 lock 64\ncommit 4 number 4 steps 258 out -\n\
+         begin 5 fill\nturn 5 ran 258 page 4 lock 64\ncommit 5 number 5 steps 258 out -\n\
+         begin 6 fill\nturn 6 ran 258 page 4 lock 64\ncommit 6 number 6 steps 258 out -\n\
+         begin 7 fill\nturn 7 ran 258 page 4 lock 64\ncommit 7 number 7 steps 258 out -\n\
+         begin 8 fill\nturn 8 ran 189 page 3 lock 47\njournal 8 lines 48 limit 47\nend 7\n",
+    ),
 ];
 
 /// The words of a command line.
@@ -211,6 +297,28 @@ fn a_job_ends_as_its_parts_let_it(rt: HostRuntime) -> Result<(), Fail> {
         assert_eq!(rt; screen.into_bytes(), printed, "{}", case.name);
         assert_eq!(rt; left.len(), 143_632, "{}", case.name);
         assert!(rt; left == store, "{}", case.name);
+    }
+    Ok(())
+}
+
+#[test]
+fn a_schedule_has_its_report(rt: HostRuntime) -> Result<(), Fail> {
+    let alloc = rt.alloc();
+    for (events, report) in &SCHEDULES {
+        let words = words_of(alloc, &["try"])?;
+        let text = format!(in alloc; "{PROGRAMS}{events}end\n")?;
+        let bytes = Vec::from_slice(alloc, text.as_str().as_bytes())?;
+        let mut job = MemorySource::new(bytes, Vec::new(alloc));
+        let mut outside = outside_of(alloc, &PLAIN)?;
+        let ended = console(alloc, &words, &mut job, &mut outside);
+        let (_disk, screen) = outside.into_parts();
+        let wanted = format!(in alloc; "open 0\n{report}")?;
+        assert_eq!(rt; ended.status, Status::Done, "{}", events);
+        assert!(rt;
+            screen.into_bytes().as_slice() == wanted.as_str().as_bytes(),
+            "{}",
+            events
+        );
     }
     Ok(())
 }
