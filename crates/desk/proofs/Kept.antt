@@ -12,7 +12,7 @@ use Rattle.store_format.specs.Bank.{record_bytes}
 use Rattle.desk.specs.Desk.{Desk, Entry, with_entry, ended, rolled_back}
 use Rattle.desk.specs.Holdings.{wanted, numbers, waits_for, conflicts_of}
 use Rattle.desk.specs.Run.{is_fine}
-use Rattle.desk.specs.Instruction.{Word, Fine, ReadFailed, Unwritten, Doubt, Failed, Counts, Ending, Idle, Limit, Checked, Journal, Disk, Victim, Waits, Committed, CommitUnwritten, CommitDoubted, Turning, Going, Over, Attempt, Fetching, Fetched, Broken, Contest, Contested, Settled, Lost, attempts, attempts_at, instruction, turns, turn, limited, limit_passed, room, lines_written, fetched_first, fetches_touched, counts_refused, asks, gets, goes_on, takes_effect, commits, breaks, breaks_cycle, breaks_cycles, contest_ends, ordered, waits_or_gets, with_grants, refused_pages, no_counts}
+use Rattle.desk.specs.Instruction.{Word, Fine, ReadFailed, Unwritten, Doubt, Failed, Counts, Ending, Committed, CommitUnwritten, CommitDoubted, Turning, Going, Over, Attempt, Fetching, Fetched, Broken, Contest, Contested, Settled, Lost, attempts, attempts_at, instruction, turns, limited, limit_passed, room, lines_written, fetched_first, fetches_touched, asks, gets, goes_on, takes_effect, commits, breaks, breaks_cycle, breaks_cycles, contest_ends, ordered, waits_or_gets, with_grants, refused_pages}
 
 -- each active entry runs the activation of its number
 abbrev pub AreNumbered : List Activation → List Entry → Type 0
@@ -303,10 +303,10 @@ ends-after all word number old mid new CommitDoubted moves did = record {
   broken = did.broken;
   steps = did.steps;
   ordered_as = record {
-      state = did.ordered_as.state;
-      commits_at = ap (committing all (number, did.steps)) (sym moves.committed) ∙ did.ordered_as.commits_at;
-      order = did.ordered_as.order ∙ ap (λ (order : List (ℕ × ℕ)). order ++ (number, did.steps) ∷ []) moves.order;
-    };
+    state = did.ordered_as.state;
+    commits_at = ap (committing all (number, did.steps)) (sym moves.committed) ∙ did.ordered_as.commits_at;
+    order = did.ordered_as.order ∙ ap (λ (order : List (ℕ × ℕ)). order ++ (number, did.steps) ∷ []) moves.order;
+  };
   committed = did.committed ∙ moves.committed;
   closed = did.closed;
 }

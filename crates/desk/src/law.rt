@@ -4,5 +4,4 @@ ghost use Rattle.desk.specs.Commits.{RunsAreSerial};
 /// are those of the same programs run one after another in the order of their commits (docs/MODEL.md). It calls nothing.
 pub fn runs_are_serial()
     ensures { RunsAreSerial }
-{
-}
+{}

@@ -1,6 +1,6 @@
 -- What has been read of a job can be run.
 use Rattle.std.proofs.Common.{◌≡◌, ℕ, zero, suc, ◌+◌, ◌*◌, ◌<◌, ◌≤◌, Bool, true, false, List, [], ◌∷◌, ◌++◌, length, All, refl, sym, ◌∙◌, ap, subst, arith, length-append, Option, Some, None}
-use Rattle.std.specs.Prelude.{map, nat_le, nat_lt, ◌&&◌,  is_some, if◌then◌else◌, Result, Ok, Err, IfOk, codes}
+use Rattle.std.specs.Prelude.{map, nat_le, nat_lt, ◌&&◌, is_some, if◌then◌else◌, Result, Ok, Err, IfOk, codes}
 use Rattle.std.specs.Str.{bytes_eq}
 use Rattle.std.specs.List.{position_or_len}
 use Rattle.std.proofs.lemmas.Bool.Decides.{nat_tests}
@@ -92,8 +92,12 @@ gives-programs reading [] fits = same Programs reading fits
 gives-programs reading (Word word ∷ []) fits = by_word (bytes_eq word (codes "schedule"))
   where
     by_word : (right : Bool) → Gives {E = ℕ} (if right then Ok (record reading { stage = Schedule }) else Err 10)
-    by_word true = record { at = refl; named = fits.named; frames = fits.frames;
-      events = (subst (All (IsEventAmong (length reading.programs))) (sym fits.events) (no_event (length reading.programs)), omega (arith, ap length fits.events)) }
+    by_word true = record {
+      at = refl;
+      named = fits.named;
+      frames = fits.frames;
+      events = (subst (All (IsEventAmong (length reading.programs))) (sym fits.events) (no_event (length reading.programs)), omega (arith, ap length fits.events));
+    }
     by_word false = tt
 gives-programs reading (Word word ∷ Word name ∷ []) fits = by_word (bytes_eq word (codes "program") && is_label name)
   where
@@ -126,9 +130,13 @@ gives-event reading event fits is = by_room (nat_lt (length reading.events) 1000
     by_room true e =
         same Schedule (record reading { events = reading.events ++ event ∷ [] })
         (record {
-          at = fits.at; named = fits.named; frames = fits.frames;
-          events = (All-append (IsEventAmong (length reading.programs)) reading.events (event ∷ []) fits.events.0 (one_event (length reading.programs) event is),
-            (let few : length reading.events < 10000 = grind (arith, nat_tests, e) in omega (arith, few, length-append reading.events (event ∷ []))));
+          at = fits.at;
+          named = fits.named;
+          frames = fits.frames;
+          events = (
+            All-append (IsEventAmong (length reading.programs)) reading.events (event ∷ []) fits.events.0 (one_event (length reading.programs) event is),
+            (let few : length reading.events < 10000 = grind (arith, nat_tests, e) in omega (arith, few, length-append reading.events (event ∷ []))),
+          );
         })
     by_room false e = tt
 
@@ -186,9 +194,13 @@ gives-drain reading rounds limit fits =
         let few : length reading.events + rounds * reading.begins ≤ 10000 = grind (arith, nat_tests, e) in
         same Schedule (record reading { events = reading.events ++ rounds_of limit reading.begins rounds })
         (record {
-          at = fits.at; named = fits.named; frames = fits.frames;
-          events = (All-append (IsEventAmong (length reading.programs)) reading.events (rounds_of limit reading.begins rounds) fits.events.0 (rounds-among (length reading.programs) limit reading.begins rounds small),
-            omega (arith, few, length-append reading.events (rounds_of limit reading.begins rounds), length-rounds_of limit reading.begins rounds));
+          at = fits.at;
+          named = fits.named;
+          frames = fits.frames;
+          events = (
+            All-append (IsEventAmong (length reading.programs)) reading.events (rounds_of limit reading.begins rounds) fits.events.0 (rounds-among (length reading.programs) limit reading.begins rounds small),
+            omega (arith, few, length-append reading.events (rounds_of limit reading.begins rounds), length-rounds_of limit reading.begins rounds),
+          );
         })
     by_test false e = tt
 

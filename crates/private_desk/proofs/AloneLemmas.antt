@@ -1,13 +1,13 @@
 -- An instruction of a desk on which one activation alone is active.
-use Rattle.std.proofs.Common.{◌≡◌, ℕ, ◌+◌, Bool, true, false, List, [], ◌∷◌, length, refl, sym, ◌∙◌, ap, eq-eqb, Option, Some, None}
+use Rattle.std.proofs.Common.{◌≡◌, ℕ, ◌+◌, Bool, true, false, List, [], ◌∷◌, length, refl, ◌∙◌, ap, eq-eqb, Option, Some, None}
 use Rattle.std.specs.Prelude.{suc, ◌==◌, ◌&&◌, not, map, filter, find, if◌then◌else◌}
 use Rattle.lock_rules.specs.Lines.{conflicts}
 use Rattle.flat_machine.specs.declared.machine.Plain.{Plain}
 use Rattle.flat_machine.specs.Row.{Outcome, On, Commit, Check, row}
 use Rattle.flat_machine.specs.After.{after}
-use Rattle.desk.specs.Desk.{Desk, Entry, Authority, with_entry, ended, rolled_back}
+use Rattle.desk.specs.Desk.{Desk, Entry, with_entry, ended, rolled_back}
 use Rattle.desk.specs.Holdings.{wanted, request, held, conflicts_of, conflicts_with}
-use Rattle.desk.specs.Instruction.{Word, Counts, Ending, Turning, Going, Over, Idle, Limit, Checked, Journal, Attempt, Fetched, instruction, turns, attempts, attempts_at, limited, limit_passed, room, lines_written, fetches, fetched_first, asks, goes_on, takes_effect, touched_pages, refused_pages, granted, locks_with, with_grants, commits, Fine, ReadFailed, Unwritten, Doubt, Failed}
+use Rattle.desk.specs.Instruction.{Word, Counts, Ending, Going, Over, Idle, Limit, Checked, Journal, Attempt, Fetched, instruction, turns, attempts, attempts_at, limited, limit_passed, room, lines_written, fetches, fetched_first, asks, goes_on, takes_effect, touched_pages, refused_pages, granted, locks_with, with_grants, commits, Fine, ReadFailed, Unwritten, Doubt, Failed}
 
 -- a row that goes on, or to the commit call
 abbrev pub GoesOn : Outcome → Type 0

@@ -1,10 +1,9 @@
 -- The commit of a private desk is one of the desk.
-use Rattle.std.proofs.Common.{◌≡◌, ℕ, ◌+◌, ◌*◌, ◌%◌, ◌^◌, ◌<◌, ◌≤◌, List, [], ◌∷◌, ◌++◌, length, drop, refl, sym, ◌∙◌, ap, subst, arith, Option, Some, None, length-append}
-use Rattle.std.specs.Prelude.{false, true, map, Vec, vec_len, vec_capacity}
+use Rattle.std.proofs.Common.{◌≡◌, ℕ, ◌+◌, ◌*◌, ◌%◌, ◌^◌, ◌<◌, ◌≤◌, List, [], ◌∷◌, ◌++◌, length, drop, refl, sym, ◌∙◌, ap, subst, arith, Option, Some, length-append}
+use Rattle.std.specs.Prelude.{false, true, Vec, vec_len, vec_capacity}
 use Rattle.std.specs.declared.alloc.Global.{Global}
-use Rattle.std.proofs.lemmas.List.{append-nil, map-append, length-map}
+use Rattle.std.proofs.lemmas.List.{append-nil, map-append}
 use Rattle.lock_rules.specs.Sets.{size}
-use Rattle.lock_rules.specs.Lines.{Lines}
 use Rattle.flat_machine.specs.declared.machine.Program.{Program}
 use Rattle.flat_machine.specs.Due.{touched_within}
 use Rattle.flat_machine.proofs.Agreement.{after-kept}
@@ -14,7 +13,7 @@ use Rattle.store_format.specs.Header.{Header, bank_at}
 use Rattle.store_format.specs.Bank.{lines_from}
 use Rattle.store_format.specs.Body.{IsBody}
 use Rattle.desk.specs.declared.answers.Committed.{Committed}
-use Rattle.desk.specs.Desk.{Desk, Entry, ended}
+use Rattle.desk.specs.Desk.{Desk, ended}
 use Rattle.desk.specs.Instruction.{Fine, Doubt, Over, CommitDoubted, commits, ordered, lines_written}
 use Rattle.desk.specs.Instruction as desk
 use Rattle.desk.specs.Answers.{order_told}

@@ -1,5 +1,5 @@
 -- One instruction of a private desk is one of the desk.
-use Rattle.std.proofs.Common.{◌≡◌, ℕ, suc, ◌+◌, ◌<◌, List, [], ◌∷◌, ◌++◌, length, refl, sym, ◌∙◌, ap, subst, arith, Option, Some, None}
+use Rattle.std.proofs.Common.{◌≡◌, ℕ, suc, ◌+◌, ◌<◌, List, [], ◌∷◌, length, refl, sym, ◌∙◌, ap, subst, arith, Option, Some, None}
 use Rattle.std.specs.Prelude.{false, ◌==◌, find, slice_get, option_and_then, vec_len, vec_capacity}
 use Rattle.std.specs.Option.{option_map_or}
 use Rattle.line_geometry.specs.Directory.{Layout}
@@ -177,6 +177,7 @@ module _ (word : Word) (d : PrivateDesk) (active : Active) (program : Program) (
         ∙ ap (limit_passed (room (desk_of d))) (sym counted) ∙ sym within)
         refl refl (conflicts-alone (desk_of d) entry alone)
         ∙ ap (λ (n : ℕ). commits word call (desk_of d) (record { ran = tally.ran; pages = tally.pages; locks = n; cycles = [] })) (omega arith)
+
     abbrev refused : List ℕ
     refused = refused_to active.number touch (authority_told d.entries.entries.items)
 

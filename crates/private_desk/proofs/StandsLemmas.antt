@@ -8,7 +8,7 @@ use Rattle.outside.specs.Bytes.{written}
 use Rattle.store_format.specs.declared.header.Which.{Which}
 use Rattle.store_format.specs.Header.{Header, HasRanges}
 use Rattle.store_format.specs.Bank.{RecordLine, lines_from, area_of}
-use Rattle.store_format.specs.Stands.{Standing, Stands, NotAStore, Damaged, IsStore, stands, one_more, laid}
+use Rattle.store_format.specs.Stands.{Standing, Stands, NotAStore, Damaged, one_more, laid}
 use Rattle.store_format.specs.Body.{IsBody}
 use Rattle.store_format.proofs.Stores.{stands_is}
 use Rattle.private_desk.specs.ShowSet.{ShowSet}

@@ -12,7 +12,6 @@ use Rattle.desk.specs.Instruction as desk
 use Rattle.desk.specs.Instruction.{Word, Counts, Turning, Going, Over, instruction, commits, refuses, lines_within, turn}
 use Rattle.desk.specs.Answers.{ending_told}
 use Rattle.private_desk.specs.PrivateDesk.{desk_of, entry_of}
-use Rattle.private_desk.specs.Words.{ReadsAll}
 use Rattle.private_desk.specs.declared.single.Active.{Active}
 use Rattle.private_desk.specs.declared.single.Attempt.{Attempt}
 use Rattle.private_desk.specs.declared.single.Attempt.TheVariants as attempt

@@ -1,6 +1,5 @@
 -- The bytes of a store that a private desk keeps.
 use Rattle.std.specs.Prelude.{◌≡◌, ℕ, ◌+◌, List}
-use Rattle.line_geometry.specs.FlatStore.{FlatStore}
 use Rattle.store_format.specs.declared.header.Which.{Which}
 use Rattle.store_format.specs.Header.{Header, bank_at}
 use Rattle.store_format.specs.Bank.{RecordLine}

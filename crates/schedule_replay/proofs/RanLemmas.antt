@@ -50,8 +50,12 @@ earlier_on old mid new text other one two value bytes result behind first second
 earlier_on old mid new text other one two value bytes result behind first second (inr (front, last, is, begins)) (inl no_two) =
     inr (front, last, ap (λ (back : List (Event × Word)). one ++ back) no_two ∙ append-nil one ∙ is, begins_on old mid new (text front) begins (begins_none mid new bytes result second))
 earlier_on old mid new text other one two value bytes result behind first second before (inr (front, last, is, begins)) =
-    inr (one ++ front, last, ap (λ (back : List (Event × Word)). one ++ back) is ∙ sym (append_assoc one front (last ∷ [])),
-    subst (λ (these : List ℕ). BeginsWith old new these) (sym (behind front)) (begins_behind old mid new (text one) (other front) value first begins))
+    inr (
+      one ++ front,
+      last,
+      ap (λ (back : List (Event × Word)). one ++ back) is ∙ sym (append_assoc one front (last ∷ [])),
+      subst (λ (these : List ℕ). BeginsWith old new these) (sym (behind front)) (begins_behind old mid new (text one) (other front) value first begins),
+    )
 
 module _ {D W : Type 0} (S : desk.Ghosts D) (G : Ghosts W) where
   -- puts leave the bytes that are told

@@ -1,6 +1,6 @@
 -- The report of a run, from its parts.
 use Rattle.std.proofs.Common.{◌≡◌, ℕ, ◌+◌, ◌<◌, ◌≤◌, List, [], ◌∷◌, ◌++◌, length, map, get_or, take, refl, sym, ap, ◌∙◌, subst, inl, inr, arith, rules}
-use Rattle.std.specs.Prelude.{Option, ◌⊎◌, Bool, true, false, if◌then◌else◌, Result, Ok, Err, IsErr, IfOk}
+use Rattle.std.specs.Prelude.{Option, Bool, true, false, if◌then◌else◌, Result, Ok, Err, IsErr, IfOk}
 use Rattle.std.specs.List.{flat_map}
 use Rattle.std.proofs.lemmas.List.{take_more}
 use Rattle.outside.specs.declared.failed.Failed.{Failed}

@@ -1,15 +1,12 @@
 -- The lines of events, one event after another, and those of the end of a run.
 use Rattle.std.specs.Prelude.{ℕ, if◌then◌else◌, Bool, true, false, List, [], ◌∷◌, ◌++◌, map}
-use Rattle.flat_machine.specs.declared.machine.Program.{Program}
-use Rattle.desk.specs.declared.event.Event.{Event}
 use Rattle.desk.specs.declared.answers.TurnEnd.{TurnEnd}
 use Rattle.desk.specs.declared.answers.TurnEnd.TheVariants as end
 use Rattle.desk.specs.Desk.{Desk}
 use Rattle.desk.specs.Holdings.{numbers}
-use Rattle.desk.specs.Instruction.{Word, Ending, CommitUnwritten, CommitDoubted}
-use Rattle.desk.specs.Run.{step}
+use Rattle.desk.specs.Instruction.{Ending, CommitUnwritten, CommitDoubted}
 use Rattle.desk.specs.Lines.{Line, Left, End}
-use Rattle.desk.specs.Report.{number_after, happening_lines}
+use Rattle.desk.specs.Report.{number_after}
 
 -- whether a turn that ended so closed the desk
 abbrev pub closes : Ending → Bool

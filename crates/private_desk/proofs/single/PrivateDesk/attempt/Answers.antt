@@ -1,12 +1,10 @@
-use Rattle.std.proofs.Common.{◌≡◌, ◌∙◌, ℕ, sym, ap, subst, get_or}
-use Rattle.std.specs.Prelude.{Some, slice_get}
+use Rattle.std.proofs.Common.{◌∙◌, ℕ, sym, ap, subst, get_or}
 use Rattle.line_geometry.specs.Directory.{Layout}
 use Rattle.flat_machine.specs.declared.machine.Program.{Program}
 use Rattle.flat_machine.specs.declared.machine.Plain.{Plain}
 use Rattle.flat_machine.specs.declared.machine.Went.{Went}
-use Rattle.flat_machine.specs.declared.touch.Touch.{Touch}
 use Rattle.flat_machine.specs.Row.{row, outcome_by, StaysUnlessOn}
-use Rattle.flat_machine.specs.Touched.{touch_lines, touched}
+use Rattle.flat_machine.specs.Touched.{touched}
 use Rattle.flat_machine.specs.Due.{touched_within}
 use Rattle.std.proofs.lemmas.Option.{get_or_from_slice_get}
 use Rattle.desk.specs.Instruction.{Fine, commits}

@@ -32,13 +32,15 @@ pub returns-in-Done-clause-step : goal.returns-in-Done-clause-step
 returns-in-Done-clause-step g c = λ follows still.
     let d = c.args.self.now in
     let settled = c.settle.ensures in
-    let (places, place) = has_place d c.args.active c.requires.sound follows c.requires.active still in
-    (Fine, (λ page. refl),
-    (λ program named.
-    committed d c.args.active program (runs_as d c.args.active program follows c.requires.active named) c.args.tally.now c.fill_body.new.body ((d.number + 1) % 2 ^ 64) c.settle.new.self
-    (record { parts = settled.parts; number_is = settled.number; closed = settled.closed; live = settled.live; active = settled.active; used = settled.used; committed = settled.committed; released = settled.released; resident = settled.resident; order_room = settled.order_room; order = settled.order })
-    place _ refl refl refl),
-    inl refl)
+    let (places, place) = has_place d c.args.active c.requires.sound follows c.requires.active still in (
+      Fine,
+      (λ page. refl),
+      (λ program named.
+          committed d c.args.active program (runs_as d c.args.active program follows c.requires.active named) c.args.tally.now c.fill_body.new.body ((d.number + 1) % 2 ^ 64) c.settle.new.self
+          (record { parts = settled.parts; number_is = settled.number; closed = settled.closed; live = settled.live; active = settled.active; used = settled.used; committed = settled.committed; released = settled.released; resident = settled.resident; order_room = settled.order_room; order = settled.order })
+          place _ refl refl refl),
+      inl refl,
+    )
 
 pub returns-in-Done-clause-numbers : goal.returns-in-Done-clause-numbers
 returns-in-Done-clause-numbers g c = λ follows still.
@@ -85,21 +87,24 @@ returns-in-Done-clause-kept g c = λ follows told kept still.
 pub returns-in-Doubt-clause-step : goal.returns-in-Doubt-clause-step
 returns-in-Doubt-clause-step g c = λ follows still.
     let d = c.args.self.now in
-    let (places, place) = has_place d c.args.active c.requires.sound follows c.requires.active still in
-    (Doubt, (λ page. refl),
-    (λ program named.
-    doubted d c.args.active program (runs_as d c.args.active program follows c.requires.active named) c.args.tally.now c.fill_body.new.body _ ((d.number + 1) % 2 ^ 64)
-    (ap (λ (e : PrivateDesk). record e { closed = true }) c.enter_order.ensures.others) (c.enter_order.ensures.order place)),
-    inr (c.append.ensures.doubt c.in-Doubt.is))
+    let (places, place) = has_place d c.args.active c.requires.sound follows c.requires.active still in (
+      Doubt,
+      (λ page. refl),
+      (λ program named.
+          doubted d c.args.active program (runs_as d c.args.active program follows c.requires.active named) c.args.tally.now c.fill_body.new.body _ ((d.number + 1) % 2 ^ 64)
+          (ap (λ (e : PrivateDesk). record e { closed = true }) c.enter_order.ensures.others) (c.enter_order.ensures.order place)),
+      inr (c.append.ensures.doubt c.in-Doubt.is),
+    )
 
 pub returns-in-Doubt-clause-numbers : goal.returns-in-Doubt-clause-numbers
 returns-in-Doubt-clause-numbers g c = λ follows still.
     let d = c.args.self.now in
     let (places, place) = has_place d c.args.active c.requires.sound follows c.requires.active still in
-    let (program, on) = runs d c.args.active follows c.requires.active in
-    (refl,
-    numbers-doubted d c.args.active program on c.args.tally.now c.fill_body.new.body _ ((d.number + 1) % 2 ^ 64)
-    (ap (λ (e : PrivateDesk). record e { closed = true }) c.enter_order.ensures.others) (c.enter_order.ensures.order place) follows refl)
+    let (program, on) = runs d c.args.active follows c.requires.active in (
+      refl,
+      numbers-doubted d c.args.active program on c.args.tally.now c.fill_body.new.body _ ((d.number + 1) % 2 ^ 64)
+          (ap (λ (e : PrivateDesk). record e { closed = true }) c.enter_order.ensures.others) (c.enter_order.ensures.order place) follows refl,
+    )
 
 pub returns-in-Doubt-clause-follows : goal.returns-in-Doubt-clause-follows
 returns-in-Doubt-clause-follows g c = λ follows still.

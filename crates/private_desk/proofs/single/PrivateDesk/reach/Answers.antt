@@ -17,20 +17,21 @@ returns-clause-fetched c = λ word reads.
     let resident = c.args.self.now.resident in
     let before = c.args.tally.now.pages in
     let pages = pages_of ((touch_lines c.args.touch).reads ++ (touch_lines c.args.touch).writes) in
-    let value = c.pages_of-pages.ensures.value _ c.requires.touch in
-    (c.fetch.new.self.pages.items,
-    before + c.fetch.result,
-    subst
-    (λ (these : List ℕ). fetches word resident.frames these these resident.pages.items before ≡ Fetched c.fetch.new.self.pages.items (before + c.fetch.result))
-    (c.as_slice.ensures.value ∙ value)
-    (c.fetch.ensures.value word before reads),
-    subst
-    (λ (frames : ℕ). fetches word frames pages pages c.fetch.new.self.pages.items (before + c.fetch.result) ≡ Fetched c.fetch-2.new.self.pages.items (before + c.fetch.result + c.fetch-2.result))
-    c.fetch.ensures.frames
-    (subst
-    (λ (these : List ℕ). fetches word c.fetch.new.self.frames these these c.fetch.new.self.pages.items (before + c.fetch.result) ≡ Fetched c.fetch-2.new.self.pages.items (before + c.fetch.result + c.fetch-2.result))
-    (c.as_slice-4.ensures.value ∙ value)
-    (c.fetch-2.ensures.value word (before + c.fetch.result) reads)))
+    let value = c.pages_of-pages.ensures.value _ c.requires.touch in (
+      c.fetch.new.self.pages.items,
+      before + c.fetch.result,
+      subst
+          (λ (these : List ℕ). fetches word resident.frames these these resident.pages.items before ≡ Fetched c.fetch.new.self.pages.items (before + c.fetch.result))
+          (c.as_slice.ensures.value ∙ value)
+          (c.fetch.ensures.value word before reads),
+      subst
+          (λ (frames : ℕ). fetches word frames pages pages c.fetch.new.self.pages.items (before + c.fetch.result) ≡ Fetched c.fetch-2.new.self.pages.items (before + c.fetch.result + c.fetch-2.result))
+          c.fetch.ensures.frames
+          (subst
+          (λ (these : List ℕ). fetches word c.fetch.new.self.frames these these c.fetch.new.self.pages.items (before + c.fetch.result) ≡ Fetched c.fetch-2.new.self.pages.items (before + c.fetch.result + c.fetch-2.result))
+          (c.as_slice-4.ensures.value ∙ value)
+          (c.fetch-2.ensures.value word (before + c.fetch.result) reads)),
+    )
 
 pub returns-clause-granted : goal.returns-clause-granted
 returns-clause-granted c = λ attempt lines own shown.

@@ -1,13 +1,9 @@
-use Rattle.std.proofs.Common.{◌≡◌, ℕ, ◌+◌, ◌-◌, ◌<◌, [], sym, ◌∙◌, ap, arith, rules, Some, None, refl}
-use Rattle.std.specs.Prelude.{◌==◌, find, false, Bool}
-use Rattle.std.specs.Option.{option_map_or}
+use Rattle.std.proofs.Common.{◌≡◌, ℕ, ◌+◌, ◌-◌, ◌<◌, [], sym, ◌∙◌, ap, arith, rules, None, refl}
+use Rattle.std.specs.Prelude.{◌==◌, find, false}
 use Rattle.std.proofs.lemmas.Bool.Decides.{nat_tests}
-use Rattle.flat_machine.specs.declared.machine.Program.{Program}
-use Rattle.desk.specs.Desk.{Desk, Entry}
-use Rattle.desk.specs.Instruction.{Word, Going, Over, Idle, Turning, Counts, turns, instruction, no_counts}
-use Rattle.private_desk.specs.PrivateDesk.{desk_of, entry_of, entries_told}
-use Rattle.private_desk.specs.Words.{ReadsAll}
-use Rattle.private_desk.specs.Follows.{Follows}
+use Rattle.desk.specs.Desk.{Entry}
+use Rattle.desk.specs.Instruction.{Word, Going, Idle, Counts, turns, instruction, no_counts}
+use Rattle.private_desk.specs.PrivateDesk.{desk_of}
 use Rattle.private_desk.specs.Answered.{counts_of, instruction_of}
 use Rattle.private_desk.specs.declared.single.Active.{Active}
 use Rattle.private_desk.specs.declared.single.Tally.{Tally}
