@@ -1,15 +1,15 @@
-ghost use Rattle.std.specs.Prelude.{◌≡◌};
+ghost use Rattle.std.specs.Prelude.{◌≡◌, ◌+◌, ◌≤◌, ◌++◌, length, decimal};
 ghost use Rattle.console.specs.declared.status.Status.TheVariants.{NoMemory};
-ghost use Rattle.console.specs.Statuses.{status_of_job, status_of_text, status_of_open, status_of_replay};
+ghost use Rattle.console.specs.Statuses.{status_of_job, status_of_text, status_of_open, status_of_replay, number_of, text_of};
 
 use super::opening::OpenFault;
 use super::source_text::TextFault;
 use arrayvec::ArrayString;
 use desk::Committed;
+use itoa::Buffer;
 use job_text::JobFault;
 use schedule_replay::Replayed;
 use std::alloc::AllocError;
-use std::fmt::Write;
 
 /// How a call of the console ended (docs/FORMATS.md, "Statuses").
 #[derive(Debug, Clone, Copy, PartialEq, Eq)]
@@ -47,8 +47,10 @@ pub struct Ended {
 }
 
 impl Status {
-    /// The number with which the program ends.
-    pub fn number(&self) -> u8 {
+    /// The number with which the program ends (docs/FORMATS.md, "Statuses").
+    pub fn number(&self) -> u8
+        ensures value { result ≡ number_of self.now }
+    {
         match self {
             Status::Done => 0,
             Status::Usage => 1,
@@ -65,23 +67,46 @@ impl Status {
     }
 }
 
-/// The text of a status, which the program prints on standard error.
-pub fn status_text(status: &Status) -> ArrayString<64> {
+/// The text of a status, which the program prints on standard error (docs/FORMATS.md, "Statuses").
+pub fn status_text(status: &Status) -> ArrayString<64>
+    ensures text { result.bytes ≡ text_of status.now }
+{
     let mut text = ArrayString::new();
-    let _ = match status {
-        Status::Done => Ok(()),
-        Status::Usage => write!(text, "usage"),
-        Status::Store(offset) => write!(text, "store {offset}"),
-        Status::Job(line, kind) => write!(text, "job {line} {kind}"),
-        Status::SourceFault => write!(text, "source"),
-        Status::DiskFault => write!(text, "disk"),
-        Status::PutFault => write!(text, "screen"),
-        Status::NoMemory => write!(text, "memory"),
-        Status::TooBig => write!(text, "big"),
-        Status::Exists => write!(text, "exists"),
-        Status::NoRange => write!(text, "range"),
-    };
+    match status {
+        Status::Done => {}
+        Status::Usage => push(&mut text, "usage"),
+        Status::Store(offset) => push_with(&mut text, "store ", *offset),
+        Status::Job(line, kind) => {
+            push_with(&mut text, "job ", u64::from(*line));
+            push_with(&mut text, " ", u64::from(*kind));
+        }
+        Status::SourceFault => push(&mut text, "source"),
+        Status::DiskFault => push(&mut text, "disk"),
+        Status::PutFault => push(&mut text, "screen"),
+        Status::NoMemory => push(&mut text, "memory"),
+        Status::TooBig => push(&mut text, "big"),
+        Status::Exists => push(&mut text, "exists"),
+        Status::NoRange => push(&mut text, "range"),
+    }
     text
+}
+
+/// Adds a word, for which there is room.
+fn push(text: &mut ArrayString<64>, word: &str)
+    requires fits { length text.old.bytes + length word.now ≤ 64 }
+    ensures bytes { text.new.bytes ≡ text.old.bytes ++ word.now }
+{
+    let _ = text.try_push_str(word);
+}
+
+/// Adds a word and a number, for which there is room.
+fn push_with(text: &mut ArrayString<64>, word: &str, number: u64)
+    requires fits { length text.old.bytes + length word.now + 20 ≤ 64 }
+    ensures bytes { text.new.bytes ≡ text.old.bytes ++ (word.now ++ decimal number) }
+    ensures few { length text.new.bytes ≤ length text.old.bytes + length word.now + 20 }
+{
+    push(text, word);
+    push(text, Buffer::new().format(number));
 }
 
 impl From<AllocError> for Status {
