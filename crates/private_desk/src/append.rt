@@ -1,8 +1,9 @@
 // One record added to a bank: its body behind the closed gate, a sync, the open gate, and a sync.
-ghost use Rattle.std.specs.Prelude.{◌≡◌, ◌+◌, ◌<◌, ◌≤◌, ◌^◌, [], ◌∷◌, length, IsSome, OnOk};
+ghost use Rattle.std.specs.Prelude.{◌≡◌, ◌+◌, ◌<◌, ◌≤◌, ◌^◌, [], ◌∷◌, length, IsSome, IsTrue, OnOk};
 ghost use Rattle.std.specs.Option.{ForSome};
 ghost use Rattle.outside.specs.Bytes.{written, Torn};
 ghost use Rattle.outside.specs.Causes.{Rose, HasCause};
+ghost use Rattle.outside.specs.Moments.{IsDurable};
 ghost use Rattle.outside.specs.Runs.{CallsDisk, held_of};
 ghost use Rattle.store_format.specs.Header.{total};
 
@@ -32,6 +33,7 @@ pub fn append<W: Outside>(outside: &mut W, header: &Header, gate: u64, body: &[u
     ensures bytes { ForSome (W.held outside.new) (λ bytes. total header.now ≤ length bytes) }
     ensures told { IsSome (W.held outside.old) → IsSome (W.held outside.new) }
     ensures done { result ≡ Appended.Done → IsSome (W.held outside.old) → held_of W.Outside outside.new ≡ written (written (held_of W.Outside outside.old) (gate + 1) body.now) gate (0xA5 ∷ []) }
+    ensures sure { result ≡ Appended.Done → IsTrue (W.is_honest outside.old) → IsDurable W.moment W.left_since W.held outside.new }
     ensures unwritten { result ≡ Appended.Unwritten → Rose (W.disk_faults outside.old) (W.disk_faults outside.new) }
     ensures shut { result ≡ Appended.Unwritten → IsSome (W.held outside.old) → Torn (gate + 1) (length body.now) (held_of W.Outside outside.old) (held_of W.Outside outside.new) }
     ensures doubt { result ≡ Appended.Doubt → Rose (W.disk_faults outside.old) (W.disk_faults outside.new) }
@@ -59,6 +61,8 @@ fn write_and_sync<W: Outside>(
     ensures bytes { ForSome (W.held outside.new) (λ bytes. total header.now ≤ length bytes) }
     ensures told { IsSome (W.held outside.old) → IsSome (W.held outside.new) }
     ensures done { OnOk result (IsSome (W.held outside.old) → held_of W.Outside outside.new ≡ written (held_of W.Outside outside.old) at bytes.now) }
+    ensures honest { W.is_honest outside.new ≡ W.is_honest outside.old }
+    ensures sure { OnOk result (IsTrue (W.is_honest outside.old) → IsDurable W.moment W.left_since W.held outside.new) }
     ensures torn { IsSome (W.held outside.old) → Torn at (length bytes.now) (held_of W.Outside outside.old) (held_of W.Outside outside.new) }
     ensures cause { HasCause (W.disk_faults outside.old) (W.disk_faults outside.new) result }
 {
