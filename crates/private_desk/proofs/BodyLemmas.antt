@@ -12,9 +12,9 @@ use Rattle.lock_rules.specs.Sets.{has, size}
 use Rattle.lock_rules.proofs.Sizes.{size-counted}
 use Rattle.store_format.specs.Bank.{RecordLine, lines_from, wrong_line}
 use Rattle.store_format.specs.Body.{IsBody}
-use Rattle.private_desk.specs.ShowSet.{ShowSet}
+use Rattle.flat_storage.specs.ShowSet.{ShowSet}
 use Rattle.private_desk.specs.Record.{lines_marked, line_bytes_of, head_of, body_of, recorded}
-use Rattle.private_desk.proofs.MarkLemmas.{range-more}
+use Rattle.flat_storage.proofs.MarkLemmas.{range-more}
 
 filter-same : (p q : ℕ → Bool) (xs : List ℕ) → ((x : ℕ) → p x ≡ q x) → filter p xs ≡ filter q xs
 filter-same p q [] same = refl

@@ -20,10 +20,10 @@ use Rattle.desk.specs.Holdings.{wanted}
 use Rattle.desk.specs.Instruction.{Word, Counts, Turning, Going, Over, Checked, Journal, instruction, attempts, limited, limit_passed, room, lines_written, takes_effect, commits, granted}
 use Rattle.desk.specs.Instruction as desk
 use Rattle.private_desk.specs.PrivateDesk.{desk_of, entry_of, entries_told}
-use Rattle.private_desk.specs.Entries.{authority_told}
-use Rattle.private_desk.specs.Words.{ReadsAll}
+use Rattle.flat_storage.specs.Entries.{authority_told}
+use Rattle.flat_storage.specs.Words.{ReadsAll}
 use Rattle.private_desk.specs.Follows.{Follows, IsAfter, IsAfterIf, HasPlaces, store_of}
-use Rattle.private_desk.specs.Marks.{Show}
+use Rattle.flat_storage.specs.Marks.{Show}
 use Rattle.private_desk.specs.Answered.{counts_of, commit_call, instruction_of, refused_to}
 use Rattle.private_desk.specs.Running.{Runs, IsRolledBack, HasReached}
 use Rattle.private_desk.specs.declared.single.Active.{Active}

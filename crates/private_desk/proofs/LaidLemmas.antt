@@ -13,7 +13,7 @@ use Rattle.line_geometry.specs.declared.directory.PageSize.TheVariants.{Two}
 use Rattle.flat_machine.specs.Agreement.{AgreeBut}
 use Rattle.store_format.specs.Bank.{RecordLine, lines_from}
 use Rattle.store_format.specs.Stands.{laid}
-use Rattle.private_desk.specs.ShowSet.{ShowSet}
+use Rattle.flat_storage.specs.ShowSet.{ShowSet}
 use Rattle.private_desk.specs.Record.{lines_marked, body_of, recorded}
 use Rattle.private_desk.proofs.RecordLemmas.{length-written, drop-behind}
 use Rattle.private_desk.proofs.BodyLemmas.{body-lines}

@@ -11,7 +11,7 @@ use Rattle.store_format.specs.Bank.{RecordLine, lines_from, area_of}
 use Rattle.store_format.specs.Stands.{Standing, Stands, NotAStore, Damaged, one_more, laid}
 use Rattle.store_format.specs.Body.{IsBody}
 use Rattle.store_format.proofs.Stores.{stands_is}
-use Rattle.private_desk.specs.ShowSet.{ShowSet}
+use Rattle.flat_storage.specs.ShowSet.{ShowSet}
 use Rattle.private_desk.specs.Kept.{StandsFor}
 use Rattle.private_desk.specs.Record.{lines_marked, body_of}
 use Rattle.private_desk.proofs.SizeLemmas.{lines_fit}

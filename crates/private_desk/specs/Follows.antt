@@ -6,9 +6,9 @@ use Rattle.flat_machine.specs.declared.machine.Plain.{Plain}
 use Rattle.flat_machine.specs.After.{after}
 use Rattle.flat_machine.specs.Due.{touched_within}
 use Rattle.desk.specs.Report.{number_after}
-use Rattle.private_desk.specs.Marks.{Show}
+use Rattle.flat_storage.specs.Marks.{Show}
 use Rattle.private_desk.specs.PrivateDesk.{desk_of}
-use Rattle.private_desk.specs.declared.line_marks.LineMarks.{LineMarks}
+use Rattle.flat_storage.specs.declared.line_marks.LineMarks.{LineMarks}
 use Rattle.private_desk.specs.declared.single.Active.{Active}
 use Rattle.private_desk.specs.declared.single.PrivateDesk.{PrivateDesk}
 

@@ -8,9 +8,9 @@ use Rattle.flat_machine.specs.declared.machine.Plain.{Plain}
 use Rattle.store_format.specs.Header.{Header, HasRanges}
 use Rattle.desk.specs.Desk.{Desk, Entry}
 use Rattle.desk.specs.Answers.{order_told}
-use Rattle.private_desk.specs.Entries.{authority_told}
-use Rattle.private_desk.specs.declared.page_entries.PageEntries.{PageEntries}
-use Rattle.private_desk.specs.declared.line_marks.LineMarks.{LineMarks}
+use Rattle.flat_storage.specs.Entries.{authority_told}
+use Rattle.flat_storage.specs.declared.page_entries.PageEntries.{PageEntries}
+use Rattle.flat_storage.specs.declared.line_marks.LineMarks.{LineMarks}
 use Rattle.private_desk.specs.declared.single.Active.{Active}
 use Rattle.private_desk.specs.declared.single.PrivateDesk.{PrivateDesk}
 

@@ -11,9 +11,9 @@ use Rattle.desk.specs.Desk.{nobody}
 use Rattle.desk.specs.Instruction.{Word, granted}
 use Rattle.desk.specs.Instruction as desk
 use Rattle.private_desk.specs.Attempts.{KeepsParts, KeepsBytes}
-use Rattle.private_desk.specs.Entries.{authority_told}
-use Rattle.private_desk.specs.Marks.{Show}
-use Rattle.private_desk.specs.Words.{ReadsAll, FetchesTwice}
+use Rattle.flat_storage.specs.Entries.{authority_told}
+use Rattle.flat_storage.specs.Marks.{Show}
+use Rattle.flat_storage.specs.Words.{ReadsAll, FetchesTwice}
 use Rattle.private_desk.specs.Answered.{refused_to}
 use Rattle.private_desk.specs.Follows.{store_of}
 use Rattle.private_desk.specs.declared.single.Active.{Active}

@@ -2,7 +2,7 @@
 use Rattle.std.specs.Prelude.{◌≡◌, ℕ, ◌+◌, ◌*◌, ◌<◌, ◌≤◌, ◌==◌, ◌++◌, [], ◌∷◌, map, if◌then◌else◌, None, vec_len, vec_capacity}
 use Rattle.desk.specs.Desk.{nobody}
 use Rattle.private_desk.specs.Attempts.{KeepsParts}
-use Rattle.private_desk.specs.Entries.{authority_told}
+use Rattle.flat_storage.specs.Entries.{authority_told}
 use Rattle.private_desk.specs.declared.single.Active.{Active}
 use Rattle.private_desk.specs.declared.single.PrivateDesk.{PrivateDesk}
 

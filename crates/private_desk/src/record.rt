@@ -4,7 +4,7 @@ ghost use Rattle.byteorder.specs.Endian.{big_bytes};
 ghost use Rattle.lock_rules.specs.Sets.{size};
 ghost use Rattle.store_format.specs.Bank.{lines_from};
 ghost use Rattle.store_format.specs.Body.{IsBody};
-ghost use Rattle.private_desk.specs.ShowSet.{ShowSet};
+ghost use Rattle.flat_storage.specs.ShowSet.{ShowSet};
 ghost use Rattle.private_desk.specs.Record.{lines_marked, body_of, head_of};
 
 use super::line_marks::LineMarks;

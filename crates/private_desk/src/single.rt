@@ -92,9 +92,9 @@ impl PrivateDesk {
     ghost use Rattle.desk.specs.Answers.{order_told, ending_told, HasNumbers};
     ghost use Rattle.desk.specs.Report.{number_after};
     ghost use Rattle.private_desk.specs.Kept.{Keeps};
-    ghost use Rattle.private_desk.specs.Marks.{Show};
-    ghost use Rattle.private_desk.specs.Entries.{authority_told};
-    ghost use Rattle.private_desk.specs.Words.{ReadsAll, FetchesTwice};
+    ghost use Rattle.flat_storage.specs.Marks.{Show};
+    ghost use Rattle.flat_storage.specs.Entries.{authority_told};
+    ghost use Rattle.flat_storage.specs.Words.{ReadsAll, FetchesTwice};
     ghost use Rattle.private_desk.specs.Follows.{Follows};
     ghost use Rattle.private_desk.specs.Answered.{counts_of, commit_call, IsInstruction, IsTurn, IsCommitted, IsOfActivation, refused_to};
     ghost use Rattle.private_desk.specs.Attempts.{KeepsParts, KeepsBytes, IsPlain, IsTurned, HasAttempted, HasStopped, HaveRowsWithin, TalliesMore};

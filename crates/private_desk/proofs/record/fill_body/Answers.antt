@@ -2,7 +2,7 @@ use Rattle.std.proofs.Common.{◌≡◌, ◌++◌, ℕ, List, Bool, true, false,
 use Rattle.std.specs.List.{flat_map}
 use Rattle.std.proofs.lemmas.List.{get_or_read_under}
 use Rattle.lock_rules.specs.Sets.{size}
-use Rattle.private_desk.specs.ShowSet.{ShowSet}
+use Rattle.flat_storage.specs.ShowSet.{ShowSet}
 use Rattle.private_desk.specs.Record.{lines_marked, line_bytes_of, head_of}
 use Rattle.private_desk.proofs.BodyLemmas.{filled-more, filled-same, IsFilled, filled-body, filled-length, filled-is-body}
 use Rattle.private_desk.proofs.record.fill_body.Goals as goal

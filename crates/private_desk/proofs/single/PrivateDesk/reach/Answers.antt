@@ -4,7 +4,7 @@ use Rattle.lock_rules.specs.Lines.{pages_of, both, with_whole_pages}
 use Rattle.flat_machine.specs.Touched.{AreSome, touch_lines}
 use Rattle.desk.specs.Desk.{nobody}
 use Rattle.desk.specs.Instruction.{Fetched, fetches, granted, refuses, lines_within}
-use Rattle.private_desk.specs.Entries.{authority_told}
+use Rattle.flat_storage.specs.Entries.{authority_told}
 use Rattle.private_desk.proofs.single.PrivateDesk.reach.Goals as goal
 
 pub refused-refused-requires-clause-pages : goal.refused-refused-requires-clause-pages

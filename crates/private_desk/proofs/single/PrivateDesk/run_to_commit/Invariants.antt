@@ -1,7 +1,7 @@
 use Rattle.std.proofs.Common.{◌≡◌, ◌≤◌, ◌*◌, ◌+◌, ◌-◌}
 use Rattle.desk.specs.Instruction.{Word, Going, turns, no_counts}
 use Rattle.private_desk.specs.PrivateDesk.{desk_of, IsSound}
-use Rattle.private_desk.specs.Words.{ReadsAll}
+use Rattle.flat_storage.specs.Words.{ReadsAll}
 use Rattle.private_desk.specs.Follows.{Follows}
 use Rattle.private_desk.specs.Answered.{counts_of}
 use Rattle.private_desk.specs.Attempts.{KeepsParts, KeepsBytes, HaveRowsWithin}
