@@ -1,3 +1,4 @@
 pub mod AttemptLemmas
 pub mod MemoryLemmas
 pub mod SegmentLemmas
+pub mod WindowLemmas

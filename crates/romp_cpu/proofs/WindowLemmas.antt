@@ -1,0 +1,73 @@
+-- What stands under a program's segment registers, and which segments a legal directory has.
+use Rattle.std.specs.Prelude.{◌≡◌, refl, ℕ, suc, ◌+◌, ◌<◌, ◌≤◌, ◌^◌, cond, Bool, true, false, List, [], ◌∷◌, All, find, slice_index_or, Option, Some, None, option_map}
+use Rattle.std.proofs.Common.{arith, sym, ◌∙◌}
+use Rattle.std.proofs.Math.ListN.{get_or-map}
+use Rattle.std.proofs.lemmas.List.Elements.{All-head, All-tail}
+use Rattle.std.proofs.lemmas.Bool.Decides.{nat_tests}
+use Rattle.line_geometry.specs.declared.directory.PageSize.{PageSize}
+use Rattle.line_geometry.specs.Directory.{Layout, length_of, start_of, byte_count}
+use Rattle.line_geometry.specs.Legal.{IsInRange, IsLegal}
+use Rattle.line_geometry.specs.Segments.{page_bytes, bytes_of, is_named}
+use Rattle.line_geometry.proofs.Legal.{legal-bytes}
+use Rattle.line_geometry.proofs.Within.{segment-within}
+use Rattle.segment_regs.specs.declared.registers.SegmentRegister.{SegmentRegister}
+use Rattle.flat_machine.specs.declared.machine.Program.{Program}
+use Rattle.flat_machine.specs.declared.machine.Window.{Window}
+use Rattle.romp_cpu.specs.Segments.{register_of_window, registers_of_program}
+
+-- what stands under the register of a window is a segment of the store with its bytes
+window-segment :
+    (directory : Layout) (window : Option Window) (r : SegmentRegister)
+    → register_of_window directory window ≡ Some r → length_of directory r.segment ≡ Some r.bytes
+window-segment directory None r stands = absurd (cc)
+window-segment directory (Some window) r stands = by_length (length_of directory window.segment) refl stands
+  where
+    by_length :
+        (length : Option ℕ) → length_of directory window.segment ≡ length
+        → option_map (λ length. record { segment = window.segment; bytes = length; write = window.write }) length ≡ Some r
+        → length_of directory r.segment ≡ Some r.bytes
+    by_length None is stands = absurd (cc)
+    by_length (Some bytes) is stands = cc
+
+-- so is what stands under each register of a program from 1 on
+pub register-window :
+    (program : Program) (directory : Layout) (private i : ℕ) (r : SegmentRegister)
+    → slice_index_or (registers_of_program program directory private) (suc i) None ≡ Some r
+    → length_of directory r.segment ≡ Some r.bytes
+register-window program directory private i r stands =
+    window-segment directory (slice_index_or program.windows i None) r
+    (sym (get_or-map (register_of_window directory) program.windows i None) ∙ stands)
+
+-- what is found by its identifier has it, and is in range where all are
+found-low :
+    (identifier bytes page : ℕ) (segments : List (ℕ × ℕ)) → All IsInRange segments
+    → option_map (bytes_of page) (find (is_named identifier) segments) ≡ Some bytes → identifier < 3840
+found-low identifier bytes page [] all found = absurd (cc)
+found-low identifier bytes page (segment ∷ rest) all found =
+    by_name (is_named identifier segment) refl (found-low identifier bytes page rest (All-tail IsInRange segment rest all)) found
+  where
+    low : segment.0 ≤ 3839
+    low = (All-head IsInRange segment rest all).1
+
+    by_name :
+        (named : Bool) → is_named identifier segment ≡ named
+        → (option_map (bytes_of page) (find (is_named identifier) rest) ≡ Some bytes → identifier < 3840)
+        → option_map (bytes_of page) (cond named (Some segment) (find (is_named identifier) rest)) ≡ Some bytes
+        → identifier < 3840
+    by_name true is inner found = grind (arith, nat_tests, low)
+    by_name false is inner found = inner found
+
+-- a segment that a legal directory has is below 3,840
+pub named-low :
+    (segments : List (ℕ × ℕ)) (identifier bytes : ℕ) (page : PageSize) → IsLegal segments
+    → length_of (record { page = page; segments = segments }) identifier ≡ Some bytes → identifier < 3840
+named-low segments identifier bytes page legal found = found-low identifier bytes (page_bytes page) segments legal.in_range found
+
+-- and has at most 4 MiB
+pub bytes-low :
+    (segments : List (ℕ × ℕ)) (identifier bytes : ℕ) (page : PageSize) → IsLegal segments
+    → length_of (record { page = page; segments = segments }) identifier ≡ Some bytes → bytes ≤ 2 ^ 22
+bytes-low segments identifier bytes page legal found =
+    let directory : Layout = record { page = page; segments = segments } in
+    let within : start_of directory identifier + bytes ≤ byte_count directory = segment-within directory identifier bytes found in
+    omega (arith, within, legal-bytes directory legal)

@@ -1,0 +1,12 @@
+use Rattle.std.proofs.Common.{◌≡◌, ◌<◌, ◌≤◌, ℕ, suc, None, length, get_or}
+use Rattle.segment_regs.specs.Registers.{register_at}
+use Rattle.romp_cpu.specs.Segments.{register_of_window}
+use Rattle.romp_cpu.proofs.segments.registers_of.Given as goal
+
+-- the windows so far stand under their registers, and nothing stands under those behind
+abbrev pub invariant-loop-place : goal.invariant-loop-place
+invariant-loop-place l = record {
+  few : length l.present.items ≤ l.place;
+  each : (k : ℕ) → k < l.place → register_at l.present.items (suc k) ≡ register_of_window l.directory (get_or l.windows k None);
+  others : (k : ℕ) → l.place < k → register_at l.present.items k ≡ None;
+}
