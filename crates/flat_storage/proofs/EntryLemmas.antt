@@ -1,8 +1,8 @@
 -- The authority that entries show, and what it refuses.
-use Rattle.std.proofs.Common.{◌≡◌, ℕ, zero, suc, ◌+◌, ◌-◌, ◌*◌, ◌%◌, ◌<◌, ◌≤◌, Bool, true, false, List, [], ◌∷◌, ◌++◌, length, take, drop, refl, sym, ◌∙◌, ap, arith}
+use Rattle.std.proofs.Common.{◌≡◌, ℕ, zero, suc, ◌+◌, ◌-◌, ◌*◌, ◌/◌, ◌%◌, ◌<◌, ◌≤◌, Bool, true, false, List, [], ◌∷◌, ◌++◌, length, take, drop, refl, sym, ◌∙◌, ap, arith}
 use Rattle.std.specs.Prelude.{◌||◌, ◌&&◌, not, cond, nat_le, ◌==◌, map, filter, replicate, slice_index_or, slice_set, slice_range, if◌then◌else◌}
 use Rattle.std.specs.List.{list_any, range_with_len, enumerate_from}
-use Rattle.std.proofs.lemmas.List.{map-set, get_or-map, get_or-replicate, get_or_default, take_all, drop_all, append-nil}
+use Rattle.std.proofs.lemmas.List.{length-map, map-set, get_or-map, get_or-replicate, get_or_default, get_or_past, take_all, drop_all, append-nil}
 use Rattle.std.proofs.lemmas.List.FromFn.{length-enumerate_from, get_or-enumerate_from}
 use Rattle.std.proofs.lemmas.List.Edits.{get_or-between, map_over_more}
 use Rattle.std.proofs.Math.Seq.{drop-cons}
@@ -19,6 +19,7 @@ use Rattle.desk.specs.Instruction.{refuses, lines_within, authority_by}
 use Rattle.flat_storage.specs.declared.page_entries.Entry.{Entry}
 use Rattle.flat_storage.specs.Entries.{lines_on, authority_of, authority_told}
 use Rattle.flat_storage.specs.EntryRules.{refuses_access, refuses_line, unowned, released}
+use Rattle.flat_storage.specs.Refused.{refuses_line_to}
 use Rattle.flat_storage.specs.ShowSet.{ShowSet}
 use Rattle.flat_storage.proofs.PageLemmas.{any-alike, marked-page}
 
@@ -124,6 +125,28 @@ on-line : (page : ℕ) (bits : List Bool) (line : ℕ) → page * 16 ≤ line �
 on-line page bits line above below =
     has-filter (λ line. slice_index_or bits (line % 16) false) (lines_of_page page) line
     ∙ ap (λ (here : Bool). here && slice_index_or bits (line % 16) false) (in_range (page * 16) 16 line above below)
+
+-- the entry of a line's page refuses the line as its authority does
+pub refuses-told :
+    (entries : List Entry) (line number : ℕ) (store : Bool) (entry : Entry) → line / 16 < length entries
+    → not (permits ((slice_index_or entries (line / 16) entry).owner == number) (slice_index_or entries (line / 16) entry).write (slice_index_or (slice_index_or entries (line / 16) entry).lines (line % 16) false) store)
+    ≡ refuses_line_to (slice_index_or (authority_told entries) (line / 16) nobody) number line store
+refuses-told entries line number store entry within =
+    let here = slice_index_or entries (line / 16) entry in
+    ap (λ (bit : Bool). not (permits (here.owner == number) here.write bit store)) (sym (on-line (line / 16) here.lines line (omega arith) (omega arith)))
+    ∙ ap (λ (authority : Authority). refuses_line_to authority number line store) (sym (told-at entries (line / 16) nobody entry within))
+
+-- where there is no such page, it is refused
+pub refuses-beyond :
+    (entries : List Entry) (line number : ℕ) (store : Bool) → length entries ≤ line / 16
+    → true ≡ refuses_line_to (slice_index_or (authority_told entries) (line / 16) nobody) number line store
+refuses-beyond entries line number store beyond =
+    let long : length (authority_told entries) ≤ line / 16 = omega (arith, length-map (enumerate_from 0 entries) authority_of, length-enumerate_from 0 entries) in
+    by_test (0 == number) ∙ ap (λ (authority : Authority). refuses_line_to authority number line store) (sym (get_or_past (authority_told entries) (line / 16) nobody long))
+  where
+    by_test : (own : Bool) → true ≡ not (permits own false false store)
+    by_test true = refl
+    by_test false = refl
 
 -- whether the authority that an entry shows refuses a line
 abbrev refuses_told : Entry → (page number : ℕ) → Bool → ℕ → Bool

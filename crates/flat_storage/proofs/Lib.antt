@@ -6,3 +6,6 @@ pub mod FindLemmas
 pub mod PlaceLemmas
 pub mod AnswerLemmas
 pub mod ShowLemmas
+pub mod LocatedLemmas
+pub mod OpenLemmas
+pub mod RowLemmas

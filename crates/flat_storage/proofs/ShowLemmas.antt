@@ -219,9 +219,9 @@ module _ (f : Flat) (sized : IsSized f) (address : ℕ) (bytes : List ℕ) (at :
         fits = lies-private f sized at (length bytes) a (lies f sized address (length bytes) at u) is
 
         by_place : (v : Virtual) (place : Located) → located_by f.registers other 1 false ≡ Ok v → place_of f.directory v ≡ place → byte_of (with_bytes f (Private a) bytes) place ≡ byte_of f place
-        by_place v (Private b) found lies = keeps f.private a b fits (λ k same below. not-inside v found k below (same-private f sized address (length bytes) at u other v (under f other 1 false v found) a b k is lies same))
-        by_place v (Shared b) found lies = refl
-        by_place v (Refused code) found lies = refl
+        by_place v (Private b) found at-place = keeps f.private a b fits (λ k same below. not-inside v found k below (same-private f sized address (length bytes) at u other v (under f other 1 false v found) a b k is at-place same))
+        by_place v (Shared b) found at-place = refl
+        by_place v (Refused code) found at-place = refl
 
         by_result : (found : Result Virtual Check) → located_by f.registers other 1 false ≡ found → byte_of (with_bytes f (Private a) bytes) (place_at f.directory (located_by f.registers other 1 false)) ≡ byte_of f (place_at f.directory (located_by f.registers other 1 false))
         by_result (Ok v) found =
@@ -238,9 +238,9 @@ module _ (f : Flat) (sized : IsSized f) (address : ℕ) (bytes : List ℕ) (at :
         fits = (lies-shared f sized at (length bytes) a (lies f sized address (length bytes) at u) is).0
 
         by_place : (v : Virtual) (place : Located) → located_by f.registers other 1 false ≡ Ok v → place_of f.directory v ≡ place → byte_of (with_bytes f (Shared a) bytes) place ≡ byte_of f place
-        by_place v (Shared b) found lies = keeps f.store a b fits (λ k same below. not-inside v found k below (same-shared f sized address (length bytes) at u other v (under f other 1 false v found) a b k is lies same below))
-        by_place v (Private b) found lies = refl
-        by_place v (Refused code) found lies = refl
+        by_place v (Shared b) found at-place = keeps f.store a b fits (λ k same below. not-inside v found k below (same-shared f sized address (length bytes) at u other v (under f other 1 false v found) a b k is at-place same below))
+        by_place v (Private b) found at-place = refl
+        by_place v (Refused code) found at-place = refl
 
         by_result : (found : Result Virtual Check) → located_by f.registers other 1 false ≡ found → byte_of (with_bytes f (Shared a) bytes) (place_at f.directory (located_by f.registers other 1 false)) ≡ byte_of f (place_at f.directory (located_by f.registers other 1 false))
         by_result (Ok v) found =

@@ -53,7 +53,7 @@ with_bytes f (Refused code) bytes = f
 
 -- bytes over those from an effective address on
 abbrev pub stored : Flat → ℕ → List ℕ → Flat
-stored f address bytes = with_bytes f (place_at f.directory (located_by f.registers address (length bytes) true)) bytes
+stored f address bytes = with_bytes f (place_at f.directory (located_by f.registers address 0 false)) bytes
 
 -- whether the page of a line is resident
 abbrev pub is_resident : Flat → ℕ → Bool

@@ -5,3 +5,4 @@ pub mod EntryRules
 pub mod Words
 pub mod Refused
 pub mod Flat
+pub mod Reach

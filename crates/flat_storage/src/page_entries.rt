@@ -105,10 +105,8 @@ impl PageEntries {
     pub fn refuses_line(&self, line: u32, number: u32, store: bool) -> bool
         ensures { result ≡ refuses_line_to (slice_index_or (authority_told self.now.entries.items) (page_of_line line) nobody) number line store }
     {
-        match self.entries.get(line as usize / 16) {
-            Some(entry) => !entry.permits(number, line as usize, store),
-            None => true,
-        }
+        let page = line as usize / 16;
+        page >= self.entries.len() || !self.entries[page].permits(number, line as usize, store)
     }
 
     /// Whether the entry of a page refuses an activation one of the touched lines that lie in it.

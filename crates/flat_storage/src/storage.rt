@@ -1,10 +1,13 @@
 // The storage: flat bytes under the segment registers of the program that runs.
-ghost use Rattle.std.specs.Prelude.{◌≡◌, ◌+◌, ◌*◌, ◌<◌, ◌≤◌, ◌^◌, ◌&&◌, not, ℕ, Bool, find, length, slice_range, Result, Ok};
+ghost use Rattle.std.specs.Prelude.{◌≡◌, ◌+◌, ◌*◌, ◌<◌, ◌≤◌, ◌^◌, ◌&&◌, not, ℕ, List, Bool, find, length, slice_range, Result, Ok};
 ghost use Rattle.std.specs.List.{range_with_len};
 ghost use Rattle.line_geometry.specs.Lines.{line_of};
 ghost use Rattle.segment_regs.specs.declared.registers.Virtual.{Virtual};
 ghost use Rattle.segment_regs.specs.Registers.{bytes_on, located_by};
 ghost use Rattle.romp_cpu.specs.Answers.{answered_at};
+ghost use Rattle.romp_cpu.specs.Attempts.{IsOfFewBytes};
+ghost use Rattle.flat_machine.specs.declared.machine.Program.{Program};
+ghost use Rattle.flat_storage.specs.Reach.{HasWindows, IsRow};
 ghost use Rattle.romp_cpu.specs.declared.storage.Access.{Access};
 ghost use Rattle.flat_storage.specs.Flat.{IsSized, Lies, byte_at, place_of, is_first, is_resident, is_refused, is_in_frame, refuses};
 
@@ -14,7 +17,7 @@ use super::resident_pages::ResidentPages;
 use flat_machine::Located;
 use line_geometry::Directory;
 use owned_list::OwnedList;
-use romp_cpu::{Access, Fault, Probe, Storage};
+use romp_cpu::{Access, Attempt, Cpu, Fault, Probe, Storage};
 use segment_regs::{Check, SegmentRegs, Virtual};
 
 /// The segment of the private storage; those of a store are below it.
@@ -216,5 +219,16 @@ impl Storage for FlatStorage {
             Located::Shared(at) => self.flat.store.write(at as usize, from),
             Located::Refused(_) => unreachable!(),
         }
+    }
+}
+
+impl FlatStorage {
+    /// One attempt of the next instruction of a processor over this storage (docs/MODEL.md).
+    pub fn attempt(&mut self, cpu: &mut Cpu) -> Attempt
+        ensures kept { (program : Program) → HasWindows self.old.flat program → self.new.flat ≡ record self.old.flat { private = self.new.flat.private; store = self.new.flat.store } }
+        ensures row { (program : Program) (out : List ℕ) → HasWindows self.old.flat program → length out ≡ cpu.old.printed → length out ≤ 4096 → IsRow program out result cpu.old cpu.new self.old.flat self.new.flat }
+        ensures few { IsOfFewBytes result }
+    {
+        cpu.attempt(self)
     }
 }

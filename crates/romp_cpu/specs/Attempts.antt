@@ -1,5 +1,5 @@
 -- An attempt over a storage, beside the row of a plain state that agrees with it.
-use Rattle.std.specs.Prelude.{◌≡◌, ℕ, ◌+◌, if◌then◌else◌, true, false, List, [], ◌∷◌, ◌++◌, length, slice_range, Option, Some, None}
+use Rattle.std.specs.Prelude.{◌≡◌, ℕ, ◌+◌, ◌<◌, ◌≤◌, if◌then◌else◌, true, false, List, [], ◌∷◌, ◌++◌, length, slice_range, Option, Some, None}
 use Rattle.std.specs.Option.{option_map_or}
 use Rattle.line_geometry.specs.Directory.{Layout}
 use Rattle.lock_rules.specs.Lines.{Lines, no_lines}
@@ -133,3 +133,8 @@ abbrev pub UndoesUnlessWent : {S : Type 0} → Attempt → Cpu → Cpu → S →
 UndoesUnlessWent Attempt.Went cpu new state after = Unit {0}
 UndoesUnlessWent (Attempt.Print byte) cpu new state after = Unit {0}
 UndoesUnlessWent _ cpu new state after = (new ≡ cpu) × (after ≡ state)
+
+-- the access of a fault is of 1 to 64 bytes
+abbrev pub IsOfFewBytes : Attempt → Type 0
+IsOfFewBytes (Attempt.Fault fault access) = (0 < access.bytes) × (access.bytes ≤ 64)
+IsOfFewBytes _ = Unit {0}

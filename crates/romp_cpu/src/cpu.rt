@@ -1,4 +1,4 @@
-ghost use Rattle.std.specs.Prelude.{◌≡◌, ◌<◌, ◌+◌, false, true, IfNone, OnSome};
+ghost use Rattle.std.specs.Prelude.{◌≡◌, ◌<◌, ◌+◌, false, true, IfNone, IfSome, OnSome};
 ghost use Rattle.std.specs.Option.{ForSome};
 ghost use Rattle.flat_machine.specs.Access.{IsAccess, IsSoundPlan, FitsFrom};
 ghost use Rattle.flat_machine.specs.Effect.{filled};
@@ -6,7 +6,7 @@ ghost use Rattle.flat_machine.specs.Row.{plan, stored_bytes};
 ghost use Rattle.romp_cpu.specs.Shown.{bytes_from, halfword_of, access_to};
 ghost use Rattle.romp_cpu.specs.Answers.{answer_in};
 ghost use Rattle.romp_cpu.specs.Tried.{linked, refused_by, seen_in, tried, tried_act};
-ghost use Rattle.romp_cpu.specs.Attempts.{GivesEveryRow, UndoesUnlessWent};
+ghost use Rattle.romp_cpu.specs.Attempts.{GivesEveryRow, UndoesUnlessWent, IsOfFewBytes};
 
 use super::storage::{Access, Fault, Probe, Storage};
 use flat_machine::{Act, Cs, Fetch, Plan, fill, gather, plan};
@@ -58,6 +58,7 @@ impl Cpu {
     pub fn attempt<S: Storage>(&mut self, storage: &mut S) -> Attempt
         ensures row { GivesEveryRow self.old (seen_in S.byte_at (answer_in S.registers S.is_in_frame S.refuses) S.stored (S.state storage.old)) (record { attempt = result; cpu = self.new; state = S.state storage.new }) }
         ensures undone { UndoesUnlessWent result self.old self.new (S.state storage.old) (S.state storage.new) }
+        ensures few { IsOfFewBytes result }
     {
         self.carry_out(storage)
     }
@@ -66,6 +67,7 @@ impl Cpu {
     fn carry_out<S: Storage>(&mut self, storage: &mut S) -> Attempt
         ensures tried { record { attempt = result; cpu = self.new; state = S.state storage.new } ≡ tried (seen_in S.byte_at (answer_in S.registers S.is_in_frame S.refuses) S.stored (S.state storage.old)) self.old (plan (halfword_of (S.byte_at (S.state storage.old))) self.old.regs self.old.cs self.old.iar) }
         ensures undone { UndoesUnlessWent result self.old self.new (S.state storage.old) (S.state storage.new) }
+        ensures few { IsOfFewBytes result }
     {
         match plan_over(storage, self) {
             Plan::Fails(code) => Attempt::Check(code),
@@ -92,6 +94,7 @@ impl Cpu {
         requires access { IsAccess act }
         requires link { ForSome link (λ written. written.0 < 16) }
         ensures tried { record { attempt = result; cpu = self.new; state = S.state storage.new } ≡ tried_act (seen_in S.byte_at (answer_in S.registers S.is_in_frame S.refuses) S.stored (S.state storage.old)) self.old act regs cs next link }
+        ensures few { IsOfFewBytes result }
     {
         match act {
             Act::Nothing => self.go_on(regs, cs, next, link),
@@ -164,6 +167,7 @@ fn load<S: Storage>(
     requires { FitsFrom bytes to }
     ensures state { S.state storage.new ≡ S.state storage.old }
     ensures refused { result ≡ refused_by (access_to address bytes false) (answer_in S.registers S.is_in_frame S.refuses (S.state storage.old) (access_to address bytes false)) }
+    ensures few { IfSome result IsOfFewBytes }
     ensures loaded { IfNone result (regs.new ≡ filled to sign (bytes_from (S.byte_at (S.state storage.old)) address bytes) regs.old) }
 {
     let access = Access {
@@ -191,6 +195,7 @@ fn store<S: Storage>(
 ) -> Option<Attempt>
     requires { FitsFrom bytes from }
     ensures refused { result ≡ refused_by (access_to address bytes true) (answer_in S.registers S.is_in_frame S.refuses (S.state storage.old) (access_to address bytes true)) }
+    ensures few { IfSome result IsOfFewBytes }
     ensures stays { OnSome result (S.state storage.new ≡ S.state storage.old) }
     ensures stored { IfNone result (S.state storage.new ≡ S.stored (S.state storage.old) address (stored_bytes regs.now bytes from)) }
 {

@@ -1,7 +1,7 @@
 use Rattle.std.proofs.Common.{◌≡◌, ℕ, List, length, true, sym, ◌∙◌, ap}
 use Rattle.romp_cpu.specs.Shown.{bytes_from, access_to}
 use Rattle.flat_storage.specs.Flat.{byte_at, place_at, with_bytes, is_in_frame, refuses}
-use Rattle.flat_storage.proofs.PlaceLemmas.{under, lies, never-refused}
+use Rattle.flat_storage.proofs.PlaceLemmas.{under, lies, first-byte, never-refused}
 use Rattle.flat_storage.proofs.AnswerLemmas.{permitted-located}
 use Rattle.flat_storage.proofs.ShowLemmas.{lies-private, lies-shared, shows-private, shows-shared, others-private, others-shared}
 use Rattle.flat_storage.proofs.storage.FlatStorageStorage.store.Goals as goal
@@ -22,7 +22,7 @@ returns-in-Private-clause-state c =
     let place = sym (c.begins.ensures n true at is) ∙ c.in-Private.is in
     ap (λ (bytes : List ℕ). record f { private = bytes }) c.write.ensures.value
     ∙ ap (λ p. with_bytes f p c.args.from.now) (sym place)
-    ∙ ap (λ located. with_bytes f (place_at f.directory located) c.args.from.now) (sym is)
+    ∙ ap (λ located. with_bytes f (place_at f.directory located) c.args.from.now) (sym (first-byte f c.args.self.now.sized c.args.address n true at is))
 
 pub returns-in-Private-clause-shows : goal.returns-in-Private-clause-shows
 returns-in-Private-clause-shows c =
@@ -58,7 +58,7 @@ returns-in-Shared-clause-state c =
     let place = sym (c.begins.ensures n true at is) ∙ c.in-Shared.is in
     ap (λ (bytes : List ℕ). record f { store = bytes }) c.write-in-Shared.ensures.value
     ∙ ap (λ p. with_bytes f p c.args.from.now) (sym place)
-    ∙ ap (λ located. with_bytes f (place_at f.directory located) c.args.from.now) (sym is)
+    ∙ ap (λ located. with_bytes f (place_at f.directory located) c.args.from.now) (sym (first-byte f c.args.self.now.sized c.args.address n true at is))
 
 pub returns-in-Shared-clause-shows : goal.returns-in-Shared-clause-shows
 returns-in-Shared-clause-shows c =
