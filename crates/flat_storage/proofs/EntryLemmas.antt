@@ -11,9 +11,8 @@ use Rattle.flat_machine.specs.declared.touch.Touch.{Touch}
 use Rattle.flat_machine.specs.Touched.{touch_lines}
 use Rattle.lock_rules.specs.Access.{permits}
 use Rattle.lock_rules.specs.Sets.{has}
-use Rattle.lock_rules.specs.Lines.{Lines, lines_of_page, pages_of, within_page, with_whole_pages}
+use Rattle.lock_rules.specs.Lines.{Lines, lines_of_page, pages_of, within_page}
 use Rattle.lock_rules.proofs.Sets.{has-filter, has-range, in_range}
-use Rattle.lock_rules.proofs.Lines.{has-whole_pages, within_page-alike}
 use Rattle.desk.specs.Desk.{Authority, nobody}
 use Rattle.desk.specs.Instruction.{refuses, lines_within, authority_by}
 use Rattle.flat_storage.specs.declared.page_entries.Entry.{Entry}
@@ -53,6 +52,10 @@ any-filter p q (x ∷ xs) = by_test (q x) (any-filter p q xs)
         → list_any p (cond kept (x ∷ filter q xs) (filter q xs)) ≡ ((kept && p x) || list_any (λ x. q x && p x) xs)
     by_test true inner = ap (λ (rest : Bool). p x || rest) inner
     by_test false inner = inner
+
+-- there is an authority for each entry
+pub told-length : (entries : List Entry) → length (authority_told entries) ≡ length entries
+told-length entries = length-map (enumerate_from 0 entries) authority_of ∙ length-enumerate_from 0 entries
 
 -- the entry of a page is told with its number
 pub told-at :
@@ -141,7 +144,7 @@ pub refuses-beyond :
     (entries : List Entry) (line number : ℕ) (store : Bool) → length entries ≤ line / 16
     → true ≡ refuses_line_to (slice_index_or (authority_told entries) (line / 16) nobody) number line store
 refuses-beyond entries line number store beyond =
-    let long : length (authority_told entries) ≤ line / 16 = omega (arith, length-map (enumerate_from 0 entries) authority_of, length-enumerate_from 0 entries) in
+    let long : length (authority_told entries) ≤ line / 16 = omega (arith, told-length entries) in
     by_test (0 == number) ∙ ap (λ (authority : Authority). refuses_line_to authority number line store) (sym (get_or_past (authority_told entries) (line / 16) nobody long))
   where
     by_test : (own : Bool) → true ≡ not (permits own false false store)
@@ -272,57 +275,39 @@ authority-some :
 authority-some number reads [] = refl
 authority-some number reads (line ∷ writes) = refl
 
--- the lines read beside whole pages are those read, in a page without a mark
-reads-unmarked :
-    (writes : List Bool) (lines : Lines) (page : ℕ) → ShowSet writes lines.writes
-    → list_any (λ line. slice_index_or writes line false) (lines_of_page page) ≡ false
-    → within_page page lines.reads ≡ within_page page (with_whole_pages lines).reads
-reads-unmarked writes lines page shown none =
-    within_page-alike page lines.reads (with_whole_pages lines).reads
-    (λ x on.
-    sym
-    (has-whole_pages lines x
-    ∙ ap (λ (other : ℕ). has lines.reads x || has (pages_of lines.writes) other) on
-    ∙ ap (λ (among : Bool). has lines.reads x || among) (sym (marked-page writes lines.writes page shown) ∙ none)
-    ∙ beside_nothing (has lines.reads x)))
-
 -- the entry by the marks shows the authority by the locks
 pub shows_locks :
-    (number page : ℕ) (reads writes bits : List Bool) (lines : Lines) (write : Bool)
-    → ShowSet reads lines.reads → ShowSet writes lines.writes
+    (number page : ℕ) (reads writes bits : List Bool) (locks : Lines) (write : Bool)
+    → ShowSet reads locks.reads → ShowSet writes locks.writes
     → list_any (λ line. slice_index_or writes line false) (lines_of_page page) ≡ write
     → bits ≡ slice_range (if write then writes else reads) (page * 16) (page * 16 + 16)
     → authority_of (page, record { owner = number; write = write; lines = bits })
-    ≡ authority_by number (within_page page (with_whole_pages lines).reads) (within_page page (with_whole_pages lines).writes)
-shows_locks number page reads writes bits lines write read written marked is =
+    ≡ authority_by number (within_page page locks.reads) (within_page page locks.writes)
+shows_locks number page reads writes bits locks write read written marked is =
     ap (λ (bits : List Bool). authority_of (page, record { owner = number; write = write; lines = bits })) is
-    ∙ by_test write marked
+    ∙ by_test write
     ∙ sym
     (authority-some number whole among
     ∙ ap (λ (some : Bool). record { owner = number; write = some; lines = if some then among else whole }) some)
   where
     whole : List ℕ
-    whole = within_page page (with_whole_pages lines).reads
+    whole = within_page page locks.reads
 
     among : List ℕ
-    among = within_page page lines.writes
+    among = within_page page locks.writes
 
     some : is_some among ≡ write
     some =
-        sym (any-is_some (has lines.writes) (lines_of_page page))
-        ∙ sym (any-alike (λ line. slice_index_or writes line false) (has lines.writes) (lines_of_page page) written)
+        sym (any-is_some (has locks.writes) (lines_of_page page))
+        ∙ sym (any-alike (λ line. slice_index_or writes line false) (has locks.writes) (lines_of_page page) written)
         ∙ marked
 
     by_test :
-        (write : Bool) → list_any (λ line. slice_index_or writes line false) (lines_of_page page) ≡ write
+        (write : Bool)
         → authority_of (page, record { owner = number; write = write; lines = slice_range (if write then writes else reads) (page * 16) (page * 16 + 16) })
         ≡ record { owner = number; write = write; lines = if write then among else whole }
-    by_test true marked =
-        ap (λ (lines : List ℕ). record { owner = number; write = true; lines = lines }) (lines_on-marks writes lines.writes page written)
-    by_test false marked =
-        ap
-        (λ (lines : List ℕ). record { owner = number; write = false; lines = lines })
-        (lines_on-marks reads lines.reads page read ∙ reads-unmarked writes lines page written marked)
+    by_test true = ap (λ (lines : List ℕ). record { owner = number; write = true; lines = lines }) (lines_on-marks writes locks.writes page written)
+    by_test false = ap (λ (lines : List ℕ). record { owner = number; write = false; lines = lines }) (lines_on-marks reads locks.reads page read)
 
 -- one entry more is released
 pub released-more :

@@ -9,3 +9,7 @@ pub mod ShowLemmas
 pub mod LocatedLemmas
 pub mod OpenLemmas
 pub mod RowLemmas
+pub mod KeepLemmas
+pub mod GrantLemmas
+pub mod SizedLemmas
+pub mod TouchLemmas

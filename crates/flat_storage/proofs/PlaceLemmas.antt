@@ -159,3 +159,15 @@ never-refused directory at code is = by_test (is_private at.segment) is
     by_test : (own : Bool) → (if own then Private (offset_of at) else Shared (start_of directory at.segment + offset_of at)) ≡ Refused code → ⊥
     by_test true is = cc
     by_test false is = cc
+
+-- fewer bytes lie there too
+pub lies-less : (f : Flat) (at : Virtual) (n m : ℕ) → m ≤ n → Lies f at n → Lies f at m
+lies-less f at n m less lies = record {
+  private = λ own. omega (arith, less, lies.private own);
+  shared = λ not_own. fewer (lies.shared not_own);
+  few = omega (arith, less, lies.few);
+}
+  where
+    fewer : (bytes : ℕ) × (length_of f.directory at.segment ≡ Some bytes) × (offset_of at + n ≤ bytes) × (start_of f.directory at.segment + bytes ≤ 2 ^ 22)
+        → (bytes : ℕ) × (length_of f.directory at.segment ≡ Some bytes) × (offset_of at + m ≤ bytes) × (start_of f.directory at.segment + bytes ≤ 2 ^ 22)
+    fewer (bytes, found, fits, few) = (bytes, found, omega (arith, less, fits), few)

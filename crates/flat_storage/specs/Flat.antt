@@ -1,5 +1,5 @@
 -- What a storage of flat bytes shows, answers and stores.
-use Rattle.std.specs.Prelude.{◌≡◌, ℕ, ◌+◌, ◌*◌, ◌%◌, ◌≤◌, ◌^◌, ◌==◌, ◌||◌, ◌&&◌, not, if◌then◌else◌, Bool, true, false, List, length, slice_index, slice_index_or, Option, Some, None, Result, Ok, Err, vec_len}
+use Rattle.std.specs.Prelude.{◌≡◌, ℕ, ◌+◌, ◌*◌, ◌%◌, ◌<◌, ◌≤◌, ◌^◌, ◌==◌, ◌||◌, ◌&&◌, not, if◌then◌else◌, Bool, true, false, List, length, slice_index, slice_index_or, Option, Some, None, Result, Ok, Err, vec_len, All}
 use Rattle.owned_list.specs.Overlay.{overlaid}
 use Rattle.line_geometry.specs.Directory.{Layout, length_of, start_of, byte_count, page_count}
 use Rattle.line_geometry.specs.Lines.{line_of, line_bytes, line_count}
@@ -12,7 +12,7 @@ use Rattle.segment_regs.specs.declared.registers.Check.{Check}
 use Rattle.segment_regs.specs.declared.registers.SegmentRegister.{SegmentRegister}
 use Rattle.segment_regs.specs.declared.registers.Virtual.{Virtual}
 use Rattle.segment_regs.specs.Registers.{private_register, located_by}
-use Rattle.desk.specs.Desk.{nobody}
+use Rattle.desk.specs.Desk.{Authority, nobody}
 use Rattle.flat_storage.specs.Entries.{authority_told}
 use Rattle.flat_storage.specs.Refused.{refuses_line_to}
 use Rattle.flat_storage.specs.declared.storage.Flat.{Flat}
@@ -105,3 +105,14 @@ pub record Lies (f : Flat) (at : Virtual) (n : ℕ) : Type 0 where
 -- whether a byte so many past a place is the first of a range from there, or of a line
 abbrev pub is_first : Layout → (at past : ℕ) → Bool
 is_first directory at past = past == 0 || (at + past) % line_bytes directory == 0
+
+-- what the entries permit to the activation that runs is locked
+abbrev pub IsHeld : Flat → Type 0
+IsHeld f =
+    (line : ℕ)
+    → (is_refused f line false ≡ false → slice_index_or f.marks.reads.items line false ≡ true)
+    × (is_refused f line true ≡ false → slice_index_or f.marks.writes.items line false ≡ true)
+
+-- a storage whose pages belong to no activation from a number on
+abbrev pub IsOwnedBelow : List Authority → ℕ → Type 0
+IsOwnedBelow authority next = All (λ (a : Authority). a.owner < next) authority

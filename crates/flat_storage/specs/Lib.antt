@@ -6,3 +6,4 @@ pub mod Words
 pub mod Refused
 pub mod Flat
 pub mod Reach
+pub mod Served

@@ -1,15 +1,16 @@
-// The lines that the active program has read and written so far.
-ghost use Rattle.std.specs.Prelude.{◌≡◌, ◌+◌, ◌-◌, ◌<◌, ◌≤◌, ◌^◌, ◌++◌, ℕ, List, true, false, not, length, vec_len, replicate, slice_range, slice_index_or, count_by, IfOk};
+// The lines that the activation that runs has locked: those that it read and wrote, and all lines, to read, of each page
+// that it wrote into.
+ghost use Rattle.std.specs.Prelude.{◌≡◌, ◌+◌, ◌-◌, ◌%◌, ◌<◌, ◌≤◌, ◌^◌, ◌++◌, ℕ, List, true, false, not, length, vec_len, replicate, slice_range, slice_index_or, count_by, IfOk};
 ghost use Rattle.std.specs.List.{range_with_len};
 ghost use Rattle.lock_rules.specs.Sets.{size};
-ghost use Rattle.lock_rules.specs.Lines.{Lines, both, no_lines};
+ghost use Rattle.lock_rules.specs.Lines.{Lines, both, no_lines, with_whole_pages};
 ghost use Rattle.flat_machine.specs.Touched.{touch_lines, AreSome};
 ghost use Rattle.flat_storage.specs.ShowSet.{ShowSet};
 
 use flat_machine::Touch;
 use std::alloc::{AllocError, Global};
 
-/// A mark for each line that is read and for each that is written, and the number of those written.
+/// A mark for each line that is locked to read and for each that is locked to write, and the number of the latter.
 #[derive(Drop)]
 pub struct LineMarks {
     pub reads: Vec<bool>,
@@ -51,7 +52,7 @@ impl LineMarks {
         requires few { self.now.written < 2 ^ 16 }
         ensures least { self.now.written ≤ result }
         ensures small { result ≤ self.now.written + 2 }
-        ensures value { (lines : Lines) → Show self.now lines → result ≡ size (both lines (touch_lines touch)).writes }
+        ensures value { (lines : Lines) → Show self.now (with_whole_pages lines) → result ≡ size (both lines (touch_lines touch)).writes }
     {
         match touch {
             Touch::Writes { first, last } => self.written + count_new(&self.writes, first, last),
@@ -59,19 +60,24 @@ impl LineMarks {
         }
     }
 
-    /// Marks the lines that are touched, with which so many are written.
+    /// Marks the lines that are touched, with which so many are written, and all lines to read of a page that is written
+    /// into.
     pub fn add(&mut self, touch: Touch, written: u32)
         requires touch { AreSome touch (vec_len self.old.writes) }
-        requires counted { (lines : Lines) → Show self.old lines → written ≡ size (both lines (touch_lines touch)).writes }
+        requires whole { vec_len self.old.writes % 16 ≡ 0 }
+        requires counted { (lines : Lines) → Show self.old (with_whole_pages lines) → written ≡ size (both lines (touch_lines touch)).writes }
         ensures written { self.new.written ≡ written }
         ensures writes { vec_len self.new.writes ≡ vec_len self.old.writes }
-        ensures shown { (lines : Lines) → Show self.old lines → Show self.new (both lines (touch_lines touch)) }
+        ensures shown { (lines : Lines) → Show self.old (with_whole_pages lines) → Show self.new (with_whole_pages (both lines (touch_lines touch))) }
     {
         self.written = written;
         match touch {
             Touch::Nothing => {}
-            Touch::Reads { first, last } => mark(self.reads.as_mut_slice(), first, last),
-            Touch::Writes { first, last } => mark(self.writes.as_mut_slice(), first, last),
+            Touch::Reads { first, last } => mark(&mut self.reads, first, last),
+            Touch::Writes { first, last } => {
+                mark(&mut self.writes, first, last);
+                mark(&mut self.reads, first / 16 * 16, last / 16 * 16 + 15);
+            }
         }
     }
 }
@@ -94,11 +100,12 @@ fn count_new(marks: &[bool], first: u32, last: u32) -> u32
 }
 
 /// Marks the lines from a first to a last.
-fn mark(marks: &mut [bool], first: u32, last: u32)
+fn mark(marks: &mut Vec<bool>, first: u32, last: u32)
     requires order { first ≤ last }
-    requires within { last < length marks.old }
-    requires few { length marks.old < 2 ^ 16 }
-    ensures shown { (set : List ℕ) → ShowSet marks.old set → ShowSet marks.new (set ++ range_with_len first (last + 1 - first)) }
+    requires within { last < vec_len marks.old }
+    requires few { vec_len marks.old < 2 ^ 16 }
+    ensures shown { (set : List ℕ) → ShowSet marks.old.items set → ShowSet marks.new.items (set ++ range_with_len first (last + 1 - first)) }
+    ensures len { vec_len marks.new ≡ vec_len marks.old }
 {
     for line in first..last + 1 {
         marks[line as usize] = true;

@@ -118,15 +118,15 @@ impl PageEntries {
         self.entries[page as usize].refuses(page, number, touch)
     }
 
-    /// Grants a page to an activation: to write the lines that it has written in it, or to read those that it has read
-    /// where it has written none.
+    /// Grants a page to an activation: to write the lines of it that it has locked to write, or to read those that it has
+    /// locked to read where there are none.
     pub fn grant(&mut self, page: u32, number: u32, reads: &[bool], writes: &[bool])
         requires page { page < vec_len self.old.entries }
         requires few { vec_len self.old.entries < 2 ^ 16 }
         requires reads { page * 16 + 16 ≤ length reads.now }
         requires writes { page * 16 + 16 ≤ length writes.now }
         ensures pages { vec_len self.new.entries ≡ vec_len self.old.entries }
-        ensures granted { (lines : Lines) → ShowSet reads.now lines.reads → ShowSet writes.now lines.writes → authority_told self.new.entries.items ≡ slice_set (authority_told self.old.entries.items) page (authority_by number (within_page page (with_whole_pages lines).reads) (within_page page (with_whole_pages lines).writes)) }
+        ensures granted { (locks : Lines) → ShowSet reads.now locks.reads → ShowSet writes.now locks.writes → authority_told self.new.entries.items ≡ slice_set (authority_told self.old.entries.items) page (authority_by number (within_page page locks.reads) (within_page page locks.writes)) }
     {
         let written = lines_of(page, writes);
         let write = is_any_on(&written);
@@ -160,13 +160,13 @@ impl PageEntries {
         refused
     }
 
-    /// Grants each of these pages to an activation that has read and written the marked lines.
+    /// Grants each of these pages to an activation that has locked the marked lines.
     pub fn grant_all(&mut self, pages: &[u32], number: u32, marks: &LineMarks)
         requires pages { All (λ page. page < vec_len self.old.entries) pages.now }
         requires few { vec_len self.old.entries < 2 ^ 16 }
         requires lines { vec_len marks.now.writes ≡ vec_len self.old.entries * 16 }
         ensures pages { vec_len self.new.entries ≡ vec_len self.old.entries }
-        ensures granted { (attempt : Attempt) (lines : Lines) → attempt.entry.number ≡ number → Show marks.now lines → authority_told self.new.entries.items ≡ granted attempt (with_whole_pages lines) pages.now (authority_told self.old.entries.items) }
+        ensures granted { (attempt : Attempt) (locks : Lines) → attempt.entry.number ≡ number → Show marks.now locks → authority_told self.new.entries.items ≡ granted attempt locks pages.now (authority_told self.old.entries.items) }
     {
         for page in pages {
             self.grant(*page, number, &marks.reads, &marks.writes);

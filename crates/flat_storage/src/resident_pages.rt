@@ -2,12 +2,14 @@
 ghost use Rattle.std.specs.Prelude.{◌≡◌, ◌+◌, ◌<◌, ◌≤◌, ◌^◌, ℕ, List, false, slice_index_or, length, not, vec_len, vec_capacity, position, IfOk, [], ◌∷◌, ◌++◌, if◌then◌else◌};
 ghost use Rattle.std.specs.List.{list_any};
 ghost use Rattle.lock_rules.specs.Sets.{has};
-ghost use Rattle.lock_rules.specs.Lines.{pages_of, lines_of_page};
+ghost use Rattle.lock_rules.specs.Lines.{Lines, pages_of, lines_of_page};
 ghost use Rattle.lock_rules.specs.Resident.{brought, taken_out};
 ghost use Rattle.desk.specs.Instruction.{Word, Fetched, fetches};
 ghost use Rattle.flat_storage.specs.Words.{ReadsAll, Fetches};
+ghost use Rattle.flat_storage.specs.Marks.{Show};
 ghost use Rattle.flat_storage.specs.ShowSet.{ShowSet};
 
+use super::line_marks::LineMarks;
 use arrayvec::ArrayVec;
 use std::alloc::{AllocError, Global};
 use std::mem;
@@ -22,7 +24,7 @@ pub struct ResidentPages {
     /// Room for as many pages again.
     pub spare: Vec<u32>,
     pub frames: usize,
-    ghost some: { 0 < frames },
+    ghost some: { 1 < frames },
     ghost few: { vec_len pages ≤ frames },
     ghost room: { frames ≤ vec_capacity pages },
     ghost spare_room: { frames ≤ vec_capacity spare },
@@ -31,7 +33,7 @@ pub struct ResidentPages {
 impl ResidentPages {
     /// No page is resident, and there are so many frames.
     pub fn new(alloc: Global, frames: u16) -> Result<Self, AllocError>
-        requires { 0 < frames }
+        requires { 1 < frames }
         ensures frames { IfOk result (λ resident. resident.frames ≡ frames) }
         ensures none { IfOk result (λ resident. resident.pages.items ≡ []) }
     {
@@ -59,12 +61,12 @@ impl ResidentPages {
         fetch_all(&mut self.pages, self.frames, touched)
     }
 
-    /// Takes out the pages of the lines that are marked.
-    pub fn take_out(&mut self, marks: &[bool])
-        ensures value { (set : List ℕ) → ShowSet marks.now set → self.new.pages.items ≡ taken_out (pages_of set) self.old.pages.items }
+    /// Takes out the pages of the lines that are locked to write.
+    pub fn take_out(&mut self, marks: &LineMarks)
+        ensures value { (locks : Lines) → Show marks.now locks → self.new.pages.items ≡ taken_out (pages_of locks.writes) self.old.pages.items }
         ensures frames { self.new.frames ≡ self.old.frames }
     {
-        keep_unmarked(&self.pages, marks, &mut self.spare);
+        keep_unmarked(&self.pages, &marks.writes, &mut self.spare);
         mem::swap(&mut self.pages, &mut self.spare);
     }
 }

@@ -21,7 +21,7 @@ use romp_cpu::{Access, Attempt, Cpu, Fault, Probe, Storage};
 use segment_regs::{Check, SegmentRegs, Virtual};
 
 /// The segment of the private storage; those of a store are below it.
-const PRIVATE: u16 = 3840;
+pub const PRIVATE: u16 = 3840;
 
 /// What a storage of flat bytes holds: the private bytes and those of the store, the segment registers and the number
 /// of the activation that runs, the resident pages, the entries of all pages, and the locks of the one that runs.
@@ -46,7 +46,7 @@ pub struct FlatStorage {
 
 impl Flat {
     /// Where a byte lies.
-    fn place(&self, at: Virtual) -> Located
+    pub fn place(&self, at: Virtual) -> Located
         requires { Lies self.now at 0 }
         ensures { result ≡ place_of self.now.directory at }
     {

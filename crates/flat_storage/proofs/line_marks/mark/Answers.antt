@@ -1,4 +1,4 @@
-use Rattle.std.proofs.Common.{◌≡◌, ℕ, ◌+◌, ◌-◌, List, [], ◌∷◌, ◌++◌, sym, ◌∙◌, ap, subst, arith, append_assoc}
+use Rattle.std.proofs.Common.{◌≡◌, ℕ, ◌+◌, ◌-◌, List, [], ◌∷◌, ◌++◌, sym, ◌∙◌, ap, subst, arith, append_assoc, rules}
 use Rattle.std.specs.Prelude.{slice_set, true}
 use Rattle.std.specs.List.{range_with_len}
 use Rattle.flat_storage.specs.ShowSet.{ShowSet}
@@ -9,9 +9,10 @@ pub loop-line-preserved : goal.loop-line-preserved
 loop-line-preserved c =
     let first = c.args.first in
     let line = c.loop-line.line in
-    let marks = c.loop-line.marks in
+    let marks = c.loop-line.marks.items in
     record {
       order = omega arith;
+      len = search rules;
       shown = λ set shown.
           let so_far = set ++ range_with_len first (line - first) in
           let e : so_far ++ line ∷ [] ≡ set ++ range_with_len first (line + 1 - first) =

@@ -1,7 +1,7 @@
 use Rattle.std.proofs.Common.{◌≡◌, ℕ, suc, ◌+◌, ◌<◌, Bool, List, ◌∷◌, length, get_or, drop, sym, ◌∙◌, ap, subst, arith}
 use Rattle.std.specs.Prelude.{slice_set}
 use Rattle.std.proofs.Math.Seq.{drop-cons}
-use Rattle.lock_rules.specs.Lines.{Lines, within_page, with_whole_pages}
+use Rattle.lock_rules.specs.Lines.{Lines, within_page}
 use Rattle.desk.specs.Desk.{Authority}
 use Rattle.desk.specs.Instruction.{Attempt, granted, authority_by}
 use Rattle.flat_storage.specs.ShowSet.{ShowSet}
@@ -31,6 +31,6 @@ loop-page-preserved c =
           let reads = subst (λ (marks : List Bool). ShowSet marks lines.reads) (sym c.deref.ensures.value) shown.reads in
           let writes = subst (λ (marks : List Bool). ShowSet marks lines.writes) (sym c.deref-in-loop-page.ensures.value) shown.writes in
           c.loop-page.invariant.left attempt lines own shown
-          ∙ granted-next attempt (with_whole_pages lines) c.args.pages.now c.loop-page.page-index c.args.number _ _
+          ∙ granted-next attempt lines c.args.pages.now c.loop-page.page-index c.args.number _ _
           c.loop-page-test.true own (c.grant.ensures.granted lines reads writes);
     }

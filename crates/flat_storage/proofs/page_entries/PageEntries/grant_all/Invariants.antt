@@ -1,5 +1,5 @@
 use Rattle.std.proofs.Common.{◌≡◌, drop, vec_len}
-use Rattle.lock_rules.specs.Lines.{Lines, with_whole_pages}
+use Rattle.lock_rules.specs.Lines.{Lines}
 use Rattle.desk.specs.Instruction.{Attempt, granted}
 use Rattle.flat_storage.specs.Marks.{Show}
 use Rattle.flat_storage.specs.Entries.{authority_told}
@@ -9,7 +9,7 @@ use Rattle.flat_storage.proofs.page_entries.PageEntries.grant_all.Given as goal
 abbrev pub invariant-loop-page : goal.invariant-loop-page
 invariant-loop-page l = record {
   pages : vec_len l.self.entries ≡ vec_len l.fn.self.entries;
-  left : (attempt : Attempt) (lines : Lines) → attempt.entry.number ≡ l.number → Show l.marks lines
-      → granted attempt (with_whole_pages lines) l.pages (authority_told l.fn.self.entries.items)
-      ≡ granted attempt (with_whole_pages lines) (drop l.page-index l.pages) (authority_told l.self.entries.items);
+  left : (attempt : Attempt) (locks : Lines) → attempt.entry.number ≡ l.number → Show l.marks locks
+      → granted attempt locks l.pages (authority_told l.fn.self.entries.items)
+      ≡ granted attempt locks (drop l.page-index l.pages) (authority_told l.self.entries.items);
 }
