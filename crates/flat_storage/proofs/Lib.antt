@@ -13,3 +13,4 @@ pub mod KeepLemmas
 pub mod GrantLemmas
 pub mod SizedLemmas
 pub mod TouchLemmas
+pub mod OpenedLemmas
