@@ -1,6 +1,6 @@
 -- The answer to an access, by the lines of its bytes.
-use Rattle.std.proofs.Common.{◌≡◌, ℕ, zero, suc, ◌+◌, ◌*◌, ◌/◌, ◌%◌, ◌<◌, ◌≤◌, Bool, true, false, List, refl, sym, ◌∙◌, ap, arith, Option, Some, None, Result, Ok, Err}
-use Rattle.std.specs.Prelude.{◌==◌, ◌&&◌, ◌||◌, not, find, map, option_map}
+use Rattle.std.proofs.Common.{◌≡◌, ℕ, ◌+◌, ◌/◌, ◌%◌, ◌<◌, Bool, true, false, List, refl, sym, ◌∙◌, ap, arith, Option, Some, None, Result, Ok, Err}
+use Rattle.std.specs.Prelude.{◌==◌, ◌&&◌, ◌||◌, not, find, option_map}
 use Rattle.std.specs.List.{range_with_len}
 use Rattle.std.proofs.lemmas.Bool.Decides.{nat_tests}
 use Rattle.line_geometry.specs.declared.directory.PageSize.{PageSize}
@@ -9,7 +9,7 @@ use Rattle.line_geometry.specs.Segments.{page_bytes}
 use Rattle.line_geometry.specs.Directory.{Layout}
 use Rattle.line_geometry.specs.Lines.{line_of}
 use Rattle.flat_machine.specs.declared.machine.Located.{Located}
-use Rattle.flat_machine.specs.declared.machine.Located.TheVariants.{Private, Shared, Refused}
+use Rattle.flat_machine.specs.declared.machine.Located.TheVariants.{Private, Shared}
 use Rattle.segment_regs.specs.declared.registers.Check.{Check}
 use Rattle.segment_regs.specs.declared.registers.SegmentRegister.{SegmentRegister}
 use Rattle.segment_regs.specs.declared.registers.Virtual.{Virtual}
@@ -122,9 +122,10 @@ module _ (f : Flat) (first : Virtual) (n : ℕ) where
           → (k : ℕ) → k < n → (is_resident f (line_of f.directory (at + k)) ≡ true) × (is_refused f (line_of f.directory (at + k)) access.store ≡ false)
       by_found (Some j) refused a r permitted k below = absurd (cc)
       by_found None (Some j) a r permitted k below = absurd (cc)
-      by_found None None a r permitted k below =
-          (un-not _ (none-passes (λ k. not (is_resident f (line_of f.directory (at + k)))) 0 n a k (omega arith) (omega arith)),
-          none-passes (λ k. is_refused f (line_of f.directory (at + k)) access.store) 0 n r k (omega arith) (omega arith))
+      by_found None None a r permitted k below = (
+        un-not _ (none-passes (λ k. not (is_resident f (line_of f.directory (at + k)))) 0 n a k (omega arith) (omega arith)),
+        none-passes (λ k. is_refused f (line_of f.directory (at + k)) access.store) 0 n r k (omega arith) (omega arith),
+      )
 
   -- and the other way round
   pub lines-permitted : (access : Access) (at : ℕ) → access.bytes ≡ n → place_of f.directory first ≡ Shared at

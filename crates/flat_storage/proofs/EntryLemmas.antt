@@ -11,7 +11,7 @@ use Rattle.flat_machine.specs.declared.touch.Touch.{Touch}
 use Rattle.flat_machine.specs.Touched.{touch_lines}
 use Rattle.lock_rules.specs.Access.{permits}
 use Rattle.lock_rules.specs.Sets.{has}
-use Rattle.lock_rules.specs.Lines.{Lines, lines_of_page, pages_of, within_page}
+use Rattle.lock_rules.specs.Lines.{Lines, lines_of_page, within_page}
 use Rattle.lock_rules.proofs.Sets.{has-filter, has-range, in_range}
 use Rattle.desk.specs.Desk.{Authority, nobody}
 use Rattle.desk.specs.Instruction.{refuses, lines_within, authority_by}
@@ -20,7 +20,7 @@ use Rattle.flat_storage.specs.Entries.{lines_on, authority_of, authority_told}
 use Rattle.flat_storage.specs.EntryRules.{refuses_access, refuses_line, unowned, released}
 use Rattle.flat_storage.specs.Refused.{refuses_line_to}
 use Rattle.flat_storage.specs.ShowSet.{ShowSet}
-use Rattle.flat_storage.proofs.PageLemmas.{any-alike, marked-page}
+use Rattle.flat_storage.proofs.PageLemmas.{any-alike}
 
 -- tests that agree on a range agree on whether some number of it passes
 any-range :

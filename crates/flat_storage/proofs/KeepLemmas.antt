@@ -1,14 +1,13 @@
 -- After two pages were fetched into two frames or more, both are there.
-use Rattle.std.proofs.Common.{◌≡◌, ◌≢◌, ℕ, zero, suc, ◌+◌, ◌<◌, ◌≤◌, Bool, true, false, List, [], ◌∷◌, ◌++◌, length, refl, sym, ◌∙◌, ap, subst, arith, get_or, take, drop, Option, Some, None, ◌⊎◌, inl, inr}
+use Rattle.std.proofs.Common.{◌≡◌, ◌≢◌, ℕ, zero, suc, ◌+◌, ◌<◌, ◌≤◌, Bool, true, false, List, [], ◌∷◌, ◌++◌, length, refl, sym, ◌∙◌, ap, arith, get_or, Option, Some, None, ◌⊎◌, inl, inr}
 use Rattle.std.specs.Prelude.{◌==◌, ◌||◌, not, nat_lt, cond, if◌then◌else◌, remove, position, unwrap_or}
 use Rattle.std.specs.List.{list_any, position_or_len}
-use Rattle.std.proofs.lemmas.Bool.{or_right}
 use Rattle.std.proofs.lemmas.Bool.Decides.{nat_tests}
 use Rattle.std.proofs.lemmas.List.Quantifiers.{position-Some}
 use Rattle.lock_rules.specs.Sets.{has}
 use Rattle.lock_rules.specs.Resident.{first_out, brought}
 use Rattle.lock_rules.proofs.Sets.{has_left, has_right}
-use Rattle.desk.specs.Instruction.{Word, Fine, Fetching, Fetched, fetches}
+use Rattle.desk.specs.Instruction.{Fine, Fetched, fetches}
 
 -- where no place passes, no item does
 nowhere : (p : ℕ → Bool) (xs : List ℕ) → position p xs ≡ None → list_any p xs ≡ false

@@ -1,6 +1,6 @@
 -- An access under the segment registers of a program lies where the plain machine has it.
-use Rattle.std.specs.Prelude.{◌≡◌, refl, ℕ, zero, suc, ◌+◌, ◌*◌, ◌/◌, ◌%◌, ◌^◌, ◌<◌, nat_le, ◌==◌, ◌&&◌, not, cond, Bool, true, false, slice_index_or, if◌then◌else◌, Option, Some, None, option_map, Result, Ok, Err}
-use Rattle.std.proofs.Common.{sym, ◌∙◌, ap, arith}
+use Rattle.std.specs.Prelude.{◌≡◌, refl, ℕ, zero, suc, ◌+◌, ◌*◌, ◌/◌, ◌%◌, ◌^◌, ◌<◌, nat_le, ◌&&◌, not, cond, Bool, true, false, slice_index_or, if◌then◌else◌, Option, Some, None, option_map, Result, Ok, Err}
+use Rattle.std.proofs.Common.{◌∙◌, ap, arith}
 use Rattle.std.proofs.Math.ListN.{get_or-map}
 use Rattle.std.proofs.lemmas.Bool.Decides.{nat_tests}
 use Rattle.line_geometry.specs.Directory.{Layout, length_of, start_of}
@@ -8,7 +8,6 @@ use Rattle.line_geometry.specs.Legal.{IsLegal}
 use Rattle.segment_regs.specs.declared.registers.Check.{Check}
 use Rattle.segment_regs.specs.declared.registers.Virtual.{Virtual}
 use Rattle.segment_regs.specs.Registers.{virtual_at, located_under, located_by}
-use Rattle.flat_machine.specs.declared.machine.Located.{Located}
 use Rattle.flat_machine.specs.declared.machine.Located.TheVariants.{Private, Shared, Refused}
 use Rattle.flat_machine.specs.declared.machine.Program.{Program}
 use Rattle.flat_machine.specs.declared.machine.Window.{Window}

@@ -1,19 +1,19 @@
 -- Lines that are open need nothing: their pages are there, none refuses, and all are locked.
-use Rattle.std.proofs.Common.{◌≡◌, ℕ, suc, ◌+◌, Bool, true, false, List, [], ◌∷◌, ◌++◌, refl, sym, ◌∙◌, ap, arith, inl, inr}
-use Rattle.std.specs.Prelude.{◌==◌, ◌||◌, ◌&&◌, not, cond, if◌then◌else◌, filter, slice_index_or}
+use Rattle.std.proofs.Common.{◌≡◌, ℕ, ◌+◌, Bool, true, false, List, [], ◌∷◌, ◌++◌, refl, sym, ◌∙◌, ap, arith, inl, inr}
+use Rattle.std.specs.Prelude.{◌==◌, ◌||◌, ◌&&◌, cond, if◌then◌else◌, filter, slice_index_or}
 use Rattle.std.specs.List.{list_any}
 use Rattle.std.proofs.lemmas.Bool.{or_cases, or_left, or_right}
 use Rattle.std.proofs.lemmas.Bool.Decides.{nat_tests}
-use Rattle.lock_rules.specs.Sets.{has, size}
+use Rattle.lock_rules.specs.Sets.{has}
 use Rattle.lock_rules.specs.Lines.{Lines, page_of_line, pages_of, within_page, both, with_whole_pages}
 use Rattle.lock_rules.specs.Resident.{brought}
-use Rattle.lock_rules.proofs.Sets.{has-append, has_left, has_right, any-at, any-some}
-use Rattle.lock_rules.proofs.Sizes.{IsPart, size-alike}
+use Rattle.lock_rules.proofs.Sets.{has-append, has_left, any-some}
+use Rattle.lock_rules.proofs.Sizes.{size-alike}
 use Rattle.lock_rules.proofs.Lines.{has-pages_of, has-whole_pages, has-within_page, pages_of-line, part-both, part-whole_pages}
 use Rattle.desk.specs.Desk.{nobody}
 use Rattle.desk.specs.Instruction.{Word, Broken, Fetched, can't_be_read, fetches, refuses, lines_within}
 use Rattle.flat_storage.specs.Entries.{authority_told}
-use Rattle.flat_storage.specs.Flat.{is_resident, is_refused, IsHeld}
+use Rattle.flat_storage.specs.Flat.{IsHeld}
 use Rattle.flat_storage.specs.Marks.{Show}
 use Rattle.flat_storage.specs.Reach.{IsOpen}
 use Rattle.flat_storage.specs.Refused.{refuses_line_to}

@@ -1,10 +1,10 @@
 -- Where the bytes of an access lie, one by one.
-use Rattle.std.proofs.Common.{◌≡◌, ℕ, suc, ◌+◌, ◌-◌, ◌*◌, ◌/◌, ◌%◌, ◌<◌, ◌≤◌, ◌^◌, Bool, true, false, List, length, refl, sym, ◌∙◌, ap, subst, arith, Option, Some, None, Result, Ok, Err}
-use Rattle.std.specs.Prelude.{◌==◌, ◌&&◌, not, nat_le, cond, slice_index_or, slice_index, if◌then◌else◌}
+use Rattle.std.proofs.Common.{◌≡◌, ℕ, ◌+◌, ◌/◌, ◌%◌, ◌<◌, ◌≤◌, ◌^◌, Bool, true, false, refl, sym, ◌∙◌, ap, arith, Option, Some, None, Result, Ok, Err}
+use Rattle.std.specs.Prelude.{◌&&◌, not, nat_le, cond, slice_index_or, slice_index, if◌then◌else◌}
 use Rattle.std.proofs.lemmas.Bool.{leb-true}
 use Rattle.std.proofs.lemmas.Bool.Decides.{nat_tests}
 use Rattle.std.proofs.lemmas.Nat.{div-add-mod'}
-use Rattle.line_geometry.specs.Directory.{Layout, length_of, start_of, byte_count}
+use Rattle.line_geometry.specs.Directory.{Layout, length_of, start_of}
 use Rattle.line_geometry.proofs.Within.{segment-within}
 use Rattle.line_geometry.proofs.Legal.{legal-bytes}
 use Rattle.flat_machine.specs.declared.machine.Located.{Located}
@@ -12,7 +12,7 @@ use Rattle.flat_machine.specs.declared.machine.Located.TheVariants.{Private, Sha
 use Rattle.segment_regs.specs.declared.registers.Check.{Check}
 use Rattle.segment_regs.specs.declared.registers.SegmentRegister.{SegmentRegister}
 use Rattle.segment_regs.specs.declared.registers.Virtual.{Virtual}
-use Rattle.segment_regs.specs.Registers.{virtual_at, private_register, located_under, located_by}
+use Rattle.segment_regs.specs.Registers.{virtual_at, located_under, located_by}
 use Rattle.flat_storage.specs.Flat.{is_private, offset_of, place_of, place_at, byte_of, byte_at, IsUnder, IsSized, Lies}
 use Rattle.flat_storage.specs.declared.storage.Flat.{Flat}
 

@@ -1,14 +1,11 @@
 -- An attempt over a storage of flat bytes is the row of the plain machine.
-use Rattle.std.proofs.Common.{◌≡◌, ℕ, zero, suc, ◌+◌, ◌<◌, ◌≤◌, Bool, true, false, List, [], ◌∷◌, ◌++◌, length, refl, sym, ◌∙◌, ap, subst, arith, Option, Some, None, Result, Ok, Err}
-use Rattle.std.specs.Prelude.{nat_lt, cond, slice_range, slice_index, slice_set}
+use Rattle.std.proofs.Common.{◌≡◌, ℕ, ◌<◌, ◌≤◌, Bool, true, false, List, [], ◌∷◌, ◌++◌, length, refl, sym, ◌∙◌, ap, subst, arith, Option, Some, None, Result, Ok, Err}
+use Rattle.std.specs.Prelude.{nat_lt, cond, slice_index, slice_set}
 use Rattle.std.specs.Option.{option_map_or}
-use Rattle.std.proofs.lemmas.Bool.{leb-true}
 use Rattle.std.proofs.lemmas.Bool.Decides.{nat_tests}
 use Rattle.std.proofs.lemmas.List.{length-append}
 use Rattle.std.proofs.lemmas.List.FromFn.{get_or-map-range_with_len, length-map-range_with_len}
 use Rattle.std.proofs.lemmas.Grind.{same_number_lists}
-use Rattle.owned_list.specs.Overlay.{overlaid}
-use Rattle.line_geometry.specs.Directory.{Layout}
 use Rattle.lock_rules.specs.Lines.{Lines, no_lines}
 use Rattle.segment_regs.specs.declared.registers.Check.{Check as Wrong}
 use Rattle.segment_regs.specs.declared.registers.Virtual.{Virtual}
@@ -21,8 +18,7 @@ use Rattle.flat_machine.specs.declared.machine.Plain.{Plain}
 use Rattle.flat_machine.specs.declared.machine.Plan.{Plan}
 use Rattle.flat_machine.specs.declared.machine.Plan.TheVariants.{Does, Fails}
 use Rattle.flat_machine.specs.declared.machine.Program.{Program}
-use Rattle.flat_machine.specs.Effect.{filled}
-use Rattle.flat_machine.specs.Row.{Outcome, On, Commit, Check, plan_at, located, loads, stores, stored_bytes, moved, acts, with_link, row_by, row}
+use Rattle.flat_machine.specs.Row.{Outcome, On, Commit, Check, plan_at, located, loads, stores, stored_bytes, moved, with_link, row_by, row}
 use Rattle.flat_machine.specs.Touched.{touched}
 use Rattle.romp_cpu.specs.declared.cpu.Attempt.{Attempt}
 use Rattle.romp_cpu.specs.declared.cpu.Cpu.{Cpu}
@@ -32,12 +28,11 @@ use Rattle.romp_cpu.specs.declared.storage.Probe.{Probe}
 use Rattle.romp_cpu.specs.Shown.{bytes_from}
 use Rattle.romp_cpu.specs.Answers.{answered, answer_in}
 use Rattle.romp_cpu.specs.Tried.{Seen, Tried, seen_in}
-use Rattle.romp_cpu.specs.Attempts.{access_of, access_of_plan, place_of, bytes_in, ChecksAlike, Agrees, GivesRow, GivesAll, GivesBy, GivesOver, GivesPlan, GivesEveryRow, IsCpuOf, left_by, state_after, lines_of_access}
-use Rattle.romp_cpu.specs.Segments.{registers_of_program}
+use Rattle.romp_cpu.specs.Attempts.{access_of_plan, place_of, bytes_in, ChecksAlike, Agrees, GivesRow, GivesAll, GivesBy, GivesOver, GivesPlan, GivesEveryRow, IsCpuOf, left_by, state_after, lines_of_access}
 use Rattle.romp_cpu.proofs.SegmentLemmas.{checks-alike}
 use Rattle.flat_storage.specs.Flat.{byte_of, byte_at, with_bytes, stored, place_at, is_in_frame, refuses, IsSized}
 use Rattle.flat_storage.specs.Flat as flat
-use Rattle.flat_storage.specs.Reach.{plain_of, HasWindows, IsOpen, GoesOpen, IsShutOut, Stay, IsRow}
+use Rattle.flat_storage.specs.Reach.{plain_of, HasWindows, IsOpen, IsShutOut, IsRow}
 use Rattle.flat_storage.specs.declared.storage.Flat.{Flat}
 use Rattle.flat_storage.proofs.PlaceLemmas.{under, lies, on, byte-on, first-byte, private-shown, never-refused}
 use Rattle.flat_storage.proofs.AnswerLemmas.{permitted-located}
@@ -253,11 +248,11 @@ module _ (f : Flat) (sized : IsSized f) (p : Program) (windows : HasWindows f p)
   gives (On n) Attempt.Went cpu' state few is opens (same, printed') left =
       let leaves : Leaves plain n (left_by seen (plan_at plain)).private (left_by seen (plan_at plain)).store = plan-leaves (plan_at plain) n is in
       let next = next-is n cpu' state out (plan_at plain) same leaves left printed' in
-      record { goes = is ∙ ap On next; few = omega (arith, leaves.few few, ap (λ (x : Plain). length x.out) next); open_lines = opens n refl }
+      record { goes = is ∙ ap On next; printed = sym (ap (λ (x : Plain). length x.out) next) ∙ same.printed; few = omega (arith, leaves.few few, ap (λ (x : Plain). length x.out) next); open_lines = opens n refl }
   gives (On n) (Attempt.Print byte) cpu' state few is opens (same, printed') left =
       let leaves : Leaves plain n (left_by seen (plan_at plain)).private (left_by seen (plan_at plain)).store = plan-leaves (plan_at plain) n is in
       let next = next-is n cpu' state (out ++ byte ∷ []) (plan_at plain) same leaves left printed' in
-      record { goes = is ∙ ap On next; few = omega (arith, leaves.few few, ap (λ (x : Plain). length x.out) next); open_lines = opens n refl }
+      record { goes = is ∙ ap On next; printed = sym (ap (λ (x : Plain). length x.out) next) ∙ same.printed; few = omega (arith, leaves.few few, ap (λ (x : Plain). length x.out) next); open_lines = opens n refl }
   gives Commit Attempt.Commit cpu' state few is opens same left = (is, (same, left))
   gives (Check code) (Attempt.Check other) cpu' state few is opens (code-is, same) left = (is ∙ ap Check (sym code-is), (same, left))
   gives (On n) Attempt.Commit cpu' state few is opens given left = absurd given

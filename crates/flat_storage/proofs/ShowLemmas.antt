@@ -1,6 +1,6 @@
 -- What a storage shows before and after a store.
-use Rattle.std.proofs.Common.{◌≡◌, ℕ, zero, suc, ◌+◌, ◌-◌, ◌*◌, ◌%◌, ◌^◌, ◌<◌, ◌≤◌, Bool, true, false, List, [], ◌∷◌, length, refl, sym, ◌∙◌, ap, arith, Option, Some, None, Result, Ok, Err, inl, inr, take, drop}
-use Rattle.std.specs.Prelude.{◌==◌, not, cond, find, take_while, sum_by, option_map, slice_index, slice_range, if◌then◌else◌}
+use Rattle.std.proofs.Common.{◌≡◌, ℕ, suc, ◌+◌, ◌-◌, ◌%◌, ◌^◌, ◌<◌, ◌≤◌, Bool, true, false, List, [], ◌∷◌, length, refl, sym, ◌∙◌, ap, arith, Some, Result, Ok, Err, inl, inr, take, drop}
+use Rattle.std.specs.Prelude.{not, cond, find, take_while, sum_by, option_map, slice_index, slice_range, if◌then◌else◌}
 use Rattle.std.specs.List.{prefix_len}
 use Rattle.std.proofs.lemmas.Bool.{cases_lt}
 use Rattle.std.proofs.lemmas.Bool.Decides.{nat_tests}
@@ -10,7 +10,7 @@ use Rattle.std.proofs.lemmas.Grind.{same_number_lists}
 use Rattle.std.proofs.lemmas.List.Sums.{sum_by-cons}
 use Rattle.owned_list.specs.Overlay.{overlaid}
 use Rattle.owned_list.proofs.Overlay.{overlaid_before, overlaid_within, overlaid_behind}
-use Rattle.line_geometry.specs.Directory.{Layout, length_of, start_of, byte_count}
+use Rattle.line_geometry.specs.Directory.{start_of, byte_count}
 use Rattle.line_geometry.specs.Segments.{page_bytes, bytes_of, is_named}
 use Rattle.line_geometry.proofs.Within.{segment-within}
 use Rattle.flat_machine.specs.declared.machine.Located.{Located}

@@ -1,5 +1,5 @@
 -- What a storage of flat bytes shows, answers and stores.
-use Rattle.std.specs.Prelude.{◌≡◌, ℕ, ◌+◌, ◌*◌, ◌%◌, ◌<◌, ◌≤◌, ◌^◌, ◌==◌, ◌||◌, ◌&&◌, not, if◌then◌else◌, Bool, true, false, List, length, slice_index, slice_index_or, Option, Some, None, Result, Ok, Err, vec_len, All}
+use Rattle.std.specs.Prelude.{◌≡◌, ℕ, ◌+◌, ◌*◌, ◌%◌, ◌<◌, ◌≤◌, ◌^◌, ◌==◌, ◌||◌, if◌then◌else◌, Bool, true, false, List, length, slice_index, slice_index_or, Some, None, Result, Ok, Err, vec_len, All}
 use Rattle.owned_list.specs.Overlay.{overlaid}
 use Rattle.line_geometry.specs.Directory.{Layout, length_of, start_of, byte_count, page_count}
 use Rattle.line_geometry.specs.Lines.{line_of, line_bytes, line_count}

@@ -27,9 +27,10 @@ pub record IsOpen (f : Flat) (lines : Lines) : Type 0 where
   pub reads : (line : ℕ) → has lines.reads line ≡ true → (is_resident f line ≡ true) × (is_refused f line false ≡ false)
   pub writes : (line : ℕ) → has lines.writes line ≡ true → (is_resident f line ≡ true) × (is_refused f line true ≡ false)
 
--- the row goes on to a state, and the lines that it touches are open
-pub record GoesOpen (program : Program) (f : Flat) (before next : Plain) : Type 0 where
+-- the row goes on to a state, of which a processor counts the printed bytes, and the lines that it touches are open
+pub record GoesOpen (program : Program) (f : Flat) (before next : Plain) (after : Cpu) : Type 0 where
   pub goes : row program f.directory before ≡ On next
+  pub printed : length next.out ≡ after.printed
   pub few : length next.out ≤ 4096
   pub open_lines : IsOpen f (touched program f.directory before)
 
@@ -46,8 +47,8 @@ Stay before after old new = (after ≡ before) × (new ≡ old)
 
 -- what an attempt came to is the program's row
 abbrev pub IsRow : Program → List ℕ → Attempt → (before after : Cpu) → (old new : Flat) → Type 0
-IsRow program out Attempt.Went before after old new = GoesOpen program old (plain_of before old out) (plain_of after new out)
-IsRow program out (Attempt.Print byte) before after old new = GoesOpen program old (plain_of before old out) (plain_of after new (out ++ byte ∷ []))
+IsRow program out Attempt.Went before after old new = GoesOpen program old (plain_of before old out) (plain_of after new out) after
+IsRow program out (Attempt.Print byte) before after old new = GoesOpen program old (plain_of before old out) (plain_of after new (out ++ byte ∷ [])) after
 IsRow program out Attempt.Commit before after old new = (row program old.directory (plain_of before old out) ≡ Commit) × Stay before after old new
 IsRow program out (Attempt.Check code) before after old new = (row program old.directory (plain_of before old out) ≡ Check code) × Stay before after old new
 IsRow program out (Attempt.Fault fault access) before after old new = IsShutOut program old (plain_of before old out) access × Stay before after old new

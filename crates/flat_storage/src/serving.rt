@@ -86,6 +86,20 @@ impl FlatStorage {
         self.flat.marks.clear();
     }
 
+    /// The locks of the activation that runs.
+    pub fn marks(&self) -> &LineMarks
+        ensures { result.now ≡ self.now.flat.marks }
+    {
+        &self.flat.marks
+    }
+
+    /// The bytes of the store, as the activation that runs has them.
+    pub fn store_bytes(&self) -> &[u8]
+        ensures { result.now ≡ self.now.flat.store }
+    {
+        self.flat.store.as_slice()
+    }
+
     /// The lines of the store that an access touches.
     pub fn touch(&self, access: Access) -> Touch
         requires some { 0 < access.bytes }
@@ -94,7 +108,11 @@ impl FlatStorage {
         ensures some { AreSome result (line_count self.now.flat.directory) }
     {
         let bytes = u32::from(access.bytes);
-        let Ok(first) = self.flat.registers.locate(access.address, bytes, access.store) else {
+        let Ok(first) = self
+            .flat
+            .registers
+            .locate(access.address, bytes, access.store)
+        else {
             return Touch::Nothing;
         };
         match self.flat.place(first) {

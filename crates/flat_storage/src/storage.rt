@@ -100,8 +100,8 @@ impl Flat {
         requires { at ≤ 2 ^ 23 }
         ensures { result ≡ find (λ past. is_first self.now.directory at past && is_refused self.now (line_of self.now.directory (at + past)) store) (range_with_len 0 bytes) }
     {
-        (0..bytes)
-            .find(|past| self.is_first(at, *past) && self.is_refused(at + u32::from(*past), store))
+        (0..bytes).find(|past| self.is_first(at, *past)
+            && self.is_refused(at + u32::from(*past), store))
     }
 
     /// Whether a byte so many past a place is the first of a range from there, or of a line.
@@ -199,7 +199,11 @@ impl Storage for FlatStorage {
 
     fn probe(&mut self, wants: &Access) -> Probe {
         let bytes = u32::from(wants.bytes);
-        match self.flat.registers.locate(wants.address, bytes, wants.store) {
+        match self
+            .flat
+            .registers
+            .locate(wants.address, bytes, wants.store)
+        {
             Err(Check(code)) => Probe::Check(code),
             Ok(first) => self.flat.answer(first, wants.bytes, wants.store),
         }

@@ -3,6 +3,8 @@ use Rattle.std.proofs.Common.{◌≡◌, ℕ, ◌+◌, ◌*◌, ◌%◌, ◌^◌
 use Rattle.std.specs.Prelude.{false, true, Vec, vec_len, vec_capacity}
 use Rattle.std.specs.declared.alloc.Global.{Global}
 use Rattle.std.proofs.lemmas.List.{append-nil, map-append}
+use Rattle.line_geometry.specs.Directory.{byte_count}
+use Rattle.line_geometry.specs.Lines.{line_count}
 use Rattle.lock_rules.specs.Sets.{size}
 use Rattle.flat_machine.specs.declared.machine.Program.{Program}
 use Rattle.flat_machine.specs.Due.{touched_within}
@@ -18,10 +20,12 @@ use Rattle.desk.specs.Instruction.{Fine, Doubt, Over, CommitDoubted, commits, or
 use Rattle.desk.specs.Instruction as desk
 use Rattle.desk.specs.Answers.{order_told}
 use Rattle.desk.specs.Report.{number_after}
-use Rattle.private_desk.specs.PrivateDesk.{desk_of, entry_of, entries_told, IsSound}
+use Rattle.flat_storage.specs.Entries.{authority_told}
+use Rattle.flat_storage.specs.Flat.{IsOwnedBelow}
+use Rattle.private_desk.specs.PrivateDesk.{desk_of, live_of, entry_of, entries_told, IsSound}
 use Rattle.private_desk.specs.Record.{body_of, lines_marked}
 use Rattle.private_desk.specs.Kept.{Keeps, StandsFor}
-use Rattle.private_desk.specs.Follows.{Follows, IsAfterIf, HasPlaces, store_of}
+use Rattle.private_desk.specs.Follows.{Follows, IsAfterIf, IsNumberedIf, HasPlaces, store_of}
 use Rattle.private_desk.specs.Answered.{counts_of, commit_call}
 use Rattle.private_desk.specs.Running.{Runs}
 use Rattle.private_desk.specs.Settled.{HasSettled}
@@ -61,47 +65,47 @@ module _ (d : PrivateDesk) (active : Active) (program : Program) (on : Runs d ac
   set = (touched_within program active.args (store_of d) active.rows).writes
 
   abbrev lines : ℕ
-  lines = vec_len d.marks.writes
+  lines = vec_len d.storage.flat.marks.writes
 
   -- what it holds
   pub kept-settled : (gate : ℕ) (bytes held : List ℕ) → gate ≡ bank_at d.header Which.A + 8 + d.used
-      → bytes ≡ body_of ((d.number + 1) % 2 ^ 64) d.live.store (lines_marked d.marks.writes.items lines)
-      → length bytes ≡ 11 + 132 * d.marks.written
-      → ((gate : ℕ) → IsBody lines ((d.number + 1) % 2 ^ 64) gate d.marks.written (lines_from d.marks.written (gate + 11) (drop 10 bytes)) bytes)
-      → d.used + (132 * d.marks.written + 12) ≤ d.header.bank_bytes
+      → bytes ≡ body_of ((d.number + 1) % 2 ^ 64) d.storage.flat.store (lines_marked d.storage.flat.marks.writes.items lines)
+      → length bytes ≡ 11 + 132 * d.storage.flat.marks.written
+      → ((gate : ℕ) → IsBody lines ((d.number + 1) % 2 ^ 64) gate d.storage.flat.marks.written (lines_from d.storage.flat.marks.written (gate + 11) (drop 10 bytes)) bytes)
+      → d.used + (132 * d.storage.flat.marks.written + 12) ≤ d.header.bank_bytes
       → Keeps d.header d.used d.number d.committed held
-      → Keeps d.header (d.used + (11 + 132 * d.marks.written)) ((d.number + 1) % 2 ^ 64) d.live.store (written (written held (gate + 1) bytes) gate (0xA5 ∷ []))
+      → Keeps d.header (d.used + (11 + 132 * d.storage.flat.marks.written)) ((d.number + 1) % 2 ^ 64) d.storage.flat.store (written (written held (gate + 1) bytes) gate (0xA5 ∷ []))
   kept-settled gate bytes held at bytes-are long good room kept =
       let from : StandsFor held d.header Which.A kept.base gate kept.records d.number d.committed = subst (λ (g : ℕ). StandsFor held d.header Which.A kept.base g kept.records d.number d.committed) (sym at) kept.stand in
-      let is : IsCommitted d.header Which.A gate d.number d.committed d.live.store d.marks.writes.items set lines d.marks.written bytes = record {
+      let is : IsCommitted d.header Which.A gate d.number d.committed d.storage.flat.store d.storage.flat.marks.writes.items set lines d.storage.flat.marks.written bytes = record {
         ranges = sound.ranges;
-        all = d.marks.writes.ok.0;
-        lines = sound.sizes.lines;
-        small = d.marks.few;
-        long = sound.sizes.store;
-        as_long = sound.sizes.committed_bytes;
+        all = d.storage.flat.marks.writes.ok.0;
+        lines = d.storage.sized.lines ∙ ap line_count sound.directory;
+        small = d.storage.flat.marks.few;
+        long = d.storage.sized.store ∙ ap byte_count sound.directory;
+        as_long = sound.committed_bytes;
         shown = on.marked.writes;
-        agree = after-kept program active.args (store_of d) active.rows d.live sound.sizes.committed_bytes on.state;
+        agree = after-kept program active.args (store_of d) active.rows (live_of d) sound.committed_bytes on.state;
         counted = on.marked.written;
         bytes = bytes-are;
         good = good gate;
         fits = omega (arith, at, long, room);
       } in
-      let stand = stands-committed held d.header Which.A kept.base gate kept.records d.number d.committed from d.live.store d.marks.writes.items set lines d.marks.written bytes is in
-      let next : gate + length bytes ≡ bank_at d.header Which.A + 8 + (d.used + (11 + 132 * d.marks.written)) = omega (arith, at, long) in
+      let stand = stands-committed held d.header Which.A kept.base gate kept.records d.number d.committed from d.storage.flat.store d.storage.flat.marks.writes.items set lines d.storage.flat.marks.written bytes is in
+      let next : gate + length bytes ≡ bank_at d.header Which.A + 8 + (d.used + (11 + 132 * d.storage.flat.marks.written)) = omega (arith, at, long) in
       record {
         base = kept.base;
-        records = kept.records ++ lines_from d.marks.written (gate + 11) (drop 10 bytes) ∷ [];
+        records = kept.records ++ lines_from d.storage.flat.marks.written (gate + 11) (drop 10 bytes) ∷ [];
         stand = subst
-            (λ (g : ℕ). StandsFor (written (written held (gate + 1) bytes) gate (0xA5 ∷ [])) d.header Which.A kept.base g (kept.records ++ lines_from d.marks.written (gate + 11) (drop 10 bytes) ∷ []) ((d.number + 1) % 2 ^ 64) d.live.store)
+            (λ (g : ℕ). StandsFor (written (written held (gate + 1) bytes) gate (0xA5 ∷ [])) d.header Which.A kept.base g (kept.records ++ lines_from d.storage.flat.marks.written (gate + 11) (drop 10 bytes) ∷ []) ((d.number + 1) % 2 ^ 64) d.storage.flat.store)
             next stand;
       }
 
 module _ (d : PrivateDesk) (active : Active) (program : Program) (on : Runs d active program) (tally : Tally) (body : Vec ℕ Global) where
   abbrev call : desk.Attempt
-  call = commit_call active program d.live
+  call = commit_call active program (live_of d)
 
-  lines-are : lines_written call (desk_of d) ≡ d.marks.written
+  lines-are : lines_written call (desk_of d) ≡ d.storage.flat.marks.written
   lines-are = ap size (append-nil (touched_within program active.args (store_of d) active.rows).writes) ∙ sym on.marked.written
 
   module _ (number : ℕ) (new : PrivateDesk) (settled : HasSettled (record d { body = body }) active number new) (place : vec_len d.order < vec_capacity d.order) where
@@ -110,7 +114,7 @@ module _ (d : PrivateDesk) (active : Active) (program : Program) (on : Runs d ac
 
     settled-is : desk_of new
         ≡ record (ended (ordered (desk_of d) call) active.number) {
-          committed = record (desk_of d).committed { bytes = d.live.store };
+          committed = record (desk_of d).committed { bytes = d.storage.flat.store };
           used = d.used + (11 + 132 * lines_written call (desk_of d));
         }
     settled-is =
@@ -123,11 +127,11 @@ module _ (d : PrivateDesk) (active : Active) (program : Program) (on : Runs d ac
 
     -- a commit that is done
     pub committed : (now : Tally) → now.ran ≡ tally.ran + 1 → now.pages ≡ tally.pages → now.locks ≡ tally.locks
-        → commits Fine call (desk_of d) (counts_of tally) ≡ Over (desk_of new) (counts_of now) (desk.Committed (active.rows + 1) new.live.out)
+        → commits Fine call (desk_of d) (counts_of tally) ≡ Over (desk_of new) (counts_of now) (desk.Committed (active.rows + 1) new.out)
     committed now ran pages locks =
         λ i. Over (sym settled-is i)
         (record { ran = sym ran i; pages = sym pages i; locks = sym locks i; cycles = [] })
-        (desk.Committed (active.rows + 1) (sym settled.live i).out)
+        (desk.Committed (active.rows + 1) (sym settled.out i))
 
     -- its number is the store's
     pub numbers-settled : Follows d → number ≡ (d.number + 1) % 2 ^ 64 → number ≡ number_after new.opened (desk_of new)
@@ -142,7 +146,9 @@ module _ (d : PrivateDesk) (active : Active) (program : Program) (on : Runs d ac
         let (places, room) = has_place d active sound follows on.active_is still in
         let longer : vec_len new.order ≡ vec_len d.order + 1 = omega (arith, new.order.ok.0, d.order.ok.0, ap length (settled.order place) ∙ length-append d.order.items (record { activation = active.number; steps = active.rows + 1 } ∷ [])) in
         record {
-          live = subst (λ (one : Option Active). IsAfterIf new.programs.items (store_of new) one new.live new.marks) (sym settled.active) tt;
+          live = subst (λ (one : Option Active). IsAfterIf new.programs.items (store_of new) one (live_of new) new.storage.flat) (sym settled.active) tt;
+          numbered = subst (λ (one : Option Active). IsNumberedIf one new.next) (sym settled.active) tt;
+          owned = settled.owned follows.owned;
           number = settled.number_is ∙ numbers-settled follows is;
           places = λ _. subst (λ (one : Option Active). HasPlaces one (vec_len new.order) new.next) (sym settled.active) (omega (arith, places, longer, settled.parts.next));
           room = omega (arith, settled.order_room, settled.parts.begins, follows.room);
@@ -169,7 +175,9 @@ module _ (d : PrivateDesk) (active : Active) (program : Program) (on : Runs d ac
     pub follows-doubted : Follows d → number ≡ (d.number + 1) % 2 ^ 64 → vec_capacity d.order ≤ vec_capacity new.order → Follows new
     follows-doubted follows is room =
         record {
-          live = subst (λ (e : PrivateDesk). IsAfterIf e.programs.items (store_of e) e.active e.live e.marks) (sym entered) follows.live;
+          live = subst (λ (e : PrivateDesk). IsAfterIf e.programs.items (store_of e) e.active (live_of e) e.storage.flat) (sym entered) follows.live;
+          numbered = subst (λ (e : PrivateDesk). IsNumberedIf e.active e.next) (sym entered) follows.numbered;
+          owned = subst (λ (e : PrivateDesk). IsOwnedBelow (authority_told e.storage.flat.entries.entries.items) e.next) (sym entered) follows.owned;
           number = ap (λ (e : PrivateDesk). e.number) entered ∙ numbers-doubted follows is;
           places = λ still. absurd (let shut : new.closed ≡ true = ap (λ (e : PrivateDesk). e.closed) entered in cc (shut, still));
           room = omega (arith, ap (λ (e : PrivateDesk). e.begins) entered, follows.room, room);

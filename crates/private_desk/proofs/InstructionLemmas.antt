@@ -1,5 +1,5 @@
 -- One instruction of a private desk is one of the desk.
-use Rattle.std.proofs.Common.{◌≡◌, ℕ, suc, ◌+◌, ◌<◌, List, [], ◌∷◌, length, refl, sym, ◌∙◌, ap, subst, arith, Option, Some, None}
+use Rattle.std.proofs.Common.{◌≡◌, ℕ, suc, ◌+◌, ◌<◌, List, [], ◌∷◌, length, refl, sym, ◌∙◌, ap, subst, arith, Option, Some, None, inl, inr}
 use Rattle.std.specs.Prelude.{false, ◌==◌, find, slice_get, option_and_then, vec_len, vec_capacity}
 use Rattle.std.specs.Option.{option_map_or}
 use Rattle.line_geometry.specs.Directory.{Layout}
@@ -8,23 +8,23 @@ use Rattle.lock_rules.specs.Sets.{size}
 use Rattle.lock_rules.specs.Lines.{Lines, no_lines, both, with_whole_pages}
 use Rattle.flat_machine.specs.declared.machine.Program.{Program}
 use Rattle.flat_machine.specs.declared.machine.Plain.{Plain}
-use Rattle.flat_machine.specs.declared.touch.Touch.{Touch}
-use Rattle.flat_machine.specs.declared.machine.Went.{Went}
 use Rattle.flat_machine.specs.declared.machine.Plan.{Plan}
-use Rattle.flat_machine.specs.Row.{Outcome, On, Commit, Check, outcome_by, plan_at, row}
-use Rattle.flat_machine.specs.Touched.{touch_lines, touched, touched_by}
+use Rattle.flat_machine.specs.Row.{Outcome, On, Commit, Check, plan_at, row}
+use Rattle.flat_machine.specs.Touched.{touched, touched_by}
 use Rattle.flat_machine.specs.After.{after, next_state}
-use Rattle.flat_machine.specs.Due.{touched_within}
+use Rattle.flat_machine.specs.Due.{touched_within, touched_next, due_locks}
+use Rattle.std.proofs.lemmas.Option.{slice_get_cases}
 use Rattle.desk.specs.Desk.{Desk, Entry, with_entry, rolled_back}
 use Rattle.desk.specs.Holdings.{wanted}
 use Rattle.desk.specs.Instruction.{Word, Counts, Turning, Going, Over, Checked, Journal, instruction, attempts, limited, limit_passed, room, lines_written, takes_effect, commits, granted}
 use Rattle.desk.specs.Instruction as desk
-use Rattle.private_desk.specs.PrivateDesk.{desk_of, entry_of, entries_told}
+use Rattle.private_desk.specs.PrivateDesk.{desk_of, live_of, entry_of, entries_told, IsSound, IsRunning, IsRunningIf, IsSetUp, IsSetUpIf}
 use Rattle.flat_storage.specs.Entries.{authority_told}
 use Rattle.flat_storage.specs.Words.{ReadsAll}
-use Rattle.private_desk.specs.Follows.{Follows, IsAfter, IsAfterIf, HasPlaces, store_of}
+use Rattle.private_desk.specs.Follows.{Follows, IsAfter, IsAfterIf, IsNumberedIf, HasPlaces, store_of}
 use Rattle.flat_storage.specs.Marks.{Show}
-use Rattle.private_desk.specs.Answered.{counts_of, commit_call, instruction_of, refused_to}
+use Rattle.flat_storage.specs.Served.{refused_to}
+use Rattle.private_desk.specs.Answered.{counts_of, commit_call, instruction_of}
 use Rattle.private_desk.specs.Running.{Runs, IsRolledBack, HasReached}
 use Rattle.private_desk.specs.declared.single.Active.{Active}
 use Rattle.private_desk.specs.declared.single.Tally.{Tally}
@@ -34,8 +34,8 @@ use Rattle.private_desk.proofs.AloneLemmas.{GoesOn, find-alone, find-other, with
 -- the activation that is active runs
 pub runs : (d : PrivateDesk) (active : Active) → Follows d → d.active ≡ Some active → (program : Program) × Runs d active program
 runs d active follows is =
-    let live : IsAfter d.programs.items (store_of d) active d.live d.marks = subst (λ (one : Option Active). IsAfterIf d.programs.items (store_of d) one d.live d.marks) is follows.live in
-    (live.program, record { active_is = is; named = live.named; state = live.state; marked = live.marked })
+    let live : IsAfter d.programs.items (store_of d) active (live_of d) d.storage.flat = subst (λ (one : Option Active). IsAfterIf d.programs.items (store_of d) one (live_of d) d.storage.flat) is follows.live in
+    (live.program, record { active_is = is; named = live.named; state = live.state; marked = live.marked; held = live.held })
 
 -- and it runs the program that its number names
 pub runs_as : (d : PrivateDesk) (active : Active) (program : Program) → Follows d → d.active ≡ Some active → slice_get d.programs.items active.program ≡ Some program → Runs d active program
@@ -43,6 +43,19 @@ runs_as d active program follows is named =
     let (other, on) = runs d active follows is in
     let same : other ≡ program = cc in
     subst (λ (p : Program). Runs d active p) same on
+
+-- what is set up for it
+pub set_up : (d : PrivateDesk) (active : Active) → IsSound d → d.active ≡ Some active → IsSetUp d.programs.items active d.cpu d.storage.flat d.out
+set_up d active sound is = subst (λ (one : Option Active). IsSetUpIf d.programs.items one d.cpu d.storage.flat d.out) is sound.set_up
+
+-- the program that it runs
+pub program_of : (d : PrivateDesk) (active : Active) → IsSound d → d.active ≡ Some active → (program : Program) × (slice_get d.programs.items active.program ≡ Some program)
+program_of d active sound is =
+    let running : IsRunning (length d.programs.items) d.turns d.storage.flat.marks.written active = subst (IsRunningIf (length d.programs.items) d.turns d.storage.flat.marks.written) is sound.running in
+    elim (slice_get_cases d.programs.items active.program).1 [
+      | inl (program, within, is, same) ↦ (program, is)
+      | inr (past, is) ↦ absurd (omega (arith, past, running.program))
+    ]
 
 -- an activation with another number, or none, is not active
 pub find-not_active : (d : PrivateDesk) (number : ℕ) → ((active : Active) → d.active ≡ Some active → (active.number == number) ≡ false)
@@ -89,107 +102,96 @@ same_desk one other a b c d e f g h j k l =
     }
 
 -- the commit call touches nothing
-touched-commit : (program : Program) (directory : Layout) (outcome : Outcome) (plan : Plan) → outcome ≡ Commit → touched_by program directory outcome plan ≡ no_lines
+pub touched-commit : (program : Program) (directory : Layout) (outcome : Outcome) (plan : Plan) → outcome ≡ Commit → touched_by program directory outcome plan ≡ no_lines
 touched-commit program directory outcome plan is = ap (λ (this : Outcome). touched_by program directory this plan) is
-
--- a row that isn't a check goes on, or to the commit call
-pub goes : (went : Went) (new : Plain) → ((code : ℕ) → went ≡ Went.Check code → ⊥) → GoesOn (outcome_by went new)
-goes Went.On new not_check = tt
-goes Went.Commit new not_check = tt
-goes (Went.Check code) new not_check = absurd (not_check code refl)
-
--- and where it isn't the commit call, it goes on
-pub goes-on : (went : Went) (new : Plain) → ((code : ℕ) → went ≡ Went.Check code → ⊥) → (went ≡ Went.Commit → ⊥) → outcome_by went new ≡ On new
-goes-on Went.On new not_check not_commit = refl
-goes-on Went.Commit new not_check not_commit = absurd (not_commit refl)
-goes-on (Went.Check code) new not_check not_commit = absurd (not_check code refl)
 
 module _ (word : Word) (d : PrivateDesk) (active : Active) (program : Program) (on : Runs d active program) (tally : Tally) where
   abbrev entry : Entry
   entry = entry_of active program
 
-  abbrev attempt : desk.Attempt
-  attempt = record { entry = entry; now = d.live; outcome = row program d.header.directory d.live; lines = wanted (desk_of d) entry }
+  -- the lines that the next row touches, and those touched so far
+  abbrev pub lines : Lines
+  lines = touched program d.header.directory (live_of d)
+
+  abbrev pub so_far : Lines
+  so_far = touched_within program active.args (store_of d) active.rows
+
+  -- the instruction under way, with the lines of its row
+  abbrev pub attempt : desk.Attempt
+  attempt = record { entry = entry; now = live_of d; outcome = row program d.header.directory (live_of d); lines = touched program d.header.directory (live_of d) }
 
   alone : (desk_of d).active ≡ entry ∷ []
   alone = entries-alone d active program on
 
+  lines-are : wanted (desk_of d) entry ≡ lines
+  lines-are = ap (λ (state : Option Plain). option_map_or (touched program d.header.directory) state no_lines) on.state
+
   first : instruction_of word active.number d tally ≡ attempts word attempt attempt.outcome (desk_of d) (counts_of tally)
   first =
       ap (λ (one : Option Entry). instruction word one (desk_of d) (counts_of tally)) (find-alone entry (desk_of d).active active.number alone refl)
-      ∙ instruction-at word entry (desk_of d) (counts_of tally) d.live on.state
+      ∙ instruction-at word entry (desk_of d) (counts_of tally) (live_of d) on.state
+      ∙ ap (λ (these : Lines). attempts word (record { entry = entry; now = live_of d; outcome = attempt.outcome; lines = these }) attempt.outcome (desk_of d) (counts_of tally)) lines-are
 
-  rolled : (live : Plain) (new : PrivateDesk) → IsRolledBack (record d { live = live }) active.number new → desk_of new ≡ rolled_back (desk_of d) entry
-  rolled live new back =
+  rolled : (new : PrivateDesk) → IsRolledBack d active.number new → desk_of new ≡ rolled_back (desk_of d) entry
+  rolled new back =
       same_desk (desk_of new) (rolled_back (desk_of d) entry) back.frames refl (cc) (cc) (cc) (cc)
       (ap (entries_told new.programs.items) back.active ∙ sym (ended-alone (desk_of d) entry active.number alone refl))
       back.released
-      (back.resident (touched_within program active.args (store_of d) active.rows) on.marked)
+      (back.resident (due_locks program active.args (store_of d) active.rows) on.marked)
       (cc) (cc)
 
   -- a program check
-  pub checked : (code : ℕ) (live : Plain) (new : PrivateDesk) → row program d.header.directory d.live ≡ Check code → IsRolledBack (record d { live = live }) active.number new
-      → instruction_of word active.number d tally ≡ Over (desk_of new) (counts_of tally) (Checked code d.live.iar)
-  checked code live new is back =
+  pub checked : (code : ℕ) (new : PrivateDesk) → row program d.header.directory (live_of d) ≡ Check code → IsRolledBack d active.number new
+      → instruction_of word active.number d tally ≡ Over (desk_of new) (counts_of tally) (Checked code d.cpu.iar)
+  checked code new is back =
       first
       ∙ attempts-check word attempt (desk_of d) (counts_of tally) code attempt.outcome is
-      ∙ ap (λ (left : Desk). Over left (counts_of tally) (Checked code d.live.iar)) (sym (rolled live new back))
+      ∙ ap (λ (left : Desk). Over left (counts_of tally) (Checked code d.cpu.iar)) (sym (rolled new back))
 
-  module _ (touch : Touch) (lines : ℕ) (touches : touch_lines touch ≡ touched program d.header.directory d.live)
-      (counted : lines ≡ size (both (touched_within program active.args (store_of d) active.rows) (touch_lines touch)).writes) where
-    -- the instruction under way, with the lines of the touch
-    abbrev touching : desk.Attempt
-    touching = record { entry = entry; now = d.live; outcome = row program d.header.directory d.live; lines = touch_lines touch }
-
-    lines-are : wanted (desk_of d) entry ≡ touch_lines touch
-    lines-are = ap (λ (state : Option Plain). option_map_or (touched program d.header.directory) state no_lines) on.state ∙ sym touches
-
-    limited-first : GoesOn (row program d.header.directory d.live)
-        → instruction_of word active.number d tally ≡ limited (limit_passed (room (desk_of d)) (lines_written touching (desk_of d))) word touching (desk_of d) (counts_of tally)
-    limited-first goes =
-        first
-        ∙ ap (λ (these : Lines). attempts word (record { entry = entry; now = d.live; outcome = attempt.outcome; lines = these }) attempt.outcome (desk_of d) (counts_of tally)) lines-are
-        ∙ attempts-limited word touching (desk_of d) (counts_of tally) attempt.outcome goes
+  module _ (count : ℕ) (counted : count ≡ size (both so_far lines).writes) where
+    limited-first : GoesOn (row program d.header.directory (live_of d))
+        → instruction_of word active.number d tally ≡ limited (limit_passed (room (desk_of d)) (lines_written attempt (desk_of d))) word attempt (desk_of d) (counts_of tally)
+    limited-first goes = first ∙ attempts-limited word attempt (desk_of d) (counts_of tally) attempt.outcome goes
 
     -- more lines than a record may have
-    pub journalled : (most : ℕ) (live : Plain) (new : PrivateDesk) → GoesOn (row program d.header.directory d.live) → Some most ≡ limit_passed (room (desk_of d)) lines → IsRolledBack (record d { live = live }) active.number new
-        → instruction_of word active.number d tally ≡ Over (desk_of new) (counts_of tally) (Journal lines most)
-    journalled most live new goes past back =
+    pub journalled : (most : ℕ) (new : PrivateDesk) → GoesOn (row program d.header.directory (live_of d)) → Some most ≡ limit_passed (room (desk_of d)) count → IsRolledBack d active.number new
+        → instruction_of word active.number d tally ≡ Over (desk_of new) (counts_of tally) (Journal count most)
+    journalled most new goes past back =
         limited-first goes
-        ∙ limited-by word touching (desk_of d) (counts_of tally) most (ap (limit_passed (room (desk_of d))) (sym counted) ∙ sym past)
-        ∙ ap (λ (left : Desk). Over left (counts_of tally) (Journal (lines_written touching (desk_of d)) most)) (sym (rolled live new back))
+        ∙ limited-by word attempt (desk_of d) (counts_of tally) most (ap (limit_passed (room (desk_of d))) (sym counted) ∙ sym past)
+        ∙ ap (λ (left : Desk). Over left (counts_of tally) (Journal (lines_written attempt (desk_of d)) most)) (sym (rolled new back))
         ∙ ap (λ (n : ℕ). Over (desk_of new) (counts_of tally) (Journal n most)) (sym counted)
 
     abbrev limited_at : desk.Attempt → Turning
     limited_at this = limited (limit_passed (room (desk_of d)) (lines_written this (desk_of d))) word this (desk_of d) (counts_of tally)
 
     -- the commit call
-    pub at_commit : row program d.header.directory d.live ≡ Commit → None ≡ limit_passed (room (desk_of d)) lines
-        → instruction_of word active.number d tally ≡ commits word (commit_call active program d.live) (desk_of d) (counts_of tally)
+    pub at_commit : row program d.header.directory (live_of d) ≡ Commit → None ≡ limit_passed (room (desk_of d)) count
+        → instruction_of word active.number d tally ≡ commits word (commit_call active program (live_of d)) (desk_of d) (counts_of tally)
     at_commit is within =
-        let nothing : touch_lines touch ≡ no_lines = touches ∙ touched-commit program d.header.directory (row program d.header.directory d.live) (plan_at d.live) is in
-        let call = commit_call active program d.live in
+        let nothing : lines ≡ no_lines = touched-commit program d.header.directory (row program d.header.directory (live_of d)) (plan_at (live_of d)) is in
+        let call = commit_call active program (live_of d) in
         limited-first (subst GoesOn (sym is) tt)
-        ∙ ap (λ (outcome : Outcome). limited_at (record { entry = entry; now = d.live; outcome = outcome; lines = touch_lines touch })) is
-        ∙ ap (λ (these : Lines). limited_at (record { entry = entry; now = d.live; outcome = Commit; lines = these })) nothing
-        ∙ effect-of word call (desk_of d) (counts_of tally) d.resident.pages.items d.resident.pages.items tally.pages tally.pages
-        (ap (λ (these : Lines). limit_passed (room (desk_of d)) (size (both (touched_within program active.args (store_of d) active.rows) these).writes)) (sym nothing)
+        ∙ ap (λ (outcome : Outcome). limited_at (record { entry = entry; now = live_of d; outcome = outcome; lines = lines })) is
+        ∙ ap (λ (these : Lines). limited_at (record { entry = entry; now = live_of d; outcome = Commit; lines = these })) nothing
+        ∙ effect-of word call (desk_of d) (counts_of tally) d.storage.flat.resident.pages.items d.storage.flat.resident.pages.items tally.pages tally.pages
+        (ap (λ (these : Lines). limit_passed (room (desk_of d)) (size (both so_far these).writes)) (sym nothing)
         ∙ ap (limit_passed (room (desk_of d))) (sym counted) ∙ sym within)
         refl refl (conflicts-alone (desk_of d) entry alone)
         ∙ ap (λ (n : ℕ). commits word call (desk_of d) (record { ran = tally.ran; pages = tally.pages; locks = n; cycles = [] })) (omega arith)
 
     abbrev refused : List ℕ
-    refused = refused_to active.number touch (authority_told d.entries.entries.items)
+    refused = refused_to active.number lines (authority_told d.storage.flat.entries.entries.items)
 
     abbrev more : Active
     more = record active { rows = active.rows + 1 }
 
     -- the desk and the counts before the row takes effect
-    module _ (next : Plain) (new : PrivateDesk) (now : Tally) (reached : HasReached (record d { live = next }) active touch new tally now) where
+    module _ (next : Plain) (new : PrivateDesk) (now : Tally) (reached : HasReached d active so_far lines next new tally now) where
       abbrev left : Desk
       left = record (desk_of d) {
-        resident = new.resident.pages.items;
-        authority = granted touching (with_whole_pages (both (touched_within program active.args (store_of d) active.rows) (touch_lines touch))) refused (authority_told d.entries.entries.items);
+        resident = new.storage.flat.resident.pages.items;
+        authority = granted attempt (with_whole_pages (both so_far lines)) refused (authority_told d.storage.flat.entries.entries.items);
       }
 
       abbrev counts_left : Counts
@@ -205,7 +207,7 @@ module _ (word : Word) (d : PrivateDesk) (active : Active) (program : Program) (
       left-is =
           same_desk (with_entry left (entry_of more program)) (desk_of new) (sym reached.frames) refl (cc) (sym reached.bytes.used) (cc) (cc)
           (with_entry-alone left entry (entry_of more program) alone refl ∙ sym active-is)
-          (sym (reached.granted_to touching (touched_within program active.args (store_of d) active.rows) refl on.marked))
+          (sym (reached.granted_to attempt refl))
           refl
           (sym reached.parts.next) (sym reached.bytes.closed)
 
@@ -213,45 +215,60 @@ module _ (word : Word) (d : PrivateDesk) (active : Active) (program : Program) (
       counts-are = λ i. record { ran = sym reached.ran i; pages = now.pages; locks = sym reached.locks i; cycles = [] }
 
       -- a row that goes on
-      pub went_on : ReadsAll word → row program d.header.directory d.live ≡ On next → None ≡ limit_passed (room (desk_of d)) lines
+      pub went_on : ReadsAll word → row program d.header.directory (live_of d) ≡ On next → None ≡ limit_passed (room (desk_of d)) count
           → instruction_of word active.number d tally ≡ Going (desk_of new) (counts_of now)
       went_on reads is within =
           let (between, first_counted, fetched, again) = reached.fetched word reads in
           limited-first (subst GoesOn (sym is) tt)
-          ∙ effect-of word touching (desk_of d) (counts_of tally) between new.resident.pages.items first_counted now.pages
+          ∙ effect-of word attempt (desk_of d) (counts_of tally) between new.storage.flat.resident.pages.items first_counted now.pages
           (ap (limit_passed (room (desk_of d))) (sym counted) ∙ sym within) fetched again (conflicts-alone (desk_of d) entry alone)
-          ∙ ap (λ (outcome : Outcome). takes_effect word touching outcome left counts_left) is
+          ∙ ap (λ (outcome : Outcome). takes_effect word attempt outcome left counts_left) is
           ∙ ap (λ (after_row : Desk). Going after_row (record counts_left { ran = tally.ran + 1 })) left-is
           ∙ ap (Going (desk_of new)) counts-are
 
-      -- the state after it is the live one, and the marks are those of the lines touched so far
-      pub follows_more : Follows d → touch_lines touch ≡ touched program d.header.directory d.live → row program d.header.directory d.live ≡ On next → Follows new
-      follows_more follows touches is =
-          let store = store_of d in
-          let args = active.args in
-          let suc-rows : active.rows + 1 ≡ suc active.rows = omega arith in
-          let store-is : store_of new ≡ store = cc in
-          let state-is : after program args store (active.rows + 1) ≡ Some new.live =
-          ap (after program args store) suc-rows
-          ∙ ap (λ (state : Option Plain). option_and_then (λ (s : Plain). next_state (row program d.header.directory s)) state) on.state
-          ∙ ap next_state is
-          ∙ ap Some (sym reached.live) in
-          let marks-are : touched_within program args store (active.rows + 1) ≡ both (touched_within program args store active.rows) (touch_lines touch) =
-          ap (touched_within program args store) suc-rows ∙ ap (both (touched_within program args store active.rows)) lines-are in
-          let live : IsAfter new.programs.items (store_of new) more new.live new.marks = record {
-            program = program;
-            named = ap (λ (programs : List Program). slice_get programs active.program) reached.parts.programs ∙ on.named;
-            state = ap (λ (s : FlatStore). after program args s (active.rows + 1)) store-is ∙ state-is;
-            marked = subst (Show new.marks) (sym (ap (λ (s : FlatStore). touched_within program args s (active.rows + 1)) store-is ∙ marks-are)) (reached.marked (touched_within program args store active.rows) on.marked);
-          } in
-          record {
-            live = subst (λ (one : Option Active). IsAfterIf new.programs.items (store_of new) one new.live new.marks) (sym reached.active) live;
-            number = cc;
-            places = λ still. places-more still;
-            room = omega (arith, ap vec_capacity reached.bytes.order, reached.parts.begins, follows.room);
-          }
-        where
-          places-more : new.closed ≡ false → HasPlaces new.active (vec_len new.order) new.next
-          places-more still =
-              let places : vec_len d.order + 1 < d.next = subst (λ (one : Option Active). HasPlaces one (vec_len d.order) d.next) on.active_is (follows.places (sym reached.bytes.closed ∙ still)) in
-              subst (λ (one : Option Active). HasPlaces one (vec_len new.order) new.next) (sym reached.active) (omega (arith, places, ap vec_len reached.bytes.order, reached.parts.next))
+-- the state after a row is the live one, and the marks are those of the locks due to it
+pub follows_more :
+    (d : PrivateDesk) (active : Active) (program : Program) → Runs d active program
+    → (next : Plain) (new : PrivateDesk) (tally now : Tally)
+    → HasReached d active (touched_within program active.args (store_of d) active.rows) (touched program d.header.directory (live_of d)) next new tally now
+    → Follows d → row program d.header.directory (live_of d) ≡ On next → Follows new
+follows_more d active program on next new tally now reached follows is =
+    let store = store_of d in
+    let args = active.args in
+    let more = record active { rows = active.rows + 1 } in
+    let suc-rows : active.rows + 1 ≡ suc active.rows = omega arith in
+    let store-is : store_of new ≡ store = cc in
+    let state-is : after program args store (active.rows + 1) ≡ Some (live_of new) =
+    ap (after program args store) suc-rows
+    ∙ ap (λ (state : Option Plain). option_and_then (λ (s : Plain). next_state (row program d.header.directory s)) state) on.state
+    ∙ ap next_state is
+    ∙ ap Some (sym reached.live) in
+    let lines-are : touched_next program args store active.rows ≡ touched program d.header.directory (live_of d) =
+    ap (λ (state : Option Plain). option_map_or (touched program d.header.directory) state no_lines) on.state in
+    let locks-are : due_locks program args store (active.rows + 1) ≡ with_whole_pages (both (touched_within program args store active.rows) (touched program d.header.directory (live_of d))) =
+    ap (due_locks program args store) suc-rows ∙ ap (λ (these : Lines). with_whole_pages (both (touched_within program args store active.rows) these)) lines-are in
+    let live : IsAfter new.programs.items (store_of new) more (live_of new) new.storage.flat = record {
+      program = program;
+      named = ap (λ (programs : List Program). slice_get programs active.program) reached.parts.programs ∙ on.named;
+      state = ap (λ (s : FlatStore). after program args s (active.rows + 1)) store-is ∙ state-is;
+      marked = subst (Show new.storage.flat.marks) (sym (ap (λ (s : FlatStore). due_locks program args s (active.rows + 1)) store-is ∙ locks-are)) reached.marked;
+      held = reached.held;
+    } in
+    record {
+      live = subst (λ (one : Option Active). IsAfterIf new.programs.items (store_of new) one (live_of new) new.storage.flat) (sym reached.active) live;
+      numbered = numbered-more;
+      owned = reached.owned;
+      number = cc;
+      places = λ still. places-more still;
+      room = omega (arith, ap vec_capacity reached.bytes.order, reached.parts.begins, follows.room);
+    }
+  where
+    numbered-more : IsNumberedIf new.active new.next
+    numbered-more =
+        let before : active.number < d.next = subst (λ (one : Option Active). IsNumberedIf one d.next) on.active_is follows.numbered in
+        subst (λ (one : Option Active). IsNumberedIf one new.next) (sym reached.active) (omega (arith, before, reached.parts.next))
+
+    places-more : new.closed ≡ false → HasPlaces new.active (vec_len new.order) new.next
+    places-more still =
+        let places : vec_len d.order + 1 < d.next = subst (λ (one : Option Active). HasPlaces one (vec_len d.order) d.next) on.active_is (follows.places (sym reached.bytes.closed ∙ still)) in
+        subst (λ (one : Option Active). HasPlaces one (vec_len new.order) new.next) (sym reached.active) (omega (arith, places, ap vec_len reached.bytes.order, reached.parts.next))

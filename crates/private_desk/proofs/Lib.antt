@@ -1,11 +1,9 @@
 pub mod CommitLemmas
 pub mod InstructionLemmas
+pub mod ExecuteLemmas
+pub mod ReachLemmas
 pub mod AloneLemmas
-pub mod MarkLemmas
-pub mod FetchLemmas
-pub mod PageLemmas
 pub mod SizeLemmas
-pub mod EntryLemmas
 pub mod CallLemmas
 pub mod RecordLemmas
 pub mod BodyLemmas

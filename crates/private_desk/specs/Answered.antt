@@ -1,17 +1,15 @@
 -- What the steps of a turn of a private desk are, as steps of the desk.
-use Rattle.std.specs.Prelude.{◌≡◌, ℕ, ◌==◌, List, [], ◌++◌, slice_get, slice_index_or, filter, find, Some}
+use Rattle.std.specs.Prelude.{◌≡◌, ℕ, ◌==◌, List, [], slice_get, find, Some}
 use Rattle.flat_machine.specs.declared.machine.Plain.{Plain}
 use Rattle.flat_machine.specs.declared.machine.Program.{Program}
 use Rattle.flat_machine.specs.Row as row
-use Rattle.flat_machine.specs.declared.touch.Touch.{Touch}
-use Rattle.flat_machine.specs.Touched.{touch_lines}
-use Rattle.lock_rules.specs.Lines.{no_lines, pages_of}
+use Rattle.lock_rules.specs.Lines.{no_lines}
 use Rattle.desk.specs.declared.answers.TurnEnd.{TurnEnd}
-use Rattle.desk.specs.Desk.{Entry, Authority, nobody}
+use Rattle.desk.specs.Desk.{Entry}
 use Rattle.desk.specs.Instruction as desk
-use Rattle.desk.specs.Instruction.{Word, Counts, Turning, Going, Over, instruction, commits, refuses, lines_within, turn}
+use Rattle.desk.specs.Instruction.{Word, Counts, Turning, Going, Over, instruction, commits, turn}
 use Rattle.desk.specs.Answers.{ending_told}
-use Rattle.private_desk.specs.PrivateDesk.{desk_of, entry_of}
+use Rattle.private_desk.specs.PrivateDesk.{desk_of, entry_of, live_of}
 use Rattle.private_desk.specs.declared.single.Active.{Active}
 use Rattle.private_desk.specs.declared.single.Attempt.{Attempt}
 use Rattle.private_desk.specs.declared.single.Attempt.TheVariants as attempt
@@ -32,7 +30,7 @@ commit_call active program live = record { entry = entry_of active program; now 
 abbrev pub IsAtCommit : Word → Turning → Active → PrivateDesk → Tally → Type 0
 IsAtCommit word turning active d tally =
     (program : Program) → slice_get d.programs.items active.program ≡ Some program
-    → turning ≡ commits word (commit_call active program d.live) (desk_of d) (counts_of tally)
+    → turning ≡ commits word (commit_call active program (live_of d)) (desk_of d) (counts_of tally)
 
 -- an instruction of the activation with a number
 abbrev pub instruction_of : Word → ℕ → PrivateDesk → Tally → Turning
@@ -56,17 +54,10 @@ IsTurn word (stop.Commit active) activation limit old new now =
 abbrev pub IsCommitted : Word → TurnEnd → Active → (old new : PrivateDesk) → (before now : Tally) → Type 0
 IsCommitted word end active old new before now =
     (program : Program) → slice_get old.programs.items active.program ≡ Some program
-    → commits word (commit_call active program old.live) (desk_of old) (counts_of before)
-    ≡ Over (desk_of new) (counts_of now) (ending_told end new.live.out)
+    → commits word (commit_call active program (live_of old)) (desk_of old) (counts_of before)
+    ≡ Over (desk_of new) (counts_of now) (ending_told end new.out)
 
 -- the activation at its commit call has this number
 abbrev pub IsOfActivation : Stop → ℕ → Type 0
 IsOfActivation (stop.Over end) number = Unit {0}
 IsOfActivation (stop.Commit active) number = active.number ≡ number
-
--- the touched pages whose authority refuses an activation a touched line
-abbrev pub refused_to : (number : ℕ) → Touch → List Authority → List ℕ
-refused_to number touch authority =
-    filter
-    (λ page. refuses (slice_index_or authority page nobody) number (lines_within page (touch_lines touch)))
-    (pages_of ((touch_lines touch).reads ++ (touch_lines touch).writes))

@@ -49,7 +49,7 @@ pub record TalliesMore (old new : Tally) : Type 0 where
 -- an attempt that goes on leaves the activation with one row more; one at the commit call leaves it, and its record fits
 abbrev pub HasAttempted : Attempt → Active → PrivateDesk → Type 0
 HasAttempted attempt.On active new = new.active ≡ Some (record active { rows = active.rows + 1 })
-HasAttempted attempt.Commit active new = (new.active ≡ Some active) × (new.used + (132 * new.marks.written + 12) ≤ new.header.bank_bytes)
+HasAttempted attempt.Commit active new = (new.active ≡ Some active) × (new.used + (132 * new.storage.flat.marks.written + 12) ≤ new.header.bank_bytes)
 HasAttempted (attempt.Over end) active new = IsPlain end
 
 -- the one that is active has done at most so many rows
@@ -62,6 +62,6 @@ abbrev pub HasStopped : Stop → PrivateDesk → Tally → Type 0
 HasStopped (stop.Over end) new tally = IsPlain end
 HasStopped (stop.Commit active) new tally =
     (new.active ≡ Some active)
-    × (new.used + (132 * new.marks.written + 12) ≤ new.header.bank_bytes)
+    × (new.used + (132 * new.storage.flat.marks.written + 12) ≤ new.header.bank_bytes)
     × (active.rows < 2 ^ 63)
     × (tally.ran ≤ 1000000)

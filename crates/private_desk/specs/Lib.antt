@@ -1,8 +1,3 @@
-pub mod Marks
-pub mod ShowSet
-pub mod Entries
-pub mod EntryRules
-pub mod Words
 pub mod PrivateDesk
 pub mod Attempts
 pub mod Record
@@ -11,3 +6,4 @@ pub mod Answered
 pub mod Kept
 pub mod Running
 pub mod Settled
+pub mod Executed

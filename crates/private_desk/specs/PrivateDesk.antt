@@ -1,16 +1,18 @@
 -- The desk that a private desk shows, and what holds of it at every moment.
-use Rattle.std.specs.Prelude.{◌≡◌, ℕ, ◌+◌, ◌*◌, ◌<◌, ◌≤◌, ◌^◌, false, List, [], ◌∷◌, length, slice_get, Option, Some, None, vec_len, vec_capacity}
+use Rattle.std.specs.Prelude.{◌≡◌, ℕ, ◌+◌, ◌*◌, ◌<◌, ◌≤◌, ◌^◌, false, List, [], ◌∷◌, length, slice_get, Option, Some, None, vec_capacity}
 use Rattle.std.specs.Option.{option_map_or}
-use Rattle.line_geometry.specs.Directory.{Layout, byte_count, page_count}
-use Rattle.line_geometry.specs.Lines.{line_count}
+use Rattle.line_geometry.specs.Directory.{byte_count}
 use Rattle.flat_machine.specs.declared.machine.Program.{Program}
 use Rattle.flat_machine.specs.declared.machine.Plain.{Plain}
 use Rattle.store_format.specs.Header.{Header, HasRanges}
 use Rattle.desk.specs.Desk.{Desk, Entry}
 use Rattle.desk.specs.Answers.{order_told}
 use Rattle.flat_storage.specs.Entries.{authority_told}
-use Rattle.flat_storage.specs.declared.page_entries.PageEntries.{PageEntries}
-use Rattle.flat_storage.specs.declared.line_marks.LineMarks.{LineMarks}
+use Rattle.lock_rules.specs.Lines.{Lines, with_whole_pages}
+use Rattle.flat_storage.specs.Marks.{Show}
+use Rattle.flat_storage.specs.Reach.{plain_of, HasWindows}
+use Rattle.flat_storage.specs.declared.storage.Flat.{Flat}
+use Rattle.romp_cpu.specs.declared.cpu.Cpu.{Cpu}
 use Rattle.private_desk.specs.declared.single.Active.{Active}
 use Rattle.private_desk.specs.declared.single.PrivateDesk.{PrivateDesk}
 
@@ -24,30 +26,26 @@ abbrev pub entries_told : List Program → Option Active → List Entry
 entries_told programs None = []
 entries_told programs (Some active) = option_map_or (λ program. entry_of active program ∷ []) (slice_get programs active.program) []
 
+-- the plain state of the one that is active
+abbrev pub live_of : PrivateDesk → Plain
+live_of d = plain_of d.cpu d.storage.flat d.out
+
 -- the desk of a private desk
 abbrev pub desk_of : PrivateDesk → Desk
 desk_of d =
     record {
-      frames = d.resident.frames;
+      frames = d.storage.flat.resident.frames;
       most_active = 1;
       bank_bytes = d.header.bank_bytes;
       used = d.used;
       committed = record { directory = d.header.directory; bytes = d.committed };
       order = order_told d.order.items;
       active = entries_told d.programs.items d.active;
-      authority = authority_told d.entries.entries.items;
-      resident = d.resident.pages.items;
+      authority = authority_told d.storage.flat.entries.entries.items;
+      resident = d.storage.flat.resident.pages.items;
       next = d.next;
       closed = d.closed;
     }
-
--- the parts that are kept by line and by page have the sizes of the store
-pub record HaveSizes (directory : Layout) (live : Plain) (committed : List ℕ) (marks : LineMarks) (entries : PageEntries) : Type 0 where
-  pub private : length live.private ≡ 16384
-  pub store : length live.store ≡ byte_count directory
-  pub committed_bytes : length committed ≡ byte_count directory
-  pub lines : vec_len marks.writes ≡ line_count directory
-  pub pages : vec_len entries.entries ≡ page_count directory
 
 -- an activation runs one of so many programs, its rows came in so many turns, and its written lines fit a record
 pub record IsRunning (programs turns written : ℕ) (active : Active) : Type 0 where
@@ -67,11 +65,28 @@ pub record HaveRoom (bank_bytes used next begins turns : ℕ) : Type 0 where
   pub begin_numbers : begins + 1 < 2 ^ 32
   pub turned : turns ≤ 2 ^ 32
 
+-- the storage is that of an activation, has the windows of its program and locks of some lines, and the processor counts the
+-- printed bytes
+pub record IsSetUp (programs : List Program) (active : Active) (cpu : Cpu) (f : Flat) (out : List ℕ) : Type 0 where
+  pub runner : f.runner ≡ active.number
+  pub windows : (program : Program) → slice_get programs active.program ≡ Some program → HasWindows f program
+  pub locked : Lines
+  pub shown : Show f.marks (with_whole_pages locked)
+  pub printed : length out ≡ cpu.printed
+  pub few : length out ≤ 4096
+
+-- the same of the one that is active, if one is
+abbrev pub IsSetUpIf : List Program → Option Active → Cpu → Flat → List ℕ → Type 0
+IsSetUpIf programs None cpu f out = Unit {0}
+IsSetUpIf programs (Some active) cpu f out = IsSetUp programs active cpu f out
+
 -- what holds of a private desk at every moment
 pub record IsSound (d : PrivateDesk) : Type 0 where
   pub ranges : HasRanges d.header
-  pub sizes : HaveSizes d.header.directory d.live d.committed d.marks d.entries
-  pub running : IsRunningIf (length d.programs.items) d.turns d.marks.written d.active
+  pub directory : d.storage.flat.directory ≡ d.header.directory
+  pub committed_bytes : length d.committed ≡ byte_count d.header.directory
+  pub running : IsRunningIf (length d.programs.items) d.turns d.storage.flat.marks.written d.active
+  pub set_up : IsSetUpIf d.programs.items d.active d.cpu d.storage.flat d.out
   pub room : HaveRoom d.header.bank_bytes d.used d.next d.begins d.turns
   pub body : d.header.bank_bytes ≤ vec_capacity d.body
 

@@ -3,6 +3,7 @@ use Rattle.std.specs.Prelude.{◌≡◌, ℕ, ◌+◌, ◌*◌, ◌<◌, ◌≤�
 use Rattle.desk.specs.Desk.{nobody}
 use Rattle.private_desk.specs.Attempts.{KeepsParts}
 use Rattle.flat_storage.specs.Entries.{authority_told}
+use Rattle.flat_storage.specs.Flat.{IsOwnedBelow}
 use Rattle.private_desk.specs.declared.single.Active.{Active}
 use Rattle.private_desk.specs.declared.single.PrivateDesk.{PrivateDesk}
 
@@ -11,11 +12,12 @@ pub record HasSettled (old : PrivateDesk) (runner : Active) (number : ℕ) (new 
   pub parts : KeepsParts old new
   pub number_is : new.number ≡ number
   pub closed : new.closed ≡ old.closed
-  pub live : new.live ≡ old.live
+  pub out : new.out ≡ old.out
   pub active : new.active ≡ None
-  pub used : new.used ≡ old.used + (11 + 132 * old.marks.written)
-  pub committed : new.committed ≡ old.live.store
-  pub released : authority_told new.entries.entries.items ≡ map (λ authority. if authority.owner == runner.number then nobody else authority) (authority_told old.entries.entries.items)
-  pub resident : new.resident ≡ old.resident
+  pub used : new.used ≡ old.used + (11 + 132 * old.storage.flat.marks.written)
+  pub committed : new.committed ≡ old.storage.flat.store
+  pub released : authority_told new.storage.flat.entries.entries.items ≡ map (λ authority. if authority.owner == runner.number then nobody else authority) (authority_told old.storage.flat.entries.entries.items)
+  pub resident : new.storage.flat.resident ≡ old.storage.flat.resident
+  pub owned : IsOwnedBelow (authority_told old.storage.flat.entries.entries.items) old.next → IsOwnedBelow (authority_told new.storage.flat.entries.entries.items) new.next
   pub order_room : vec_capacity old.order ≤ vec_capacity new.order
   pub order : vec_len old.order < vec_capacity old.order → new.order.items ≡ old.order.items ++ record { activation = runner.number; steps = runner.rows + 1 } ∷ []

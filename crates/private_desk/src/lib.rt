@@ -2,11 +2,7 @@
 #![tactic(auto)]
 
 mod append;
-mod line_marks;
-mod page_entries;
 mod record;
-mod resident_pages;
 mod single;
-mod touched_pages;
 
 pub use single::PrivateDesk;

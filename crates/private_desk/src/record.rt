@@ -7,8 +7,8 @@ ghost use Rattle.store_format.specs.Body.{IsBody};
 ghost use Rattle.flat_storage.specs.ShowSet.{ShowSet};
 ghost use Rattle.private_desk.specs.Record.{lines_marked, body_of, head_of};
 
-use super::line_marks::LineMarks;
 use byteorder::{BigEndian, ByteOrder};
+use flat_storage::LineMarks;
 
 /// The body of the record with this number: count, number, the written lines, and a closed gate.
 pub fn fill_body(body: &mut Vec<u8>, number: u64, marks: &LineMarks, store: &[u8])

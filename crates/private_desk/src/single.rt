@@ -1,29 +1,29 @@
 // The desk of `try`: at most one activation at a time, over a store that is whole in memory.
-ghost use Rattle.std.specs.Prelude.{◌≡◌, ◌+◌, ◌*◌, ◌<◌, ◌≤◌, ◌^◌, ◌-◌, ◌%◌, ◌==◌, ◌⊎◌, ℕ, List, [], ◌∷◌, ◌++◌, true, false, length, vec_len, vec_capacity, map, slice_get, slice_index_or, filter, if◌then◌else◌, IfOk, IfNone, IsSome, Some, None, Option};
+ghost use Rattle.std.specs.Prelude.{◌≡◌, ◌+◌, ◌*◌, ◌<◌, ◌≤◌, ◌^◌, ◌-◌, ◌%◌, ◌==◌, ◌⊎◌, ℕ, List, [], ◌∷◌, ◌++◌, true, false, length, vec_len, vec_capacity, map, slice_get, slice_index_or, filter, if◌then◌else◌, IfOk, IfNone, IfSome, IsSome, Some, None, Option};
 ghost use Rattle.std.specs.Option.{ForSome};
 ghost use Rattle.outside.specs.Causes.{Rose};
 ghost use Rattle.outside.specs.Runs.{CallsDisk, held_of};
 ghost use Rattle.line_geometry.specs.Directory.{byte_count};
 ghost use Rattle.line_geometry.specs.Lines.{line_count};
 ghost use Rattle.lock_rules.specs.Sets.{size};
-ghost use Rattle.lock_rules.specs.Lines.{Lines, both, pages_of, with_whole_pages};
+ghost use Rattle.lock_rules.specs.Lines.{Lines, pages_of};
 ghost use Rattle.lock_rules.specs.Resident.{taken_out};
-ghost use Rattle.flat_machine.specs.Touched.{AreSome, touch_lines};
+ghost use Rattle.flat_machine.specs.declared.machine.Program.{Program};
+ghost use Rattle.flat_machine.specs.After.{first_registers, clear};
+ghost use Rattle.private_desk.specs.declared.single.Active.{Active};
 ghost use Rattle.store_format.specs.Header.{total};
 ghost use Rattle.desk.specs.Run.{absent_segment};
 
 use super::append::{Appended, append};
-use super::line_marks::LineMarks;
-use super::page_entries::PageEntries;
 use super::record::fill_body;
-use super::resident_pages::ResidentPages;
-use super::touched_pages::pages_of;
 use arrayvec::ArrayVec;
 use desk::{Begun, Committed, Supervisor, Turn, TurnEnd};
-use flat_machine::{Plain, Program, Touch, Went, Window};
+use flat_machine::{Cs, Printed, Program, Window};
+use flat_storage::FlatStorage;
 use line_geometry::Directory;
 use outside::Outside;
 use owned_list::OwnedList;
+use romp_cpu::{Access, Attempt as Tried, Cpu};
 use std::alloc::{AllocError, Global};
 use store_format::{Header, Which};
 
@@ -72,10 +72,9 @@ pub struct PrivateDesk {
     used: u32,
     order: Vec<Committed>,
     active: Option<Active>,
-    live: Plain,
-    marks: LineMarks,
-    entries: PageEntries,
-    resident: ResidentPages,
+    cpu: Cpu,
+    storage: FlatStorage,
+    out: Printed,
     body: Vec<u8>,
     next: u32,
     opened: u64,
@@ -85,18 +84,22 @@ pub struct PrivateDesk {
 }
 
 impl PrivateDesk {
-    ghost use Rattle.private_desk.specs.PrivateDesk.{desk_of, header_told, programs_told, begins_told, turns_told, opened_told, IsSound};
+    ghost use Rattle.private_desk.specs.PrivateDesk.{desk_of, live_of, header_told, programs_told, begins_told, turns_told, opened_told, IsSound};
     ghost use Rattle.desk.specs.Desk.{opened, nobody};
     ghost use Rattle.desk.specs.Instruction as turn;
-    ghost use Rattle.desk.specs.Instruction.{Word, Fine, Fetched, fetches, refuses, lines_within, granted, room, limit_passed, commits, Over};
+    ghost use Rattle.desk.specs.Instruction.{Word, Fine, room, limit_passed, commits, Over};
     ghost use Rattle.desk.specs.Answers.{order_told, ending_told, HasNumbers};
     ghost use Rattle.desk.specs.Report.{number_after};
     ghost use Rattle.private_desk.specs.Kept.{Keeps};
     ghost use Rattle.flat_storage.specs.Marks.{Show};
     ghost use Rattle.flat_storage.specs.Entries.{authority_told};
-    ghost use Rattle.flat_storage.specs.Words.{ReadsAll, FetchesTwice};
+    ghost use Rattle.flat_storage.specs.Words.{ReadsAll};
+    ghost use Rattle.flat_storage.specs.Flat.{IsOwnedBelow};
+    ghost use Rattle.flat_storage.specs.Reach.{IsShutOut};
+    ghost use Rattle.romp_cpu.specs.Attempts.{IsOfFewBytes};
+    ghost use Rattle.private_desk.specs.Executed.{IsExecuted};
     ghost use Rattle.private_desk.specs.Follows.{Follows};
-    ghost use Rattle.private_desk.specs.Answered.{counts_of, commit_call, IsInstruction, IsTurn, IsCommitted, IsOfActivation, refused_to};
+    ghost use Rattle.private_desk.specs.Answered.{counts_of, commit_call, IsInstruction, IsTurn, IsCommitted, IsOfActivation};
     ghost use Rattle.private_desk.specs.Attempts.{KeepsParts, KeepsBytes, IsPlain, IsTurned, HasAttempted, HasStopped, HaveRowsWithin, TalliesMore};
 
     /// A desk over a store with these bytes and no record in its bank, for so many begins of these programs.
@@ -113,7 +116,7 @@ impl PrivateDesk {
         begins: u32,
     ) -> Result<Self, AllocError>
         requires store { length store.now ≡ byte_count header.directory }
-        requires frames { 0 < frames }
+        requires frames { 1 < frames }
         requires begins { begins < 2 ^ 32 - 1 }
         ensures sound { IfOk result IsSound }
         ensures desk { IfOk result (λ desk. desk_of desk ≡ opened frames 1 header.bank_bytes 0 (record { directory = header.directory; bytes = store.now })) }
@@ -126,12 +129,10 @@ impl PrivateDesk {
     {
         let directory = header.directory();
         let committed = OwnedList::from_vec(Vec::from_slice(alloc, store)?);
-        let live = Plain::start(alloc, &no_program(alloc), [0; 4], directory, store)?;
-        let marks = LineMarks::new(alloc, directory.line_count())?;
-        let entries = PageEntries::new(alloc, directory.pages())?;
+        let storage = FlatStorage::new(alloc, directory, store, frames)?;
+        let out = Printed::new(alloc)?;
         let body = Vec::with_capacity(alloc, header.bank_bytes() as usize)?;
         let order = Vec::with_capacity(alloc, begins as usize)?;
-        let resident = ResidentPages::new(alloc, frames)?;
         Ok(PrivateDesk {
             header,
             programs,
@@ -140,10 +141,9 @@ impl PrivateDesk {
             used: 0,
             order,
             active: None,
-            live,
-            marks,
-            entries,
-            resident,
+            cpu: first_cpu(0, [0; 4]),
+            storage,
+            out,
             body,
             next: 1,
             opened: 0,
@@ -182,7 +182,7 @@ impl PrivateDesk {
         ensures shut { self.old.closed ≡ true → (result ≡ TurnEnd.Shut) × (self.new ≡ self.old) }
         ensures turned { self.old.closed ≡ false → IsTurned result }
         ensures follows { Follows self.old → Follows self.new }
-        ensures step { Follows self.old → self.old.closed ≡ false → (word : Word) × (turn.turn word activation limit (desk_of self.old) ≡ Over (desk_of self.new) (counts_of tally.new) (ending_told result self.new.live.out)) × ((word ≡ Fine) ⊎ Rose (W.disk_faults outside.old) (W.disk_faults outside.new)) }
+        ensures step { Follows self.old → self.old.closed ≡ false → (word : Word) × (turn.turn word activation limit (desk_of self.old) ≡ Over (desk_of self.new) (counts_of tally.new) (ending_told result self.new.out)) × ((word ≡ Fine) ⊎ Rose (W.disk_faults outside.old) (W.disk_faults outside.new)) }
         ensures numbers { Follows self.old → HasNumbers result activation (number_after self.new.opened (desk_of self.new)) }
         ensures kept { Follows self.old → IsSome (W.held outside.old) → Keeps self.old.header self.old.used self.old.number self.old.committed (held_of W.Outside outside.old) → self.new.closed ≡ false → Keeps self.new.header self.new.used self.new.number self.new.committed (held_of W.Outside outside.new) }
     {
@@ -245,16 +245,18 @@ impl PrivateDesk {
         ensures parts { KeepsParts self.old self.new }
         ensures bytes { KeepsBytes self.old self.new }
         ensures active { self.new.active ≡ None }
-        ensures released { authority_told self.new.entries.entries.items ≡ map (λ authority. if authority.owner == number then nobody else authority) (authority_told self.old.entries.entries.items) }
-        ensures resident { (lines : Lines) → Show self.old.marks lines → self.new.resident.pages.items ≡ taken_out (pages_of lines.writes) self.old.resident.pages.items }
-        ensures frames { self.new.resident.frames ≡ self.old.resident.frames }
+        ensures released { authority_told self.new.storage.flat.entries.entries.items ≡ map (λ authority. if authority.owner == number then nobody else authority) (authority_told self.old.storage.flat.entries.entries.items) }
+        ensures resident { (locks : Lines) → Show self.old.storage.flat.marks locks → self.new.storage.flat.resident.pages.items ≡ taken_out (pages_of locks.writes) self.old.storage.flat.resident.pages.items }
+        ensures frames { self.new.storage.flat.resident.frames ≡ self.old.storage.flat.resident.frames }
+        ensures owned { IsOwnedBelow (authority_told self.old.storage.flat.entries.entries.items) self.old.next → IsOwnedBelow (authority_told self.new.storage.flat.entries.entries.items) self.new.next }
     {
         self.active = None;
-        self.entries.release(number);
-        self.resident.take_out(&self.marks.writes);
+        self.storage.release(number);
+        self.storage.take_out_written();
     }
 
-    /// One instruction of the active activation, but for the commit's record.
+    /// One instruction of the active activation, but for the commit's record: the processor attempts it, and where the
+    /// storage doesn't permit its access, that is served first.
     fn attempt(&mut self, active: Active, tally: &mut Tally) -> Attempt
         requires sound { IsSound self.old }
         requires active { self.old.active ≡ Some active }
@@ -268,25 +270,89 @@ impl PrivateDesk {
         ensures follows { Follows self.old → Follows self.new }
         ensures step { Follows self.old → (word : Word) → ReadsAll word → IsInstruction word result active self.old self.new tally.old tally.new }
     {
-        let program = &self.programs[usize::from(active.program)];
-        let directory = self.header.directory();
-        let iar = self.live.iar;
-        let touch = self.live.touches(program, directory);
-        let went = self.live.step(program, directory);
-        if let Went::Check(code) = went {
+        let iar = self.cpu.iar;
+        let went = self.execute();
+        if let Tried::Check(code) = went {
             self.roll_back(active.number);
             return Attempt::Over(TurnEnd::Checked(code, iar));
         }
-        let lines = self.marks.written_with(touch);
+        if let Tried::Fault(_, access) = went {
+            return self.serve(active, access, tally);
+        }
+        let lines = self.storage.marks().written;
         if let Some(most) = self.limit_passed(lines) {
             self.roll_back(active.number);
             return Attempt::Over(TurnEnd::Journal(lines, most));
         }
-        if let Went::Commit = went {
+        if let Tried::Commit = went {
             return Attempt::Commit;
         }
-        self.reach(active, touch, lines, tally);
+        self.count_row(active, tally);
         Attempt::On
+    }
+
+    /// The processor attempts the next instruction over the storage; a byte that it prints is kept.
+    fn execute(&mut self) -> Tried
+        requires sound { IsSound self.old }
+        requires active { IsSome self.old.active }
+        ensures sound { IsSound self.new }
+        ensures others { self.new ≡ record self.old { cpu = self.new.cpu; storage = self.new.storage; out = self.new.out } }
+        ensures kept { self.new.storage.flat ≡ record self.old.storage.flat { private = self.new.storage.flat.private; store = self.new.storage.flat.store } }
+        ensures row { (active : Active) (program : Program) → self.old.active ≡ Some active → slice_get self.old.programs.items active.program ≡ Some program → IsExecuted program result self.old self.new }
+        ensures few { IsOfFewBytes result }
+    {
+        let went = self.storage.attempt(&mut self.cpu);
+        if let Tried::Print(byte) = went {
+            self.out.push(byte);
+        }
+        went
+    }
+
+    /// Serves the access of the next instruction of the active activation, and attempts the instruction again.
+    fn serve(&mut self, active: Active, access: Access, tally: &mut Tally) -> Attempt
+        requires sound { IsSound self.old }
+        requires active { self.old.active ≡ Some active }
+        requires rows { active.rows < self.old.turns * 1000000 }
+        requires tally { (tally.old.ran < 1000000) × (tally.old.pages < 4000000) × (tally.old.locks < 2000000) }
+        requires some { 0 < access.bytes }
+        requires few { access.bytes ≤ 64 }
+        requires shut { (program : Program) → slice_get self.old.programs.items active.program ≡ Some program → IsShutOut program self.old.storage.flat (live_of self.old) access }
+        ensures sound { IsSound self.new }
+        ensures parts { KeepsParts self.old self.new }
+        ensures tally { TalliesMore tally.old tally.new }
+        ensures attempted { HasAttempted result active self.new }
+        ensures bytes { KeepsBytes self.old self.new }
+        ensures follows { Follows self.old → Follows self.new }
+        ensures step { Follows self.old → (word : Word) → ReadsAll word → IsInstruction word result active self.old self.new tally.old tally.new }
+    {
+        let touch = self.storage.touch(access);
+        let lines = self.storage.marks().written_with(touch);
+        if let Some(most) = self.limit_passed(lines) {
+            self.roll_back(active.number);
+            return Attempt::Over(TurnEnd::Journal(lines, most));
+        }
+        let served = self.storage.serve(touch, lines);
+        tally.pages += served.pages;
+        tally.locks += served.locks;
+        match self.execute() {
+            Tried::Went | Tried::Print(_) => self.count_row(active, tally),
+            _ => unreachable!(),
+        }
+        Attempt::On
+    }
+
+    /// The active activation has done one row more.
+    fn count_row(&mut self, active: Active, tally: &mut Tally)
+        requires rows { active.rows < 2 ^ 63 }
+        requires tally { tally.old.ran < 1000000 }
+        ensures desk { self.new ≡ record self.old { active = Some (record active { rows = active.rows + 1 }) } }
+        ensures tally { tally.new ≡ record tally.old { ran = tally.old.ran + 1 } }
+    {
+        self.active = Some(Active {
+            rows: active.rows + 1,
+            ..active
+        });
+        tally.ran += 1;
     }
 
     /// The limit that so many written lines pass, if they do.
@@ -302,50 +368,11 @@ impl PrivateDesk {
         }
     }
 
-    /// A row takes effect: the touched pages come in and are granted where their entry refuses, and all are counted.
-    fn reach(&mut self, active: Active, touch: Touch, lines: u32, tally: &mut Tally)
-        requires sound { IsSound self.old }
-        requires active { self.old.active ≡ Some active }
-        requires rows { active.rows < self.old.turns * 1000000 }
-        requires lines { lines ≤ 992 }
-        requires touch { AreSome touch (line_count self.old.header.directory) }
-        requires counted { (set : Lines) → Show self.old.marks set → lines ≡ size (both set (touch_lines touch)).writes }
-        requires tally { (tally.old.ran < 1000000) × (tally.old.pages < 4000000) × (tally.old.locks < 2000000) }
-        ensures sound { IsSound self.new }
-        ensures parts { KeepsParts self.old self.new }
-        ensures active { self.new.active ≡ Some (record active { rows = active.rows + 1 }) }
-        ensures ran { tally.new.ran ≡ tally.old.ran + 1 }
-        ensures few_pages { tally.new.pages ≤ tally.old.pages + 4 }
-        ensures few_locks { tally.new.locks ≤ tally.old.locks + 2 }
-        ensures bytes { KeepsBytes self.old self.new }
-        ensures live { self.new.live ≡ self.old.live }
-        ensures frames { self.new.resident.frames ≡ self.old.resident.frames }
-        ensures fetched { (word : Word) → ReadsAll word → FetchesTwice word self.old.resident.frames (pages_of ((touch_lines touch).reads ++ (touch_lines touch).writes)) self.old.resident.pages.items self.new.resident.pages.items tally.old.pages tally.new.pages }
-        ensures marked { (set : Lines) → Show self.old.marks set → Show self.new.marks (both set (touch_lines touch)) }
-        ensures locks { tally.new.locks ≡ tally.old.locks + length (refused_to active.number touch (authority_told self.old.entries.entries.items)) }
-        ensures granted { (attempt : turn.Attempt) (set : Lines) → attempt.entry.number ≡ active.number → Show self.old.marks set → authority_told self.new.entries.entries.items ≡ granted attempt (with_whole_pages (both set (touch_lines touch))) (refused_to active.number touch (authority_told self.old.entries.entries.items)) (authority_told self.old.entries.entries.items) }
-    {
-        let pages = pages_of(touch);
-        tally.pages += self.resident.fetch(pages.as_slice());
-        self.marks.add(touch, lines);
-        let refused = self.entries.refused(pages.as_slice(), active.number, touch);
-        self.entries
-            .grant_all(refused.as_slice(), active.number, &self.marks);
-        tally.locks += refused.len() as u32;
-        // A page that left while the other came in is brought in again.
-        tally.pages += self.resident.fetch(pages.as_slice());
-        self.active = Some(Active {
-            rows: active.rows + 1,
-            ..active
-        });
-        tally.ran += 1;
-    }
-
     /// The commit call of the active activation: its record, and the end of the turn.
     fn commit<W: Outside>(&mut self, outside: &mut W, active: Active, tally: &mut Tally) -> TurnEnd
         requires sound { IsSound self.old }
         requires active { self.old.active ≡ Some active }
-        requires room { self.old.used + (132 * self.old.marks.written + 12) ≤ self.old.header.bank_bytes }
+        requires room { self.old.used + (132 * self.old.storage.flat.marks.written + 12) ≤ self.old.header.bank_bytes }
         requires rows { active.rows < 2 ^ 63 }
         requires tally { tally.old.ran ≤ 1000000 }
         requires bytes { ForSome (W.held outside.old) (λ bytes. total self.old.header ≤ length bytes) }
@@ -364,8 +391,8 @@ impl PrivateDesk {
         fill_body(
             &mut self.body,
             number,
-            &self.marks,
-            self.live.store.as_slice(),
+            self.storage.marks(),
+            self.storage.store_bytes(),
         );
         let gate = self.header.bank_at(Which::A) + 8 + u64::from(self.used);
         match append(outside, &self.header, gate, &self.body) {
@@ -407,34 +434,45 @@ impl PrivateDesk {
     fn settle(&mut self, number: u64, active: Active)
         requires sound { IsSound self.old }
         requires rows { active.rows < 2 ^ 63 }
-        requires room { self.old.used + (132 * self.old.marks.written + 12) ≤ self.old.header.bank_bytes }
+        requires room { self.old.used + (132 * self.old.storage.flat.marks.written + 12) ≤ self.old.header.bank_bytes }
         ensures sound { IsSound self.new }
         ensures parts { KeepsParts self.old self.new }
         ensures number { self.new.number ≡ number }
         ensures closed { self.new.closed ≡ self.old.closed }
-        ensures live { self.new.live ≡ self.old.live }
+        ensures out { self.new.out ≡ self.old.out }
         ensures active { self.new.active ≡ None }
-        ensures used { self.new.used ≡ self.old.used + (11 + 132 * self.old.marks.written) }
-        ensures committed { self.new.committed ≡ self.old.live.store }
-        ensures released { authority_told self.new.entries.entries.items ≡ map (λ authority. if authority.owner == active.number then nobody else authority) (authority_told self.old.entries.entries.items) }
-        ensures resident { self.new.resident ≡ self.old.resident }
+        ensures used { self.new.used ≡ self.old.used + (11 + 132 * self.old.storage.flat.marks.written) }
+        ensures committed { self.new.committed ≡ self.old.storage.flat.store }
+        ensures released { authority_told self.new.storage.flat.entries.entries.items ≡ map (λ authority. if authority.owner == active.number then nobody else authority) (authority_told self.old.storage.flat.entries.entries.items) }
+        ensures resident { self.new.storage.flat.resident ≡ self.old.storage.flat.resident }
+        ensures owned { IsOwnedBelow (authority_told self.old.storage.flat.entries.entries.items) self.old.next → IsOwnedBelow (authority_told self.new.storage.flat.entries.entries.items) self.new.next }
         ensures order_room { vec_capacity self.old.order ≤ vec_capacity self.new.order }
         ensures order { vec_len self.old.order < vec_capacity self.old.order → self.new.order.items ≡ self.old.order.items ++ record { activation = active.number; steps = active.rows + 1 } ∷ [] }
     {
         self.enter_order(number, active);
-        self.used += 11 + 132 * self.marks.written;
-        self.committed.write(0, self.live.store.as_slice());
+        self.used += 11 + 132 * self.storage.marks().written;
+        self.committed.write(0, self.storage.store_bytes());
         self.active = None;
-        self.entries.release(active.number);
+        self.storage.release(active.number);
     }
 }
 
-/// A program without an image, which holds the room of the one that is active until the first begin.
-fn no_program(alloc: Global) -> Program {
-    Program {
-        image: OwnedList::from_vec(Vec::new(alloc)),
-        entry: 0,
-        windows: [None; 15],
+/// The processor of a program that begins at an address with four values in registers 2 to 5.
+fn first_cpu(entry: u16, args: [u32; 4]) -> Cpu
+    ensures { result ≡ record { regs = first_registers args; cs = clear; iar = entry; printed = 0 } }
+{
+    let [a, b, c, d] = args;
+    Cpu {
+        regs: [0, 0, a, b, c, d, 0, 0, 0, 0, 0, 0, 0, 0, 0, 0],
+        cs: Cs {
+            lt: false,
+            eq: false,
+            gt: false,
+            c0: false,
+            ov: false,
+        },
+        iar: u32::from(entry),
+        printed: 0,
     }
 }
 
@@ -475,7 +513,7 @@ impl Supervisor for PrivateDesk {
 
     ghost store_bytes = { λ d. total d.header };
 
-    ghost printed = { λ d. d.live.out };
+    ghost printed = { λ d. d.out };
 
     ghost keeps = { λ d held. Keeps d.header d.used (number_after d.opened (desk_of d)) d.committed held };
 
@@ -495,8 +533,9 @@ impl Supervisor for PrivateDesk {
         if let Some(segment) = absent_segment(directory, &code.windows) {
             return Begun::NoSegment(number, segment);
         }
-        self.live.restart(code, args, self.committed.as_slice());
-        self.marks.clear();
+        self.storage.begin(number, code, self.committed.as_slice());
+        self.cpu = first_cpu(code.entry, args);
+        self.out.clear();
         self.active = Some(Active {
             number,
             program,
@@ -536,6 +575,6 @@ impl Supervisor for PrivateDesk {
     }
 
     fn printed(&self) -> &[u8] {
-        self.live.out.as_slice()
+        self.out.as_slice()
     }
 }

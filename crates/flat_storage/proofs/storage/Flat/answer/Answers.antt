@@ -1,4 +1,4 @@
-use Rattle.std.proofs.Common.{◌≡◌, ◌≤◌, ◌+◌, ◌∙◌, sym, arith}
+use Rattle.std.proofs.Common.{◌∙◌, sym}
 use Rattle.flat_storage.proofs.AnswerLemmas.{answered-private}
 use Rattle.flat_storage.proofs.PlaceLemmas.{shared-few, not-shared}
 use Rattle.flat_storage.proofs.storage.Flat.answer.Goals as goal

@@ -1,5 +1,5 @@
-use Rattle.std.proofs.Common.{◌≡◌, ℕ, ◌+◌, sym, ◌∙◌, ap, Option, Some, None}
-use Rattle.std.specs.Prelude.{find, ◌&&◌, not, option_map}
+use Rattle.std.proofs.Common.{ℕ, ◌+◌, sym, ◌∙◌, ap, Option}
+use Rattle.std.specs.Prelude.{find, ◌&&◌, option_map}
 use Rattle.std.specs.List.{range_with_len}
 use Rattle.line_geometry.specs.Lines.{line_of}
 use Rattle.segment_regs.specs.declared.registers.Virtual.{Virtual}

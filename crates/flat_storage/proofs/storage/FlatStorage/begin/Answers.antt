@@ -1,5 +1,5 @@
-use Rattle.std.proofs.Common.{◌≡◌, true, false, sym, ◌∙◌, ap, subst, List, ℕ}
-use Rattle.std.specs.Prelude.{slice_index_or, None, Some}
+use Rattle.std.proofs.Common.{◌≡◌, true, false, sym, ◌∙◌, ap}
+use Rattle.std.specs.Prelude.{slice_index_or, None}
 use Rattle.lock_rules.specs.Lines.{page_of_line}
 use Rattle.flat_storage.specs.Entries.{authority_told}
 use Rattle.flat_storage.proofs.SizedLemmas.{registers-under, never-permitted}

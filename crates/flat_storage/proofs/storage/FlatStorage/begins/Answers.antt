@@ -1,4 +1,4 @@
-use Rattle.std.proofs.Common.{◌≡◌, sym, ◌∙◌, ap, false, Err, Ok}
+use Rattle.std.proofs.Common.{◌≡◌, sym, ◌∙◌, ap, false}
 use Rattle.flat_storage.specs.Flat.{place_of}
 use Rattle.flat_storage.proofs.PlaceLemmas.{under, lies, first-byte}
 use Rattle.flat_storage.proofs.storage.FlatStorage.begins.Goals as goal

@@ -1,6 +1,5 @@
-use Rattle.std.proofs.Common.{◌≡◌, sym, ◌∙◌, ap, length, ℕ, List, arith}
-use Rattle.std.specs.Prelude.{slice_index_or, None, Some, replicate}
-use Rattle.std.proofs.lemmas.List.{length-replicate}
+use Rattle.std.proofs.Common.{◌≡◌, sym, ◌∙◌, ap, length, arith}
+use Rattle.std.specs.Prelude.{slice_index_or, None}
 use Rattle.line_geometry.specs.Directory.{byte_count}
 use Rattle.flat_storage.proofs.SizedLemmas.{no-windows-first, no-windows-under}
 use Rattle.flat_storage.proofs.storage.FlatStorage.new.Goals as goal

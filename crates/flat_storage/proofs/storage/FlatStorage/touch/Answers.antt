@@ -1,8 +1,7 @@
-use Rattle.std.proofs.Common.{◌≡◌, ◌+◌, ◌-◌, ◌<◌, ◌≤◌, ℕ, Bool, true, false, List, [], sym, ◌∙◌, ap, arith, Result, Ok, Err}
+use Rattle.std.proofs.Common.{◌≡◌, ◌+◌, ◌-◌, ◌<◌, ◌≤◌, ℕ, true, false, List, [], sym, ◌∙◌, ap, arith, Result, Ok, Err}
 use Rattle.std.specs.List.{range_with_len}
 use Rattle.line_geometry.specs.Directory.{Layout}
 use Rattle.line_geometry.specs.Lines.{line_of, line_count}
-use Rattle.lock_rules.specs.Lines.{Lines}
 use Rattle.segment_regs.specs.declared.registers.Check.{Check}
 use Rattle.segment_regs.specs.declared.registers.Virtual.{Virtual}
 use Rattle.segment_regs.specs.Registers.{located_by}

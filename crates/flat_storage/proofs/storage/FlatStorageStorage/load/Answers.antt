@@ -1,5 +1,4 @@
-use Rattle.std.proofs.Common.{◌≡◌, length, false, sym, ◌∙◌, ap}
-use Rattle.std.specs.Prelude.{slice_range}
+use Rattle.std.proofs.Common.{length, false, sym, ◌∙◌, ap}
 use Rattle.romp_cpu.specs.Shown.{access_to}
 use Rattle.flat_storage.specs.Flat.{byte_of, is_in_frame, refuses}
 use Rattle.flat_storage.proofs.PlaceLemmas.{under, lies, byte-on, on, never-refused}

@@ -1,4 +1,4 @@
-use Rattle.std.proofs.Common.{◌≡◌, ℕ, sym, ◌∙◌, ap}
+use Rattle.std.proofs.Common.{ℕ, sym, ◌∙◌, ap}
 use Rattle.segment_regs.specs.Registers.{located_by}
 use Rattle.flat_storage.proofs.PlaceLemmas.{under, lies}
 use Rattle.flat_storage.proofs.storage.FlatStorageStorage.probe.Goals as goal

@@ -1,4 +1,4 @@
-use Rattle.std.proofs.Common.{◌≡◌, ℕ, List, length, true, sym, ◌∙◌, ap}
+use Rattle.std.proofs.Common.{ℕ, List, length, true, sym, ◌∙◌, ap}
 use Rattle.romp_cpu.specs.Shown.{bytes_from, access_to}
 use Rattle.flat_storage.specs.Flat.{byte_at, place_at, with_bytes, is_in_frame, refuses}
 use Rattle.flat_storage.proofs.PlaceLemmas.{under, lies, first-byte, never-refused}

@@ -1,102 +1,188 @@
-use Rattle.std.proofs.Common.{◌∙◌, ℕ, sym, ap, subst, get_or}
-use Rattle.line_geometry.specs.Directory.{Layout}
+use Rattle.std.proofs.Common.{◌≡◌, ℕ, ◌+◌, ◌*◌, ◌≤◌, refl, sym, ◌∙◌, ap, subst, arith, rules, Option, Some}
+use Rattle.std.specs.Prelude.{IfNone, slice_get}
 use Rattle.flat_machine.specs.declared.machine.Program.{Program}
-use Rattle.flat_machine.specs.declared.machine.Plain.{Plain}
-use Rattle.flat_machine.specs.declared.machine.Went.{Went}
-use Rattle.flat_machine.specs.Row.{row, outcome_by, StaysUnlessOn}
+use Rattle.flat_machine.specs.Row.{On, Commit, Check}
 use Rattle.flat_machine.specs.Touched.{touched}
 use Rattle.flat_machine.specs.Due.{touched_within}
-use Rattle.std.proofs.lemmas.Option.{get_or_from_slice_get}
-use Rattle.desk.specs.Instruction.{Fine, commits}
-use Rattle.private_desk.specs.PrivateDesk.{desk_of}
+use Rattle.desk.specs.Desk.{Desk}
+use Rattle.desk.specs.Instruction.{room, limit_passed, commits}
+use Rattle.romp_cpu.specs.declared.cpu.Attempt.{Attempt}
+use Rattle.romp_cpu.specs.declared.storage.Access.{Access}
+use Rattle.romp_cpu.specs.declared.storage.Fault.{Fault}
+use Rattle.romp_cpu.specs.Attempts.{IsOfFewBytes}
+use Rattle.flat_storage.specs.declared.line_marks.LineMarks.{LineMarks}
+use Rattle.flat_storage.specs.declared.storage.Flat.{Flat}
+use Rattle.flat_storage.specs.Reach.{GoesOpen}
 use Rattle.private_desk.specs.Answered.{counts_of, commit_call}
-use Rattle.private_desk.specs.Follows.{store_of}
-use Rattle.private_desk.proofs.AloneLemmas.{GoesOn}
-use Rattle.private_desk.proofs.InstructionLemmas.{runs, runs_as, none-of, checked, journalled, at_commit, went_on, follows_more, goes, goes-on}
+use Rattle.private_desk.specs.Executed.{IsExecuted}
+use Rattle.private_desk.specs.Follows.{Follows, store_of}
+use Rattle.private_desk.specs.PrivateDesk.{desk_of, live_of}
+use Rattle.private_desk.specs.Running.{Runs, IsRolledBack, HasReached}
+use Rattle.private_desk.specs.declared.single.PrivateDesk.{PrivateDesk}
+use Rattle.private_desk.specs.declared.single.Tally.{Tally}
+use Rattle.flat_machine.specs.declared.machine.Plain.{Plain}
+use Rattle.private_desk.proofs.InstructionLemmas.{runs, runs_as, none-of, checked, journalled, at_commit, went_on, follows_more}
+use Rattle.private_desk.proofs.ReachLemmas.{OnlyRan, CountedOn, row-at, rolled-from, parts-from, bytes-from, desk-from, follows-from, is-instruction-from, rolled-follows, counted-next, open-next, reached-open, counted-sound, shut-from, counted-parts, counted-bytes}
 use Rattle.private_desk.proofs.single.PrivateDesk.attempt.Goals as goal
 
 pub returns-in-Check-clause-step : goal.returns-in-Check-clause-step
 returns-in-Check-clause-step c = λ follows word reads printed.
     let d = c.args.self.now in
+    let mid = c.execute-went.new.self in
     let (program, on) = runs d c.args.active follows c.requires.active in
-    let one = c.index-program.ensures ∙ ap (λ (i : ℕ). get_or d.programs.items i c.index-program.result.now) c.from.ensures ∙ get_or_from_slice_get d.programs.items c.args.active.program program c.index-program.result.now on.named in
-    let is = ap (λ (p : Program). row p d.header.directory d.live) (sym one)
-    ∙ ap (λ (l : Layout). row c.index-program.result.now l d.live) (sym c.directory-directory.ensures.value)
-    ∙ c.in-Check.ensures.row in
+    let (is, same) = subst (λ (result : Attempt). IsExecuted program result d mid) c.in-Check.is (c.execute-went.ensures.row c.args.active program c.requires.active on.named) in
     let back = c.roll_back.ensures in
-    checked word d c.args.active program on c.args.tally.now c.in-Check.code c.step-went.new.self c.roll_back.new.self is
-    (record { parts = back.parts; bytes = back.bytes; active = back.active; released = back.released; resident = back.resident; frames = back.frames })
+    checked word d c.args.active program on c.args.tally.now c.in-Check.code c.roll_back.new.self (row-at d program (Check c.in-Check.code) c.requires.sound is)
+    (rolled-from d mid (record { others = c.execute-went.ensures.others; kept = c.execute-went.ensures.kept }) c.args.active.number c.roll_back.new.self
+    (record { parts = back.parts; bytes = back.bytes; active = back.active; released = back.released; resident = back.resident; frames = back.frames; owned = back.owned }))
 
-pub returns-in-Some-clause-step : goal.returns-in-Some-clause-step
-returns-in-Some-clause-step c = λ follows word reads printed.
+pub serve-requires : goal.serve-requires
+serve-requires c =
     let d = c.args.self.now in
+    let mid = c.execute-went.new.self in
+    let others = c.execute-went.ensures.others in
+    let (some, few) = subst IsOfFewBytes c.in-Fault.is c.execute-went.ensures.few in
+    record {
+      sound = c.execute-went.ensures.sound;
+      active = ap (λ (e : PrivateDesk). e.active) others ∙ c.requires.active;
+      rows = omega (arith, c.requires.rows, ap (λ (e : PrivateDesk). e.turns) others);
+      tally = c.requires.tally;
+      some = some;
+      few = few;
+      shut = λ program named.
+          let (shut, same) = subst (λ (result : Attempt). IsExecuted program result d mid) c.in-Fault.is
+          (c.execute-went.ensures.row c.args.active program c.requires.active (ap (λ (e : PrivateDesk). slice_get e.programs.items c.args.active.program) (sym others) ∙ named)) in
+          shut-from d mid c.execute-went.ensures.kept same program c.in-Fault.access shut;
+    }
+
+pub returns-in-Fault : goal.returns-in-Fault
+returns-in-Fault c =
+    let d = c.args.self.now in
+    let mid = c.execute-went.new.self in
+    let ran : OnlyRan d mid = record { others = c.execute-went.ensures.others; kept = c.execute-went.ensures.kept } in
+    let served = c.serve.ensures in
+    let same : Follows d → live_of mid ≡ live_of d =
+    λ follows.
     let (program, on) = runs d c.args.active follows c.requires.active in
-    let one = c.index-program.ensures ∙ ap (λ (i : ℕ). get_or d.programs.items i c.index-program.result.now) c.from.ensures ∙ get_or_from_slice_get d.programs.items c.args.active.program program c.index-program.result.now on.named in
-    let is = ap (λ (p : Program). row p d.header.directory d.live) (sym one)
-    ∙ ap (λ (l : Layout). row c.index-program.result.now l d.live) (sym c.directory-directory.ensures.value)
-    ∙ c.step-went.ensures.row in
-    let touches = c.touches-touch.ensures.lines
-    ∙ ap (λ (p : Program). touched p c.directory-directory.result.now d.live) one
-    ∙ ap (λ (l : Layout). touched program l d.live) c.directory-directory.ensures.value in
+    (subst (λ (result : Attempt). IsExecuted program result d mid) c.in-Fault.is (c.execute-went.ensures.row c.args.active program c.requires.active on.named)).1 in
+    record {
+      sound = served.sound;
+      parts = parts-from d mid ran c.serve.new.self served.parts;
+      tally = served.tally;
+      attempted = served.attempted;
+      bytes = bytes-from d mid ran c.serve.new.self served.bytes;
+      follows = λ follows. served.follows (follows-from d mid ran (same follows) follows);
+      step = λ follows word reads. is-instruction-from d mid ran word c.serve.result c.args.active c.serve.new.self c.args.tally.now c.serve.new.tally (served.step (follows-from d mid ran (same follows) follows) word reads);
+    }
+
+pub returns-in-Some : goal.returns-in-Some
+returns-in-Some c =
+    let d = c.args.self.now in
+    let mid = c.execute-went.new.self in
+    let new = c.roll_back-in-Some.new.self in
+    let ran : OnlyRan d mid = record { others = c.execute-went.ensures.others; kept = c.execute-went.ensures.kept } in
     let back = c.roll_back-in-Some.ensures in
-    journalled word d c.args.active program on c.args.tally.now c.touches-touch.result c.written_with-lines.result touches
-    (c.written_with-lines.ensures.value (touched_within program c.args.active.args (store_of d) c.args.active.rows) on.marked)
-    c.in-Some.most c.step-went.new.self c.roll_back-in-Some.new.self
-    (subst GoesOn (sym is) (goes c.step-went.result c.step-went.new.self c.in_default.not-Check)) c.in-Some.ensures.limit
-    (record { parts = back.parts; bytes = back.bytes; active = back.active; released = back.released; resident = back.resident; frames = back.frames })
+    let rolled : IsRolledBack d c.args.active.number new =
+    rolled-from d mid ran c.args.active.number new
+    (record { parts = back.parts; bytes = back.bytes; active = back.active; released = back.released; resident = back.resident; frames = back.frames; owned = back.owned }) in
+    let written : c.marks.result.now.written ≡ d.storage.flat.marks.written = ap (λ (m : LineMarks). m.written) c.marks.ensures ∙ ap (λ (f : Flat). f.marks.written) ran.kept in
+    record {
+      sound = back.sound;
+      parts = rolled.parts;
+      tally = search rules;
+      attempted = tt;
+      bytes = rolled.bytes;
+      follows = λ follows. rolled-follows d c.args.active c.args.active.number new c.requires.active rolled follows;
+      step = λ follows word reads printed.
+          let (program, on) = runs d c.args.active follows c.requires.active in
+          let (goes, counted) = counted-next d c.args.active program on c.requires.sound mid c.execute-went.result c.in_default.not-Check c.in_default-went.not-Fault
+          (c.execute-went.ensures.row c.args.active program c.requires.active on.named) in
+          journalled word d c.args.active program on c.args.tally.now c.marks.result.now.written (written ∙ counted) c.in-Some.most new goes
+          (c.in-Some.ensures.limit ∙ ap (λ (desk : Desk). limit_passed (room desk) c.marks.result.now.written) (desk-from d mid ran)) rolled;
+    }
 
-pub returns-in-Commit-clause-step : goal.returns-in-Commit-clause-step
-returns-in-Commit-clause-step c = λ follows word reads program named.
+pub returns-in-Commit : goal.returns-in-Commit
+returns-in-Commit c =
     let d = c.args.self.now in
-    let on = runs_as d c.args.active program follows c.requires.active named in
-    let one = c.index-program.ensures ∙ ap (λ (i : ℕ). get_or d.programs.items i c.index-program.result.now) c.from.ensures ∙ get_or_from_slice_get d.programs.items c.args.active.program program c.index-program.result.now on.named in
-    let is = ap (λ (p : Program). row p d.header.directory d.live) (sym one)
-    ∙ ap (λ (l : Layout). row c.index-program.result.now l d.live) (sym c.directory-directory.ensures.value)
-    ∙ c.step-went.ensures.row
-    ∙ ap (λ (went : Went). outcome_by went c.step-went.new.self) c.in-Commit.is in
-    let touches = c.touches-touch.ensures.lines
-    ∙ ap (λ (p : Program). touched p c.directory-directory.result.now d.live) one
-    ∙ ap (λ (l : Layout). touched program l d.live) c.directory-directory.ensures.value in
-    let stays = subst (λ (went : Went). StaysUnlessOn went d.live c.step-went.new.self) c.in-Commit.is c.step-went.ensures.stays in
-    at_commit word d c.args.active program on c.args.tally.now c.touches-touch.result c.written_with-lines.result touches
-    (c.written_with-lines.ensures.value (touched_within program c.args.active.args (store_of d) c.args.active.rows) on.marked)
-    is (sym (none-of c.limit_passed.result c.in_default-limit_passed.not-Some) ∙ c.limit_passed.ensures.limit)
-    ∙ ap (λ (live : Plain). commits word (commit_call c.args.active program live) (desk_of d) (counts_of c.args.tally.now)) (sym stays)
-
-pub returns-clause-step : goal.returns-clause-step
-returns-clause-step c = λ follows word reads.
-    let d = c.args.self.now in
+    let mid = c.execute-went.new.self in
+    let others = c.execute-went.ensures.others in
+    let ran : OnlyRan d mid = record { others = others; kept = c.execute-went.ensures.kept } in
+    let none = none-of c.limit_passed.result c.in_default-limit_passed.not-Some in
+    let within = subst (λ (limit : Option ℕ). IfNone limit ((mid.used + (132 * c.marks.result.now.written + 12) ≤ mid.header.bank_bytes) × (c.marks.result.now.written ≤ 992))) none c.limit_passed.ensures.none in
+    let written : c.marks.result.now.written ≡ mid.storage.flat.marks.written = ap (λ (m : LineMarks). m.written) c.marks.ensures in
+    let same : Follows d → live_of mid ≡ live_of d =
+    λ follows.
     let (program, on) = runs d c.args.active follows c.requires.active in
-    let one = c.index-program.ensures ∙ ap (λ (i : ℕ). get_or d.programs.items i c.index-program.result.now) c.from.ensures ∙ get_or_from_slice_get d.programs.items c.args.active.program program c.index-program.result.now on.named in
-    let is = ap (λ (p : Program). row p d.header.directory d.live) (sym one)
-    ∙ ap (λ (l : Layout). row c.index-program.result.now l d.live) (sym c.directory-directory.ensures.value)
-    ∙ c.step-went.ensures.row
-    ∙ goes-on c.step-went.result c.step-went.new.self c.in_default.not-Check c.in_default-went.not-Commit in
-    let touches = c.touches-touch.ensures.lines
-    ∙ ap (λ (p : Program). touched p c.directory-directory.result.now d.live) one
-    ∙ ap (λ (l : Layout). touched program l d.live) c.directory-directory.ensures.value in
-    let reached = c.reach.ensures in
-    went_on word d c.args.active program on c.args.tally.now c.touches-touch.result c.written_with-lines.result touches
-    (c.written_with-lines.ensures.value (touched_within program c.args.active.args (store_of d) c.args.active.rows) on.marked)
-    c.step-went.new.self c.reach.new.self c.reach.new.tally
-    (record { parts = reached.parts; bytes = reached.bytes; active = reached.active; live = reached.live; frames = reached.frames; fetched = reached.fetched; marked = reached.marked; locks = reached.locks; granted_to = reached.granted; ran = reached.ran })
-    reads is (sym (none-of c.limit_passed.result c.in_default-limit_passed.not-Some) ∙ c.limit_passed.ensures.limit)
+    (subst (λ (result : Attempt). IsExecuted program result d mid) c.in-Commit.is (c.execute-went.ensures.row c.args.active program c.requires.active on.named)).1 in
+    record {
+      sound = c.execute-went.ensures.sound;
+      parts = parts-from d mid ran mid (record { header = refl; programs = refl; opened = refl; begins = refl; turns = refl; next = refl });
+      tally = search rules;
+      attempted = (ap (λ (e : PrivateDesk). e.active) others ∙ c.requires.active, omega (arith, within.0, written));
+      bytes = bytes-from d mid ran mid (record { committed = refl; used = refl; number = refl; order = refl; closed = refl });
+      follows = λ follows. follows-from d mid ran (same follows) follows;
+      step = λ follows word reads program named.
+          let on = runs_as d c.args.active program follows c.requires.active (ap (λ (e : PrivateDesk). slice_get e.programs.items c.args.active.program) (sym others) ∙ named) in
+          let (goes, counted) = counted-next d c.args.active program on c.requires.sound mid c.execute-went.result c.in_default.not-Check c.in_default-went.not-Fault
+          (c.execute-went.ensures.row c.args.active program c.requires.active on.named) in
+          let (is, kept) = subst (λ (result : Attempt). IsExecuted program result d mid) c.in-Commit.is (c.execute-went.ensures.row c.args.active program c.requires.active on.named) in
+          at_commit word d c.args.active program on c.args.tally.now c.marks.result.now.written
+          (written ∙ ap (λ (f : Flat). f.marks.written) ran.kept ∙ counted)
+          (row-at d program Commit c.requires.sound is)
+          (sym none ∙ c.limit_passed.ensures.limit ∙ ap (λ (desk : Desk). limit_passed (room desk) c.marks.result.now.written) (desk-from d mid ran))
+          ∙ ap (λ (live : Plain). commits word (commit_call c.args.active program live) (desk_of d) (counts_of c.args.tally.now)) (sym kept)
+          ∙ ap (λ (desk : Desk). commits word (commit_call c.args.active program (live_of mid)) desk (counts_of c.args.tally.now)) (sym (desk-from d mid ran));
+    }
 
-pub returns-clause-follows : goal.returns-clause-follows
-returns-clause-follows c = λ follows.
+-- it took effect, since it is nothing else
+took-effect : (result : Attempt) (program : Program) (d mid : PrivateDesk) → ((code : ℕ) → result ≡ Attempt.Check code → ⊥) → ((fault : Fault) (access : Access) → result ≡ Attempt.Fault fault access → ⊥)
+    → (result ≡ Attempt.Commit → ⊥) → IsExecuted program result d mid → GoesOpen program d.storage.flat (live_of d) (live_of mid) mid.cpu
+took-effect Attempt.Went program d mid check fault commit is = is
+took-effect (Attempt.Print byte) program d mid check fault commit is = is
+took-effect Attempt.Commit program d mid check fault commit is = absurd (commit refl)
+took-effect (Attempt.Check code) program d mid check fault commit is = absurd (check code refl)
+took-effect (Attempt.Fault f access) program d mid check fault commit is = absurd (fault f access refl)
+
+pub returns : goal.returns
+returns c =
     let d = c.args.self.now in
-    let (program, on) = runs d c.args.active follows c.requires.active in
-    let one = c.index-program.ensures ∙ ap (λ (i : ℕ). get_or d.programs.items i c.index-program.result.now) c.from.ensures ∙ get_or_from_slice_get d.programs.items c.args.active.program program c.index-program.result.now on.named in
-    let is = ap (λ (p : Program). row p d.header.directory d.live) (sym one)
-    ∙ ap (λ (l : Layout). row c.index-program.result.now l d.live) (sym c.directory-directory.ensures.value)
-    ∙ c.step-went.ensures.row
-    ∙ goes-on c.step-went.result c.step-went.new.self c.in_default.not-Check c.in_default-went.not-Commit in
-    let touches = c.touches-touch.ensures.lines
-    ∙ ap (λ (p : Program). touched p c.directory-directory.result.now d.live) one
-    ∙ ap (λ (l : Layout). touched program l d.live) c.directory-directory.ensures.value in
-    let reached = c.reach.ensures in
-    follows_more Fine d c.args.active program on c.args.tally.now c.touches-touch.result c.written_with-lines.result touches
-    (c.written_with-lines.ensures.value (touched_within program c.args.active.args (store_of d) c.args.active.rows) on.marked)
-    c.step-went.new.self c.reach.new.self c.reach.new.tally
-    (record { parts = reached.parts; bytes = reached.bytes; active = reached.active; live = reached.live; frames = reached.frames; fetched = reached.fetched; marked = reached.marked; locks = reached.locks; granted_to = reached.granted; ran = reached.ran })
-    follows touches is
+    let mid = c.execute-went.new.self in
+    let new = c.count_row.new.self in
+    let others = c.execute-went.ensures.others in
+    let ran : OnlyRan d mid = record { others = others; kept = c.execute-went.ensures.kept } in
+    let on-mid : mid.active ≡ Some c.args.active = ap (λ (e : PrivateDesk). e.active) others ∙ c.requires.active in
+    let counted-on : CountedOn d mid new c.args.active = record { others = others; counted = c.count_row.ensures.desk } in
+    let none = none-of c.limit_passed.result c.in_default-limit_passed.not-Some in
+    let goes : (program : Program) → Runs d c.args.active program → GoesOpen program d.storage.flat (live_of d) (live_of mid) mid.cpu =
+    λ program on.
+    took-effect c.execute-went.result program d mid c.in_default.not-Check c.in_default-went.not-Fault c.in_default-went-2.not-Commit
+    (c.execute-went.ensures.row c.args.active program c.requires.active on.named) in
+    let reached : (follows : Follows d) (program : Program) (on : Runs d c.args.active program)
+    → HasReached d c.args.active (touched_within program c.args.active.args (store_of d) c.args.active.rows) (touched program d.header.directory (live_of d)) (live_of mid) new c.args.tally.now c.count_row.new.tally =
+    λ follows program on.
+    reached-open d c.args.active program on c.requires.sound follows mid new c.args.tally.now c.count_row.new.tally counted-on ran.kept
+    (open-next d c.args.active program on c.requires.sound mid (goes program on)) c.count_row.ensures.tally in
+    record {
+      sound = counted-sound mid new c.args.active c.execute-went.ensures.sound on-mid (omega (arith, c.requires.rows, ap (λ (e : PrivateDesk). e.turns) others)) c.count_row.ensures.desk;
+      parts = counted-parts d mid new c.args.active counted-on;
+      tally = record {
+        ran = omega (arith, ap (λ (t : Tally). t.ran) c.count_row.ensures.tally);
+        pages = omega (arith, ap (λ (t : Tally). t.pages) c.count_row.ensures.tally);
+        locks = omega (arith, ap (λ (t : Tally). t.locks) c.count_row.ensures.tally);
+      };
+      attempted = ap (λ (e : PrivateDesk). e.active) c.count_row.ensures.desk;
+      bytes = counted-bytes d mid new c.args.active counted-on;
+      follows = λ follows.
+          let (program, on) = runs d c.args.active follows c.requires.active in
+          follows_more d c.args.active program on (live_of mid) new c.args.tally.now c.count_row.new.tally (reached follows program on) follows
+          (row-at d program (On (live_of mid)) c.requires.sound (goes program on).goes);
+      step = λ follows word reads.
+          let (program, on) = runs d c.args.active follows c.requires.active in
+          let (on-row, counted) = counted-next d c.args.active program on c.requires.sound mid c.execute-went.result c.in_default.not-Check c.in_default-went.not-Fault
+          (c.execute-went.ensures.row c.args.active program c.requires.active on.named) in
+          went_on word d c.args.active program on c.args.tally.now c.marks.result.now.written
+          (ap (λ (m : LineMarks). m.written) c.marks.ensures ∙ ap (λ (f : Flat). f.marks.written) ran.kept ∙ counted)
+          (live_of mid) new c.count_row.new.tally (reached follows program on) reads
+          (row-at d program (On (live_of mid)) c.requires.sound (goes program on).goes)
+          (sym none ∙ c.limit_passed.ensures.limit ∙ ap (λ (desk : Desk). limit_passed (room desk) c.marks.result.now.written) (desk-from d mid ran));
+    }

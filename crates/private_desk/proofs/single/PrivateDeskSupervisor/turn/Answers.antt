@@ -13,7 +13,7 @@ pub returns-clause-kept : goal.returns-clause-kept
 returns-clause-kept g c = λ follows told kept still.
     let d = c.args.self.now in
     let new = c.run-end.new.self in
-    let begun : Follows (record d { turns = d.turns + 1 }) = record { live = follows.live; number = follows.number; places = follows.places; room = follows.room } in
+    let begun : Follows (record d { turns = d.turns + 1 }) = record { live = follows.live; numbered = follows.numbered; owned = follows.owned; number = follows.number; places = follows.places; room = follows.room } in
     let ended = c.run-end.ensures.follows begun in
     let held = held_of g.W.Outside c.args.outside.now in
     let after = held_of g.W.Outside c.run-end.new.outside in
