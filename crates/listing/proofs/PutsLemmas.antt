@@ -1,5 +1,5 @@
 -- Puts, one after another.
-use Rattle.std.proofs.Common.{◌≡◌, inl, ⊎_elim, ℕ, zero, suc, ◌+◌, ◌-◌, ◌<◌, List, [], ◌∷◌, ◌++◌, length, take, drop, get_or, min, refl, sym, ◌∙◌, ap, subst, append_assoc, append-nil, arith, rules}
+use Rattle.std.proofs.Common.{◌≡◌, ⊎_elim, ℕ, ◌+◌, ◌<◌, List, [], ◌++◌, length, take, drop, get_or, min, sym, ◌∙◌, ap, subst, append_assoc, arith, rules}
 use Rattle.std.specs.Prelude.{Option, None, Some, Result, Ok, Err, IsErr}
 use Rattle.std.proofs.Math.Seq.{take-append-add}
 use Rattle.std.proofs.lemmas.List.{take-append-le, take_min, take_more, take-append-drop, flat_map_more}
@@ -9,7 +9,6 @@ use Rattle.outside.specs.Causes.{HasCause}
 use Rattle.outside.specs.declared.failed.Failed.{Failed}
 use Rattle.outside.specs.declared.world.Outside.{Ghosts}
 use Rattle.outside.specs.Bytes.{Prints}
-use Rattle.outside.specs.Moments.{IsNotAfter}
 use Rattle.outside.specs.Runs.{FewerLater}
 use Rattle.outside.proofs.Runs.{elapses-trans}
 use Rattle.listing.specs.Puts.{Puts}
@@ -38,28 +37,7 @@ prints_stop T U (Some old) new first second failed prints = (
   prints.1 ∙ ap (λ (some : List ℕ). Some (old ++ some)) (sym (take_min prints.0 first) ∙ sym (take-append-le (min prints.0 (length first)) first second (omega arith))),
 )
 
-prints_none : {T : Type 0} (old : Option (List ℕ)) (value : T) → Prints old old [] (Ok value)
-prints_none None value = refl
-prints_none (Some old) value = ap (λ (all : List ℕ). Some all) (sym (append-nil old))
-
 module _ {W : Type 0} (G : Ghosts W) where
-  -- nothing is put
-  pub puts_none : (w : W) → Puts G [] w w done
-  puts_none w = record {
-    printed = prints_none (G.printed w) tt;
-    cause = record { later = omega arith; failed = tt };
-    held = refl;
-    writes = refl;
-    honest = refl;
-    time = record {
-      later = record { calls = omega arith; puts = omega arith };
-      nothing_else = λ t image seen earlier left. inl left;
-      keeps = λ t image seen earlier left. left;
-    };
-    images = λ image seen left. (seen, left);
-    disk = omega arith;
-  }
-
   -- the same bytes
   pub puts_same : {T : Type 0} (old new : W) (first second : List ℕ) (result : Result T Failed) → first ≡ second → Puts G first old new result → Puts G second old new result
   puts_same old new first second result same puts = subst (λ (bytes : List ℕ). Puts G bytes old new result) same puts

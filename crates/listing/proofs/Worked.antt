@@ -1,5 +1,5 @@
 -- A listing worked out by hand.
-use Rattle.std.specs.Prelude.{◌≡◌, refl, true, [], ◌∷◌, ◌++◌, codes, replicate, Some, None}
+use Rattle.std.specs.Prelude.{◌≡◌, refl, true, [], ◌∷◌, codes, replicate, Some, None}
 use Rattle.std.specs.Fmt.{digits}
 use Rattle.hex.specs.Hex.{encode_with}
 use Rattle.listing.specs.Listing.{listing_of}

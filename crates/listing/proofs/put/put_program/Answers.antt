@@ -1,6 +1,5 @@
-use Rattle.std.proofs.Common.{◌≡◌, ℕ, List, ◌++◌, length, rules, arith, sym, ap, subst, ◌∙◌}
-use Rattle.listing.specs.Listing.{program_line, window_lines, row_lines, listing_of}
-use Rattle.listing.specs.Puts.{Puts}
+use Rattle.std.proofs.Common.{◌≡◌, ◌++◌, rules, ap, ◌∙◌}
+use Rattle.listing.specs.Listing.{program_line, window_lines, row_lines}
 use Rattle.listing.proofs.PutsLemmas.{done, puts_on, puts_same, puts_stop}
 use Rattle.listing.proofs.put.put_program.Goals as goal
 

@@ -1,10 +1,10 @@
-use Rattle.std.proofs.Common.{◌≡◌, ℕ, ◌+◌, ◌<◌, List, length, get_or, refl, rules, arith, sym, ap, subst, ◌∙◌}
-use Rattle.std.specs.Prelude.{Option, Some, None}
+use Rattle.std.proofs.Common.{◌≡◌, ℕ, ◌+◌, ◌<◌, List, length, get_or, rules, arith, sym, ap, subst, ◌∙◌}
+use Rattle.std.specs.Prelude.{Option, None}
 use Rattle.std.specs.List.{flat_map, enumerate_from}
 use Rattle.std.proofs.lemmas.List.{take_all}
 use Rattle.std.proofs.lemmas.List.FromFn.{get_or-enumerate_from, length-enumerate_from}
 use Rattle.flat_machine.specs.declared.machine.Window.{Window}
-use Rattle.listing.specs.Listing.{place_line, window_lines}
+use Rattle.listing.specs.Listing.{place_line}
 use Rattle.listing.specs.Puts.{Puts}
 use Rattle.listing.proofs.PutsLemmas.{done, puts_more, puts_no_more}
 use Rattle.listing.proofs.put.put_windows.Goals as goal
