@@ -1,5 +1,5 @@
 -- How a call ended, and why.
-use Rattle.std.specs.Prelude.{◌≡◌, ◌≢◌, ◌≤◌, ℕ, List, [], ◌∷◌, length, map, codes, Option, Some, Result, Ok, Err, String, string_bytes}
+use Rattle.std.specs.Prelude.{◌≡◌, ◌≢◌, ◌≤◌, ℕ, List, length, Option, Some, Result, Ok, Err, String}
 use Rattle.std.specs.Option.{ForSome}
 use Rattle.std.specs.declared.alloc.Global.{Global}
 use Rattle.outside.specs.Causes.{Rose}
@@ -7,12 +7,10 @@ use Rattle.store_format.specs.Header.{fresh}
 use Rattle.job_text.specs.Grammar.{Content, job_of}
 use Rattle.console.specs.declared.status.Status.{Status}
 use Rattle.console.specs.declared.status.Status.TheVariants as status
+use Rattle.console.specs.declared.words.Command.{Command}
 use Rattle.console.specs.Opening.{try_layout}
 use Rattle.console.specs.SourceText.{HasRead, IsWhole}
-
--- the words are `try` alone
-abbrev pub IsTry : List (String Global) → Type 0
-IsTry words = map string_bytes words ≡ codes "try" ∷ []
+use Rattle.console.specs.Words.{IsForm}
 
 -- the status of a command that went to its end, or didn't
 abbrev pub status_of : {T : Type 0} → Result T Status → Status
@@ -70,11 +68,12 @@ pub record OpensBy (held : Option (List ℕ)) (status : Status) : Type 0 where
   pub no_store : (offset : ℕ) → status ≡ Status.Store offset → (offset ≡ 0) × ForSome held (λ bytes. bytes ≢ fresh try_layout)
   pub store : IsPastOpening status → ForSome held (λ bytes. bytes ≡ fresh try_layout)
 
--- the words are `try`, the source has the text of a job, and the disk the store of `try`
+-- the words are a command, the source has the text of a job, and for `try` the disk has the store of `try`
 pub record IsComplete (words : List (String Global)) (left held : Option (List ℕ)) : Type 0 where
-  pub tries : IsTry words
+  pub form : Command
+  pub asks : IsForm form words
   pub text : List ℕ
   pub has_text : left ≡ Some text
   pub few : length text ≤ 1048576
   pub is_job : IsSomeJob text
-  pub store : held ≡ Some (fresh try_layout)
+  pub store : form ≡ Command.Try → held ≡ Some (fresh try_layout)

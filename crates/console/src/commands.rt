@@ -1,4 +1,4 @@
-ghost use Rattle.std.specs.Prelude.{◌≡◌, ◌≢◌, ◌<◌, ◌≤◌, ◌⊎◌, ◌↔◌, ◌-◌, ◌^◌, ℕ, List, length, IfOk, IfErr, IsTrue, Ok, Err};
+ghost use Rattle.std.specs.Prelude.{◌≡◌, ◌≢◌, ◌<◌, ◌≤◌, ◌⊎◌, ◌↔◌, ◌-◌, ◌^◌, ℕ, List, length, IfOk, IfErr, Ok, Err};
 ghost use Rattle.outside.specs.Causes.{Rose};
 ghost use Rattle.outside.specs.Runs.{OnlyAsks};
 ghost use Rattle.console.specs.Opening.{IsOpened};
@@ -7,12 +7,16 @@ ghost use Rattle.job_text.specs.Grammar.{job_of, content_of};
 ghost use Rattle.job_text.specs.Ready.{IsReady};
 ghost use Rattle.schedule_replay.specs.Asked.{begins_in};
 ghost use Rattle.console.specs.SourceText.{IsWhole};
-ghost use Rattle.console.specs.Causes.{IsTry, IsComplete, ReadsBy, OpensBy, IsPastJob, IsOfReading, IsOfOpening, status_of};
+ghost use Rattle.console.specs.Causes.{IsComplete, ReadsBy, OpensBy, IsPastJob, IsOfReading, IsOfOpening, status_of};
 ghost use Rattle.console.specs.Headline.{Happened, HappenedTo};
+ghost use Rattle.console.specs.Listed.{Listed};
+ghost use Rattle.console.specs.Words.{IsForm, IsNoForm};
 
+use super::list::list_job;
 use super::opening::{check_store, try_header, try_store};
 use super::source_text::read_text;
 use super::status::{Ended, Status};
+use super::words::{Command, command_of};
 use desk::{Committed, Event};
 use flat_machine::Program;
 use job_text::{Job, read_job};
@@ -24,44 +28,33 @@ use std::alloc::Global;
 /// All that the program does: it takes the words of the command line, without the program's name, and the source, disk
 /// and screen that are handed in, and answers how it ended (docs/FORMATS.md, "Statuses").
 ///
-/// The words are `try`: the job of the source runs on the disk's store, and its report is put, a line at a time.
+/// The words `try`: the job of the source runs on the disk's store, and its report is put, a line at a time. The words
+/// `list`: the programs of the job are listed, a line at a time, and the disk is left alone.
 pub fn console<S: Source, W: Outside>(
     alloc: Global,
     words: &[String],
     job: &mut S,
     outside: &mut W,
 ) -> Ended
-    ensures usage { result.status ≡ Status.Usage ↔ (IsTry words.now → ⊥) }
-    ensures read { IsTry words.now → ReadsBy (S.left job.old) (S.left job.new) (S.faults job.old) (S.faults job.new) result.status }
-    ensures opened { IsTry words.now → OpensBy (W.held outside.old) result.status }
+    ensures usage { result.status ≡ Status.Usage ↔ IsNoForm words.now }
+    ensures read { ReadsBy (S.left job.old) (S.left job.new) (S.faults job.old) (S.faults job.new) result.status }
+    ensures opened { IsForm Command.Try words.now → OpensBy (W.held outside.old) result.status }
     ensures put { result.status ≡ Status.PutFault → Rose (W.put_faults outside.old) (W.put_faults outside.new) }
     ensures disk { result.status ≡ Status.DiskFault → Rose (W.disk_faults outside.old) (W.disk_faults outside.new) }
-    ensures happened { Happened W.Outside (S.left job.old) (S.left job.new) outside.old outside.new (order_told result.order.items) result.status }
+    ensures happened { (IsForm Command.List words.now → ⊥) → Happened W.Outside (S.left job.old) (S.left job.new) outside.old outside.new (order_told result.order.items) result.status }
+    ensures listed { IsForm Command.List words.now → Listed W.Outside (S.left job.old) (S.left job.new) outside.old outside.new (order_told result.order.items) result.status }
     ensures complete { IsComplete words.now (S.left job.old) (W.held outside.old) → (Rose (S.faults job.old) (S.faults job.new) → ⊥) → (Rose (W.disk_faults outside.old) (W.disk_faults outside.new) → ⊥) → (Rose (W.put_faults outside.old) (W.put_faults outside.new) → ⊥) → (result.status ≡ Status.Done) ⊎ (result.status ≡ Status.NoMemory) }
     ensures never { (result.status ≢ Status.Exists) × (result.status ≢ Status.NoRange) }
 {
-    if !is_try(words) {
-        return Ended {
-            status: Status::Usage,
-            order: Vec::new(alloc),
-        };
-    }
+    let Some(command) = command_of(words) else {
+        return Ended::without_events(alloc, Status::Usage);
+    };
     match read(alloc, job) {
-        Err(status) => Ended {
-            status,
-            order: Vec::new(alloc),
+        Err(status) => Ended::without_events(alloc, status),
+        Ok(job) => match command {
+            Command::Try => try_job(alloc, job, outside),
+            Command::List => list_job(alloc, &job, outside),
         },
-        Ok(job) => try_job(alloc, job, outside),
-    }
-}
-
-/// Whether the words are `try` alone.
-fn is_try(words: &[String]) -> bool
-    ensures { IsTrue result ↔ IsTry words.now }
-{
-    match words {
-        [word] => word.as_str() == "try",
-        _ => false,
     }
 }
 
@@ -90,10 +83,7 @@ fn try_job<W: Outside>(alloc: Global, job: Job, outside: &mut W) -> Ended
     let mut desk = match open(alloc, job.frames, job.programs, begins, outside) {
         Ok(desk) => desk,
         Err(status) => {
-            return Ended {
-                status,
-                order: Vec::new(alloc),
-            };
+            return Ended::without_events(alloc, status);
         }
     };
     let replayed = replay(&mut desk, &job.names, &job.events, outside);

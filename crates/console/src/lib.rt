@@ -2,9 +2,11 @@
 #![tactic(auto)]
 
 mod commands;
+mod list;
 mod opening;
 mod source_text;
 mod status;
+mod words;
 
 pub use commands::console;
 pub use opening::try_store;

@@ -1,4 +1,4 @@
-ghost use Rattle.std.specs.Prelude.{◌≡◌, ◌+◌, ◌≤◌, ◌++◌, length, decimal};
+ghost use Rattle.std.specs.Prelude.{◌≡◌, ◌+◌, ◌≤◌, [], ◌++◌, length, decimal};
 ghost use Rattle.console.specs.declared.status.Status.TheVariants.{NoMemory};
 ghost use Rattle.console.specs.Statuses.{status_of_job, status_of_text, status_of_open, status_of_replay, number_of, text_of};
 
@@ -9,7 +9,7 @@ use desk::Committed;
 use itoa::Buffer;
 use job_text::JobFault;
 use schedule_replay::Replayed;
-use std::alloc::AllocError;
+use std::alloc::{AllocError, Global};
 
 /// How a call of the console ended (docs/FORMATS.md, "Statuses").
 #[derive(Debug, Clone, Copy, PartialEq, Eq)]
@@ -44,6 +44,19 @@ pub enum Status {
 pub struct Ended {
     pub status: Status,
     pub order: Vec<Committed>,
+}
+
+impl Ended {
+    /// A call that ended with this status, and ran no event.
+    pub fn without_events(alloc: Global, status: Status) -> Self
+        ensures status { result.status ≡ status }
+        ensures order { result.order.items ≡ [] }
+    {
+        Ended {
+            status,
+            order: Vec::new(alloc),
+        }
+    }
 }
 
 impl Status {

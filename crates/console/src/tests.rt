@@ -2,7 +2,7 @@
 //! expected bytes are worked out by hand.
 use super::*;
 use desk::Committed;
-use outside::{Call, Joint, MemoryDisk, MemoryScreen, MemorySource, Refusal};
+use outside::{Call, Disk, Joint, MemoryDisk, MemoryScreen, MemorySource, Refusal};
 use std::alloc::{AllocError, Global};
 use std::test::Fail;
 
@@ -13,6 +13,14 @@ const ONE_ADD: &[u8] =
 /// The same with a turn of three rows.
 const THREE_ROWS: &[u8] =
     b"frames 2\nprogram add5\n.window 1, 1, rw\n.word 0xD8601000\n.word 0xCD360000\n.word 0xC1330005\n.word 0xDD360000\n.word 0xC0000000\nend\nschedule\nbegin add5\nturn 1 3\nend\n";
+
+/// A program in assembler that adds register 2 to the first word of segment 1.
+const LISTED: &[u8] =
+    b"frames 2\nprogram add\n.window 1, 1, rw\ncau r6, r0, 0x1000\nl r3, 0(r6)\na r3, r2\nst r3, 0(r6)\nsvc 0\nend\nschedule\nend\n";
+
+/// Two small programs, and a begin of the second.
+const TWO_LISTED: &[u8] =
+    b"frames 2\nprogram none\nend\nprogram far\n.window 3, 9, r\n.window 2, 1, rw\n.entry 2\nsvc 0\nend\nschedule\nbegin far\nend\n";
 
 /// Where the first record of bank A has its gate.
 const GATE: usize = 264;
@@ -147,6 +155,54 @@ const CASES: [Case; 12] = [
         printed: b"open 0\nbegin 1 add5\nturn 1 ran 5 page 1 lock 2\n",
         order: &[COMMIT],
         record: RECORD,
+        ..PLAIN
+    },
+];
+
+/// Listings, on disks with whatever bytes.
+const LISTINGS: [Case; 6] = [
+    Case {
+        name: "a listing",
+        words: &["list"],
+        text: Text::Bytes(LISTED),
+        printed: b"program add bytes 18 entry 00000000\nwindow 1 segment 1 rw\n00000000 d8601000cd360000e132dd360000c000\n00000010 0000\n",
+        ..PLAIN
+    },
+    Case {
+        name: "two programs and another store",
+        words: &["list"],
+        text: Text::Bytes(TWO_LISTED),
+        other_byte: Some(9),
+        printed: b"program none bytes 0 entry 00000000\nprogram far bytes 4 entry 00000002\nwindow 2 segment 1 rw\nwindow 3 segment 9 r\n00000000 c0000000\n",
+        ..PLAIN
+    },
+    Case {
+        name: "the second line fails",
+        words: &["list"],
+        text: Text::Bytes(LISTED),
+        failing_put: Some(2),
+        status: Status::PutFault,
+        printed: b"program add bytes 18 entry 00000000\n",
+        ..PLAIN
+    },
+    Case {
+        name: "no job to list",
+        words: &["list"],
+        text: Text::Bytes(b"frames 2\nprogram p\nx: svc 0\nx: svc 0\nend\n"),
+        status: Status::Job(4, 5),
+        ..PLAIN
+    },
+    Case {
+        name: "a source of a listing that fails",
+        words: &["list"],
+        failing_reads: &[1],
+        status: Status::SourceFault,
+        ..PLAIN
+    },
+    Case {
+        name: "two words",
+        words: &["list", "try"],
+        status: Status::Usage,
         ..PLAIN
     },
 ];
@@ -297,6 +353,23 @@ fn a_job_ends_as_its_parts_let_it(rt: HostRuntime) -> Result<(), Fail> {
         assert_eq!(rt; screen.into_bytes(), printed, "{}", case.name);
         assert_eq!(rt; left.len(), 143_632, "{}", case.name);
         assert!(rt; left == store, "{}", case.name);
+    }
+    Ok(())
+}
+
+#[test]
+fn a_listing_leaves_the_disk_alone(rt: HostRuntime) -> Result<(), Fail> {
+    let alloc = rt.alloc();
+    for case in &LISTINGS {
+        let words = words_of(alloc, case.words)?;
+        let mut job = source_of(alloc, case)?;
+        let mut outside = outside_of(alloc, case)?;
+        let ended = console(alloc, &words, &mut job, &mut outside);
+        let (disk, screen) = outside.into_parts();
+        assert_eq!(rt; ended.status, case.status, "{}", case.name);
+        assert!(rt; ended.order.is_empty(), "{}", case.name);
+        assert!(rt; screen.bytes() == case.printed, "{}", case.name);
+        assert_eq!(rt; disk.moment(), 0, "{}", case.name);
     }
     Ok(())
 }

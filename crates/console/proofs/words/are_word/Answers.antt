@@ -2,7 +2,7 @@ use Rattle.std.proofs.Common.{◌≡◌, ◌∙◌, ◌<◌, ◌≤◌, ℕ, Boo
 use Rattle.std.proofs.lemmas.Bool.Decides.{Decides-eqb}
 use Rattle.std.proofs.lemmas.Slice.Eq.{slice_eq-Decides}
 use Rattle.std.specs.declared.alloc.Global.{Global}
-use Rattle.console.proofs.commands.is_try.Goals as goal
+use Rattle.console.proofs.words.are_word.Goals as goal
 
 -- whether one word has these bytes, and no other word is there
 one_word : (words : List (String Global)) (word : String Global) (text wanted : List ℕ) (answer : Bool) → 1 ≤ length words → length words < 2 → word ≡ get_or words 0 word

@@ -1,0 +1,60 @@
+use Rattle.std.proofs.Common.{◌≡◌, ℕ, ◌<◌, ◌≤◌, List, [], length, map, get_or, rules, arith, sym, ap, subst, ◌∙◌}
+use Rattle.std.specs.List.{flat_map, zip}
+use Rattle.std.proofs.lemmas.List.{take_all, get_or-map, length-map}
+use Rattle.std.proofs.lemmas.Slice.Zip.{get_or-zip, length-zip}
+use Rattle.arrayvec.specs.ArrayVec.{ArrayVec}
+use Rattle.flat_machine.specs.declared.machine.Program.{Program}
+use Rattle.romp_asm.specs.Layout.{Parts, parts_of}
+use Rattle.listing.specs.Listing.{listing_of}
+use Rattle.listing.specs.Puts.{Puts}
+use Rattle.listing.proofs.PutsLemmas.{done, puts_more, puts_no_more}
+use Rattle.console.proofs.list.put_programs.Goals as goal
+
+abbrev listing_named : List ℕ × Parts → List ℕ
+listing_named named = listing_of named.0 named.1.image named.1.entry named.1.windows
+
+abbrev named_in : List (ArrayVec ℕ) → List Program → List (List ℕ × Parts)
+named_in names programs = zip (map (λ name. name.items) names) (map parts_of programs)
+
+-- the listing that is put is the one that is due
+same_listing : (names : List (ArrayVec ℕ)) (programs items : List Program) (i : ℕ) (bytes : List ℕ) (name : ArrayVec ℕ) (program : Program) → i < length names → i < length programs → bytes ≡ name.items → name ≡ get_or names i name → items ≡ programs → program ≡ get_or items i program
+    → listing_of bytes program.image program.entry program.windows ≡ listing_named (get_or (named_in names programs) i ([], parts_of program))
+same_listing names programs items i bytes name program named within is_bytes is_name is_items is_program =
+    let first : get_or (map (λ (one : ArrayVec ℕ). one.items) names) i [] ≡ bytes = get_or-map (λ (one : ArrayVec ℕ). one.items) names i name [] named ∙ ap (λ (one : ArrayVec ℕ). one.items) (sym is_name) ∙ sym is_bytes in
+    let second : get_or (map parts_of programs) i (parts_of program) ≡ parts_of program = get_or-map parts_of programs i program (parts_of program) within ∙ ap parts_of (ap (λ (these : List Program). get_or these i program) (sym is_items) ∙ sym is_program) in
+    let zipped = get_or-zip (map (λ (one : ArrayVec ℕ). one.items) names) (map parts_of programs) i ([], parts_of program) (omega (arith, length-map names (λ (one : ArrayVec ℕ). one.items), named)) (omega (arith, length-map programs parts_of, within)) in
+    sym (ap listing_named (zipped ∙ ap (λ (one : List ℕ). (one, get_or (map parts_of programs) i (parts_of program))) first ∙ ap (λ (two : Parts). (bytes, two)) second))
+
+-- as many listings as programs
+count : (names : List (ArrayVec ℕ)) (programs : List Program) → length names ≡ length programs → length (named_in names programs) ≡ length programs
+count names programs same =
+    omega (arith, same, length-zip (map (λ (one : ArrayVec ℕ). one.items) names) (map parts_of programs), length-map names (λ (one : ArrayVec ℕ). one.items), length-map programs parts_of)
+
+pub returns-in_err-put_program : goal.returns-in_err-put_program
+returns-in_err-put_program g c =
+    let names = c.args.job.now.names.items in
+    let programs = c.args.job.now.programs.items in
+    let within : c.loop-index.index < length programs = omega (arith, c.loop-index-test.true, ap (λ (these : List Program). length these) c.deref-program-items.ensures.value) in
+    puts_no_more g.W.Outside g.met.W.Outside.fewer_later listing_named (named_in names programs) c.loop-index.index ([], parts_of c.program-item.result) _
+    (omega (arith, within, count names programs c.requires))
+    (same_listing names programs c.deref-program-items.result.now c.loop-index.index c.as_slice.result.now c.index.result.now c.program-item.result (omega (arith, within, c.requires)) within c.as_slice.ensures.value c.index.ensures c.deref-program-items.ensures.value c.program-item.is)
+    c.args.outside.now c.loop-index.outside c.put_program.new.outside tt c.put_program.result c.from_residual.result (search rules) c.from_residual.ensures.0 c.loop-index.invariant c.put_program.ensures
+
+pub loop-index-preserved : goal.loop-index-preserved
+loop-index-preserved g c =
+    let names = c.args.job.now.names.items in
+    let programs = c.args.job.now.programs.items in
+    let within : c.loop-index.index < length programs = omega (arith, c.loop-index-test.true, ap (λ (these : List Program). length these) c.deref-program-items.ensures.value) in
+    puts_more g.W.Outside g.met.W.Outside.fewer_later listing_named (named_in names programs) c.loop-index.index ([], parts_of c.program-item.result) _
+    (omega (arith, within, count names programs c.requires))
+    (same_listing names programs c.deref-program-items.result.now c.loop-index.index c.as_slice.result.now c.index.result.now c.program-item.result (omega (arith, within, c.requires)) within c.as_slice.ensures.value c.index.ensures c.deref-program-items.ensures.value c.program-item.is)
+    c.args.outside.now c.loop-index.outside c.put_program.new.outside tt done c.loop-index.invariant c.in_ok-put_program.ensures
+
+pub returns : goal.returns
+returns g c =
+    let names = c.args.job.now.names.items in
+    let programs = c.args.job.now.programs.items in
+    let all : length (named_in names programs) ≤ c.loop-index.index = omega (arith, count names programs c.requires, c.loop-index-test.false, ap (λ (these : List Program). length these) c.deref-program-items.ensures.value) in
+    subst (λ (these : List (List ℕ × Parts)). Puts g.W.Outside (flat_map listing_named these) c.args.outside.now c.loop-index.outside done)
+    (take_all c.loop-index.index (named_in names programs) all)
+    c.loop-index.invariant

@@ -1,0 +1,43 @@
+-- What a listing of a job's programs did.
+use Rattle.std.specs.Prelude.{◌≡◌, ℕ, List, [], Option, Result, Ok, Err}
+use Rattle.std.specs.List.{flat_map, zip}
+use Rattle.outside.specs.declared.world.Outside.{Ghosts}
+use Rattle.outside.specs.declared.failed.Failed.{Failed}
+use Rattle.listing.specs.Listing.{listing_of}
+use Rattle.listing.specs.Puts.{Puts}
+use Rattle.job_text.specs.Grammar.{Content, job_of}
+use Rattle.console.specs.declared.status.Status.{Status}
+use Rattle.console.specs.declared.status.Status.TheVariants as status
+use Rattle.console.specs.SourceText.{IsWhole}
+
+-- the listings of a job's programs, each with its name, in the job's order
+abbrev pub listings_of : Content → List ℕ
+listings_of content = flat_map (λ named. listing_of named.0 named.1.image named.1.entry named.1.windows) (zip content.names content.programs)
+
+-- how the puts went, by the status
+abbrev pub put_of : Status → Result (Unit {0}) Failed
+put_of status.PutFault = Err (record {})
+put_of _ = Ok tt
+
+-- the text was had whole and means a job; the listings of its programs are put, and the disk is left alone
+pub record ListsJob {W : Type 0} (G : Ghosts W) (left left_now : Option (List ℕ)) (before after : W) (status : Status) : Type 0 where
+  pub text : List ℕ
+  pub whole : IsWhole left left_now text
+  pub content : Content
+  pub means : job_of text ≡ Ok content
+  pub puts : Puts G (listings_of content) before after (put_of status)
+
+-- what a listing did, by its status: the programs are listed or a put failed, or nothing outside was called; other statuses don't come
+abbrev pub ListedBy : {W : Type 0} → Ghosts W → Option (List ℕ) → Option (List ℕ) → W → W → Status → Type 0
+ListedBy G left left_now before after status.Done = ListsJob G left left_now before after status.Done
+ListedBy G left left_now before after status.PutFault = ListsJob G left left_now before after status.PutFault
+ListedBy G left left_now before after (status.Job line kind) = after ≡ before
+ListedBy G left left_now before after status.SourceFault = after ≡ before
+ListedBy G left left_now before after status.TooBig = after ≡ before
+ListedBy G left left_now before after status.NoMemory = after ≡ before
+ListedBy G left left_now before after _ = ⊥
+
+-- what a listing did; it has no order
+pub record Listed {W : Type 0} (G : Ghosts W) (left left_now : Option (List ℕ)) (before after : W) (order : List (ℕ × ℕ)) (status : Status) : Type 0 where
+  pub no_order : order ≡ []
+  pub by_status : ListedBy G left left_now before after status

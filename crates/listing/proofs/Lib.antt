@@ -1,0 +1,2 @@
+pub mod PutsLemmas
+mod Worked

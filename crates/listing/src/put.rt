@@ -1,0 +1,127 @@
+ghost use Rattle.std.specs.Prelude.{◌≡◌, ◌+◌, ◌*◌, ◌/◌, ◌^◌, ◌≤◌, length, take, drop};
+ghost use Rattle.listing.specs.Listing.{listing_of, program_line, window_line, window_lines, place_line, row_line, row_lines};
+ghost use Rattle.listing.specs.Puts.{Puts};
+
+use super::text::Text;
+use flat_machine::{Program, Window};
+use outside::{Failed, Outside};
+
+/// Puts the listing of a program, each line by one put: its first line, its windows and its image
+/// (docs/FORMATS.md, "Listing"). It takes no memory.
+///
+/// # Errors
+///
+/// `Failed` where a put failed; a prefix of the listing is printed then, and nothing more is put.
+pub fn put_program<W: Outside>(
+    name: &[u8],
+    program: &Program,
+    outside: &mut W,
+) -> Result<(), Failed>
+    requires short { length name.now ≤ 31 }
+    ensures { Puts W.Outside (listing_of name.now program.now.image program.now.entry program.now.windows) outside.old outside.new result }
+{
+    put(program_text(name, program).as_slice(), outside)?;
+    put_windows(&program.windows, outside)?;
+    put_rows(0, program.image.as_slice(), outside)
+}
+
+/// Puts bytes in rows of sixteen, each row by one put; the offset of the first byte is given
+/// (docs/FORMATS.md, "Listing"). It takes no memory.
+///
+/// # Errors
+///
+/// `Failed` where a put failed; a prefix of the rows is printed then, and nothing more is put.
+pub fn put_rows<W: Outside>(first: u32, bytes: &[u8], outside: &mut W) -> Result<(), Failed>
+    requires { first + length bytes.now ≤ 2 ^ 32 }
+    ensures { Puts W.Outside (row_lines first bytes.now) outside.old outside.new result }
+{
+    for row in 0..bytes.len().div_ceil(16) {
+        let at = 16 * row;
+        let text = row_text(first + at as u32, row_at(bytes, at));
+        put(text.as_slice(), outside)?;
+    }
+    Ok(())
+}
+
+/// Puts the lines of windows, by their registers from 1 on.
+fn put_windows<W: Outside>(windows: &[Option<Window>; 15], outside: &mut W) -> Result<(), Failed>
+    ensures { Puts W.Outside (window_lines windows.now) outside.old outside.new result }
+{
+    for (index, place) in windows.iter().enumerate() {
+        put_place(index as u64 + 1, place, outside)?;
+    }
+    Ok(())
+}
+
+/// Puts the line of the window under a register, if there is one.
+fn put_place<W: Outside>(
+    register: u64,
+    place: &Option<Window>,
+    outside: &mut W,
+) -> Result<(), Failed>
+    ensures { Puts W.Outside (place_line register place.now) outside.old outside.new result }
+{
+    match place {
+        Some(window) => put(window_text(register, window).as_slice(), outside),
+        None => Ok(()),
+    }
+}
+
+/// Puts a line.
+fn put<W: Outside>(line: &[u8], outside: &mut W) -> Result<(), Failed>
+    ensures { Puts W.Outside line.now outside.old outside.new result }
+{
+    outside.put(line)
+}
+
+/// The first line of a program.
+fn program_text(name: &[u8], program: &Program) -> Text
+    requires { length name.now ≤ 31 }
+    ensures { result ≡ program_line name.now program.now.image program.now.entry }
+{
+    let mut text = Text::new();
+    text.bytes(b"program ");
+    text.bytes(name);
+    text.bytes(b" bytes ");
+    text.number(program.image.len() as u64);
+    text.bytes(b" entry ");
+    text.digits(u32::from(program.entry));
+    text.bytes(b"\n");
+    text
+}
+
+/// The line of the window under a register.
+fn window_text(register: u64, window: &Window) -> Text
+    ensures { result ≡ window_line register window.now }
+{
+    let mut text = Text::new();
+    text.bytes(b"window ");
+    text.number(register);
+    text.bytes(b" segment ");
+    text.number(u64::from(window.segment));
+    text.bytes(if window.write { b" rw\n" } else { b" r\n" });
+    text
+}
+
+/// The sixteen bytes from a place on, or what remains.
+fn row_at(bytes: &[u8], at: usize) -> &[u8]
+    requires { at ≤ length bytes.now }
+    ensures value { result.now ≡ take 16 (drop at bytes.now) }
+    ensures few { length result.now ≤ 16 }
+{
+    let rest = &bytes[at..];
+    &rest[..rest.len().min(16)]
+}
+
+/// A row of at most sixteen bytes, the first of which has this offset.
+fn row_text(offset: u32, bytes: &[u8]) -> Text
+    requires { length bytes.now ≤ 16 }
+    ensures { result ≡ row_line offset bytes.now }
+{
+    let mut text = Text::new();
+    text.digits(offset);
+    text.bytes(b" ");
+    text.hex(bytes);
+    text.bytes(b"\n");
+    text
+}
