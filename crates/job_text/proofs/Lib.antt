@@ -1,3 +1,4 @@
 pub mod ReadyLemmas
 pub mod DrainLemmas
 pub mod GrammarLemmas
+pub mod WrittenTokens
