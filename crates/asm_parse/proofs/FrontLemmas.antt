@@ -38,7 +38,7 @@ pub word_front : (word tail : List ℕ) → IsWord word → Stops continues_word
 word_front [] tail is stops = absurd is
 word_front (byte ∷ bytes) tail is stops =
     let begin : begins byte (bytes ++ tail) ≡ Takes (Word (byte ∷ bytes)) (length bytes) =
-      rw (no_blank byte is.0, no_comment byte is.0, is.0, run_length continues_word bytes tail is.1 stops, take_at bytes tail (length bytes) refl, le-leb (length (byte ∷ bytes)) 31 is.2) refl in
+    rw (no_blank byte is.0, no_comment byte is.0, is.0, run_length continues_word bytes tail is.1 stops, take_at bytes tail (length bytes) refl, le-leb (length (byte ∷ bytes)) 31 is.2) refl in
     from_byte byte (bytes ++ tail) ∙ rw (begin, drop_at bytes tail (length bytes) refl) refl
 
 digit_inside : (digit : ℕ) → digit_value digit < 10 → (48 ≤ digit) × (digit ≤ 57)
@@ -95,7 +95,7 @@ digits_front [] tail number some are is stops = absurd (omega arith)
 digits_front (byte ∷ bytes) tail number some are is stops =
     let digit = digit_inside byte are.0 in
     let begin : begins byte (bytes ++ tail) ≡ Takes (Number number) (length bytes) =
-      rw (digit_no_blank byte digit, digit_no_comment byte digit, digit_no_word byte digit, digit_is byte digit, run_length is_ascii_alphanumeric bytes tail (digits_pass bytes are.1) (stops_both tail stops), take_at bytes tail (length bytes) refl, is) refl in
+    rw (digit_no_blank byte digit, digit_no_comment byte digit, digit_no_word byte digit, digit_is byte digit, run_length is_ascii_alphanumeric bytes tail (digits_pass bytes are.1) (stops_both tail stops), take_at bytes tail (length bytes) refl, is) refl in
     from_byte byte (bytes ++ tail) ∙ rw (begin, drop_at bytes tail (length bytes) refl) refl
 
 -- a number in decimal at the front of a line

@@ -5,3 +5,4 @@ pub mod TextLemmas
 pub mod RunLemmas
 pub mod FrontLemmas
 pub mod FoundLemmas
+pub mod DirectiveLemmas

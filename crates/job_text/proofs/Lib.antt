@@ -2,3 +2,8 @@ pub mod ReadyLemmas
 pub mod DrainLemmas
 pub mod GrammarLemmas
 pub mod WrittenTokens
+pub mod LeadsLemmas
+pub mod SourceLemmas
+pub mod FollowLemmas
+pub mod BackLemmas
+pub mod PutLemmas

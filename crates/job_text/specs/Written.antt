@@ -1,5 +1,5 @@
 -- The text that a job is written as.
-use Rattle.std.specs.Prelude.{ℕ, ◌+◌, List, [], ◌∷◌, ◌++◌, map, codes, decimal, slice_index_or, if◌then◌else◌, Bool, Option, Some, None}
+use Rattle.std.specs.Prelude.{ℕ, ◌+◌, ◌<◌, slice_index, EachIndex, List, [], ◌∷◌, ◌++◌, map, codes, decimal, slice_index_or, if◌then◌else◌, Bool, Option, Some, None}
 use Rattle.std.specs.Int.{from_be_bytes, w32}
 use Rattle.std.specs.List.{flat_map, zip}
 use Rattle.flat_machine.specs.declared.machine.Window.{Window}
@@ -92,3 +92,7 @@ job_lines content =
 -- the text of a job's lines
 abbrev pub written : Content → List ℕ
 written content = flat_map line_text (job_lines content)
+
+-- numbers that bytes hold
+abbrev pub AreBytes : List ℕ → Type 0
+AreBytes bytes = EachIndex bytes (λ k. slice_index bytes k < 256)

@@ -1,10 +1,10 @@
 // Jobs as texts (docs/FORMATS.md, "Job").
 ghost use Rattle.std.specs.Prelude.{◌≡◌, ℕ, List, [], ◌∷◌, ◌++◌, map, codes, decimal, slice_index_or, None, Some, Ok, IfOk, OnOk};
-ghost use Rattle.std.specs.List.{flat_map, zip};
+ghost use Rattle.std.specs.List.{All, flat_map, zip};
 ghost use Rattle.asm_parse.specs.declared.token.Token.TheVariants.{Word as WordToken, Number as NumberToken};
 ghost use Rattle.romp_asm.specs.Layout.{parts_of};
 ghost use Rattle.job_text.specs.Grammar.{content_of, job_of};
-ghost use Rattle.job_text.specs.Written.{access_text, event_line, image_lines, line_text, number_line, program_lines, source_lines, window_line, window_lines, written};
+ghost use Rattle.job_text.specs.Written.{AreBytes, access_text, event_line, image_lines, line_text, number_line, program_lines, source_lines, window_line, window_lines, written};
 
 use super::job::{Job, Name};
 use desk::Event;
@@ -25,16 +25,32 @@ pub fn write_job(alloc: Global, job: &Job) -> Result<Vec<u8>, AllocError>
 {
     let mut text = Vec::new(alloc);
     put_number_line(alloc, &mut text, "frames", u32::from(job.frames))?;
-    put_programs(alloc, &mut text, job.names.as_slice(), job.programs.as_slice())?;
+    put_programs(
+        alloc,
+        &mut text,
+        job.names.as_slice(),
+        job.programs.as_slice(),
+    )?;
     put_word_line(&mut text, "schedule")?;
-    put_events(alloc, &mut text, job.names.as_slice(), job.events.as_slice())?;
+    put_events(
+        alloc,
+        &mut text,
+        job.names.as_slice(),
+        job.events.as_slice(),
+    )?;
     put_word_line(&mut text, "end")?;
     Ok(text)
 }
 
 /// Appends the programs that have a name, each from its name to its `end`.
-fn put_programs(alloc: Global, text: &mut Vec<u8>, names: &[Name], programs: &[Program]) -> Result<(), AllocError>
-    ensures { OnOk result (text.new.items ≡ text.old.items ++ flat_map line_text (flat_map program_lines (zip (map (λ name. name.items) names.now) (map parts_of programs.now)))) }
+fn put_programs(
+    alloc: Global,
+    text: &mut Vec<u8>,
+    names: &[Name],
+    programs: &[Program],
+) -> Result<(), AllocError>
+    ensures bytes { OnOk result (All (λ program. AreBytes program.1.image) (zip (map (λ name. name.items) names.now) (map parts_of programs.now))) }
+    ensures lines { OnOk result (text.new.items ≡ text.old.items ++ flat_map line_text (flat_map program_lines (zip (map (λ name. name.items) names.now) (map parts_of programs.now)))) }
 {
     for (name, program) in names.iter().zip(programs) {
         put_program(alloc, text, name.as_slice(), program)?;
@@ -43,7 +59,12 @@ fn put_programs(alloc: Global, text: &mut Vec<u8>, names: &[Name], programs: &[P
 }
 
 /// Appends the lines of events, by the names of the programs.
-fn put_events(alloc: Global, text: &mut Vec<u8>, names: &[Name], events: &[Event]) -> Result<(), AllocError>
+fn put_events(
+    alloc: Global,
+    text: &mut Vec<u8>,
+    names: &[Name],
+    events: &[Event],
+) -> Result<(), AllocError>
     ensures { OnOk result (text.new.items ≡ text.old.items ++ flat_map line_text (map (event_line (map (λ name. name.items) names.now)) events.now)) }
 {
     for event in events {
@@ -53,8 +74,14 @@ fn put_events(alloc: Global, text: &mut Vec<u8>, names: &[Name], events: &[Event
 }
 
 /// Appends a program from its name to its `end`.
-fn put_program(alloc: Global, text: &mut Vec<u8>, name: &[u8], program: &Program) -> Result<(), AllocError>
-    ensures { OnOk result (text.new.items ≡ text.old.items ++ flat_map line_text (program_lines (name.now, parts_of program.now))) }
+fn put_program(
+    alloc: Global,
+    text: &mut Vec<u8>,
+    name: &[u8],
+    program: &Program,
+) -> Result<(), AllocError>
+    ensures bytes { OnOk result (AreBytes program.now.image) }
+    ensures lines { OnOk result (text.new.items ≡ text.old.items ++ flat_map line_text (program_lines (name.now, parts_of program.now))) }
 {
     put_name_line(text, "program", name)?;
     put_number_line(alloc, text, ".entry", u32::from(program.entry))?;
@@ -64,7 +91,11 @@ fn put_program(alloc: Global, text: &mut Vec<u8>, name: &[u8], program: &Program
 }
 
 /// Appends a line for each window that is there, the first place for register 1.
-fn put_windows(alloc: Global, text: &mut Vec<u8>, windows: &[Option<Window>; 15]) -> Result<(), AllocError>
+fn put_windows(
+    alloc: Global,
+    text: &mut Vec<u8>,
+    windows: &[Option<Window>; 15],
+) -> Result<(), AllocError>
     ensures { OnOk result (text.new.items ≡ text.old.items ++ flat_map line_text (window_lines 1 windows.now)) }
 {
     let mut register = 1;
@@ -78,7 +109,12 @@ fn put_windows(alloc: Global, text: &mut Vec<u8>, windows: &[Option<Window>; 15]
 }
 
 /// Appends the line of a window.
-fn put_window(alloc: Global, text: &mut Vec<u8>, register: u32, window: Window) -> Result<(), AllocError>
+fn put_window(
+    alloc: Global,
+    text: &mut Vec<u8>,
+    register: u32,
+    window: Window,
+) -> Result<(), AllocError>
     ensures { OnOk result (text.new.items ≡ text.old.items ++ line_text (window_line register window)) }
 {
     text.extend_from_slice(b".window")?;
@@ -91,7 +127,8 @@ fn put_window(alloc: Global, text: &mut Vec<u8>, register: u32, window: Window) 
 
 /// Appends a `.word` for each four bytes, and a `.byte` for each that is left.
 fn put_image(alloc: Global, text: &mut Vec<u8>, image: &[u8]) -> Result<(), AllocError>
-    ensures { OnOk result (text.new.items ≡ text.old.items ++ flat_map line_text (image_lines image.now)) }
+    ensures bytes { AreBytes image.now }
+    ensures lines { OnOk result (text.new.items ≡ text.old.items ++ flat_map line_text (image_lines image.now)) }
 {
     let mut left = image;
     while let [a, b, c, d, behind @ ..] = left {
@@ -112,7 +149,12 @@ fn put_bytes(alloc: Global, text: &mut Vec<u8>, bytes: &[u8]) -> Result<(), Allo
 }
 
 /// Appends the line of an event, by the names of the programs.
-fn put_event(alloc: Global, text: &mut Vec<u8>, names: &[Name], event: &Event) -> Result<(), AllocError>
+fn put_event(
+    alloc: Global,
+    text: &mut Vec<u8>,
+    names: &[Name],
+    event: &Event,
+) -> Result<(), AllocError>
     ensures { OnOk result (text.new.items ≡ text.old.items ++ line_text (event_line (map (λ name. name.items) names.now) event.now)) }
 {
     match event {
@@ -136,7 +178,12 @@ fn name_at(names: &[Name], place: usize) -> &[u8]
 }
 
 /// Appends the line of a begin.
-fn put_begin(alloc: Global, text: &mut Vec<u8>, name: &[u8], args: &[u32; 4]) -> Result<(), AllocError>
+fn put_begin(
+    alloc: Global,
+    text: &mut Vec<u8>,
+    name: &[u8],
+    args: &[u32; 4],
+) -> Result<(), AllocError>
     ensures { OnOk result (text.new.items ≡ text.old.items ++ line_text (WordToken (codes "begin") ∷ WordToken name.now ∷ map NumberToken args.now)) }
 {
     text.extend_from_slice(b"begin ")?;
@@ -149,7 +196,12 @@ fn put_begin(alloc: Global, text: &mut Vec<u8>, name: &[u8], args: &[u32; 4]) ->
 }
 
 /// Appends the line of a turn.
-fn put_turn(alloc: Global, text: &mut Vec<u8>, activation: u32, limit: u32) -> Result<(), AllocError>
+fn put_turn(
+    alloc: Global,
+    text: &mut Vec<u8>,
+    activation: u32,
+    limit: u32,
+) -> Result<(), AllocError>
     ensures { OnOk result (text.new.items ≡ text.old.items ++ line_text (WordToken (codes "turn") ∷ NumberToken activation ∷ NumberToken limit ∷ [])) }
 {
     text.extend_from_slice(b"turn")?;
@@ -180,7 +232,12 @@ fn put_name_line(text: &mut Vec<u8>, word: &str, name: &[u8]) -> Result<(), Allo
 }
 
 /// Appends a line of a word and a number.
-fn put_number_line(alloc: Global, text: &mut Vec<u8>, word: &str, number: u32) -> Result<(), AllocError>
+fn put_number_line(
+    alloc: Global,
+    text: &mut Vec<u8>,
+    word: &str,
+    number: u32,
+) -> Result<(), AllocError>
     ensures { OnOk result (text.new.items ≡ text.old.items ++ line_text (number_line word.now number)) }
 {
     text.extend_from_slice(word.as_bytes())?;

@@ -82,7 +82,7 @@ byte_at [] are i = omega arith
 byte_at (byte ∷ bytes) are zero = are.0
 byte_at (byte ∷ bytes) are (suc i) = byte_at bytes are.1 i
 
-word_small : (a b c d : ℕ) → a < 256 → b < 256 → c < 256 → d < 256 → from_be_bytes w32 (a ∷ b ∷ c ∷ d ∷ []) ≤ 4294967295
+pub word_small : (a b c d : ℕ) → a < 256 → b < 256 → c < 256 → d < 256 → from_be_bytes w32 (a ∷ b ∷ c ∷ d ∷ []) ≤ 4294967295
 word_small a b c d small_a small_b small_c small_d = omega arith
 
 word_by : (addresses : List ℕ → Option ℤ) (at number : ℕ) (bytes : List ℕ) → number ≤ 4294967295 → to_be_bytes w32 number ≡ bytes → encoding_of addresses at (Data 4 (Number (pos number))) ≡ Ok bytes
@@ -132,7 +132,7 @@ windows_made all before number register done (None ∷ windows) image legal is n
 windows_made all before number register done (Some window ∷ windows) image legal is noted are fits =
     let body = Window register window.segment window.write in
     let after : windows_of (before ++ plain_at number body ∷ []) ≡ (done ++ Some window ∷ []) ++ replicate (length windows) None =
-      windows_push before (plain_at number body) ∙ rw (noted, set_at done None (replicate (length windows) None) (Some window) (register - 1) (omega arith)) (sym (append_assoc done (Some window ∷ []) (replicate (length windows) None))) in
+    windows_push before (plain_at number body) ∙ rw (noted, set_at done None (replicate (length windows) None) (Some window) (register - 1) (omega arith)) (sym (append_assoc done (Some window ∷ []) (replicate (length windows) None))) in
     one_more all before (made (number + 1) (window_bodies (register + 1) windows ++ image_bodies image)) number body [] image refl refl (omega arith) (rw noted (takes done (replicate (length windows) None) register window is legal.0))
     (windows_made all (before ++ plain_at number body ∷ []) (number + 1) (register + 1) (done ++ Some window ∷ []) windows image legal.1 (omega (arith, length-append done (Some window ∷ []))) after are (omega (arith, total_push before (plain_at number body))))
 

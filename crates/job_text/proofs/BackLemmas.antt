@@ -1,0 +1,74 @@
+-- A job that some text has is the job of what is written of it.
+use Rattle.std.proofs.Common.{◌≡◌, ℕ, suc, ◌+◌, ◌<◌, ◌≤◌, map, List, [], ◌∷◌, ◌++◌, length, Result, Ok, Err, refl, sym, ap, ◌∙◌, subst, arith, append-nil}
+use Rattle.std.specs.List.{All, AllByRecursion, zip}
+use Rattle.std.proofs.lemmas.List.Elements.{recursion_from_All}
+use Rattle.asm_parse.specs.Text.{lines_of}
+use Rattle.flat_machine.specs.declared.machine.Program.{Program}
+use Rattle.romp_asm.specs.Layout.{Parts, parts_of}
+use Rattle.romp_asm.proofs.MadeLemmas.{IsByte}
+use Rattle.job_text.specs.declared.job.Job.{Job}
+use Rattle.job_text.specs.declared.stage.Stage.{Stage}
+use Rattle.job_text.specs.declared.stage.Stage.TheVariants.{Frames, Programs, Source, Schedule, Ended}
+use Rattle.job_text.specs.Grammar.{Content, content_of, job_of, last_part, read_from, then_read, whole}
+use Rattle.job_text.specs.Reading.{Reading, line_read, nothing_read}
+use Rattle.job_text.specs.Written.{AreBytes, written}
+use Rattle.job_text.proofs.FollowLemmas.{AllSound, Follows, Gives, content_read, gives_line}
+
+-- a content has a name for each program, and is read again from what is written of it
+abbrev GivesBack : Result Content (ℕ × ℕ) → Type 0
+GivesBack (Ok content) = (length content.names ≡ length content.programs) × (AllSound content.programs → job_of (written content) ≡ Ok content)
+GivesBack (Err fault) = Unit {0}
+
+bytes_are : (bytes : List ℕ) → AreBytes bytes → AllByRecursion IsByte bytes
+bytes_are [] each = tt
+bytes_are (byte ∷ bytes) each = (each 0 (omega arith), bytes_are bytes (λ k inside. each (suc k) (omega arith)))
+
+-- programs of bytes are sound
+all_sound : (names : List (List ℕ)) (programs : List Program) → length names ≡ length (map parts_of programs) → AllByRecursion (λ (program : List ℕ × Parts). AreBytes program.1.image) (zip names (map parts_of programs)) → AllSound (map parts_of programs)
+all_sound [] [] long are = tt
+all_sound [] (program ∷ programs) long are = absurd (omega arith)
+all_sound (name ∷ names) [] long are = absurd (omega arith)
+all_sound (name ∷ names) (program ∷ programs) long are = (
+  record { bytes = bytes_are program.image are.0; few = program.image_fits; entry = omega (arith, program.entry_fits, program.entry_is_even); even = program.entry_is_even },
+  all_sound names programs (omega arith) are.1,
+)
+
+-- the end of a text
+at_end : (reading : Reading) (number : ℕ) → reading.stage ≡ Ended → read_from reading number (lines_of []) ≡ Ok (content_read reading)
+unfolding read_from
+at_end reading number at = ap (λ stage. whole stage reading number) at
+
+gives_whole : (stage : Stage) (reading : Reading) (number : ℕ) → Follows stage reading → GivesBack (whole stage reading number)
+gives_whole Ended reading number follows = (
+  follows.so_far.names,
+  λ sound.
+      let led = follows.so_far.leads sound 1 [] in
+      ap (λ text. read_from nothing_read 1 (lines_of text)) (sym (append-nil (written (content_read reading)))) ∙ led.1 ∙ at_end reading led.0 follows.at,
+)
+gives_whole Frames reading number follows = tt
+gives_whole Programs reading number follows = tt
+gives_whole Source reading number follows = tt
+gives_whole Schedule reading number follows = tt
+
+gives_last : (reading : Reading) (number : ℕ) (last : List ℕ) → Follows reading.stage reading → GivesBack (last_part reading number last)
+gives_last reading number [] follows = gives_whole reading.stage reading number follows
+gives_last reading number (byte ∷ bytes) follows = tt
+
+gives_from : (reading : Reading) (number : ℕ) (lines : List (List ℕ)) → Follows reading.stage reading → GivesBack (read_from reading number lines)
+unfolding read_from
+gives_from reading number [] follows = tt
+gives_from reading number (last ∷ []) follows = gives_last reading number last follows
+gives_from reading number (line ∷ next ∷ lines) follows =
+    on (line_read reading.stage reading number line) (gives_line reading.stage reading number line follows) (λ more these. gives_from more (number + 1) (next ∷ lines) these)
+  where
+    on : (read : Result Reading (ℕ × ℕ)) → Gives read → ((more : Reading) → Follows more.stage more → GivesBack (read_from more (number + 1) (next ∷ lines)))
+        → GivesBack (then_read (λ more. read_from more (number + 1) (next ∷ lines)) read)
+    on (Ok more) follows others = others more follows
+    on (Err fault) follows others = tt
+
+-- the job of some text is the job of what is written of it
+pub read_back : (text : List ℕ) (job : Job) → All (λ (program : List ℕ × Parts). AreBytes program.1.image) (zip (content_of job).names (content_of job).programs) → job_of text ≡ Ok (content_of job) → job_of (written (content_of job)) ≡ Ok (content_of job)
+read_back text job are is =
+    let gives : GivesBack (job_of text) = gives_from nothing_read 1 (lines_of text) (record { at = refl; so_far = refl }) in
+    let back : GivesBack (Ok (content_of job)) = subst GivesBack is gives in
+    back.1 (all_sound (content_of job).names job.programs.items back.0 (recursion_from_All (λ (program : List ℕ × Parts). AreBytes program.1.image) (zip (content_of job).names (content_of job).programs) are))
