@@ -1,7 +1,10 @@
 -- A job that some text has is the job of what is written of it.
 use Rattle.std.proofs.Common.{◌≡◌, ℕ, suc, ◌+◌, ◌<◌, ◌≤◌, map, List, [], ◌∷◌, ◌++◌, length, Result, Ok, Err, refl, sym, ap, ◌∙◌, subst, arith, append-nil}
 use Rattle.std.specs.List.{All, AllByRecursion, zip}
+use Rattle.std.specs.Prelude.{IfOk}
+use Rattle.std.proofs.lemmas.List.{length-map}
 use Rattle.std.proofs.lemmas.List.Elements.{recursion_from_All}
+use Rattle.arrayvec.specs.ArrayVec.{ArrayVec}
 use Rattle.asm_parse.specs.Text.{lines_of}
 use Rattle.flat_machine.specs.declared.machine.Program.{Program}
 use Rattle.romp_asm.specs.Layout.{Parts, parts_of}
@@ -10,13 +13,23 @@ use Rattle.job_text.specs.declared.job.Job.{Job}
 use Rattle.job_text.specs.declared.stage.Stage.{Stage}
 use Rattle.job_text.specs.declared.stage.Stage.TheVariants.{Frames, Programs, Source, Schedule, Ended}
 use Rattle.job_text.specs.Grammar.{Content, content_of, job_of, last_part, read_from, then_read, whole}
+use Rattle.job_text.specs.declared.job.JobFault.{JobFault}
+use Rattle.job_text.specs.JobAnswers.{IsJobAnswer}
+use Rattle.job_text.specs.Ready.{IsEventAmong, IsReady}
 use Rattle.job_text.specs.Reading.{Reading, line_read, nothing_read}
 use Rattle.job_text.specs.Written.{AreBytes, written}
-use Rattle.job_text.proofs.FollowLemmas.{AllSound, Follows, Gives, content_read, gives_line}
+use Rattle.job_text.proofs.FollowLemmas.{AllSound, Follows, Gives, IsFrames, content_read, gives_line}
 
--- a content has a name for each program, and is read again from what is written of it
+-- a content can be run, and is read again from what is written of it
+record IsReadBack (content : Content) : Type 0 where
+  frames : IsFrames content.frames
+  names : length content.names ≡ length content.programs
+  events : All (IsEventAmong (length content.programs)) content.events
+  few : length content.events ≤ 10000
+  back : AllSound content.programs → job_of (written content) ≡ Ok content
+
 abbrev GivesBack : Result Content (ℕ × ℕ) → Type 0
-GivesBack (Ok content) = (length content.names ≡ length content.programs) × (AllSound content.programs → job_of (written content) ≡ Ok content)
+GivesBack (Ok content) = IsReadBack content
 GivesBack (Err fault) = Unit {0}
 
 bytes_are : (bytes : List ℕ) → AreBytes bytes → AllByRecursion IsByte bytes
@@ -39,12 +52,15 @@ unfolding read_from
 at_end reading number at = ap (λ stage. whole stage reading number) at
 
 gives_whole : (stage : Stage) (reading : Reading) (number : ℕ) → Follows stage reading → GivesBack (whole stage reading number)
-gives_whole Ended reading number follows = (
-  follows.so_far.names,
-  λ sound.
+gives_whole Ended reading number follows = record {
+  frames = follows.so_far.frames;
+  names = follows.so_far.names;
+  events = follows.so_far.events;
+  few = follows.so_far.few;
+  back = λ sound.
       let led = follows.so_far.leads sound 1 [] in
-      ap (λ text. read_from nothing_read 1 (lines_of text)) (sym (append-nil (written (content_read reading)))) ∙ led.1 ∙ at_end reading led.0 follows.at,
-)
+      ap (λ text. read_from nothing_read 1 (lines_of text)) (sym (append-nil (written (content_read reading)))) ∙ led.1 ∙ at_end reading led.0 follows.at;
+}
 gives_whole Frames reading number follows = tt
 gives_whole Programs reading number follows = tt
 gives_whole Source reading number follows = tt
@@ -66,9 +82,29 @@ gives_from reading number (line ∷ next ∷ lines) follows =
     on (Ok more) follows others = others more follows
     on (Err fault) follows others = tt
 
+job_back : (text : List ℕ) (job : Job) → job_of text ≡ Ok (content_of job) → IsReadBack (content_of job)
+job_back text job is =
+    let gives : GivesBack (job_of text) = gives_from nothing_read 1 (lines_of text) (record { at = refl; so_far = refl }) in
+    subst GivesBack is gives
+
 -- the job of some text is the job of what is written of it
 pub read_back : (text : List ℕ) (job : Job) → All (λ (program : List ℕ × Parts). AreBytes program.1.image) (zip (content_of job).names (content_of job).programs) → job_of text ≡ Ok (content_of job) → job_of (written (content_of job)) ≡ Ok (content_of job)
 read_back text job are is =
-    let gives : GivesBack (job_of text) = gives_from nothing_read 1 (lines_of text) (record { at = refl; so_far = refl }) in
-    let back : GivesBack (Ok (content_of job)) = subst GivesBack is gives in
-    back.1 (all_sound (content_of job).names job.programs.items back.0 (recursion_from_All (λ (program : List ℕ × Parts). AreBytes program.1.image) (zip (content_of job).names (content_of job).programs) are))
+    let told = job_back text job is in
+    told.back (all_sound (content_of job).names job.programs.items told.names (recursion_from_All (λ (program : List ℕ × Parts). AreBytes program.1.image) (zip (content_of job).names (content_of job).programs) are))
+
+-- the job of a text can be run
+job_ready : (text : List ℕ) (job : Job) → job_of text ≡ Ok (content_of job) → IsReady job
+job_ready text job is =
+    let told = job_back text job is in
+    let programs : length (map parts_of job.programs.items) ≡ length job.programs.items = length-map job.programs.items parts_of in
+    record {
+      frames = told.frames;
+      named = sym (length-map job.names.items (λ (name : ArrayVec ℕ). name.items)) ∙ told.names ∙ programs;
+      events = subst (λ (n : ℕ). All (IsEventAmong n) job.events.items) programs told.events;
+      few = told.few;
+    }
+
+pub answer_ready : (text : List ℕ) (result : Result Job JobFault) → IsJobAnswer result (job_of text) → IfOk result IsReady
+answer_ready text (Ok job) answer = job_ready text job answer
+answer_ready text (Err fault) answer = tt

@@ -1,5 +1,5 @@
 -- What has been read of a job is read again from the lines that are written of it.
-use Rattle.std.proofs.Common.{◌≡◌, ℕ, zero, suc, ◌+◌, ◌*◌, ◌<◌, ◌≤◌, ◌^◌, ◌&&◌, nat_le, nat_lt, is_some, if◌then◌else◌, Bool, true, false, List, [], ◌∷◌, ◌++◌, length, map, codes, slice_index_or, Option, Some, None, Result, Ok, Err, refl, sym, ap, ◌∙◌, subst, arith, append_assoc, append-nil, length-append}
+use Rattle.std.proofs.Common.{◌≡◌, ℕ, zero, suc, ◌+◌, ◌*◌, ◌<◌, ◌≤◌, ◌^◌, ◌&&◌, nat_le, nat_lt, is_some, if◌then◌else◌, Bool, true, false, List, [], ◌∷◌, ◌++◌, length, All, map, codes, slice_index_or, Option, Some, None, Result, Ok, Err, refl, sym, ap, ◌∙◌, subst, arith, append_assoc, append-nil, length-append}
 use Rattle.std.specs.Str.{bytes_eq}
 use Rattle.std.specs.List.{AllByRecursion, flat_map, zip}
 use Rattle.std.proofs.Math.Nat.{mul-le-mul_right}
@@ -7,6 +7,7 @@ use Rattle.std.proofs.lemmas.Bool.{le-leb, lt-ltb}
 use Rattle.std.proofs.lemmas.Bool.Decides.{nat_tests}
 use Rattle.std.proofs.lemmas.Grind.{flat_map-append}
 use Rattle.std.proofs.lemmas.List.{map-append}
+use Rattle.std.proofs.lemmas.List.Elements.{All-append, All-nil}
 use Rattle.std.proofs.lemmas.List.Quantifiers.{position-Some}
 use Rattle.std.proofs.lemmas.Slice.Eq.{bytes_eq-Decides}
 use Rattle.desk.specs.declared.event.Event.{Event}
@@ -29,9 +30,11 @@ use Rattle.job_text.specs.declared.stage.TheConstants.{TAKES_CHECKPOINT, TAKES_C
 use Rattle.job_text.specs.Grammar.{Content}
 use Rattle.job_text.specs.Reader.{tokens_read}
 use Rattle.job_text.specs.Reading.{Reading, nothing_read, frames_line, program_begins, programs_line, is_end, program_ends, source_goes_on, source_line, with_event, values_of, four_of, begin_of, begin_line, is_limit, turn_line, turns_to, rounds_of, drain_line, single_line, schedule_line, ended_line, by_tokens, line_read}
+use Rattle.job_text.specs.Ready.{IsEventAmong}
 use Rattle.job_text.specs.Written.{end_line, event_line, head_lines, job_lines, number_line, program_lines, source_lines}
 use Rattle.job_text.proofs.DrainLemmas.{length-rounds_of, length-turns_to}
 use Rattle.job_text.proofs.LeadsLemmas.{Leads, leads_both, leads_line, leads_none}
+use Rattle.job_text.proofs.ReadyLemmas.{checkpoint_among, crash_among, limit_small, one_event, rounds_among}
 use Rattle.job_text.proofs.SourceLemmas.{IsSound, end_tokens, source_leads}
 
 -- `program NAME` and `schedule`
@@ -53,14 +56,20 @@ content_read reading = record { frames = reading.frames; names = reading.names; 
 abbrev pub AllSound : List Parts → Type 0
 AllSound programs = AllByRecursion IsSound programs
 
+-- 2 to 1,024 frames
+abbrev pub IsFrames : ℕ → Type 0
+IsFrames frames = (2 ≤ frames) × (frames ≤ 1024)
+
 -- where no program is being read
 pub record AtPrograms (reading : Reading) : Type 0 where
+  pub frames : IsFrames reading.frames
   pub names : length reading.names ≡ length reading.programs
   pub none : reading.events ≡ []
   pub leads : AllSound reading.programs → Leads nothing_read (head_lines reading.frames reading.names reading.programs) reading
 
 -- where the last name's program is being read
 pub record AtSource (reading : Reading) : Type 0 where
+  pub frames : IsFrames reading.frames
   pub before : List (List ℕ)
   pub name : List ℕ
   pub names : reading.names ≡ before ++ name ∷ []
@@ -70,12 +79,18 @@ pub record AtSource (reading : Reading) : Type 0 where
 
 -- in the schedule
 pub record AtSchedule (reading : Reading) : Type 0 where
+  pub frames : IsFrames reading.frames
   pub names : length reading.names ≡ length reading.programs
+  pub events : All (IsEventAmong (length reading.programs)) reading.events
+  pub few : length reading.events ≤ 10000
   pub leads : AllSound reading.programs → Leads nothing_read (schedule_lines reading) reading
 
 -- behind the schedule
 pub record AtEnd (reading : Reading) : Type 0 where
+  pub frames : IsFrames reading.frames
   pub names : length reading.names ≡ length reading.programs
+  pub events : All (IsEventAmong (length reading.programs)) reading.events
+  pub few : length reading.events ≤ 10000
   pub leads : AllSound reading.programs → Leads nothing_read (job_lines (content_read reading)) reading
 
 abbrev pub At : Stage → Reading → Type 0
@@ -105,6 +120,7 @@ gives_frames (Word word ∷ Number count ∷ []) are = by_word (bytes_eq word (c
     by_count true is = record {
       at = refl;
       so_far = record {
+        frames = (grind (arith, nat_tests, is), grind (arith, nat_tests, is));
         names = refl;
         none = refl;
         leads = λ sound.
@@ -129,6 +145,7 @@ gives_program reading name is_word label follows = by_tests (is_some (place_amon
     by_tests false true is_there is_few = record {
       at = refl;
       so_far = record {
+        frames = follows.so_far.frames;
         before = reading.names;
         name = name;
         names = refl;
@@ -152,7 +169,10 @@ gives_programs reading (Word word ∷ []) are follows = by_word (bytes_eq word (
     by_word true = record {
       at = refl;
       so_far = record {
+        frames = follows.so_far.frames;
         names = follows.so_far.names;
+        events = subst (All (IsEventAmong (length reading.programs))) (sym follows.so_far.none) (All-nil (IsEventAmong (length reading.programs)));
+        few = omega (arith, ap length follows.so_far.none);
         leads = λ sound.
             subst (λ (events : List Event). Leads nothing_read (head_lines reading.frames reading.names reading.programs ++ schedule_word ∷ map (event_line reading.names) events) new) (sym follows.so_far.none)
             (leads_both nothing_read reading new (head_lines reading.frames reading.names reading.programs) (schedule_word ∷ []) (follows.so_far.leads sound)
@@ -197,6 +217,7 @@ gives_source reading number line follows = by_end (is_end (tokens line))
     ends (Ok parts) is = record {
       at = refl;
       so_far = record {
+        frames = follows.so_far.frames;
         names = ap length follows.so_far.names ∙ omega (arith, length-append follows.so_far.before (follows.so_far.name ∷ []), length-append reading.programs (parts ∷ []), follows.so_far.long);
         none = follows.so_far.none;
         leads = λ all.
@@ -212,7 +233,7 @@ gives_source reading number line follows = by_end (is_end (tokens line))
     ends (Err fault) is = tt
 
     goes : (statement : Result (Option Statement) (ℕ × ℕ)) → Gives (source_goes_on reading statement)
-    goes (Ok (Some statement)) = same Source (record reading { statements = reading.statements ++ statement ∷ [] }) (record { at = follows.at; so_far = record { before = follows.so_far.before; name = follows.so_far.name; names = follows.so_far.names; long = follows.so_far.long; none = follows.so_far.none; leads = follows.so_far.leads } })
+    goes (Ok (Some statement)) = same Source (record reading { statements = reading.statements ++ statement ∷ [] }) (record { at = follows.at; so_far = record { frames = follows.so_far.frames; before = follows.so_far.before; name = follows.so_far.name; names = follows.so_far.names; long = follows.so_far.long; none = follows.so_far.none; leads = follows.so_far.leads } })
     goes (Ok None) = same Source reading follows
     goes (Err fault) = tt
 
@@ -225,13 +246,16 @@ abbrev with_events : Reading → ℕ → List Event → Reading
 with_events reading begins more = record reading { begins = begins; events = reading.events ++ more }
 
 -- events that lead on
-more_events : (reading : Reading) (begins : ℕ) (more : List Event) → Follows Schedule reading → Leads reading (map (event_line reading.names) more) (with_events reading begins more) → Follows reading.stage (with_events reading begins more)
-more_events reading begins more follows leads =
+more_events : (reading : Reading) (begins : ℕ) (more : List Event) → Follows Schedule reading → All (IsEventAmong (length reading.programs)) more → length reading.events + length more ≤ 10000 → Leads reading (map (event_line reading.names) more) (with_events reading begins more) → Follows reading.stage (with_events reading begins more)
+more_events reading begins more follows among room leads =
     same Schedule (with_events reading begins more)
     (record {
       at = follows.at;
       so_far = record {
+        frames = follows.so_far.frames;
         names = follows.so_far.names;
+        events = All-append (IsEventAmong (length reading.programs)) reading.events more follows.so_far.events among;
+        few = omega (arith, room, length-append reading.events more);
         leads = λ sound.
             subst (λ (lines : List (List Token)). Leads nothing_read lines (with_events reading begins more))
             (append_assoc (head_lines reading.frames reading.names reading.programs) (schedule_word ∷ map (event_line reading.names) reading.events) (map (event_line reading.names) more)
@@ -240,14 +264,17 @@ more_events reading begins more follows leads =
       };
     })
 
+below_room : (n : ℕ) → nat_lt n 10000 ≡ true → n + 1 ≤ 10000
+below_room n is = grind (arith, nat_tests, is)
+
 -- one event more, whose line is read as the event
-gives_event : (reading : Reading) (begins : ℕ) (event : Event) → Follows Schedule reading → AllByRecursion IsToken (event_line reading.names event) → tokens_read Schedule reading (event_line reading.names event) ≡ with_event (record reading { begins = begins }) event
+gives_event : (reading : Reading) (begins : ℕ) (event : Event) → Follows Schedule reading → IsEventAmong (length reading.programs) event → AllByRecursion IsToken (event_line reading.names event) → tokens_read Schedule reading (event_line reading.names event) ≡ with_event (record reading { begins = begins }) event
     → Gives (with_event (record reading { begins = begins }) event)
-gives_event reading begins event follows are told = by_room (nat_lt (length reading.events) 10000) refl
+gives_event reading begins event follows among are told = by_room (nat_lt (length reading.events) 10000) refl
   where
     by_room : (room : Bool) → nat_lt (length reading.events) 10000 ≡ room → Gives {E = ℕ} (if room then Ok (with_events reading begins (event ∷ [])) else Err 11)
     by_room true is =
-        more_events reading begins (event ∷ []) follows
+        more_events reading begins (event ∷ []) follows (one_event (length reading.programs) event among) (below_room (length reading.events) is)
         (leads_line Schedule reading (with_events reading begins (event ∷ [])) (event_line reading.names event) follows.at tt are (told ∙ rw is refl))
     by_room false is = tt
 
@@ -285,7 +312,7 @@ four_small _ four are is = absurd (cc is)
 gives_begin : (reading : Reading) (name : List ℕ) (four : List ℕ) (place : Option ℕ) → Follows Schedule reading → IsWord name → is_label name ≡ true → AllByRecursion IsToken (map Number (four_of four)) → place_among reading.names name ≡ place → Gives (begin_of reading four place)
 gives_begin reading name four (Some program) follows is_word label small place =
     let there = name_there reading.names name program place in
-    gives_event reading (reading.begins + 1) (Begin program (four_of four)) follows ((refl, refl, omega arith), (subst IsWord (sym there) is_word, small))
+    gives_event reading (reading.begins + 1) (Begin program (four_of four)) follows (subst (λ (n : ℕ). program < n) follows.so_far.names (position-Some (λ name'. bytes_eq name' name) reading.names program [] place).0) ((refl, refl, omega arith), (subst IsWord (sym there) is_word, small))
     (begin_told reading name (slice_index_or reading.names program []) program _ _ _ _ there label place)
 gives_begin reading name four None follows is_word label small place = tt
 
@@ -303,7 +330,7 @@ gives_turn reading activation limit small_activation small_limit follows = by_te
   where
     by_tests : (known small : Bool) → (nat_le 1 activation && nat_le activation reading.begins) ≡ known → is_limit limit ≡ small → Gives {E = ℕ} (if known then (if small then with_event reading (Turn activation limit) else Err 11) else Err 14)
     by_tests true true known small =
-        gives_event reading reading.begins (Turn activation limit) follows ((refl, refl, omega arith), (small_activation, (small_limit, tt))) (turn_told reading activation limit known small)
+        gives_event reading reading.begins (Turn activation limit) follows (limit_small limit small) ((refl, refl, omega arith), (small_activation, (small_limit, tt))) (turn_told reading activation limit known small)
     by_tests true false known small = tt
     by_tests false small known is = tt
 
@@ -358,11 +385,12 @@ gives_drain reading rounds limit small follows =
     by_test : (right : Bool) → (nat_le 1 rounds && nat_le rounds 10000 && is_limit limit && nat_le (length reading.events + rounds * reading.begins) 10000) ≡ right
         → Gives {E = ℕ} (if right then Ok (record reading { events = reading.events ++ rounds_of limit reading.begins rounds }) else Err 11)
     by_test true e =
+        let is : is_limit limit ≡ true = limit_is (nat_le 1 rounds && nat_le rounds 10000) (is_limit limit) (nat_le (length reading.events + rounds * reading.begins) 10000) e in
         let some : 1 ≤ rounds = grind (arith, nat_tests, e) in
         let room : length reading.events + rounds * reading.begins ≤ 10000 = grind (arith, nat_tests, e) in
         let more : 1 * reading.begins ≤ rounds * reading.begins = mul-le-mul_right reading.begins some in
-        more_events reading reading.begins (rounds_of limit reading.begins rounds) follows
-        (rounds_lead reading limit rounds follows.at (limit_is (nat_le 1 rounds && nat_le rounds 10000) (is_limit limit) (nat_le (length reading.events + rounds * reading.begins) 10000) e) small (omega arith) room)
+        more_events reading reading.begins (rounds_of limit reading.begins rounds) follows (rounds_among (length reading.programs) limit reading.begins rounds (limit_small limit is)) (omega (arith, room, length-rounds_of limit reading.begins rounds))
+        (rounds_lead reading limit rounds follows.at is small (omega arith) room)
     by_test false e = tt
 
 -- a line of one word that is taken is read as its event
@@ -382,14 +410,17 @@ gives_single reading word follows =
     by_tests true saves stops taken_save taken_stop = record {
       at = refl;
       so_far = record {
+        frames = follows.so_far.frames;
         names = follows.so_far.names;
+        events = follows.so_far.events;
+        few = follows.so_far.few;
         leads = λ sound. leads_both nothing_read reading new (schedule_lines reading) (end_line ∷ []) (follows.so_far.leads sound) (leads_line Schedule reading new end_line follows.at tt end_tokens refl);
       };
     }
     by_tests false true stops taken_save taken_stop =
-        gives_event reading reading.begins Checkpoint follows ((refl, refl, omega arith), tt) (ap (λ takes. single_by reading false takes false) (taken_save refl).1)
+        gives_event reading reading.begins Checkpoint follows (checkpoint_among (length reading.programs) (taken_save refl).1) ((refl, refl, omega arith), tt) (ap (λ takes. single_by reading false takes false) (taken_save refl).1)
     by_tests false false true taken_save taken_stop =
-        gives_event reading reading.begins Crash follows ((refl, refl, omega arith), tt) (ap (λ takes. single_by reading false false takes) (taken_stop refl).1)
+        gives_event reading reading.begins Crash follows (crash_among (length reading.programs) (taken_stop refl).1) ((refl, refl, omega arith), tt) (ap (λ takes. single_by reading false false takes) (taken_stop refl).1)
     by_tests false false false taken_save taken_stop = tt
 
 gives_schedule : (reading : Reading) (found : List Token) → AllByRecursion IsToken found → Follows Schedule reading → Gives (schedule_line reading found)
