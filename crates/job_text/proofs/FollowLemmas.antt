@@ -278,12 +278,9 @@ gives_event reading begins event follows among are told = by_room (nat_lt (lengt
         (leads_line Schedule reading (with_events reading begins (event ∷ [])) (event_line reading.names event) follows.at tt are (told ∙ rw is refl))
     by_room false is = tt
 
-same_bytes : (xs ys : List ℕ) → bytes_eq xs ys ≡ true → xs ≡ ys
-same_bytes xs ys e = grind (arith, bytes_eq-Decides)
-
 -- the name at the place of a word is the word
 name_there : (names : List (List ℕ)) (word : List ℕ) (place : ℕ) → place_among names word ≡ Some place → slice_index_or names place [] ≡ word
-name_there names word place is = same_bytes (slice_index_or names place []) word (position-Some (λ name. bytes_eq name word) names place [] is).1
+name_there names word place is = (bytes_eq-Decides (slice_index_or names place []) word).0 (position-Some (λ name. bytes_eq name word) names place [] is).1
 
 -- the line of a begin
 begin_told : (reading : Reading) (name written : List ℕ) (program a b c d : ℕ) → written ≡ name → is_label name ≡ true → place_among reading.names name ≡ Some program

@@ -1,6 +1,7 @@
-//! Texts of the whole language and their jobs, and texts that are refused, with the line and the kind of the fault.
+//! Texts and their jobs, written and read again, and texts that are refused, with the line and the kind of the fault.
 use super::{Job, JobFault, read_job, write_job};
 use desk::Event;
+use flat_machine::Program;
 use std::alloc::Global;
 use std::test::Fail;
 
@@ -156,6 +157,31 @@ fn read_again(alloc: Global, text: &[u8]) -> Result<Job, JobFault> {
     read_job(alloc, text)
 }
 
+/// Whether programs have the same bytes, entry address and windows.
+fn is_same_program(one: &Program, other: &Program) -> bool {
+    one.image.as_slice() == other.image.as_slice()
+        && one.entry == other.entry
+        && one.windows == other.windows
+}
+
+/// Whether jobs say the same.
+fn is_same(one: &Job, other: &Job) -> bool {
+    one.frames == other.frames
+        && one.names.len() == other.names.len()
+        && one
+            .names
+            .iter()
+            .zip(other.names.iter())
+            .all(|(name, wanted)| name.as_slice() == wanted.as_slice())
+        && one.programs.len() == other.programs.len()
+        && one
+            .programs
+            .iter()
+            .zip(other.programs.iter())
+            .all(|(program, wanted)| is_same_program(program, wanted))
+        && one.events.as_slice() == other.events.as_slice()
+}
+
 /// The worked run's job.
 const WORKED: &str =
     "frames 2\nprogram add5\n.window 1, 1, rw\n.word 0xD8601000\n.word 0xCD360000\n.word 0xC1330005\n.word 0xDD360000\n.word 0xC0000000\nend\nschedule\nbegin add5\nturn 1 100\nend\n";
@@ -170,17 +196,8 @@ fn the_worked_job_is_written(rt: HostRuntime) -> Result<(), Fail> {
     let text = write_job(rt.alloc(), &job)?;
     assert_eq!(rt; text.as_slice(), WORKED_WRITTEN.as_bytes());
     let again = read_again(rt.alloc(), text.as_slice())?;
-    assert_eq!(rt; again.frames, 2);
-    assert_eq!(rt; again.names.len(), 1);
-    assert_eq!(rt; again.names[0].as_slice(), b"add5".as_slice());
-    assert_eq!(rt; again.programs.len(), 1);
-    assert_eq!(rt;
-        again.programs[0].image.as_slice(),
-        job.programs[0].image.as_slice()
-    );
-    assert_eq!(rt; again.programs[0].entry, 0);
-    assert_eq!(rt; again.programs[0].windows, job.programs[0].windows);
-    assert_eq!(rt; again.events.as_slice(), job.events.as_slice());
+    assert!(rt; is_same(&again, &job));
+    assert_eq!(rt; again.events.len(), 2);
     Ok(())
 }
 
@@ -198,12 +215,12 @@ fn bytes_that_are_left_are_written(rt: HostRuntime) -> Result<(), Fail> {
     let text = write_job(rt.alloc(), &job)?;
     assert_eq!(rt; text.as_slice(), SEVEN_WRITTEN.as_bytes());
     let again = read_again(rt.alloc(), text.as_slice())?;
+    assert!(rt; is_same(&again, &job));
+    assert_eq!(rt; job.events.len(), 4);
+    let image = [1, 2, 3, 4, 5, 6, 7];
     assert_eq!(rt;
-        again.programs[1].image.as_slice(),
-        [1, 2, 3, 4, 5, 6, 7].as_slice()
+        job.programs.last().map(|program| program.image.as_slice()),
+        Some(image.as_slice())
     );
-    assert_eq!(rt; again.events.len(), 4);
-    let twice = write_job(rt.alloc(), &again)?;
-    assert_eq!(rt; twice.as_slice(), text.as_slice());
     Ok(())
 }

@@ -1,20 +1,19 @@
 -- The program that an entry address, windows and data make.
-use Rattle.std.proofs.Common.{◌≡◌, ℕ, ℤ, pos, zero, suc, ◌+◌, ◌-◌, ◌*◌, ◌%◌, ◌^◌, ◌<◌, ◌≤◌, ◌&&◌, nat_lt, nat_le, Bool, true, false, is_some, List, [], ◌∷◌, ◌++◌, length, map, get_or, replicate, slice_get, slice_set, unwrap_or, Option, Some, None, Result, Ok, Err, refl, sym, ap, ◌∙◌, subst, arith, append_assoc, append-nil, length-append}
+use Rattle.std.proofs.Common.{◌≡◌, ℕ, ℤ, pos, zero, suc, ◌+◌, ◌-◌, ◌%◌, ◌<◌, ◌≤◌, ◌&&◌, true, false, is_some, List, [], ◌∷◌, ◌++◌, length, map, get_or, replicate, slice_get, Option, Some, None, Ok, refl, sym, ap, ◌∙◌, arith, append_assoc, length-append}
 use Rattle.std.specs.Int.{from_be_bytes, to_be_bytes, w32}
 use Rattle.std.specs.List.{AllByRecursion, fold}
-use Rattle.std.proofs.lemmas.Bool.{eq-eqb, le-leb}
-use Rattle.std.proofs.lemmas.Bool.Decides.{nat_tests}
+use Rattle.std.proofs.lemmas.Bool.{eq-eqb, le-leb, le-ltb}
 use Rattle.std.proofs.lemmas.List.{set_at}
 use Rattle.std.proofs.lemmas.List.Sums.{fold_push, sum_by_push}
 use Rattle.std.proofs.lemmas.Nat.{be_bytes_4}
 use Rattle.flat_machine.specs.declared.machine.Window.{Window as Sight}
 use Rattle.asm_parse.specs.declared.statement.Statement.{Statement}
 use Rattle.asm_parse.specs.declared.statement.Body.{Body}
-use Rattle.asm_parse.specs.declared.statement.Body.TheVariants.{Nothing, Inst, Data, Space, Window, Entry}
+use Rattle.asm_parse.specs.declared.statement.Body.TheVariants.{Data, Window, Entry}
 use Rattle.asm_parse.specs.declared.statement.Expr.TheVariants.{Number}
 use Rattle.romp_asm.specs.Encoding.{encoding_of}
 use Rattle.romp_asm.specs.Field.{even_at_most}
-use Rattle.romp_asm.specs.Layout.{Parts, assembled, entry_of, image_behind, is_entry, is_free, takes_window, windows_of, with_entry, with_image, with_window}
+use Rattle.romp_asm.specs.Layout.{Parts, assembled, entry_of, image_behind, is_entry, is_free, takes_window, windows_of, with_entry, with_window}
 use Rattle.romp_asm.specs.Size.{size_of, total}
 use Rattle.romp_asm.specs.Value.{addresses_of}
 
@@ -54,9 +53,6 @@ abbrev pub IsLegalPlace : Option Sight → Type 0
 IsLegalPlace None = Unit {0}
 IsLegalPlace (Some window) = (1 ≤ window.segment) × (window.segment ≤ 3839)
 
-not_below : (m n : ℕ) → n ≤ m → nat_lt m n ≡ false
-not_below m n h = grind (arith, nat_tests)
-
 -- the bytes of one statement more
 total_push : (before : List Statement) (s : Statement) → total (before ++ s ∷ []) ≡ total before + size_of s.body
 total_push before s = sum_by_push (λ (statement : Statement). size_of statement.body) before s
@@ -75,7 +71,7 @@ one_more : (all before rest : List Statement) (number : ℕ) (body : Body) (byte
     → image_behind all before (plain_at number body ∷ rest) ≡ Ok (bytes ++ others)
 unfolding image_behind
 one_more all before rest number body bytes others encoded first fits takes behind =
-    rw (first, encoded, not_below 16384 (total before + size_of body) fits, takes, behind) refl
+    rw (first, encoded, le-ltb 16384 (total before + size_of body) fits, takes, behind) refl
 
 byte_at : (bytes : List ℕ) → AllByRecursion IsByte bytes → (i : ℕ) → get_or bytes i 0 < 256
 byte_at [] are i = omega arith
