@@ -59,7 +59,7 @@ digit_is byte is = grind (arith, nat_tests)
 digit_also : (byte : ℕ) → (48 ≤ byte) × (byte ≤ 57) → is_ascii_alphanumeric byte ≡ true
 digit_also byte is = grind (arith, nat_tests)
 
-pub digits_pass : (digits : List ℕ) → AllDigits 10 digits → list_all is_ascii_alphanumeric digits ≡ true
+digits_pass : (digits : List ℕ) → AllDigits 10 digits → list_all is_ascii_alphanumeric digits ≡ true
 digits_pass [] are = refl
 digits_pass (digit ∷ digits) are = rw (digit_also digit (digit_inside digit are.0)) (digits_pass digits are.1)
 

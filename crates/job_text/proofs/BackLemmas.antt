@@ -1,24 +1,50 @@
 -- A job that some text has is the job of what is written of it.
-use Rattle.std.proofs.Common.{◌≡◌, ℕ, suc, ◌+◌, ◌<◌, ◌≤◌, map, List, [], ◌∷◌, ◌++◌, length, Result, Ok, Err, refl, sym, ap, ◌∙◌, subst, arith, append-nil}
+use Rattle.std.proofs.Common.{◌≡◌, ℕ, suc, ◌+◌, ◌≤◌, map, List, [], ◌∷◌, length, Result, Ok, Err, refl, sym, ap, ◌∙◌, subst, arith, append-nil}
 use Rattle.std.specs.List.{All, AllByRecursion, zip}
 use Rattle.std.specs.Prelude.{IfOk}
 use Rattle.std.proofs.lemmas.List.{length-map}
 use Rattle.std.proofs.lemmas.List.Elements.{recursion_from_All}
 use Rattle.arrayvec.specs.ArrayVec.{ArrayVec}
-use Rattle.asm_parse.specs.Text.{lines_of}
+use Rattle.asm_parse.specs.Text.{at_line, lines_of}
+use Rattle.asm_parse.specs.Token.{tokens}
+use Rattle.asm_parse.specs.declared.token.Token.{Token}
+use Rattle.asm_parse.proofs.FoundLemmas.{found_tokens}
 use Rattle.flat_machine.specs.declared.machine.Program.{Program}
 use Rattle.romp_asm.specs.Layout.{Parts, parts_of}
 use Rattle.romp_asm.proofs.MadeLemmas.{IsByte}
 use Rattle.job_text.specs.declared.job.Job.{Job}
+use Rattle.job_text.specs.declared.job.JobFault.{JobFault}
 use Rattle.job_text.specs.declared.stage.Stage.{Stage}
 use Rattle.job_text.specs.declared.stage.Stage.TheVariants.{Frames, Programs, Source, Schedule, Ended}
 use Rattle.job_text.specs.Grammar.{Content, content_of, job_of, last_part, read_from, then_read, whole}
-use Rattle.job_text.specs.declared.job.JobFault.{JobFault}
 use Rattle.job_text.specs.JobAnswers.{IsJobAnswer}
 use Rattle.job_text.specs.Ready.{IsEventAmong, IsReady}
-use Rattle.job_text.specs.Reading.{Reading, line_read, nothing_read}
+use Rattle.job_text.specs.Reading.{Reading, by_tokens, ended_line, frames_line, line_read, nothing_read, programs_line, schedule_line}
 use Rattle.job_text.specs.Written.{AreBytes, written}
-use Rattle.job_text.proofs.FollowLemmas.{AllSound, Follows, Gives, IsFrames, content_read, gives_line}
+use Rattle.job_text.proofs.FollowLemmas.{AllSound, Follows, Gives, IsFrames, content_read, gives_frames, gives_programs, gives_source, same}
+use Rattle.job_text.proofs.ScheduleLemmas.{gives_schedule}
+
+gives_ended : (reading : Reading) (found : List Token) → Follows Ended reading → Gives (ended_line reading found)
+gives_ended reading [] follows = same Ended reading follows
+gives_ended reading _ follows = tt
+
+gives_at : (number : ℕ) (read : Result Reading ℕ) → Gives read → Gives (at_line number read)
+gives_at number (Ok reading) follows = follows
+gives_at number (Err kind) follows = tt
+
+by_found : (number : ℕ) (meaning : List Token → Result Reading ℕ) (found : Result (List Token) ℕ) → ((those : List Token) → found ≡ Ok those → Gives (meaning those)) → Gives (at_line number (by_tokens meaning found))
+by_found number meaning (Ok those) gives = gives_at number (meaning those) (gives those refl)
+by_found number meaning (Err kind) gives = tt
+
+-- one line more
+gives_line : (stage : Stage) (reading : Reading) (number : ℕ) (line : List ℕ) → Follows stage reading → Gives (line_read stage reading number line)
+gives_line Frames reading number line follows =
+    by_found number (frames_line reading) (tokens line)
+    (λ those is. subst (λ (reading : Reading). Gives (frames_line reading those)) (sym follows.so_far) (gives_frames those (found_tokens line those is)))
+gives_line Programs reading number line follows = by_found number (programs_line reading) (tokens line) (λ those is. gives_programs reading those (found_tokens line those is) follows)
+gives_line Source reading number line follows = gives_source reading number line follows
+gives_line Schedule reading number line follows = by_found number (schedule_line reading) (tokens line) (λ those is. gives_schedule reading those (found_tokens line those is) follows)
+gives_line Ended reading number line follows = by_found number (ended_line reading) (tokens line) (λ those is. gives_ended reading those follows)
 
 -- a content can be run, and is read again from what is written of it
 record IsReadBack (content : Content) : Type 0 where

@@ -1,5 +1,5 @@
 -- Lines that were written lead a reading on to another.
-use Rattle.std.proofs.Common.{◌≡◌, ℕ, ◌+◌, List, [], ◌∷◌, ◌++◌, Result, Ok, Err, refl, sym, ap, ◌∙◌, append_assoc, append-nil}
+use Rattle.std.proofs.Common.{◌≡◌, ℕ, ◌+◌, List, [], ◌∷◌, ◌++◌, Ok, refl, ap, ◌∙◌, append_assoc, append-nil}
 use Rattle.std.specs.List.{AllByRecursion, flat_map}
 use Rattle.std.proofs.lemmas.Grind.{flat_map-append}
 use Rattle.asm_parse.specs.Text.{at_line, lines_of}
@@ -12,7 +12,7 @@ use Rattle.job_text.specs.Reader.{tokens_read}
 use Rattle.job_text.specs.Reading.{Reading, line_read}
 use Rattle.job_text.specs.Written.{line_text, tokens_text}
 use Rattle.job_text.proofs.GrammarLemmas.{by_line}
-use Rattle.job_text.proofs.WrittenTokens.{written_line, written_tokens}
+use Rattle.job_text.proofs.WrittenLemmas.{written_line, written_tokens}
 
 -- behind these lines the rest is read from another reading, whatever it is
 abbrev pub Leads : Reading → List (List Token) → Reading → Type 0

@@ -1,5 +1,5 @@
 -- The source that a program is written as.
-use Rattle.std.proofs.Common.{◌≡◌, ℕ, suc, pos, ◌+◌, ◌<◌, ◌≤◌, ◌^◌, ◌%◌, Bool, true, false, List, [], ◌∷◌, ◌++◌, length, map, codes, get_or, Option, Some, None, Result, Ok, Err, refl, sym, ap, ◌∙◌, arith, append_assoc, append-nil}
+use Rattle.std.proofs.Common.{◌≡◌, ℕ, pos, ◌+◌, ◌<◌, ◌≤◌, ◌^◌, ◌%◌, Bool, true, false, List, [], ◌∷◌, ◌++◌, length, map, codes, Option, Some, None, Ok, refl, sym, ap, ◌∙◌, arith, append_assoc, append-nil}
 use Rattle.std.specs.Int.{from_be_bytes, w32}
 use Rattle.std.specs.List.{AllByRecursion, AllZip, flat_map}
 use Rattle.std.proofs.lemmas.Grind.{flat_map-append}
@@ -7,8 +7,6 @@ use Rattle.flat_machine.specs.declared.machine.Window.{Window as Sight}
 use Rattle.asm_parse.specs.Statement.{statement_of}
 use Rattle.asm_parse.specs.Text.{lines_of}
 use Rattle.asm_parse.specs.declared.token.Token.{Token}
-use Rattle.asm_parse.specs.declared.token.Token.TheVariants as token
-use Rattle.asm_parse.specs.declared.statement.Statement.{Statement}
 use Rattle.asm_parse.specs.declared.statement.Body.{Body}
 use Rattle.asm_parse.specs.declared.statement.Body.TheVariants.{Data, Window, Entry}
 use Rattle.asm_parse.specs.declared.statement.Expr.TheVariants.{Number}
@@ -21,7 +19,7 @@ use Rattle.job_text.specs.Grammar.{read_from, then_read}
 use Rattle.job_text.specs.Reading.{Reading, is_end, line_read, program_ends, source_line}
 use Rattle.job_text.specs.Written.{access_text, end_line, image_lines, line_text, number_line, source_lines, tokens_text, window_line, window_lines}
 use Rattle.job_text.proofs.LeadsLemmas.{Leads, by_written}
-use Rattle.job_text.proofs.WrittenTokens.{written_tokens}
+use Rattle.job_text.proofs.WrittenLemmas.{written_tokens}
 
 -- a line is the one of a statement
 record IsSourceLine (line : List Token) (body : Body) : Type 0 where

@@ -1,5 +1,4 @@
 use Rattle.std.proofs.Common.{◌≡◌, ◌++◌, map, take}
-use Rattle.arrayvec.specs.ArrayVec.{ArrayVec}
 use Rattle.std.specs.List.{flat_map}
 use Rattle.job_text.specs.Written.{event_line, line_text}
 use Rattle.job_text.proofs.writer.put_events.Given as goal

@@ -1,5 +1,5 @@
-use Rattle.std.proofs.Common.{rules, ◌≡◌, ℕ, suc, List, ◌∷◌, ◌++◌, [], ◌<◌, length, length-append, map, take, ap, ◌∙◌, subst, arith}
-use Rattle.std.specs.List.{All, flat_map, zip}
+use Rattle.std.proofs.Common.{rules, ◌≡◌, ℕ, suc, List, ◌∷◌, ◌++◌, [], length, length-append, ap, ◌∙◌, subst, arith}
+use Rattle.std.specs.List.{All, flat_map}
 use Rattle.std.specs.Iterator.Adapters.{zip_first, zip_second}
 use Rattle.std.specs.Slice.Iter.{iter_rest}
 use Rattle.std.proofs.lemmas.Slice.Zip.{zip_turn, zip_end}
