@@ -1,3 +1,10 @@
 pub mod ReadyLemmas
 pub mod DrainLemmas
 pub mod GrammarLemmas
+pub mod WrittenLemmas
+pub mod LeadsLemmas
+pub mod SourceLemmas
+pub mod FollowLemmas
+pub mod ScheduleLemmas
+pub mod BackLemmas
+pub mod PutLemmas

@@ -1,4 +1,4 @@
--- What reading the whole language of jobs answers.
+-- What reading the text of a job answers.
 use Rattle.std.specs.Prelude.{◌≡◌, ℕ, ⊤, Result, Ok, Err}
 use Rattle.job_text.specs.declared.job.Job.{Job}
 use Rattle.job_text.specs.declared.job.JobFault.{JobFault}

@@ -4,3 +4,4 @@ pub mod Grammar
 pub mod JobAnswers
 pub mod Reader
 pub mod Faults
+pub mod Written

@@ -1,4 +1,4 @@
-// Jobs of the whole language (docs/FORMATS.md, "Job").
+// Reading the text of a job to its end (docs/FORMATS.md, "Job").
 ghost use Rattle.std.specs.Prelude.{◌≡◌, ◌<◌, ◌^◌, [], ◌∷◌, length, IfOk, MatchOption};
 ghost use Rattle.asm_parse.specs.Text.{lines_of};
 ghost use Rattle.job_text.specs.Grammar.{job_of, last_part};

@@ -7,6 +7,8 @@ mod reader;
 mod stage;
 #[cfg(test)]
 mod tests;
+mod writer;
 
 pub use grammar::read_job;
 pub use job::{Job, JobFault, Name};
+pub use writer::write_job;

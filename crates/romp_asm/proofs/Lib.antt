@@ -4,3 +4,5 @@ pub mod NoteLemmas
 pub mod LayLemmas
 pub mod LayoutLemmas
 pub mod LawLemmas
+pub mod MadeLemmas
+pub mod WindowLemmas

@@ -4,7 +4,7 @@ use Rattle.job_text.specs.Grammar.{read_from}
 use Rattle.asm_parse.specs.Text.{lines_of}
 use Rattle.job_text.specs.Reader.{reading_of}
 use Rattle.job_text.proofs.GrammarLemmas.{last_left, line_faulty, line_more}
-use Rattle.job_text.proofs.ReadyLemmas.{answer-ready}
+use Rattle.job_text.proofs.BackLemmas.{answer_ready}
 use Rattle.job_text.proofs.grammar.read_job.Goals as goal
 
 pub loop-line-init : goal.loop-line-init
@@ -31,5 +31,5 @@ returns-clause-answer c =
 
 pub returns-clause-ready : goal.returns-clause-ready
 returns-clause-ready c =
-    answer-ready c.args.text.now c.finish.result
+    answer_ready c.args.text.now c.finish.result
     (rw (last_left (reading_of c.loop-line.reader) c.loop-line.number c.loop-line.left.now c.args.text.now c.in_default.ensures c.loop-line.invariant.so_far) at c.finish.ensures)

@@ -1,0 +1,63 @@
+-- The programs that were written, one after the other.
+use Rattle.std.proofs.Common.{◌≡◌, ℕ, zero, suc, ◌<◌, min, List, [], ◌∷◌, ◌++◌, length, map, take, get_or, codes, refl, sym, ap, ◌∙◌, subst, arith, append_assoc, append-nil}
+use Rattle.std.specs.List.{All, flat_map, zip}
+use Rattle.std.proofs.lemmas.Grind.{flat_map-append}
+use Rattle.std.proofs.lemmas.List.{length-map, take_all}
+use Rattle.std.proofs.lemmas.List.Elements.{All-append, All-cons, All-nil}
+use Rattle.std.proofs.lemmas.Slice.Zip.{length-zip}
+use Rattle.asm_parse.specs.declared.token.Token.{Token}
+use Rattle.asm_parse.specs.declared.token.Token.TheVariants.{Word}
+use Rattle.job_text.specs.Grammar.{Content}
+use Rattle.job_text.specs.Written.{end_line, event_line, head_lines, line_text, number_line, program_lines, written}
+
+-- one pair more
+pub pair_more : {A B C D : Type 0} (f : A → C) (g : B → D) (xs : List A) (ys : List B) (n : ℕ) (x : A) (y : B) → n < length xs → n < length ys → ((d : A) → x ≡ get_or xs n d) → ((d : B) → y ≡ get_or ys n d)
+    → take (suc n) (zip (map f xs) (map g ys)) ≡ take n (zip (map f xs) (map g ys)) ++ (f x, g y) ∷ []
+pair_more f g [] ys n x y in_x in_y is_x is_y = absurd (omega arith)
+pair_more f g (first ∷ xs) [] n x y in_x in_y is_x is_y = absurd (omega arith)
+pair_more f g (first ∷ xs) (other ∷ ys) zero x y in_x in_y is_x is_y = rw (is_x x, is_y y) refl
+pair_more f g (first ∷ xs) (other ∷ ys) (suc n) x y in_x in_y is_x is_y =
+    ap (λ pairs. (f first, g other) ∷ pairs) (pair_more f g xs ys n x y (omega arith) (omega arith) is_x is_y)
+
+-- all pairs
+pub pairs_whole : {A B C D : Type 0} (f : A → C) (g : B → D) (xs : List A) (ys : List B) (n : ℕ) → n ≡ min (length xs) (length ys) → take n (zip (map f xs) (map g ys)) ≡ zip (map f xs) (map g ys)
+pairs_whole f g xs ys n is =
+    take_all n (zip (map f xs) (map g ys)) (omega (arith, is, length-zip (map f xs) (map g ys), length-map xs f, length-map ys g))
+
+-- what holds of the pairs so far and of one more
+pub all_more : {X : Type 0} (P : X → Type 0) (pairs : List X) (n m : ℕ) (x : X) → m ≡ suc n → take (suc n) pairs ≡ take n pairs ++ x ∷ [] → All P (take n pairs) → P x → All P (take m pairs)
+all_more P pairs n m x is more all one =
+    subst (λ (list : List _). All P list) (sym more ∙ ap (λ (k : ℕ). take k pairs) (sym is)) (All-append P (take n pairs) (x ∷ []) all (All-cons P x [] one (All-nil P)))
+
+-- the text of the pairs so far and of one more
+pub text_more : {X Y : Type 0} (text : Y → List ℕ) (lines : X → List Y) (pairs : List X) (n m : ℕ) (x : X) (before now next : List ℕ) → m ≡ suc n → take (suc n) pairs ≡ take n pairs ++ x ∷ []
+    → now ≡ before ++ flat_map text (flat_map lines (take n pairs)) → next ≡ now ++ flat_map text (lines x) → next ≡ before ++ flat_map text (flat_map lines (take m pairs))
+text_more text lines pairs n m x before now next is more so_far put =
+    put
+    ∙ ap (λ bytes. bytes ++ flat_map text (lines x)) so_far
+    ∙ append_assoc before (flat_map text (flat_map lines (take n pairs))) (flat_map text (lines x))
+    ∙ ap (λ bytes. before ++ bytes)
+    (sym (flat_map-append text (flat_map lines (take n pairs)) (lines x))
+    ∙ ap (λ list. flat_map text (flat_map lines (take n pairs) ++ list)) (sym (append-nil (lines x)))
+    ∙ ap (flat_map text) (sym (flat_map-append lines (take n pairs) (x ∷ [])) ∙ ap (flat_map lines) (sym more ∙ ap (λ (k : ℕ). take k pairs) (sym is))))
+
+regroup : (frames programs schedule events end : List ℕ) → (((frames ++ programs) ++ schedule) ++ events) ++ end ≡ ((frames ++ programs) ++ (schedule ++ events)) ++ (end ++ [])
+regroup frames programs schedule events end = simp (append_assoc, append-nil)
+
+-- the text of a job, part by part
+pub job_put : (content : Content) (one two three four five : List ℕ) → one ≡ line_text (number_line (codes "frames") content.frames) → two ≡ one ++ flat_map line_text (flat_map program_lines (zip content.names content.programs))
+    → three ≡ two ++ line_text (Word (codes "schedule") ∷ []) → four ≡ three ++ flat_map line_text (map (event_line content.names) content.events) → five ≡ four ++ line_text end_line → five ≡ written content
+job_put content one two three four five put_frames put_programs put_schedule put_events put_end =
+    put_end
+    ∙ ap (λ text. text ++ line_text end_line)
+    (put_events ∙ ap (λ text. text ++ flat_map line_text events) (put_schedule ∙ ap (λ text. text ++ line_text (Word (codes "schedule") ∷ [])) (put_programs ∙ ap (λ text. text ++ flat_map line_text programs) put_frames)))
+    ∙ regroup (line_text (number_line (codes "frames") content.frames)) (flat_map line_text programs) (line_text (Word (codes "schedule") ∷ [])) (flat_map line_text events) (line_text end_line)
+    ∙ sym
+    (flat_map-append line_text (head_lines content.frames content.names content.programs ++ (Word (codes "schedule") ∷ []) ∷ events) (end_line ∷ [])
+    ∙ ap (λ text. text ++ (line_text end_line ++ [])) (flat_map-append line_text (head_lines content.frames content.names content.programs) ((Word (codes "schedule") ∷ []) ∷ events)))
+  where
+    programs : List (List Token)
+    programs = flat_map program_lines (zip content.names content.programs)
+
+    events : List (List Token)
+    events = map (event_line content.names) content.events

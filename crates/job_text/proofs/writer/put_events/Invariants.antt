@@ -1,0 +1,7 @@
+use Rattle.std.proofs.Common.{◌≡◌, ◌++◌, map, take}
+use Rattle.std.specs.List.{flat_map}
+use Rattle.job_text.specs.Written.{event_line, line_text}
+use Rattle.job_text.proofs.writer.put_events.Given as goal
+
+abbrev pub invariant-loop-event : goal.invariant-loop-event
+invariant-loop-event l = l.text.items ≡ l.initial.text.items ++ flat_map line_text (map (event_line (map (λ name. name.items) l.names)) (take l.event-index l.events))

@@ -1,0 +1,94 @@
+-- The windows of a program that was assembled.
+use Rattle.std.proofs.Common.{◌≡◌, ℕ, zero, suc, ◌+◌, ◌-◌, ◌≤◌, ◌&&◌, ◌||◌, nat_lt, nat_le, if◌then◌else◌, Bool, true, false, is_some, List, [], ◌∷◌, ◌++◌, length, replicate, slice_get, slice_set, Option, Some, None, Result, Ok, Err, refl, sym, ap, ◌∙◌, subst, arith, append_assoc, append-nil, length-set}
+use Rattle.std.specs.List.{AllByRecursion, fold}
+use Rattle.std.proofs.lemmas.Bool.Decides.{nat_tests}
+use Rattle.flat_machine.specs.declared.machine.Window.{Window as Sight}
+use Rattle.asm_parse.specs.declared.statement.Statement.{Statement}
+use Rattle.asm_parse.specs.declared.statement.Body.{Body}
+use Rattle.asm_parse.specs.declared.statement.Body.TheVariants.{Window}
+use Rattle.romp_asm.specs.Encoding.{encoding_of}
+use Rattle.romp_asm.specs.Layout.{Parts, assembled, entry_of, fitted, has_label_of, image_behind, is_entry, is_free, piece_before, piece_of, takes_window, windows_of, with_image, with_window}
+use Rattle.romp_asm.specs.Size.{size_of, total}
+use Rattle.romp_asm.specs.Value.{addresses_of}
+use Rattle.romp_asm.proofs.MadeLemmas.{IsLegalPlace, windows_push}
+
+set_legal : (windows : List (Option Sight)) (place : ℕ) (window : Option Sight) → AllByRecursion IsLegalPlace windows → IsLegalPlace window → AllByRecursion IsLegalPlace (slice_set windows place window)
+set_legal [] place window legal is = tt
+set_legal (old ∷ windows) zero window legal is = (is, legal.1)
+set_legal (old ∷ windows) (suc place) window legal is = (legal.0, set_legal windows place window legal.1 is)
+
+-- a statement that may stand behind legal windows leaves legal ones
+legal_with : (windows : List (Option Sight)) (body : Body) → takes_window windows body ≡ true → AllByRecursion IsLegalPlace windows → AllByRecursion IsLegalPlace (with_window windows body)
+legal_with windows (Window register segment write) takes legal = set_legal windows (register - 1) (Some (record { segment = segment; write = write })) legal (low (nat_le 1 register && is_free (slice_get windows (register - 1))) takes, high (nat_le 1 register && is_free (slice_get windows (register - 1)) && nat_le 1 segment) takes)
+  where
+    high : (others : Bool) → (others && nat_le segment 3839) ≡ true → segment ≤ 3839
+    high true e = grind (arith, nat_tests, e)
+    high false e = absurd (cc e)
+
+    low : (others : Bool) → (others && nat_le 1 segment && nat_le segment 3839) ≡ true → 1 ≤ segment
+    low true e = grind (arith, nat_tests, e)
+    low false e = absurd (cc e)
+legal_with windows _ takes legal = legal
+
+-- a fault of kind 8 or 9, or the bytes
+abbrev fitted_by : Bool → Bool → List ℕ → Result (List ℕ) ℕ
+fitted_by past takes laid = if past then Err 8 else if takes then Ok laid else Err 9
+
+-- a fault of kind 5, or what is read
+abbrev refused_by : Bool → Result (List ℕ) ℕ → Result (List ℕ) ℕ
+refused_by refused reading = if refused then Err 5 else reading
+
+takes_by : (at : ℕ) (windows : List (Option Sight)) (body : Body) (encoding : Result (List ℕ) ℕ) (bytes : List ℕ) → fitted at windows body encoding ≡ Ok bytes → takes_window windows body ≡ true
+takes_by at windows body (Ok laid) bytes e = by_tests (nat_lt 16384 (at + size_of body)) (takes_window windows body) e
+  where
+    by_tests : (past takes : Bool) → fitted_by past takes laid ≡ Ok bytes → takes ≡ true
+    by_tests true takes e = absurd (cc e)
+    by_tests false true e = refl
+    by_tests false false e = absurd (cc e)
+takes_by at windows body (Err kind) bytes e = absurd (cc e)
+
+takes_told : (refused : Bool) (at : ℕ) (windows : List (Option Sight)) (body : Body) (encoding : Result (List ℕ) ℕ) (bytes : List ℕ) → refused_by refused (fitted at windows body encoding) ≡ Ok bytes → takes_window windows body ≡ true
+takes_told true at windows body encoding bytes e = absurd (cc e)
+takes_told false at windows body encoding bytes e = takes_by at windows body encoding bytes e
+
+-- both the piece and what follows it were made
+split : (line : ℕ) (piece : Result (List ℕ) ℕ) (others : Result (List ℕ) (ℕ × ℕ)) (image : List ℕ) → piece_before line piece others ≡ Ok image → ((bytes : List ℕ) × (piece ≡ Ok bytes)) × ((more : List ℕ) × (others ≡ Ok more))
+split line (Ok bytes) (Ok more) image e = ((bytes, refl), (more, refl))
+split line (Ok bytes) (Err fault) image e = absurd (cc e)
+split line (Err kind) others image e = absurd (cc e)
+
+legal_behind : (all before rest : List Statement) (image : List ℕ) → AllByRecursion IsLegalPlace (windows_of before) → image_behind all before rest ≡ Ok image → AllByRecursion IsLegalPlace (windows_of (before ++ rest))
+unfolding image_behind
+legal_behind all before [] image legal e = rw (append-nil before) legal
+legal_behind all before (s ∷ rest) image legal e =
+    let parts = split s.line (piece_of (addresses_of all) (has_label_of before s) (total before) (entry_of (addresses_of all) before) (windows_of before) s.body) (image_behind all (before ++ s ∷ []) rest) image e in
+    let takes = takes_told (has_label_of before s || (is_entry s.body && is_some (entry_of (addresses_of all) before))) (total before) (windows_of before) s.body (encoding_of (addresses_of all) (total before) s.body) parts.0.0 parts.0.1 in
+    let one : AllByRecursion IsLegalPlace (windows_of (before ++ s ∷ [])) = rw (windows_push before s) (legal_with (windows_of before) s.body takes legal) in
+    rw append_assoc at (legal_behind all (before ++ s ∷ []) rest parts.1.0 one parts.1.1)
+
+windows_long : (windows : List (Option Sight)) (statements : List Statement) → length (fold (λ windows (statement : Statement). with_window windows statement.body) windows statements) ≡ length windows
+windows_long windows [] = refl
+windows_long windows (s ∷ statements) = windows_long (with_window windows s.body) statements ∙ one s.body
+  where
+    one : (body : Body) → length (with_window windows body) ≡ length windows
+    one (Window register segment write) = length-set windows (register - 1) (Some (record { segment = segment; write = write }))
+    one _ = refl
+
+none_legal : (n : ℕ) → AllByRecursion IsLegalPlace (replicate n None)
+none_legal zero = tt
+none_legal (suc n) = (tt, none_legal n)
+
+abbrev windows_in : Result Parts (ℕ × ℕ) → List (Option Sight)
+windows_in (Ok parts) = parts.windows
+windows_in (Err fault) = []
+
+-- a program that was assembled has 15 places for windows, and legal ones
+pub assembled_windows : (all : List Statement) (parts : Parts) → assembled all ≡ Ok parts → AllByRecursion IsLegalPlace parts.windows × (length parts.windows ≡ 15)
+assembled_windows all parts e = by_image (image_behind all [] all) refl e
+  where
+    by_image : (image : Result (List ℕ) (ℕ × ℕ)) → image_behind all [] all ≡ image → with_image all image ≡ Ok parts → AllByRecursion IsLegalPlace parts.windows × (length parts.windows ≡ 15)
+    by_image (Ok image) is e =
+        let same : windows_of all ≡ parts.windows = ap windows_in e in
+        let legal = legal_behind all [] all image (none_legal 15) is in
+        (subst (AllByRecursion IsLegalPlace) same legal, sym (ap length same) ∙ windows_long (replicate 15 None) all)
+    by_image (Err fault) is e = absurd (cc e)
