@@ -112,7 +112,7 @@ fn open<W: Outside>(
     begins: u32,
     outside: &mut W,
 ) -> Result<PrivateDesk, Status>
-    requires frames { 0 < frames }
+    requires frames { 1 < frames }
     requires begins { begins < 2 ^ 32 - 1 }
     ensures disk { result ≡ Err Status.DiskFault → Rose (W.disk_faults outside.old) (W.disk_faults outside.new) }
     ensures asks { OnlyAsks W.Outside outside.old outside.new }

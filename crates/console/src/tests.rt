@@ -4,6 +4,7 @@ use super::*;
 use desk::Committed;
 use outside::{Call, Disk, Joint, MemoryDisk, MemoryScreen, MemorySource, Refusal};
 use std::alloc::{AllocError, Global};
+use std::process::Abort;
 use std::test::Fail;
 
 /// One program that adds 5 to the first word of segment 1, and a turn of a hundred rows for it.
@@ -374,26 +375,53 @@ fn a_listing_leaves_the_disk_alone(rt: HostRuntime) -> Result<(), Fail> {
     Ok(())
 }
 
+/// Runs a job that ends with Done, and looks whether its report is this one.
+fn assert_report(
+    rt: &impl Abort,
+    alloc: Global,
+    job: &str,
+    report: &str,
+    name: &str,
+) -> Result<(), Fail> {
+    let words = words_of(alloc, &["try"])?;
+    let mut source = MemorySource::new(Vec::from_slice(alloc, job.as_bytes())?, Vec::new(alloc));
+    let mut outside = outside_of(alloc, &PLAIN)?;
+    let ended = console(alloc, &words, &mut source, &mut outside);
+    let (_disk, screen) = outside.into_parts();
+    assert_eq!(rt; ended.status, Status::Done, "{}", name);
+    assert!(rt; screen.bytes() == report.as_bytes(), "{}", name);
+    Ok(())
+}
+
 #[test]
 fn a_schedule_has_its_report(rt: HostRuntime) -> Result<(), Fail> {
     let alloc = rt.alloc();
     for (events, report) in &SCHEDULES {
-        let words = words_of(alloc, &["try"])?;
-        let text = format!(in alloc; "{PROGRAMS}{events}end\n")?;
-        let bytes = Vec::from_slice(alloc, text.as_str().as_bytes())?;
-        let mut job = MemorySource::new(bytes, Vec::new(alloc));
-        let mut outside = outside_of(alloc, &PLAIN)?;
-        let ended = console(alloc, &words, &mut job, &mut outside);
-        let (_disk, screen) = outside.into_parts();
+        let job = format!(in alloc; "{PROGRAMS}{events}end\n")?;
         let wanted = format!(in alloc; "open 0\n{report}")?;
-        assert_eq!(rt; ended.status, Status::Done, "{}", events);
-        assert!(rt;
-            screen.into_bytes().as_slice() == wanted.as_str().as_bytes(),
-            "{}",
-            events
-        );
+        assert_report(&rt, alloc, &job, &wanted, events)?;
     }
     Ok(())
+}
+
+#[test]
+fn a_program_prints_4096_bytes_and_no_more(rt: HostRuntime) -> Result<(), Fail> {
+    let alloc = rt.alloc();
+    let mut report = String::from_str(
+        alloc,
+        "open 0\nbegin 1 pr\nturn 1 ran 12289 page 0 lock 0\n",
+    )?;
+    report.push_str("commit 1 number 1 steps 12289 out ")?;
+    for _ in 0..4096 {
+        report.push_str("41")?;
+    }
+    report.push_str("\nbegin 2 pr\nturn 2 ran 12288 page 0 lock 0\ncheck 2 code 5 at 00000000\n")?;
+    report.push_str(
+        "begin 3 pr\nturn 3 ran 4 page 0 lock 0\ncommit 3 number 2 steps 4 out 0a\nend 2\n",
+    )?;
+    let job = "frames 2\nprogram pr\nloop: svc 1\nsis r3, 1\njnb eq, loop\nsvc 0\nend\nschedule\n\
+        begin pr 65 4096\nturn 1 20000\nbegin pr 65 4097\nturn 2 20000\nbegin pr 10 1\nturn 3 9\nend\n";
+    assert_report(&rt, alloc, job, &report, "printing")
 }
 
 #[test]
