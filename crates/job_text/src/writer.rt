@@ -9,6 +9,7 @@ ghost use Rattle.job_text.specs.Written.{AreBytes, access_text, event_line, imag
 use super::job::{Job, Name};
 use desk::Event;
 use flat_machine::{Program, Window};
+use itoa::Buffer;
 use std::alloc::{AllocError, Global};
 
 /// The text of a job, from `frames` to the last `end`: each program by its entry address, its windows and its bytes,
@@ -24,84 +25,55 @@ pub fn write_job(alloc: Global, job: &Job) -> Result<Vec<u8>, AllocError>
     ensures back { IfOk result (λ text. (other : List ℕ) → job_of other ≡ Ok (content_of job.now) → job_of text.items ≡ Ok (content_of job.now)) }
 {
     let mut text = Vec::new(alloc);
-    put_number_line(alloc, &mut text, "frames", u32::from(job.frames))?;
-    put_programs(
-        alloc,
-        &mut text,
-        job.names.as_slice(),
-        job.programs.as_slice(),
-    )?;
+    put_number_line(&mut text, "frames", u32::from(job.frames))?;
+    put_programs(&mut text, job.names.as_slice(), job.programs.as_slice())?;
     put_word_line(&mut text, "schedule")?;
-    put_events(
-        alloc,
-        &mut text,
-        job.names.as_slice(),
-        job.events.as_slice(),
-    )?;
+    put_events(&mut text, job.names.as_slice(), job.events.as_slice())?;
     put_word_line(&mut text, "end")?;
     Ok(text)
 }
 
 /// Appends the programs that have a name, each from its name to its `end`.
-fn put_programs(
-    alloc: Global,
-    text: &mut Vec<u8>,
-    names: &[Name],
-    programs: &[Program],
-) -> Result<(), AllocError>
+fn put_programs(text: &mut Vec<u8>, names: &[Name], programs: &[Program]) -> Result<(), AllocError>
     ensures bytes { OnOk result (All (λ program. AreBytes program.1.image) (zip (map (λ name. name.items) names.now) (map parts_of programs.now))) }
     ensures lines { OnOk result (text.new.items ≡ text.old.items ++ flat_map line_text (flat_map program_lines (zip (map (λ name. name.items) names.now) (map parts_of programs.now)))) }
 {
     for (name, program) in names.iter().zip(programs) {
-        put_program(alloc, text, name.as_slice(), program)?;
+        put_program(text, name.as_slice(), program)?;
     }
     Ok(())
 }
 
 /// Appends the lines of events, by the names of the programs.
-fn put_events(
-    alloc: Global,
-    text: &mut Vec<u8>,
-    names: &[Name],
-    events: &[Event],
-) -> Result<(), AllocError>
+fn put_events(text: &mut Vec<u8>, names: &[Name], events: &[Event]) -> Result<(), AllocError>
     ensures { OnOk result (text.new.items ≡ text.old.items ++ flat_map line_text (map (event_line (map (λ name. name.items) names.now)) events.now)) }
 {
     for event in events {
-        put_event(alloc, text, names, event)?;
+        put_event(text, names, event)?;
     }
     Ok(())
 }
 
 /// Appends a program from its name to its `end`.
-fn put_program(
-    alloc: Global,
-    text: &mut Vec<u8>,
-    name: &[u8],
-    program: &Program,
-) -> Result<(), AllocError>
+fn put_program(text: &mut Vec<u8>, name: &[u8], program: &Program) -> Result<(), AllocError>
     ensures bytes { OnOk result (AreBytes program.now.image) }
     ensures lines { OnOk result (text.new.items ≡ text.old.items ++ flat_map line_text (program_lines (name.now, parts_of program.now))) }
 {
     put_name_line(text, "program", name)?;
-    put_number_line(alloc, text, ".entry", u32::from(program.entry))?;
-    put_windows(alloc, text, &program.windows)?;
-    put_image(alloc, text, program.image.as_slice())?;
+    put_number_line(text, ".entry", u32::from(program.entry))?;
+    put_windows(text, &program.windows)?;
+    put_image(text, program.image.as_slice())?;
     put_word_line(text, "end")
 }
 
 /// Appends a line for each window that is there, the first place for register 1.
-fn put_windows(
-    alloc: Global,
-    text: &mut Vec<u8>,
-    windows: &[Option<Window>; 15],
-) -> Result<(), AllocError>
+fn put_windows(text: &mut Vec<u8>, windows: &[Option<Window>; 15]) -> Result<(), AllocError>
     ensures { OnOk result (text.new.items ≡ text.old.items ++ flat_map line_text (window_lines 1 windows.now)) }
 {
     let mut register = 1;
     for window in windows {
         if let Some(window) = window {
-            put_window(alloc, text, register, *window)?;
+            put_window(text, register, *window)?;
         }
         register += 1;
     }
@@ -109,59 +81,49 @@ fn put_windows(
 }
 
 /// Appends the line of a window.
-fn put_window(
-    alloc: Global,
-    text: &mut Vec<u8>,
-    register: u32,
-    window: Window,
-) -> Result<(), AllocError>
+fn put_window(text: &mut Vec<u8>, register: u32, window: Window) -> Result<(), AllocError>
     ensures { OnOk result (text.new.items ≡ text.old.items ++ line_text (window_line register window)) }
 {
     text.extend_from_slice(b".window")?;
-    put_number(alloc, text, register)?;
+    put_number(text, register)?;
     text.push(b',')?;
-    put_number(alloc, text, u32::from(window.segment))?;
+    put_number(text, u32::from(window.segment))?;
     text.push(b',')?;
     text.extend_from_slice(if window.write { b" rw\n" } else { b" r\n" })
 }
 
 /// Appends a `.word` for each four bytes, and a `.byte` for each that is left.
-fn put_image(alloc: Global, text: &mut Vec<u8>, image: &[u8]) -> Result<(), AllocError>
+fn put_image(text: &mut Vec<u8>, image: &[u8]) -> Result<(), AllocError>
     ensures bytes { AreBytes image.now }
     ensures lines { OnOk result (text.new.items ≡ text.old.items ++ flat_map line_text (image_lines image.now)) }
 {
     let mut left = image;
     while let [a, b, c, d, behind @ ..] = left {
-        put_number_line(alloc, text, ".word", u32::from_be_bytes([*a, *b, *c, *d]))?;
+        put_number_line(text, ".word", u32::from_be_bytes([*a, *b, *c, *d]))?;
         left = behind;
     }
-    put_bytes(alloc, text, left)
+    put_bytes(text, left)
 }
 
 /// Appends a `.byte` for each byte.
-fn put_bytes(alloc: Global, text: &mut Vec<u8>, bytes: &[u8]) -> Result<(), AllocError>
+fn put_bytes(text: &mut Vec<u8>, bytes: &[u8]) -> Result<(), AllocError>
     ensures { OnOk result (text.new.items ≡ text.old.items ++ flat_map line_text (map (number_line (codes ".byte")) bytes.now)) }
 {
     for byte in bytes {
-        put_number_line(alloc, text, ".byte", u32::from(*byte))?;
+        put_number_line(text, ".byte", u32::from(*byte))?;
     }
     Ok(())
 }
 
 /// Appends the line of an event, by the names of the programs.
-fn put_event(
-    alloc: Global,
-    text: &mut Vec<u8>,
-    names: &[Name],
-    event: &Event,
-) -> Result<(), AllocError>
+fn put_event(text: &mut Vec<u8>, names: &[Name], event: &Event) -> Result<(), AllocError>
     ensures { OnOk result (text.new.items ≡ text.old.items ++ line_text (event_line (map (λ name. name.items) names.now) event.now)) }
 {
     match event {
         Event::Begin { program, args } => {
-            put_begin(alloc, text, name_at(names, *program as usize), args)
+            put_begin(text, name_at(names, *program as usize), args)
         }
-        Event::Turn { activation, limit } => put_turn(alloc, text, *activation, *limit),
+        Event::Turn { activation, limit } => put_turn(text, *activation, *limit),
         Event::Checkpoint => put_word_line(text, "checkpoint"),
         Event::Crash => put_word_line(text, "crash"),
     }
@@ -178,35 +140,25 @@ fn name_at(names: &[Name], place: usize) -> &[u8]
 }
 
 /// Appends the line of a begin.
-fn put_begin(
-    alloc: Global,
-    text: &mut Vec<u8>,
-    name: &[u8],
-    args: &[u32; 4],
-) -> Result<(), AllocError>
+fn put_begin(text: &mut Vec<u8>, name: &[u8], args: &[u32; 4]) -> Result<(), AllocError>
     ensures { OnOk result (text.new.items ≡ text.old.items ++ line_text (WordToken (codes "begin") ∷ WordToken name.now ∷ map NumberToken args.now)) }
 {
     text.extend_from_slice(b"begin ")?;
     text.extend_from_slice(name)?;
     for arg in args {
-        put_number(alloc, text, *arg)?;
+        put_number(text, *arg)?;
     }
     text.push(b'\n')?;
     Ok(())
 }
 
 /// Appends the line of a turn.
-fn put_turn(
-    alloc: Global,
-    text: &mut Vec<u8>,
-    activation: u32,
-    limit: u32,
-) -> Result<(), AllocError>
+fn put_turn(text: &mut Vec<u8>, activation: u32, limit: u32) -> Result<(), AllocError>
     ensures { OnOk result (text.new.items ≡ text.old.items ++ line_text (WordToken (codes "turn") ∷ NumberToken activation ∷ NumberToken limit ∷ [])) }
 {
     text.extend_from_slice(b"turn")?;
-    put_number(alloc, text, activation)?;
-    put_number(alloc, text, limit)?;
+    put_number(text, activation)?;
+    put_number(text, limit)?;
     text.push(b'\n')?;
     Ok(())
 }
@@ -232,24 +184,20 @@ fn put_name_line(text: &mut Vec<u8>, word: &str, name: &[u8]) -> Result<(), Allo
 }
 
 /// Appends a line of a word and a number.
-fn put_number_line(
-    alloc: Global,
-    text: &mut Vec<u8>,
-    word: &str,
-    number: u32,
-) -> Result<(), AllocError>
+fn put_number_line(text: &mut Vec<u8>, word: &str, number: u32) -> Result<(), AllocError>
     ensures { OnOk result (text.new.items ≡ text.old.items ++ line_text (number_line word.now number)) }
 {
     text.extend_from_slice(word.as_bytes())?;
-    put_number(alloc, text, number)?;
+    put_number(text, number)?;
     text.push(b'\n')?;
     Ok(())
 }
 
 /// Appends a space and a number in decimal.
-fn put_number(alloc: Global, text: &mut Vec<u8>, number: u32) -> Result<(), AllocError>
+fn put_number(text: &mut Vec<u8>, number: u32) -> Result<(), AllocError>
     ensures { OnOk result (text.new.items ≡ text.old.items ++ 32 ∷ decimal number) }
 {
-    let digits = format!(in alloc; " {number}")?;
-    text.extend_from_slice(digits.as_bytes())
+    let mut buffer = Buffer::new();
+    text.push(b' ')?;
+    text.extend_from_slice(buffer.format(number).as_bytes())
 }
