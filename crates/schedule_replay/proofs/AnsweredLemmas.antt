@@ -1,11 +1,12 @@
 -- Events, one after another.
-use Rattle.std.proofs.Common.{◌≡◌, ℕ, zero, suc, ◌+◌, ◌<◌, ◌≤◌, List, [], ◌∷◌, ◌++◌, length, get_or, take, drop, cond, sym, ◌∙◌, ap, subst, arith, rules}
+use Rattle.std.proofs.Common.{◌≡◌, ℕ, zero, suc, ◌+◌, ◌<◌, List, [], ◌∷◌, ◌++◌, length, get_or, take, drop, cond, sym, ◌∙◌, ap, subst, arith, rules}
 use Rattle.std.specs.Prelude.{Result, Ok, Err, IsErr, All}
 use Rattle.std.proofs.lemmas.List.{take_more, take-append-drop}
 use Rattle.std.proofs.lemmas.List.Sums.{sum_by-append}
 use Rattle.outside.specs.declared.failed.Failed.{Failed}
 use Rattle.outside.specs.declared.world.Outside.{Ghosts}
 use Rattle.outside.specs.Causes.{HasCause}
+use Rattle.outside.proofs.Counts.{cause_since}
 use Rattle.flat_machine.specs.declared.machine.Program.{Program}
 use Rattle.outside.specs.Runs.{FewerLater}
 use Rattle.outside.proofs.Runs.{elapses-trans}
@@ -31,11 +32,7 @@ all_one P x holds zero d below = holds
 all_one P x holds (suc k) d below = absurd (omega arith)
 
 module _ {D W : Type 0} (S : desk.Ghosts D) (G : Ghosts W) (fewer_later : FewerLater G) where
-  -- the causes of one failure or none
-  later_cause : {T : Type 0} (first second third : ℕ) (result : Result T Failed) → first ≤ second → HasCause second third result → HasCause first third result
-  later_cause first second third (Ok value) le cause = record { later = omega (arith, cause.later); failed = tt }
-  later_cause first second third (Err failed) le cause = record { later = omega (arith, cause.later); failed = omega (arith, cause.failed) }
-
+  -- some events were answered, and then some more
   pub answered_on : {T U : Type 0} (xs ys : List Event) (old mid new : D) (before between after : W) (value : T) (result : Result U Failed) → Answered S G xs old mid before between (Ok value) → Answered S G ys mid new between after result → Answered S G (xs ++ ys) old new before after result
   answered_on xs ys old mid new before between after value result one two = record {
     sound = two.sound;
@@ -48,7 +45,7 @@ module _ {D W : Type 0} (S : desk.Ghosts D) (G : Ghosts W) (fewer_later : FewerL
     bytes = two.bytes;
     time = elapses-trans G fewer_later before between after one.time two.time;
     disk = omega (arith, one.disk, two.disk);
-    cause = later_cause (G.put_faults before) (G.put_faults between) (G.put_faults after) result one.cause.later two.cause;
+    cause = cause_since (G.put_faults before) (G.put_faults between) (G.put_faults after) result one.cause.later two.cause;
   }
 
   module _ (events : List Event) (i : ℕ) (event : Event) (lt : i < length events) (old mid : D) (before between : W) where

@@ -22,9 +22,11 @@ use Rattle.desk.specs.Answers.{begun_told, turn_told, HasNumbers}
 use Rattle.desk.specs.Lines.{Line, line_text}
 use Rattle.desk.specs.Report.{number_after, happening_lines, event_lines}
 use Rattle.schedule_replay.specs.Lines.{is_closing}
-use Rattle.schedule_replay.specs.Puts.{OnlyPuts, BeginsWith, number_told}
+use Rattle.outside.specs.Runs.{OnlyPuts}
+use Rattle.schedule_replay.specs.Puts.{BeginsWith, number_told}
 use Rattle.schedule_replay.specs.Ran.{Ran, PrintsEarlier}
-use Rattle.schedule_replay.proofs.PutsLemmas.{prints_same, prints_on, begins_none, begins_on, begins_behind}
+use Rattle.outside.proofs.Prints.{prints_same, prints_on}
+use Rattle.schedule_replay.proofs.PutsLemmas.{begins_none, begins_on, begins_behind}
 use Rattle.schedule_replay.proofs.StepLemmas.{turn_step, answer_closes, lines_numbered}
 use Rattle.schedule_replay.proofs.RunLemmas.{run_on, open_on, lines_on, faulted_on}
 

@@ -18,7 +18,8 @@ use Rattle.desk.specs.Instruction.{Word}
 use Rattle.schedule_replay.specs.Puts.{BeginsWith}
 use Rattle.schedule_replay.specs.Ran.{Ran, HasOpened, PrintsEarlier}
 use Rattle.schedule_replay.specs.Replays.{Reports, is_closed}
-use Rattle.schedule_replay.proofs.PutsLemmas.{done, prints_same, prints_on, prints_stop, begins_on, begins_behind}
+use Rattle.outside.proofs.Prints.{prints_same, prints_on, prints_stop}
+use Rattle.schedule_replay.proofs.PutsLemmas.{done, begins_on, begins_behind}
 use Rattle.schedule_replay.proofs.RunLemmas.{report_parts}
 use Rattle.schedule_replay.proofs.RanLemmas.{ran_on, kept_by_puts}
 

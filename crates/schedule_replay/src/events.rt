@@ -8,7 +8,7 @@ ghost use Rattle.desk.specs.declared.event.Event.TheVariants as event;
 ghost use Rattle.desk.specs.Lines.{line_text};
 ghost use Rattle.schedule_replay.specs.Answered.{IsReady, Answered, HoldsStore};
 ghost use Rattle.schedule_replay.specs.Lines.{closing_lines, is_closing};
-ghost use Rattle.schedule_replay.specs.Puts.{OnlyPuts};
+ghost use Rattle.outside.specs.Runs.{OnlyPuts};
 ghost use Rattle.schedule_replay.specs.Ran.{Ran, Kept, HasOpened};
 ghost use Rattle.schedule_replay.specs.Replays.{Replays, Reports, RanSome, is_closed};
 

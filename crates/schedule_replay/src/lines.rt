@@ -6,7 +6,8 @@ ghost use Rattle.outside.specs.Bytes.{Prints};
 ghost use Rattle.desk.specs.Answers.{begun_told, turn_told, ending_told};
 ghost use Rattle.desk.specs.Lines.{line_text, Doubt, Closed, Left};
 ghost use Rattle.desk.specs.Report.{happening_lines, cycle_lines, ending_lines};
-ghost use Rattle.schedule_replay.specs.Puts.{OnlyPuts, number_told, counted_lines};
+ghost use Rattle.outside.specs.Runs.{OnlyPuts};
+ghost use Rattle.schedule_replay.specs.Puts.{number_told, counted_lines};
 
 use desk::{Begun, Cycle, Turn, TurnEnd};
 use job_text::Name;

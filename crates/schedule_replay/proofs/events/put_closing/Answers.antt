@@ -5,7 +5,8 @@ use Rattle.desk.specs.Holdings.{numbers}
 use Rattle.desk.specs.Lines.{line_text, Left, End}
 use Rattle.desk.specs.Report.{number_after}
 use Rattle.schedule_replay.specs.Lines.{closing_lines}
-use Rattle.schedule_replay.proofs.PutsLemmas.{prints_on, prints_stop, prints_same, prints_one}
+use Rattle.outside.proofs.Prints.{prints_on, prints_stop, prints_same}
+use Rattle.schedule_replay.proofs.PutsLemmas.{prints_one}
 use Rattle.schedule_replay.proofs.RunLemmas.{closing_bytes}
 use Rattle.schedule_replay.proofs.events.put_closing.Goals as goal
 

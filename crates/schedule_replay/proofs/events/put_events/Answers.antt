@@ -5,7 +5,7 @@ use Rattle.flat_machine.specs.declared.machine.Program.{Program}
 use Rattle.desk.specs.declared.event.Event.TheVariants.{Begin}
 use Rattle.schedule_replay.specs.declared.events.Going.TheVariants as going
 use Rattle.schedule_replay.specs.Replays.{is_closed}
-use Rattle.schedule_replay.proofs.PutsLemmas.{prints_broken, prints_well}
+use Rattle.outside.proofs.Prints.{prints_broken, prints_well}
 use Rattle.schedule_replay.proofs.AnsweredLemmas.{ready_next, answered_more, answered_well, answered_broken}
 use Rattle.schedule_replay.proofs.RanLemmas.{ran_as}
 use Rattle.schedule_replay.proofs.ReportLemmas.{ran_more, if_ok_broken}

@@ -7,7 +7,8 @@ use Rattle.desk.specs.Report.{event_lines}
 use Rattle.schedule_replay.specs.declared.events.Going.TheVariants as going
 use Rattle.schedule_replay.specs.Lines.{closing_lines}
 use Rattle.schedule_replay.specs.Replays.{is_closed}
-use Rattle.schedule_replay.proofs.PutsLemmas.{prints_same, prints_on, prints_stop, prints_broken, prints_well, begins_none, begins_same}
+use Rattle.outside.proofs.Prints.{prints_same, prints_on, prints_stop, prints_broken, prints_well}
+use Rattle.schedule_replay.proofs.PutsLemmas.{begins_none, begins_same}
 use Rattle.schedule_replay.proofs.ReportLemmas.{if_ok_broken, no_closing, opens, reports_none, reports_of}
 use Rattle.schedule_replay.proofs.events.put_report.Goals as goal
 

@@ -1,6 +1,6 @@
 use Rattle.std.specs.Prelude.{Ok}
 use Rattle.std.proofs.Common.{[], sym, ◌∙◌, rules}
-use Rattle.schedule_replay.proofs.PutsLemmas.{prints_broken, prints_well}
+use Rattle.outside.proofs.Prints.{prints_broken, prints_well}
 use Rattle.schedule_replay.proofs.RanLemmas.{ran_turn, ran_as, turn_closes}
 use Rattle.schedule_replay.proofs.events.turn.Goals as goal
 

@@ -9,7 +9,7 @@ use Rattle.desk.specs.Answers.{counts_told, ending_told}
 use Rattle.desk.specs.Lines.{line_text, Turn, Line}
 use Rattle.desk.specs.Report.{cycle_lines, ending_lines}
 use Rattle.schedule_replay.specs.Puts.{number_told, counted_lines}
-use Rattle.schedule_replay.proofs.PutsLemmas.{prints_on, prints_stop, prints_same}
+use Rattle.outside.proofs.Prints.{prints_on, prints_stop, prints_same}
 use Rattle.schedule_replay.proofs.lines.put_counted.Goals as goal
 
 -- the bytes behind the first line: those of the rollbacks and those of the end

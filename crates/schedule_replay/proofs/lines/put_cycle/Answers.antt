@@ -2,7 +2,8 @@ use Rattle.std.proofs.Common.{ℕ, ◌∷◌, [], ap, rules}
 use Rattle.std.specs.List.{flat_map}
 use Rattle.lock_rules.specs.Waits.{victim_of}
 use Rattle.desk.specs.Lines.{line_text, Cycle, Victim}
-use Rattle.schedule_replay.proofs.PutsLemmas.{prints_on, prints_stop, prints_same, prints_one}
+use Rattle.outside.proofs.Prints.{prints_on, prints_stop, prints_same}
+use Rattle.schedule_replay.proofs.PutsLemmas.{prints_one}
 use Rattle.schedule_replay.proofs.lines.put_cycle.Goals as goal
 
 pub returns-in_err-put_line-clause-printed : goal.returns-in_err-put_line-clause-printed

@@ -3,7 +3,8 @@ use Rattle.std.specs.List.{flat_map}
 use Rattle.desk.specs.declared.answers.Cycle.{Cycle}
 use Rattle.desk.specs.Lines.{line_text}
 use Rattle.desk.specs.Report.{cycle_lines}
-use Rattle.schedule_replay.proofs.PutsLemmas.{prints_no_more, prints_same, cycles_split}
+use Rattle.outside.proofs.Prints.{prints_no_more, prints_same}
+use Rattle.schedule_replay.proofs.PutsLemmas.{cycles_split}
 use Rattle.schedule_replay.proofs.lines.put_cycles.Goals as goal
 
 pub returns-in_err-put_cycle-clause-printed : goal.returns-in_err-put_cycle-clause-printed

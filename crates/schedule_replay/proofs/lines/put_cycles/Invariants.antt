@@ -3,7 +3,7 @@ use Rattle.std.specs.List.{flat_map}
 use Rattle.outside.specs.Bytes.{Prints}
 use Rattle.desk.specs.Lines.{line_text}
 use Rattle.desk.specs.Report.{cycle_lines}
-use Rattle.schedule_replay.specs.Puts.{OnlyPuts}
+use Rattle.outside.specs.Runs.{OnlyPuts}
 use Rattle.schedule_replay.proofs.PutsLemmas.{done}
 use Rattle.schedule_replay.proofs.lines.put_cycles.Given as goal
 

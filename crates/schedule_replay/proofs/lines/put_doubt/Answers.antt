@@ -1,7 +1,7 @@
 use Rattle.std.proofs.Common.{◌∷◌, [], rules}
 use Rattle.std.specs.List.{flat_map}
 use Rattle.desk.specs.Lines.{line_text, Doubt, Closed}
-use Rattle.schedule_replay.proofs.PutsLemmas.{prints_on, prints_stop}
+use Rattle.outside.proofs.Prints.{prints_on, prints_stop}
 use Rattle.schedule_replay.proofs.lines.put_doubt.Goals as goal
 
 pub returns-in_err-put_line-clause-printed : goal.returns-in_err-put_line-clause-printed

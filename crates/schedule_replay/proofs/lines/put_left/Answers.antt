@@ -1,7 +1,8 @@
 use Rattle.std.proofs.Common.{ℕ, List, get_or, map, rules}
 use Rattle.std.specs.List.{flat_map}
 use Rattle.desk.specs.Lines.{line_text, Left}
-use Rattle.schedule_replay.proofs.PutsLemmas.{prints_no_more, prints_one, left_split}
+use Rattle.outside.proofs.Prints.{prints_no_more}
+use Rattle.schedule_replay.proofs.PutsLemmas.{prints_one, left_split}
 use Rattle.schedule_replay.proofs.lines.put_left.Goals as goal
 
 pub returns-in_err-put_line-clause-printed : goal.returns-in_err-put_line-clause-printed

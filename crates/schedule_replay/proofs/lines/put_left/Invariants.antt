@@ -2,7 +2,7 @@ use Rattle.std.proofs.Common.{map, take}
 use Rattle.std.specs.List.{flat_map}
 use Rattle.outside.specs.Bytes.{Prints}
 use Rattle.desk.specs.Lines.{line_text, Left}
-use Rattle.schedule_replay.specs.Puts.{OnlyPuts}
+use Rattle.outside.specs.Runs.{OnlyPuts}
 use Rattle.schedule_replay.proofs.PutsLemmas.{done}
 use Rattle.schedule_replay.proofs.lines.put_left.Given as goal
 

@@ -8,7 +8,7 @@ use Rattle.desk.specs.Answers.{turn_told}
 use Rattle.desk.specs.Lines.{line_text}
 use Rattle.desk.specs.Report.{happening_lines}
 use Rattle.schedule_replay.specs.Puts.{number_told, counted_lines}
-use Rattle.schedule_replay.proofs.PutsLemmas.{prints_same}
+use Rattle.outside.proofs.Prints.{prints_same}
 use Rattle.schedule_replay.proofs.lines.put_turn.Goals as goal
 
 -- a turn that had an instruction to attempt has these lines
