@@ -1,13 +1,12 @@
 -- The operands of an instruction, as they are read one after the other.
-use Rattle.std.proofs.Common.{◌≡◌, ℕ, suc, ◌+◌, ◌<◌, Bool, not, cond, List, [], ◌∷◌, ◌++◌, length, map, get_or, drop, Option, Some, None, refl, ap, append_assoc, position, add-one, Bor}
+use Rattle.std.proofs.Common.{◌≡◌, ℕ, suc, ◌+◌, ◌<◌, Bool, not, cond, List, [], ◌∷◌, ◌++◌, length, map, drop, Option, Some, None, refl, ap, position, Bor}
 use Rattle.std.proofs.Math.Seq.{drop-cons}
-use Rattle.std.specs.List.{prefix_len, before_first}
+use Rattle.std.specs.List.{prefix_len}
 use Rattle.std.specs.Option.{option_map}
 use Rattle.asm_parse.specs.declared.token.Token.{Token}
 use Rattle.asm_parse.specs.declared.form.Sort.{Sort}
 use Rattle.asm_parse.specs.declared.statement.Operand.{Operand}
-use Rattle.asm_parse.specs.Cut.{behind_first}
-use Rattle.asm_parse.specs.Operand.{is_comma, operand_of, operands_of}
+use Rattle.asm_parse.specs.Operand.{operands_of}
 
 -- a prefix of a list that was mapped
 prefix_mapped : {A B : Type 0} (p : B → Bool) (f : A → B) (xs : List A) → prefix_len p (map f xs) ≡ prefix_len (λ x. p (f x)) xs
@@ -30,19 +29,6 @@ operands_behind read None = None
 pub behind_nothing : (others : Option (List Operand)) → operands_behind [] others ≡ others
 behind_nothing (Some others) = refl
 behind_nothing None = refl
-
-behind_read : (read : List Operand) (first : Operand) (others : Option (List Operand)) → operands_behind (read ++ first ∷ []) others ≡ operands_behind read (option_map (λ others. first ∷ others) others)
-behind_read read first (Some others) = ap Some (append_assoc read (first ∷ []) others)
-behind_read read first None = refl
-
--- an operand that was read, and those of the tokens behind its comma
-pub behind_operand : (read : List Operand) (first : Operand) (sorts : List Sort) (i : ℕ) (sort : Sort) (tokens : List Token) → i < length sorts → sort ≡ get_or sorts i sort → Some first ≡ operand_of sort (before_first is_comma tokens) → operands_behind (read ++ first ∷ []) (operands_of (drop (i + 1) sorts) (behind_first is_comma tokens)) ≡ operands_behind read (operands_of (drop i sorts) (Some tokens))
-behind_operand read first sorts i sort tokens inside here is =
-    rw (drop-cons sorts i sort, ← here, ← is, add-one) (behind_read read first (operands_of (drop (suc i) sorts) (behind_first is_comma tokens)))
-
--- no operand is read where one is refused
-pub none_behind : (read : List Operand) (sorts : List Sort) (i : ℕ) (sort : Sort) (tokens : List Token) → i < length sorts → sort ≡ get_or sorts i sort → None ≡ operand_of sort (before_first is_comma tokens) → None ≡ operands_behind read (operands_of (drop i sorts) (Some tokens))
-none_behind read sorts i sort tokens inside here is = rw (drop-cons sorts i sort, ← here, ← is) refl
 
 -- no operands are read where one is still to come and no tokens are left
 pub stopped : (read : List Operand) (sorts : List Sort) (i : ℕ) (left : Option (Bor (List Token))) (whole : Option (List Operand)) → i < length sorts → left ≡ None → operands_behind read (operands_of (drop i sorts) (option_map (λ part. part.now) left)) ≡ whole → None ≡ whole

@@ -1,12 +1,8 @@
 -- Runs of bytes that pass a test.
-use Rattle.std.proofs.Common.{◌≡◌, ℕ, Bool, true, false, ◌&&◌, cond, List, [], ◌∷◌, ◌++◌, length, refl, arith}
+use Rattle.std.proofs.Common.{◌≡◌, ℕ, Bool, true, false, cond, List, [], ◌∷◌, ◌++◌, length, refl, arith}
 use Rattle.std.specs.List.{list_all, prefix_len, take_while}
+use Rattle.std.proofs.lemmas.Bool.{and_parts}
 use Rattle.std.proofs.lemmas.List.Sums.{take_while-cons}
-
--- both tests pass
-pub both : (a b : Bool) → (a && b) ≡ true → (a ≡ true) × (b ≡ true)
-both true b e = (refl, e)
-both false b e = absurd (cc e)
 
 -- a list doesn't go on with a byte that passes
 abbrev pub Stops : (ℕ → Bool) → List ℕ → Type 0
@@ -18,7 +14,7 @@ pub run_length : (test : ℕ → Bool) (run tail : List ℕ) → list_all test r
 run_length test [] [] pass stops = refl
 run_length test [] (byte ∷ tail) pass stops = rw stops refl
 run_length test (byte ∷ run) tail pass stops =
-    let parts = both (test byte) (list_all test run) pass in
+    let parts = and_parts (test byte) (list_all test run) pass in
     rw (parts.0, run_length test run tail parts.1 stops) (omega arith)
 
 -- what is taken while a test passes passes it
@@ -34,5 +30,5 @@ taken_pass test (byte ∷ bytes) = rw (take_while-cons test byte bytes) (by_test
 pub each_also : (test other : ℕ → Bool) (bytes : List ℕ) → ((byte : ℕ) → test byte ≡ true → other byte ≡ true) → list_all test bytes ≡ true → list_all other bytes ≡ true
 each_also test other [] weaker pass = refl
 each_also test other (byte ∷ bytes) weaker pass =
-    let parts = both (test byte) (list_all test bytes) pass in
+    let parts = and_parts (test byte) (list_all test bytes) pass in
     rw (weaker byte parts.0) (each_also test other bytes weaker parts.1)

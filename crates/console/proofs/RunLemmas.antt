@@ -1,5 +1,5 @@
 -- What runs on the store of `try`.
-use Rattle.std.proofs.Common.{◌≡◌, ℕ, zero, suc, ◌+◌, ◌%◌, ◌^◌, ◌<◌, ◌≤◌, inl, inr, Bool, true, false, List, [], ◌∷◌, ◌++◌, length, get_or, All, refl, sym, ◌∙◌, ap, subst, arith, append-nil, Option, Some, None}
+use Rattle.std.proofs.Common.{◌≡◌, ℕ, zero, suc, ◌+◌, ◌%◌, ◌^◌, ◌<◌, ◌≤◌, inl, inr, Bool, true, false, List, [], ◌∷◌, ◌++◌, length, get_or, refl, sym, ◌∙◌, ap, subst, arith, append-nil, Option, Some, None}
 use Rattle.std.specs.Prelude.{Result, Ok, Err, IsSome, unwrap_or, slice_index}
 use Rattle.std.specs.List.{flat_map}
 use Rattle.std.specs.Option.{ForSome}
@@ -17,8 +17,6 @@ use Rattle.store_format.specs.Header.{HasRanges, fresh}
 use Rattle.store_format.specs.Stands.{Stands, stands}
 use Rattle.store_format.proofs.Fresh.{fresh_is_store}
 use Rattle.store_format.proofs.Stores.{stands_is}
-use Rattle.desk.specs.declared.event.Event.{Event}
-use Rattle.desk.specs.declared.event.Event.TheVariants.{Begin, Turn, Checkpoint, Crash}
 use Rattle.desk.specs.Desk.{Desk}
 use Rattle.desk.specs.Run.{run, faulted, IsRunOf}
 use Rattle.desk.specs.Lines.{line_text, Open}
@@ -30,30 +28,18 @@ use Rattle.private_desk.specs.PrivateDesk.{desk_of}
 use Rattle.private_desk.specs.Kept.{Keeps}
 use Rattle.private_desk.specs.declared.single.PrivateDesk.{PrivateDesk}
 use Rattle.private_desk.specs.contracts.single.PrivateDeskSupervisor.TheImpl.{ghosts}
-use Rattle.schedule_replay.specs.Asked.{IsAskable}
 use Rattle.schedule_replay.specs.declared.events.Replayed.{Replayed}
 use Rattle.schedule_replay.specs.declared.events.Replayed.TheVariants as replayed
 use Rattle.schedule_replay.specs.Ran.{PrintsEarlier, HasOpened}
 use Rattle.schedule_replay.specs.Replays.{Reports, Replays}
 use Rattle.job_text.specs.declared.job.Job.{Job}
 use Rattle.job_text.specs.Grammar.{job_of, content_of}
-use Rattle.job_text.specs.Ready.{IsEventAmong}
 use Rattle.console.specs.declared.status.Status.{Status}
 use Rattle.console.specs.declared.status.Status.TheVariants as status
 use Rattle.console.specs.Statuses.{status_of_replay}
 use Rattle.console.specs.Opening.{IsOpened, try_layout, try_bytes}
 use Rattle.console.specs.SourceText.{IsWhole}
 use Rattle.console.specs.Headline.{HasRun, Happened, HappenedTo, put_by, names_of, try_desk, try_flat}
-
--- the events of a job can be asked
-pub askable : (programs other : ℕ) (events : List Event) → programs ≡ other → All (IsEventAmong programs) events → All (IsAskable other) events
-askable programs other events same among k event within = as_asked programs other (get_or events k event) same (among k event within)
-  where
-    as_asked : (programs other : ℕ) (event : Event) → programs ≡ other → IsEventAmong programs event → IsAskable other event
-    as_asked programs other (Begin program args) same is = omega (arith, same, is)
-    as_asked programs other (Turn activation limit) same is = is
-    as_asked programs other Checkpoint same is = is
-    as_asked programs other Crash same is = is
 
 -- a put of another type that failed likewise
 prints_failed : (T U : Type 0) (old new : Option (List ℕ)) (bytes : List ℕ) (failed : Failed) → Prints {T = T} old new bytes (Err failed) → Prints {T = U} old new bytes (Err failed)

@@ -125,10 +125,7 @@ found all number (one ∷ entries) entry are is = by_test (one.number == number)
         (ap (λ (x : Entry). x.number) (sym it) ∙ eqb-true one.number number e, subst (λ (x : Entry). numbered all x.number ≡ Some x.runs) it are.0)
     by_test false e later is = later is
 
--- an end of an activation, a rollback, and other parts
-moves-ended : (all : List Activation) (desk : Desk) (number : ℕ) → Moves all desk (ended desk number)
-moves-ended all desk number = record { committed = refl; order = refl; next = refl; closed = refl; numbered_all = filtered all (λ (entry : Entry). not (entry.number == number)) desk.active }
-
+-- a rollback, and other parts
 moves-rolled : (all : List Activation) (desk : Desk) (entry : Entry) → Moves all desk (rolled_back desk entry)
 moves-rolled all desk entry = record { committed = refl; order = refl; next = refl; closed = refl; numbered_all = filtered all (λ (other : Entry). not (other.number == entry.number)) desk.active }
 

@@ -13,7 +13,6 @@ use Rattle.lock_rules.specs.Access.{permits}
 use Rattle.lock_rules.specs.Sets.{has}
 use Rattle.lock_rules.specs.Lines.{Lines, lines_of_page, within_page}
 use Rattle.lock_rules.proofs.Sets.{has-filter, has-range, in_range}
-use Rattle.lock_rules.proofs.Lines.{filter-range}
 use Rattle.desk.specs.Desk.{Authority, nobody}
 use Rattle.desk.specs.Instruction.{refuses, lines_within, authority_by}
 use Rattle.flat_storage.specs.declared.page_entries.Entry.{Entry}
@@ -31,6 +30,17 @@ any-range p q low zero same = refl
 any-range p q low (suc n) same =
     ap (λ (first : Bool). first || list_any p (range_with_len (low + 1) n)) (same low (omega arith) (omega arith))
     ∙ ap (λ (rest : Bool). q low || rest) (any-range p q (low + 1) n (λ x above below. same x (omega arith) (omega arith)))
+
+-- and on which numbers of it pass
+filter-range :
+    (p q : ℕ → Bool) (low n : ℕ) → ((x : ℕ) → low ≤ x → x < low + n → p x ≡ q x)
+    → filter p (range_with_len low n) ≡ filter q (range_with_len low n)
+filter-range p q low zero same = refl
+filter-range p q low (suc n) same =
+    ap (λ (first : Bool). cond first (low ∷ filter p (range_with_len (low + 1) n)) (filter p (range_with_len (low + 1) n))) (same low (omega arith) (omega arith))
+    ∙ ap
+    (λ (rest : List ℕ). cond (q low) (low ∷ rest) rest)
+    (filter-range p q (low + 1) n (λ x above below. same x (omega arith) (omega arith)))
 
 -- some number that a filter keeps passes a test
 any-filter : (p q : ℕ → Bool) (xs : List ℕ) → list_any p (filter q xs) ≡ list_any (λ x. q x && p x) xs

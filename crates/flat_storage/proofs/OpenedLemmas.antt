@@ -1,8 +1,8 @@
 -- Lines that are open need nothing: their pages are there, none refuses, and all are locked.
 use Rattle.std.proofs.Common.{◌≡◌, ℕ, ◌+◌, Bool, true, false, List, [], ◌∷◌, ◌++◌, refl, sym, ◌∙◌, ap, arith, inl, inr}
-use Rattle.std.specs.Prelude.{◌==◌, ◌||◌, ◌&&◌, cond, if◌then◌else◌, filter, slice_index_or}
+use Rattle.std.specs.Prelude.{◌==◌, ◌||◌, cond, if◌then◌else◌, filter, slice_index_or}
 use Rattle.std.specs.List.{list_any}
-use Rattle.std.proofs.lemmas.Bool.{or_cases, or_left, or_right}
+use Rattle.std.proofs.lemmas.Bool.{or_cases, or_left, or_right, and_parts}
 use Rattle.std.proofs.lemmas.Bool.Decides.{nat_tests}
 use Rattle.lock_rules.specs.Sets.{has}
 use Rattle.lock_rules.specs.Lines.{Lines, page_of_line, pages_of, within_page, both, with_whole_pages}
@@ -62,14 +62,9 @@ none-any p xs none = by_test (list_any p xs) refl
         absurd (differ (sym (none x inside) ∙ passes))
 
 -- a line within a page
-both-true : (a b : Bool) → (a && b) ≡ true → (a ≡ true) × (b ≡ true)
-both-true true true is = (refl, refl)
-both-true true false is = absurd (cc)
-both-true false b is = absurd (cc)
-
 within-is : (page : ℕ) (lines : List ℕ) (x : ℕ) → has (within_page page lines) x ≡ true → (page_of_line x ≡ page) × (has lines x ≡ true)
 within-is page lines x inside =
-    let (here, among) = both-true (page == page_of_line x) (has lines x) (sym (has-within_page page lines x) ∙ inside) in
+    let (here, among) = and_parts (page == page_of_line x) (has lines x) (sym (has-within_page page lines x) ∙ inside) in
     let same : page_of_line x ≡ page = grind (arith, nat_tests, here) in
     (same, among)
 

@@ -14,7 +14,7 @@ use Rattle.asm_parse.specs.declared.token.Token.{Token}
 use Rattle.asm_parse.specs.declared.token.Token.TheVariants.{Word, Number}
 use Rattle.asm_parse.specs.declared.statement.Statement.{Statement}
 use Rattle.asm_parse.proofs.FrontLemmas.{IsToken, IsWord}
-use Rattle.asm_parse.proofs.RunLemmas.{both}
+use Rattle.std.proofs.lemmas.Bool.{and_parts}
 use Rattle.romp_asm.specs.Layout.{Parts, assembled}
 use Rattle.romp_asm.proofs.WindowLemmas.{assembled_windows}
 use Rattle.job_text.specs.declared.stage.Stage.{Stage}
@@ -172,7 +172,7 @@ gives_programs reading (Word word ∷ []) are follows = by_word (bytes_eq word (
 gives_programs reading (Word word ∷ Word name ∷ []) are follows = by_word (bytes_eq word (codes "program") && is_label name) refl
   where
     by_word : (right : Bool) → (bytes_eq word (codes "program") && is_label name) ≡ right → Gives {E = ℕ} (if right then program_begins reading name else Err 10)
-    by_word true is = gives_program reading name are.1.0 (both (bytes_eq word (codes "program")) (is_label name) is).1 follows
+    by_word true is = gives_program reading name are.1.0 (and_parts (bytes_eq word (codes "program")) (is_label name) is).1 follows
     by_word false is = tt
 gives_programs reading _ are follows = tt
 

@@ -16,7 +16,7 @@ use Rattle.asm_parse.specs.Statement.{is_label}
 use Rattle.asm_parse.specs.declared.token.Token.{Token}
 use Rattle.asm_parse.specs.declared.token.Token.TheVariants.{Word, Number}
 use Rattle.asm_parse.proofs.FrontLemmas.{IsToken, IsWord}
-use Rattle.asm_parse.proofs.RunLemmas.{both}
+use Rattle.std.proofs.lemmas.Bool.{and_parts}
 use Rattle.job_text.specs.declared.stage.Stage.TheVariants.{Schedule, Ended}
 use Rattle.job_text.specs.declared.stage.TheConstants.{TAKES_CHECKPOINT, TAKES_CRASH}
 use Rattle.job_text.specs.Reader.{tokens_read}
@@ -186,7 +186,7 @@ single_by reading ends saves stops =
 gives_single : (reading : Reading) (word : List ℕ) → Follows Schedule reading → Gives (single_line reading word)
 gives_single reading word follows =
     by_tests (bytes_eq word (codes "end")) (bytes_eq word (codes "checkpoint") && TAKES_CHECKPOINT) (bytes_eq word (codes "crash") && TAKES_CRASH)
-    (λ is. both (bytes_eq word (codes "checkpoint")) TAKES_CHECKPOINT is) (λ is. both (bytes_eq word (codes "crash")) TAKES_CRASH is)
+    (λ is. and_parts (bytes_eq word (codes "checkpoint")) TAKES_CHECKPOINT is) (λ is. and_parts (bytes_eq word (codes "crash")) TAKES_CRASH is)
   where
     new : Reading
     new = record reading { stage = Ended }
@@ -220,6 +220,6 @@ gives_schedule reading (Word word ∷ Number first ∷ Number second ∷ []) are
 gives_schedule reading (Word word ∷ Word name ∷ values) are follows = by_test (bytes_eq word (codes "begin") && is_label name) refl
   where
     by_test : (right : Bool) → (bytes_eq word (codes "begin") && is_label name) ≡ right → Gives {E = ℕ} (if right then begin_line reading name (values_of values) else Err 10)
-    by_test true is = gives_begins reading name values (values_of values) follows are.1.0 (both (bytes_eq word (codes "begin")) (is_label name) is).1 are.1.1 refl
+    by_test true is = gives_begins reading name values (values_of values) follows are.1.0 (and_parts (bytes_eq word (codes "begin")) (is_label name) is).1 are.1.1 refl
     by_test false is = tt
 gives_schedule reading _ are follows = tt

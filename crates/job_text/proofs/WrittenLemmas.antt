@@ -9,7 +9,8 @@ use Rattle.asm_parse.specs.Token.{before, begins_word, continues_word, tokens, t
 use Rattle.asm_parse.specs.declared.token.Token.{Token}
 use Rattle.asm_parse.specs.declared.token.Token.TheVariants.{Word, Number, Comma, Open, Close, Colon, Plus, Minus}
 use Rattle.asm_parse.proofs.TokenLemmas.{from_none}
-use Rattle.asm_parse.proofs.RunLemmas.{Stops, both, each_also}
+use Rattle.std.proofs.lemmas.Bool.{and_parts}
+use Rattle.asm_parse.proofs.RunLemmas.{Stops, each_also}
 use Rattle.asm_parse.proofs.FrontLemmas.{IsToken, IsWord, blank_front, mark_front, number_front, number_pass, word_front}
 use Rattle.job_text.specs.Written.{behind_text, token_text, tokens_text}
 
@@ -82,7 +83,7 @@ written_plain (first ∷ others) are =
 split_line : (line rest : List ℕ) → list_all plain line ≡ true → lines_of (line ++ 10 ∷ rest) ≡ line ∷ lines_of rest
 split_line [] rest pass = refl
 split_line (byte ∷ line) rest pass =
-    let parts = both (plain byte) (list_all plain line) pass in
+    let parts = and_parts (plain byte) (list_all plain line) pass in
     let no : is_feed byte ≡ false = no_feed (is_feed byte) parts.0 in
     rw (no, split_line line rest parts.1) refl
   where

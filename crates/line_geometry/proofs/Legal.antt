@@ -44,7 +44,7 @@ increasing-tail : (x : ℕ) (ys : List ℕ) → IsStrictlyIncreasing (x ∷ ys) 
 increasing-tail x ys all k inside = omega (arith, all (k + 1) (omega arith), behind x ys k, behind x ys (k + 1))
 
 -- the first fault, by three tests of the first segment
-abbrev fault_by : Bool → Bool → Bool → Option DirectoryFault → Option DirectoryFault
+abbrev pub fault_by : Bool → Bool → Bool → Option DirectoryFault → Option DirectoryFault
 fault_by strange low many later = cond strange (Some Range) (cond low (Some Order) (cond many (Some TooMany) later))
 
 -- without a fault they are legal

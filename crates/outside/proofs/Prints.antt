@@ -1,5 +1,5 @@
 -- Puts, one after another.
-use Rattle.std.proofs.Common.{◌≡◌, ℕ, ◌+◌, ◌<◌, List, [], ◌∷◌, ◌++◌, length, get_or, take, drop, min, refl, sym, ◌∙◌, ap, subst, append_assoc, append-nil, arith, rules}
+use Rattle.std.proofs.Common.{◌≡◌, ℕ, ◌+◌, ◌<◌, List, [], ◌∷◌, ◌++◌, length, get_or, take, drop, min, sym, ◌∙◌, ap, subst, append_assoc, append-nil, arith, rules}
 use Rattle.std.specs.Prelude.{Option, None, Some, Result, Ok, Err, IsErr}
 use Rattle.std.proofs.Math.Seq.{take-append-add}
 use Rattle.std.proofs.lemmas.List.{take-append-le, take_min, take_more, take-append-drop}
@@ -9,11 +9,6 @@ use Rattle.outside.specs.Bytes.{Prints}
 use Rattle.outside.specs.Runs.{FewerLater, OnlyPuts}
 use Rattle.outside.proofs.Counts.{cause_since}
 use Rattle.outside.proofs.Runs.{elapses-trans}
-
--- nothing is printed
-pub prints_none : {T : Type 0} (old : Option (List ℕ)) (value : T) → Prints old old [] (Ok value)
-prints_none None value = refl
-prints_none (Some old) value = ap (λ (all : List ℕ). Some all) (sym (append-nil old))
 
 -- the same bytes
 pub prints_same : {T : Type 0} (old new : Option (List ℕ)) (first second : List ℕ) (result : Result T Failed) → first ≡ second → Prints old new first result → Prints old new second result
@@ -55,12 +50,6 @@ prints_broken result later one two old new bytes prints = prints_same old new (b
 module _ {X : Type 0} (F : List X → List ℕ) (split : (xs ys : List X) → F (xs ++ ys) ≡ F xs ++ F ys) (xs : List X) (i : ℕ) (x : X) (lt : i < length xs) where
   one_more : F (take (i + 1) xs) ≡ F (take i xs) ++ F (get_or xs i x ∷ [])
   one_more = ap F (take_more xs i x lt) ∙ split (take i xs) (get_or xs i x ∷ [])
-
-  pub prints_more : {T U V : Type 0} (old mid new : Option (List ℕ)) (first : T) (second : U) (third : V) → Prints old mid (F (take i xs)) (Ok first) → Prints mid new (F (get_or xs i x ∷ [])) (Ok second) → Prints old new (F (take (i + 1) xs)) (Ok third)
-  prints_more {T} {U} {V} old mid new first second third one two =
-      prints_well old new (F (take (i + 1) xs)) second third
-      (prints_same old new (F (take i xs) ++ F (get_or xs i x ∷ [])) (F (take (i + 1) xs)) (Ok second) (sym one_more)
-      (prints_on old mid new (F (take i xs)) (F (get_or xs i x ∷ [])) first (Ok second) one two))
 
   pub prints_no_more : {T U V : Type 0} (old mid new : Option (List ℕ)) (first : T) (result : Result U Failed) (later : Result V Failed) → IsErr result → IsErr later → Prints old mid (F (take i xs)) (Ok first) → Prints mid new (F (get_or xs i x ∷ [])) result → Prints old new (F xs) later
   prints_no_more old mid new first result later is so one two =

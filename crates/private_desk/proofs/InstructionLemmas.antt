@@ -73,11 +73,6 @@ find-not_active d number other = by_active d.active refl
         ap (λ (these : Option Active). find (λ (entry : Entry). entry.number == number) (entries_told d.programs.items these)) is
         ∙ by_program active (slice_get d.programs.items active.program) (other active is)
 
--- no option but none
-pub none-of : (option : Option ℕ) → ((n : ℕ) → option ≡ Some n → ⊥) → option ≡ None
-none-of None not = refl
-none-of (Some n) not = absurd (not n refl)
-
 -- it is the only entry
 pub entries-alone : (d : PrivateDesk) (active : Active) (program : Program) → Runs d active program → (desk_of d).active ≡ entry_of active program ∷ []
 entries-alone d active program on = ap (entries_told d.programs.items) on.active_is ∙ ap (λ (these : Option Program). option_map_or (λ (p : Program). entry_of active p ∷ []) these []) on.named

@@ -4,7 +4,6 @@ pub mod ExecuteLemmas
 pub mod ReachLemmas
 pub mod AloneLemmas
 pub mod SizeLemmas
-pub mod CallLemmas
 pub mod RecordLemmas
 pub mod BodyLemmas
 pub mod LaidLemmas

@@ -1,5 +1,5 @@
 -- A body that is written behind a shut gate, and the gate after it.
-use Rattle.std.proofs.Common.{◌≡◌, ℕ, ◌+◌, ◌≤◌, true, false, List, [], ◌∷◌, ◌++◌, length, take, drop, refl, sym, ◌∙◌, ap, arith, append_assoc, slice_index, IsSome}
+use Rattle.std.proofs.Common.{◌≡◌, ℕ, ◌+◌, ◌≤◌, true, false, List, [], ◌∷◌, ◌++◌, length, take, drop, refl, sym, ◌∙◌, ap, arith, append_assoc, slice_index}
 use Rattle.std.specs.Prelude.{Option, None, Some, ◌==◌, unwrap_or, option_map}
 use Rattle.std.proofs.lemmas.List.{take_at, drop_at, drop-drop, length-take-le, get_or-drop}
 use Rattle.outside.specs.Bytes.{written, Torn}
@@ -61,9 +61,6 @@ module _ (gate : ℕ) (body held : List ℕ) (room : gate + 1 + length body ≤ 
 
 pub held_is : {told : Option (List ℕ)} {bytes : List ℕ} → told ≡ Some bytes → unwrap_or told [] ≡ bytes
 held_is same = ap (λ (those : Option (List ℕ)). unwrap_or those []) same
-
-pub is_told : {told : Option (List ℕ)} {bytes : List ℕ} → told ≡ Some bytes → IsSome told
-is_told same = cc
 
 more_twice : (first : Option ℕ) → option_map (λ count. count + 1) (option_map (λ count. count + 1) first) ≡ option_map (λ count. count + 2) first
 more_twice None = refl

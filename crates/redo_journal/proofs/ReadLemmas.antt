@@ -41,9 +41,6 @@ module _ (count i at : ℕ) (held number : List ℕ) (line : ℕ) (more : i < co
   pub noted_here : (newest : List (Option ℕ)) → noted newest (lines_after count i at held) ≡ noted (overlaid newest line (Some (at + 132 * i + 4) ∷ [])) (lines_after count (i + 1) at held)
   noted_here newest = ap (noted newest) begins
 
-pub is_right : (bound least line : ℕ) → least ≤ line → line < bound → nat_le least line && nat_lt line bound ≡ true
-is_right bound least line low high = grind (arith, nat_tests)
-
 pub is_low : (bound least line : ℕ) → line < least → nat_le least line && nat_lt line bound ≡ false
 is_low bound least line low = grind (arith, nat_tests)
 

@@ -1,5 +1,5 @@
 -- What a store shows of bytes, and what these stand for.
-use Rattle.std.proofs.Common.{◌≡◌, ℕ, ◌+◌, ◌-◌, ◌%◌, ◌^◌, ◌≤◌, List, [], length, take, refl, sym, ◌∙◌, ap, subst, arith, IsSome, IsTrue}
+use Rattle.std.proofs.Common.{◌≡◌, ℕ, ◌+◌, ◌%◌, ◌^◌, ◌≤◌, List, [], length, take, refl, sym, ◌∙◌, ap, subst, arith, IsSome, IsTrue}
 use Rattle.std.specs.Prelude.{Option, None, fold, unwrap_or}
 use Rattle.line_geometry.specs.Lines.{line_count}
 use Rattle.store_format.specs.declared.header.Which.{Which}

@@ -1,6 +1,7 @@
 -- What a look-up found, and what was computed of each element, in any list.
-use Rattle.std.proofs.Common.{◌≡◌, ℕ, zero, suc, ◌+◌, ◌<◌, Bool, true, false, cond, List, [], ◌∷◌, ◌&&◌, Option, Some, refl, sym, ap, ◌∙◌, map, length, get_or, find, slice_index, arith}
+use Rattle.std.proofs.Common.{◌≡◌, ℕ, zero, suc, ◌+◌, ◌<◌, Bool, true, false, cond, List, [], ◌∷◌, Option, Some, refl, sym, ap, ◌∙◌, map, length, get_or, find, slice_index, arith}
 use Rattle.std.specs.List.{range_with_len, list_all, slice_get}
+use Rattle.std.proofs.lemmas.Bool.{and_parts}
 use Rattle.std.proofs.lemmas.List.FromFn.{get_or-map-range_with_len}
 
 found_by : {X : Type 0} (p : X → Bool) (y x : X) (rest : Option X) (t : Bool) → p y ≡ t → cond t (Some y) rest ≡ Some x → (rest ≡ Some x → p x ≡ true) → p x ≡ true
@@ -12,15 +13,11 @@ pub find_passes : {X : Type 0} (p : X → Bool) (xs : List X) (x : X) → find p
 find_passes p [] x e = grind arith
 find_passes p (y ∷ xs) x e = found_by p y x (find p xs) (p y) refl e (find_passes p xs x)
 
-both : (a b : Bool) → (a && b) ≡ true → (a ≡ true) × (b ≡ true)
-both true b e = (refl, e)
-both false b e = grind arith
-
 -- a test that all elements pass is passed by each
 pub all_at : {X : Type 0} (p : X → Bool) (xs : List X) (i : ℕ) (x : X) → list_all p xs ≡ true → slice_get xs i ≡ Some x → p x ≡ true
 all_at p [] i x every e = grind arith
-all_at p (y ∷ xs) zero x every e = let h = (both (p y) (list_all p xs) every).0 in grind arith
-all_at p (y ∷ xs) (suc i) x every e = all_at p xs i x (both (p y) (list_all p xs) every).1 e
+all_at p (y ∷ xs) zero x every e = let h = (and_parts (p y) (list_all p xs) every).0 in grind arith
+all_at p (y ∷ xs) (suc i) x every e = all_at p xs i x (and_parts (p y) (list_all p xs) every).1 e
 
 -- a list of a function's values has each of them at its argument
 pub value_at : (f : ℕ → ℕ) (n : ℕ) (xs : List ℕ) → map f (range_with_len 0 n) ≡ xs → (i : ℕ) → i < n → f i ≡ slice_index xs i

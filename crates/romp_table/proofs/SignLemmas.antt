@@ -35,6 +35,3 @@ signed-bits_8 (negsuc m) h = grind (arith, nat_tests, ints)
 pub signed-bits_20 : (z : ℤ) → IsSigned 20 z → signed 20 (bits_of 20 z) ≡ z
 signed-bits_20 (pos m) h = grind (arith, nat_tests, ints)
 signed-bits_20 (negsuc m) h = grind (arith, nat_tests, ints)
-
-pub signed_widths_8 : (bits : ℕ) → bits < 2 ^ 8 → IsSigned 8 (signed 8 bits)
-signed_widths_8 bits small = (grind (arith, nat_tests, ints), grind (arith, nat_tests, ints))

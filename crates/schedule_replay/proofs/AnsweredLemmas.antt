@@ -12,7 +12,8 @@ use Rattle.outside.specs.Runs.{FewerLater}
 use Rattle.outside.proofs.Runs.{elapses-trans}
 use Rattle.desk.specs.declared.event.Event.{Event}
 use Rattle.desk.specs.declared.supervisor.Supervisor as desk
-use Rattle.schedule_replay.specs.Asked.{IsAskable, is_begin, is_turn, begins_in, turns_in}
+use Rattle.job_text.specs.Ready.{IsEventAmong}
+use Rattle.schedule_replay.specs.Asked.{is_begin, is_turn, begins_in, turns_in}
 use Rattle.schedule_replay.specs.Answered.{IsReady, Answered}
 use Rattle.schedule_replay.proofs.PutsLemmas.{done}
 
@@ -56,7 +57,7 @@ module _ {D W : Type 0} (S : desk.Ghosts D) (G : Ghosts W) (fewer_later : FewerL
         let turns : turns_in events ≡ turns_in (take i events) + turns_in (get_or events i event ∷ []) + turns_in (drop (i + 1) events) = ap turns_in (sym (parted events i event lt)) ∙ turns_split (take i events ++ get_or events i event ∷ []) (drop (i + 1) events) ∙ ap (λ n. n + turns_in (drop (i + 1) events)) (turns_split (take i events) (get_or events i event ∷ [])) in
         record {
           sound = so_far.sound;
-          asked = all_one (λ each. IsAskable (length (S.programs mid)) each) (get_or events i event) (subst (λ (programs : List Program). IsAskable (length programs) (get_or events i event)) (sym so_far.programs) (ready.asked i event lt));
+          asked = all_one (λ each. IsEventAmong (length (S.programs mid)) each) (get_or events i event) (subst (λ (programs : List Program). IsEventAmong (length programs) (get_or events i event)) (sym so_far.programs) (ready.asked i event lt));
           begins = omega (arith, so_far.next, so_far.begins, ready.begins, begins);
           turns = omega (arith, so_far.turns, ready.turns, turns);
           bytes = so_far.bytes;

@@ -7,7 +7,8 @@ use Rattle.outside.specs.Causes.{HasCause}
 use Rattle.outside.specs.Moments.{Elapses}
 use Rattle.desk.specs.declared.event.Event.{Event}
 use Rattle.desk.specs.declared.supervisor.Supervisor as desk
-use Rattle.schedule_replay.specs.Asked.{IsAskable, begins_in, turns_in}
+use Rattle.job_text.specs.Ready.{IsEventAmong}
+use Rattle.schedule_replay.specs.Asked.{begins_in, turns_in}
 
 -- the bytes that are told are enough for the store
 abbrev pub HoldsStore : {D W : Type 0} → desk.Ghosts D → Ghosts W → D → W → Type 0
@@ -16,7 +17,7 @@ HoldsStore S G desk outside = ForSome (G.held outside) (λ bytes. S.store_bytes 
 -- a supervisor that these events may be asked of, one after another
 pub record IsReady {D W : Type 0} (S : desk.Ghosts D) (G : Ghosts W) (events : List Event) (desk : D) (outside : W) : Type 0 where
   pub sound : S.sound desk
-  pub asked : All (IsAskable (length (S.programs desk))) events
+  pub asked : All (IsEventAmong (length (S.programs desk))) events
   pub begins : (S.desk desk).next + begins_in events ≤ S.begins desk + 1
   pub turns : S.turns desk + turns_in events ≤ 2 ^ 32
   pub bytes : HoldsStore S G desk outside

@@ -1,14 +1,7 @@
--- What may be asked of a supervisor.
-use Rattle.std.specs.Prelude.{ℕ, ◌<◌, ◌≤◌, Bool, true, false, List, count_by}
+-- How many begins and turns are among events.
+use Rattle.std.specs.Prelude.{ℕ, Bool, true, false, List, count_by}
 use Rattle.desk.specs.declared.event.Event.{Event}
-use Rattle.desk.specs.declared.event.Event.TheVariants.{Begin, Turn, Checkpoint, Crash}
-
--- an event that may be asked of a supervisor with so many programs: a turn has a million rows at most
-abbrev pub IsAskable : ℕ → Event → Type 0
-IsAskable programs (Begin program args) = program < programs
-IsAskable programs (Turn activation limit) = limit ≤ 1000000
-IsAskable programs Checkpoint = ⊥
-IsAskable programs Crash = ⊥
+use Rattle.desk.specs.declared.event.Event.TheVariants.{Begin, Turn}
 
 -- whether an event is a begin
 abbrev pub is_begin : Event → Bool

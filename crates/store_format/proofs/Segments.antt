@@ -1,12 +1,10 @@
 -- The fields of segments are right exactly where the segments are a directory's.
 use Rattle.std.proofs.Common.{◌≡◌, ℕ, ◌+◌, ◌-◌, ◌<◌, ◌≤◌, Bool, true, false, List, [], ◌∷◌, length, refl, subst, arith}
-use Rattle.std.specs.Prelude.{Option, None, Some, All, nat_lt, nat_le, ◌==◌, not, ◌&&◌, min, cond}
+use Rattle.std.specs.Prelude.{None, Some, All, nat_lt, nat_le, ◌==◌, not, ◌&&◌, min, cond}
 use Rattle.std.proofs.lemmas.Bool.Decides.{nat_tests}
 use Rattle.std.proofs.lemmas.List.Elements.{All-nil, All-cons, All-head, All-tail}
-use Rattle.line_geometry.specs.declared.directory.DirectoryFault.{DirectoryFault}
-use Rattle.line_geometry.specs.declared.directory.DirectoryFault.TheVariants.{Order, Range, TooMany}
 use Rattle.line_geometry.specs.Legal.{fault_of, fault_after, is_strange, IsLegal}
-use Rattle.line_geometry.proofs.Legal.{legal-none, none-legal}
+use Rattle.line_geometry.proofs.Legal.{fault_by, legal-none, none-legal}
 use Rattle.store_format.specs.Header.{Field, within, segment_fields, first_fault}
 use Rattle.store_format.proofs.Checks.{none-append}
 
@@ -18,9 +16,6 @@ within_right number least most low high = grind (arith, nat_tests)
 
 pub right_within : (number least most : ℕ) → not (nat_le least number && nat_le number most) ≡ false → (least ≤ number) × (number ≤ most)
 right_within number least most right = (grind (arith, nat_tests), grind (arith, nat_tests))
-
-abbrev fault_by : Bool → Bool → Bool → Option DirectoryFault → Option DirectoryFault
-fault_by strange low many later = cond strange (Some Range) (cond low (Some Order) (cond many (Some TooMany) later))
 
 not_strange : (segment : ℕ × ℕ) → 1 ≤ segment.0 → segment.0 ≤ 3839 → 1 ≤ segment.1 → segment.1 ≤ 128 → is_strange segment ≡ false
 not_strange segment a b c d = grind (arith, nat_tests)

@@ -20,7 +20,7 @@ use Rattle.console.specs.Statuses.{status_of_replay}
 use Rattle.console.specs.Causes.{OpensBy}
 use Rattle.console.specs.Headline.{HappenedTo, names_of}
 use Rattle.console.proofs.CauseLemmas.{opens-by}
-use Rattle.console.proofs.RunLemmas.{askable, happened, has_opened, rose-by, put_failed}
+use Rattle.console.proofs.RunLemmas.{happened, has_opened, rose-by, put_failed}
 use Rattle.console.proofs.commands.try_job.Goals as goal
 
 pub replay-replayed-requires-clause-ready : goal.replay-replayed-requires-clause-ready
@@ -36,7 +36,7 @@ replay-replayed-requires-clause-ready g c =
     let header : total c.in-Ok.desk.header ≡ total try_layout = ap (λ (these : Header). total these) opened.header in
     record {
       sound = opened.sound;
-      asked = askable (length c.args.job.programs.items) (length c.in-Ok.desk.programs.items) c.deref-3.result.now programs (subst (All (IsEventAmong (length c.args.job.programs.items))) (sym events) ready.events);
+      asked = subst (λ (n : ℕ). All (IsEventAmong n) c.deref-3.result.now) programs (subst (All (IsEventAmong (length c.args.job.programs.items))) (sym events) ready.events);
       begins = omega (arith, next, begins, opened.begins);
       turns = omega (arith, turns, few, ready.few, opened.turns);
       bytes = λ x is. omega (arith, header, opened.long x is);

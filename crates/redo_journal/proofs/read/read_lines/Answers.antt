@@ -9,7 +9,8 @@ use Rattle.redo_journal.specs.Noted.{noted, AreWithin}
 use Rattle.store_format.proofs.Padded.{read_is}
 use Rattle.outside.proofs.Runs.{asks_on}
 use Rattle.redo_journal.proofs.WithinLemmas.{within-overlaid}
-use Rattle.redo_journal.proofs.ReadLemmas.{lines_after, wrong_here, right_here, noted_here, is_right, is_low, is_high, reads_within}
+use Rattle.store_format.proofs.Lines.{in_order}
+use Rattle.redo_journal.proofs.ReadLemmas.{lines_after, wrong_here, right_here, noted_here, is_low, is_high, reads_within}
 use Rattle.redo_journal.proofs.read.read_lines.Given.{Over}
 use Rattle.redo_journal.proofs.read.read_lines.Goals as goal
 use Rattle.redo_journal.proofs.read.read_lines.Goals.{After-read_u32-line, then-from-least-via-then-from-least, then-from-least-via-else-from-least+then-len-line}
@@ -55,7 +56,7 @@ loop-i-preserved g c =
     let held = held_of g.W.Outside c.args.outside.now in
     let bound = length c.loop-i.newest in
     let line = c.read_u32-line.result in
-    let right = is_right bound c.loop-i.least line (omega (arith, c.if-from-least.false, c.from-in-loop-i.ensures)) (omega (arith, c.if-len-line.false, c.len.ensures)) in
+    let right = in_order bound c.loop-i.least line (omega (arith, c.if-from-least.false, c.from-in-loop-i.ensures)) (omega (arith, c.if-len-line.false, c.len.ensures)) in
     let place : c.args.at + 132 * c.from.result + 4 ≡ c.args.at + 132 * c.loop-i.i + 4 = omega (arith, c.from.ensures) in
     record {
       asks = asked g at;

@@ -1,4 +1,4 @@
-use Rattle.std.proofs.Common.{◌≡◌, [], length, drop, ◌∙◌, ap, arith}
+use Rattle.std.proofs.Common.{◌≡◌, length, drop, ◌∙◌, ap, arith}
 use Rattle.std.proofs.lemmas.List.{length-take-le, length-drop}
 use Rattle.outside.proofs.Durable.{told_some}
 use Rattle.outside.specs.Bytes.{bytes_at}

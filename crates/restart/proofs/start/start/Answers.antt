@@ -1,4 +1,4 @@
-use Rattle.std.proofs.Common.{◌≡◌, ℕ, List, IsTrue, IsSome, sym, subst}
+use Rattle.std.proofs.Common.{ℕ, List, IsTrue, IsSome, sym, subst}
 use Rattle.std.specs.Prelude.{Option}
 use Rattle.outside.specs.Durable.{IsSure}
 use Rattle.outside.specs.Runs.{OnlyAsks}

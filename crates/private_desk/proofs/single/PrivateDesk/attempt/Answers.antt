@@ -21,7 +21,8 @@ use Rattle.private_desk.specs.Running.{Runs, IsRolledBack, HasReached}
 use Rattle.private_desk.specs.declared.single.PrivateDesk.{PrivateDesk}
 use Rattle.private_desk.specs.declared.single.Tally.{Tally}
 use Rattle.flat_machine.specs.declared.machine.Plain.{Plain}
-use Rattle.private_desk.proofs.InstructionLemmas.{runs, runs_as, none-of, checked, journalled, at_commit, went_on, follows_more}
+use Rattle.flat_storage.proofs.AnswerLemmas.{none-of}
+use Rattle.private_desk.proofs.InstructionLemmas.{runs, runs_as, checked, journalled, at_commit, went_on, follows_more}
 use Rattle.private_desk.proofs.ReachLemmas.{OnlyRan, CountedOn, row-at, rolled-from, parts-from, bytes-from, desk-from, follows-from, is-instruction-from, rolled-follows, counted-next, open-next, reached-open, counted-sound, shut-from, counted-parts, counted-bytes}
 use Rattle.private_desk.proofs.single.PrivateDesk.attempt.Goals as goal
 

@@ -11,7 +11,8 @@ use Rattle.private_desk.specs.Follows.{Follows, IsNumberedIf, store_of}
 use Rattle.private_desk.specs.Running.{Runs, HasReached}
 use Rattle.private_desk.specs.declared.single.Active.{Active}
 use Rattle.private_desk.proofs.AloneLemmas.{GoesOn}
-use Rattle.private_desk.proofs.InstructionLemmas.{runs, set_up, program_of, journalled, went_on, follows_more, none-of}
+use Rattle.flat_storage.proofs.AnswerLemmas.{none-of}
+use Rattle.private_desk.proofs.InstructionLemmas.{runs, set_up, program_of, journalled, went_on, follows_more}
 use Rattle.private_desk.proofs.ReachLemmas.{HasServed, row-at, touch-is, shown-by, written-with, reached-served, goes-again, went-again, any-attempt, any-number, served-sound, counted-sound}
 use Rattle.private_desk.proofs.single.PrivateDesk.serve.Goals as goal
 

@@ -1,9 +1,7 @@
-use Rattle.std.proofs.Common.{◌≡◌, ℕ, List, take, ap, subst, sym, ◌∙◌}
-use Rattle.store_format.specs.Header.{Header, header_of}
+use Rattle.std.proofs.Common.{◌≡◌, List, ap, subst, sym, ◌∙◌}
 use Rattle.store_format.specs.Bank.{RecordLine}
 use Rattle.store_format.specs.Stands.{stands, one_more}
 use Rattle.outside.specs.Runs.{held_of}
-use Rattle.redo_journal.specs.Kept.{KeptBank}
 use Rattle.redo_journal.specs.Tracks as journal
 use Rattle.restart.specs.Kept.{KeptStore}
 use Rattle.restart.specs.Shows.{Tracks}
