@@ -31,6 +31,7 @@ module _ {W : Type 0} (G : Ghosts W) where
       honest = puts.only.honest;
       time = puts.only.time;
       cause = record { later = puts.only.cause.later; failed = puts.only.cause.failed };
+      calls = puts.only.calls;
       disk = puts.only.disk;
     };
     images = puts.images;

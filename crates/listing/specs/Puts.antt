@@ -6,7 +6,7 @@ use Rattle.outside.specs.Bytes.{Prints}
 use Rattle.outside.specs.Runs.{OnlyPuts}
 
 -- These bytes are printed, or a prefix of them where a put failed, and that only where the screen's count rose.
--- The disk is left alone: its bytes and writes stay, and each image that a crash may have left since is one that it may have left at the start.
+-- The disk is left alone: it records no call, its bytes, writes and count of faults stay, and each image that a crash may have left since is one that it may have left at the start.
 pub record Puts {W T : Type 0} (G : Ghosts W) (bytes : List ℕ) (old new : W) (result : Result T Failed) : Type 0 where
   pub printed : Prints (G.printed old) (G.printed new) bytes result
   pub only : OnlyPuts G old new result

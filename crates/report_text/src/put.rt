@@ -26,7 +26,8 @@ pub fn put_line<W: Outside>(line: &Line, outside: &mut W) -> Result<(), Failed>
     ensures time { Elapses W.moment W.left_since outside.old outside.new }
     ensures crash { Shows (line_text (line_told line.now)) W.moment W.left_since outside.old outside.new }
     ensures cause { HasCause (W.put_faults outside.old) (W.put_faults outside.new) result }
-    ensures disk { W.disk_faults outside.old ≤ W.disk_faults outside.new }
+    ensures calls { (W.moment outside.new).calls ≡ (W.moment outside.old).calls }
+    ensures disk { W.disk_faults outside.new ≡ W.disk_faults outside.old }
 {
     let text = text_of(line);
     outside.put(text.as_slice())

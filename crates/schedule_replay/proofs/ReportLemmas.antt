@@ -56,7 +56,7 @@ module _ {D W : Type 0} (S : desk.Ghosts D) (G : Ghosts W) (names : List (List �
       (ran_on S G names (take i events) (get_or events i event ∷ []) old mid new before between after 0 result same_programs same_opened was_open one two)
 
   -- the open line failed
-  pub reports_none : {T : Type 0} (events : List Event) (old : D) (before after : W) (result : Result T Failed) (later : Result Going Failed) → IsErr result → IsErr later → Prints (G.printed before) (G.printed after) (line_text (Open (S.opened old))) result → G.held after ≡ G.held before → G.disk_faults before ≤ G.disk_faults after → S.answers old → Reports S G names events old old before after is_closed later
+  pub reports_none : {T : Type 0} (events : List Event) (old : D) (before after : W) (result : Result T Failed) (later : Result Going Failed) → IsErr result → IsErr later → Prints (G.printed before) (G.printed after) (line_text (Open (S.opened old))) result → G.held after ≡ G.held before → G.disk_faults after ≡ G.disk_faults before → S.answers old → Reports S G names events old old before after is_closed later
   reports_none events old before after result later one two printed held disk answers = record {
     taken = [];
     rest = events;
@@ -72,7 +72,7 @@ module _ {D W : Type 0} (S : desk.Ghosts D) (G : Ghosts W) (names : List (List �
   }
 
   -- the open line is put, then the lines of events and those of the end
-  pub reports_of : {T U : Type 0} (events front rest : List Event) (old new : D) (before between middle after : W) (value : T) (result : Result U Failed) (later : Result Going Failed) → front ++ rest ≡ events → (ran : Ran S G names front old new between middle result) → Prints (G.printed before) (G.printed between) (line_text (Open (S.opened old))) (Ok value) → G.held between ≡ G.held before → G.disk_faults before ≤ G.disk_faults between → G.held after ≡ G.held middle → G.disk_faults middle ≤ G.disk_faults after → BeginsWith (G.printed middle) (G.printed after) []
+  pub reports_of : {T U : Type 0} (events front rest : List Event) (old new : D) (before between middle after : W) (value : T) (result : Result U Failed) (later : Result Going Failed) → front ++ rest ≡ events → (ran : Ran S G names front old new between middle result) → Prints (G.printed before) (G.printed between) (line_text (Open (S.opened old))) (Ok value) → G.held between ≡ G.held before → G.disk_faults between ≡ G.disk_faults before → G.held after ≡ G.held middle → G.disk_faults after ≡ G.disk_faults middle → BeginsWith (G.printed middle) (G.printed after) []
       → Prints (G.printed between) (G.printed after) (flat_map line_text (event_lines names (S.programs old) (S.opened old) ran.taken (S.desk old)) ++ flat_map line_text (closing_lines (S.opened old) (S.desk new))) later
       → IfOk later (λ going. (S.desk new).closed ≡ is_closed going) → IfOk later (λ going. is_closed going ≡ false → rest ≡ []) → Reports S G names events old new before after is_closed later
   reports_of events front rest old new before between middle after value result later whole ran open_put held disk held_later disk_later more printed closed all =

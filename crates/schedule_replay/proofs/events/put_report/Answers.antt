@@ -36,7 +36,7 @@ returns-in_err-put_events-clause-reports g c =
     let put = flat_map line_text (event_lines names (S.programs old) (S.opened old) some.ran.taken (S.desk old)) in
     reports_of S G names c.args.events.now some.front some.rest old c.put_events.new.desk c.args.outside.now c.put_line.new.outside c.put_events.new.outside c.put_events.new.outside c.in_ok-put_line.field-0 c.put_events.result later some.whole some.ran
     (opens S G old c.args.outside.now c.put_line.new.outside c.number.result (Ok c.in_ok-put_line.field-0) (c.number.ensures answers) opened c.in_ok-put_line.ensures.printed)
-    c.put_line.ensures.held c.put_line.ensures.disk refl (omega arith) (begins_same (G.printed c.put_events.new.outside) (G.printed c.put_events.new.outside) refl)
+    c.put_line.ensures.held c.put_line.ensures.disk refl refl (begins_same (G.printed c.put_events.new.outside) (G.printed c.put_events.new.outside) refl)
     (prints_stop (G.printed c.put_line.new.outside) (G.printed c.put_events.new.outside) put (flat_map line_text (closing_lines (S.opened old) (S.desk c.put_events.new.desk))) c.put_events.result later (search rules) broke some.ran.printed)
     (if_ok_broken later (λ going. (S.desk c.put_events.new.desk).closed ≡ is_closed going) broke)
     (if_ok_broken later (λ going. is_closed going ≡ false → some.rest ≡ []) broke)
@@ -80,7 +80,7 @@ returns-in-Closed-clause-reports g c =
     let shut = some.closed ∙ ap is_closed c.in-Closed.is in
     reports_of S G names c.args.events.now some.front some.rest old c.put_events.new.desk c.args.outside.now between middle middle c.in_ok-put_line.field-0 (Ok c.in_ok-put_events.field-0) (Ok going.Closed) some.whole some.ran
     (opens S G old c.args.outside.now between c.number.result (Ok c.in_ok-put_line.field-0) (c.number.ensures answers) opened c.in_ok-put_line.ensures.printed)
-    c.put_line.ensures.held c.put_line.ensures.disk refl (omega arith) (begins_same (G.printed middle) (G.printed middle) refl)
+    c.put_line.ensures.held c.put_line.ensures.disk refl refl (begins_same (G.printed middle) (G.printed middle) refl)
     (prints_same (G.printed between) (G.printed middle) put (put ++ ends) (Ok going.Closed)
     (sym (append-nil put) ∙ ap (λ (tail : List ℕ). put ++ tail) (sym (no_closing (S.opened old) (S.desk c.put_events.new.desk) shut)))
     (prints_well (G.printed between) (G.printed middle) put c.in_ok-put_events.field-0 going.Closed some.ran.printed))
