@@ -1,6 +1,6 @@
 ghost use Rattle.std.specs.Prelude.{◌≡◌, ◌≤◌, ◌-◌, ◌++◌, replicate, length, IfOk};
-ghost use Rattle.line_geometry.specs.Directory.{Layout, byte_count};
-ghost use Rattle.flat_machine.specs.After.{start, first_registers, clear};
+ghost use Rattle.line_geometry.specs.Directory.{byte_count};
+ghost use Rattle.flat_machine.specs.After.{start, first_registers};
 
 use super::machine::{Cs, Plain, Program};
 use super::printed::Printed;
@@ -24,61 +24,22 @@ impl Plain {
         ensures store_length { IfOk result (λ plain. length plain.store ≡ byte_count directory.now) }
     {
         Ok(Plain {
-            regs: registers(args),
-            cs: unset(),
+            regs: first_registers(args),
+            cs: Cs::CLEAR,
             iar: u32::from(program.entry),
             private: padded(alloc, program.image.as_slice(), 16384)?,
             store: OwnedList::from_vec(Vec::from_slice(alloc, store)?),
             out: Printed::new(alloc)?,
         })
     }
-
-    /// Begins a program anew in the room of this one, on these bytes of a store of the same length. It takes no memory.
-    pub fn restart(&mut self, program: &Program, args: [u32; 4], store: &[u8])
-        requires private { length self.old.private ≡ 16384 }
-        requires store { length store.now ≡ length self.old.store }
-        ensures value { (directory : Layout) → self.new ≡ start program.now args (record { directory = directory; bytes = store.now }) }
-        ensures private_length { length self.new.private ≡ 16384 }
-        ensures store_length { length self.new.store ≡ length self.old.store }
-    {
-        self.regs = registers(args);
-        self.cs = unset();
-        self.iar = u32::from(program.entry);
-        lay(&mut self.private, program.image.as_slice());
-        self.store.write(0, store);
-        self.out.clear();
-    }
 }
 
-/// The registers of a program that begins.
-fn registers(args: [u32; 4]) -> [u32; 16]
+/// The registers of a program that begins, with four values in registers 2 to 5 (docs/MODEL.md).
+pub fn first_registers(args: [u32; 4]) -> [u32; 16]
     ensures { result ≡ first_registers args }
 {
     let [a, b, c, d] = args;
     [0, 0, a, b, c, d, 0, 0, 0, 0, 0, 0, 0, 0, 0, 0]
-}
-
-/// No condition.
-fn unset() -> Cs
-    ensures { result ≡ clear }
-{
-    Cs {
-        lt: false,
-        eq: false,
-        gt: false,
-        c0: false,
-        ov: false,
-    }
-}
-
-/// Lays bytes over the first of a list, and zeros over the others.
-fn lay(list: &mut OwnedList<u8>, bytes: &[u8])
-    requires { length bytes.now ≤ length list.old }
-    ensures value { list.new ≡ bytes.now ++ replicate (length list.old - length bytes.now) 0 }
-    ensures len { length list.new ≡ length list.old }
-{
-    list.write(0, bytes);
-    list.fill_from(bytes.len(), 0);
 }
 
 /// Bytes and zeros after them, so many in all.

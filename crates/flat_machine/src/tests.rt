@@ -259,7 +259,7 @@ fn run(plain: &mut Plain, program: &Program, directory: &Directory) -> (u32, Wen
     (20_000, Went::On)
 }
 
-/// Runs a program to its end, twice, and looks at how it ended; the state then.
+/// Runs a program to its end and looks at how it ended; the state then.
 fn look_at(
     rt: &impl Abort,
     alloc: Global,
@@ -284,20 +284,6 @@ fn look_at(
     assert_eq!(rt;
         run(&mut plain, &program, directory),
         ended,
-        "{}",
-        case.name
-    );
-    let private = plain.private.as_slice().to_vec(alloc)?;
-    plain.restart(&program, args, store);
-    assert_eq!(rt;
-        run(&mut plain, &program, directory),
-        ended,
-        "{}",
-        case.name
-    );
-    assert_eq!(rt;
-        plain.private.as_slice(),
-        private.as_slice(),
         "{}",
         case.name
     );

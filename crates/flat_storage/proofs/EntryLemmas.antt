@@ -7,8 +7,8 @@ use Rattle.std.proofs.lemmas.List.FromFn.{length-enumerate_from, get_or-enumerat
 use Rattle.std.proofs.lemmas.List.Edits.{get_or-between, map_over_more}
 use Rattle.std.proofs.Math.Seq.{drop-cons}
 use Rattle.std.proofs.lemmas.Bool.Decides.{nat_tests}
-use Rattle.flat_machine.specs.declared.touch.Touch.{Touch}
-use Rattle.flat_machine.specs.Touched.{touch_lines}
+use Rattle.flat_storage.specs.declared.touch.Touch.{Touch}
+use Rattle.flat_storage.specs.Touch.{touch_lines}
 use Rattle.lock_rules.specs.Access.{permits}
 use Rattle.lock_rules.specs.Sets.{has}
 use Rattle.lock_rules.specs.Lines.{Lines, lines_of_page, within_page}

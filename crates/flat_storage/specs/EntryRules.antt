@@ -1,7 +1,7 @@
 -- What an entry refuses, line by line, and what a release leaves.
 use Rattle.std.specs.Prelude.{ℕ, ◌%◌, ◌==◌, ◌&&◌, nat_le, not, if◌then◌else◌, Bool, true, false, replicate, slice_index_or}
 use Rattle.lock_rules.specs.Access.{permits}
-use Rattle.flat_machine.specs.declared.touch.Touch.{Touch}
+use Rattle.flat_storage.specs.declared.touch.Touch.{Touch}
 use Rattle.flat_storage.specs.declared.page_entries.Entry.{Entry}
 
 -- whether the entry of a page refuses a line of it to a load or a store of an activation

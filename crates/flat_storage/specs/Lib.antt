@@ -1,3 +1,4 @@
+pub mod Touch
 pub mod Marks
 pub mod ShowSet
 pub mod Entries

@@ -7,10 +7,11 @@ mod page_entries;
 mod resident_pages;
 mod serving;
 mod storage;
-mod touched_pages;
+mod touch;
 
 pub use line_marks::LineMarks;
 pub use page_entries::{Entry, PageEntries};
 pub use resident_pages::ResidentPages;
 pub use serving::Served;
 pub use storage::{Flat, FlatStorage};
+pub use touch::Touch;

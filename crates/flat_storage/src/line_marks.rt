@@ -4,10 +4,10 @@ ghost use Rattle.std.specs.Prelude.{◌≡◌, ◌+◌, ◌-◌, ◌%◌, ◌<�
 ghost use Rattle.std.specs.List.{range_with_len};
 ghost use Rattle.lock_rules.specs.Sets.{size};
 ghost use Rattle.lock_rules.specs.Lines.{Lines, both, no_lines, with_whole_pages};
-ghost use Rattle.flat_machine.specs.Touched.{touch_lines, AreSome};
+ghost use Rattle.flat_storage.specs.Touch.{touch_lines, AreSome};
 ghost use Rattle.flat_storage.specs.ShowSet.{ShowSet};
 
-use flat_machine::Touch;
+use super::touch::Touch;
 use std::alloc::{AllocError, Global};
 
 /// A mark for each line that is locked to read and for each that is locked to write, and the number of the latter.

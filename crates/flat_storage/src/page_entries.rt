@@ -3,7 +3,7 @@ ghost use Rattle.std.specs.Prelude.{◌≡◌, ◌*◌, ◌+◌, ◌<◌, ◌≤
 ghost use Rattle.std.specs.List.{list_any};
 ghost use Rattle.lock_rules.specs.Access.{permits};
 ghost use Rattle.lock_rules.specs.Lines.{Lines, lines_of_page, page_of_line, within_page};
-ghost use Rattle.flat_machine.specs.Touched.{touch_lines};
+ghost use Rattle.flat_storage.specs.Touch.{touch_lines};
 ghost use Rattle.desk.specs.Desk.{Authority, nobody};
 ghost use Rattle.desk.specs.Instruction.{refuses, lines_within, authority_by, Attempt, granted};
 ghost use Rattle.arrayvec.specs.ArrayVec.{array_vec_len};
@@ -12,7 +12,7 @@ ghost use Rattle.flat_storage.specs.Refused.{refuses_line_to};
 
 use super::line_marks::LineMarks;
 use super::resident_pages::Touched;
-use flat_machine::Touch;
+use super::touch::Touch;
 use std::alloc::{AllocError, Global};
 
 /// The entry of a page: the activation that owns it or 0, its write bit, and for each line whether its bit is on.

@@ -18,7 +18,7 @@ use super::append::{Appended, append};
 use super::record::fill_body;
 use arrayvec::ArrayVec;
 use desk::{Begun, Committed, Supervisor, Turn, TurnEnd};
-use flat_machine::{Cs, Printed, Program, Window};
+use flat_machine::{Cs, Printed, Program, Window, first_registers};
 use flat_storage::FlatStorage;
 use line_geometry::Directory;
 use outside::Outside;
@@ -461,16 +461,9 @@ impl PrivateDesk {
 fn first_cpu(entry: u16, args: [u32; 4]) -> Cpu
     ensures { result ≡ record { regs = first_registers args; cs = clear; iar = entry; printed = 0 } }
 {
-    let [a, b, c, d] = args;
     Cpu {
-        regs: [0, 0, a, b, c, d, 0, 0, 0, 0, 0, 0, 0, 0, 0, 0],
-        cs: Cs {
-            lt: false,
-            eq: false,
-            gt: false,
-            c0: false,
-            ov: false,
-        },
+        regs: first_registers(args),
+        cs: Cs::CLEAR,
         iar: u32::from(entry),
         printed: 0,
     }

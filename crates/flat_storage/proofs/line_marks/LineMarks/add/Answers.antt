@@ -2,8 +2,8 @@ use Rattle.std.proofs.Common.{sym, ap, subst}
 use Rattle.std.specs.Prelude.{vec_len}
 use Rattle.std.proofs.lemmas.List.{append-nil}
 use Rattle.lock_rules.specs.Lines.{Lines, both, with_whole_pages}
-use Rattle.flat_machine.specs.declared.touch.Touch.{Touch}
-use Rattle.flat_machine.specs.Touched.{AreSome, touch_lines}
+use Rattle.flat_storage.specs.declared.touch.Touch.{Touch}
+use Rattle.flat_storage.specs.Touch.{AreSome, touch_lines}
 use Rattle.flat_storage.specs.ShowSet.{ShowSet}
 use Rattle.flat_storage.proofs.MarkLemmas.{shown-reads, shown-pages}
 use Rattle.flat_storage.proofs.line_marks.LineMarks.add.Goals as goal

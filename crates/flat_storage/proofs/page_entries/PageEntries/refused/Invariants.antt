@@ -3,7 +3,7 @@ use Rattle.std.specs.Prelude.{slice_index_or}
 use Rattle.arrayvec.specs.ArrayVec.{array_vec_len}
 use Rattle.desk.specs.Desk.{nobody}
 use Rattle.desk.specs.Instruction.{refuses, lines_within}
-use Rattle.flat_machine.specs.Touched.{touch_lines}
+use Rattle.flat_storage.specs.Touch.{touch_lines}
 use Rattle.flat_storage.specs.Entries.{authority_told}
 use Rattle.flat_storage.proofs.page_entries.PageEntries.refused.Given as goal
 

@@ -1,7 +1,7 @@
 use Rattle.std.proofs.Common.{sym, ◌∙◌, ap, arith}
 use Rattle.desk.specs.Desk.{Authority, nobody}
 use Rattle.desk.specs.Instruction.{refuses, lines_within}
-use Rattle.flat_machine.specs.Touched.{touch_lines}
+use Rattle.flat_storage.specs.Touch.{touch_lines}
 use Rattle.flat_storage.specs.declared.page_entries.Entry.{Entry}
 use Rattle.flat_storage.specs.Entries.{authority_of}
 use Rattle.flat_storage.proofs.EntryLemmas.{told-at, refuses-shown}

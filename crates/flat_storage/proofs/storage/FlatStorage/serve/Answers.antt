@@ -4,7 +4,7 @@ use Rattle.lock_rules.specs.Sets.{has}
 use Rattle.lock_rules.specs.Lines.{Lines, pages_of, page_of_line, both, with_whole_pages}
 use Rattle.lock_rules.proofs.Sets.{has_left, has_right}
 use Rattle.lock_rules.proofs.Lines.{pages_of-line}
-use Rattle.flat_machine.specs.Touched.{AreSome, touch_lines}
+use Rattle.flat_storage.specs.Touch.{AreSome, touch_lines}
 use Rattle.desk.specs.Desk.{Authority, nobody}
 use Rattle.desk.specs.Instruction.{Fine, Fetched, fetches, granted, refuses, lines_within}
 use Rattle.desk.specs.Instruction as desk

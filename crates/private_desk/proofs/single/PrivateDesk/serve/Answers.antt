@@ -4,7 +4,8 @@ use Rattle.std.proofs.Common.{◌≡◌, ℕ, ◌+◌, ◌*◌, ◌<◌, ◌≤�
 use Rattle.lock_rules.specs.Lines.{Lines, both}
 use Rattle.flat_machine.specs.declared.machine.Program.{Program}
 use Rattle.flat_machine.specs.Row.{On, row}
-use Rattle.flat_machine.specs.Touched.{touched, touch_lines}
+use Rattle.flat_machine.specs.Touched.{touched}
+use Rattle.flat_storage.specs.Touch.{touch_lines}
 use Rattle.flat_machine.specs.Due.{touched_within}
 use Rattle.private_desk.specs.PrivateDesk.{live_of}
 use Rattle.private_desk.specs.Follows.{Follows, IsNumberedIf, store_of}

@@ -3,7 +3,7 @@ use Rattle.std.specs.Prelude.{◌==◌, ◌||◌, if◌then◌else◌}
 use Rattle.std.specs.List.{range_with_len}
 use Rattle.std.proofs.lemmas.Bool.Decides.{nat_tests}
 use Rattle.lock_rules.specs.Lines.{pages_of}
-use Rattle.flat_storage.proofs.touched_pages.pages_between.Goals as goal
+use Rattle.flat_storage.proofs.touch.pages_between.Goals as goal
 
 -- one line, or two neighbours in a page, have that page
 same_page : (first last : ℕ) → first ≤ last → last ≤ first + 1 → last / 16 ≤ first / 16 → pages_of (range_with_len first (last + 1 - first)) ≡ first / 16 ∷ []

@@ -1,12 +1,19 @@
-// The pages of the lines that one instruction touches.
+// The lines that one instruction touches, and their pages.
 ghost use Rattle.std.specs.Prelude.{◌≡◌, ◌*◌, ◌+◌, ◌-◌, ◌<◌, ◌≤◌, ◌++◌, ℕ, All};
 ghost use Rattle.std.specs.List.{range_with_len};
 ghost use Rattle.lock_rules.specs.Lines.{pages_of};
-ghost use Rattle.flat_machine.specs.Touched.{AreSome, touch_lines};
+ghost use Rattle.flat_storage.specs.Touch.{AreSome, touch_lines};
 ghost use Rattle.arrayvec.specs.ArrayVec.{array_vec_len};
 
 use super::resident_pages::Touched;
-use flat_machine::Touch;
+
+/// The lines of the store that an instruction touches, from a first to a last, each by its number (docs/MODEL.md).
+#[derive(Debug, Clone, Copy, PartialEq, Eq)]
+pub enum Touch {
+    Nothing,
+    Reads { first: u32, last: u32 },
+    Writes { first: u32, last: u32 },
+}
 
 /// The pages of the lines that are touched, ascending.
 pub fn pages_of(touch: Touch) -> Touched
