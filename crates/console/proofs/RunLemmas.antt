@@ -9,6 +9,7 @@ use Rattle.outside.specs.declared.failed.Failed.{Failed}
 use Rattle.outside.specs.Bytes.{Prints}
 use Rattle.outside.specs.Causes.{Rose, RoseBy}
 use Rattle.outside.specs.Runs.{OnlyAsks, held_of}
+use Rattle.outside.proofs.Prints.{prints_well, prints_broken}
 use Rattle.flat_machine.specs.declared.machine.Program.{Program}
 use Rattle.flat_machine.specs.Serial.{serial}
 use Rattle.store_format.specs.declared.header.Which.{Which}
@@ -40,15 +41,6 @@ use Rattle.console.specs.Statuses.{status_of_replay}
 use Rattle.console.specs.Opening.{IsOpened, try_layout, try_bytes}
 use Rattle.console.specs.SourceText.{IsWhole}
 use Rattle.console.specs.Headline.{HasRun, Happened, HappenedTo, put_by, names_of, try_desk, try_flat}
-
--- a put of another type that failed likewise
-prints_failed : (T U : Type 0) (old new : Option (List ℕ)) (bytes : List ℕ) (failed : Failed) → Prints {T = T} old new bytes (Err failed) → Prints {T = U} old new bytes (Err failed)
-prints_failed T U None new bytes failed prints = prints
-prints_failed T U (Some old) new bytes failed prints = prints
-
-prints_done : {T U : Type 0} (old new : Option (List ℕ)) (bytes : List ℕ) (value : T) (other : U) → Prints old new bytes (Ok value) → Prints old new bytes (Ok other)
-prints_done None new bytes value other prints = prints
-prints_done (Some old) new bytes value other prints = prints
 
 -- what a run begins with
 record Facts : Type 0 where
@@ -181,11 +173,11 @@ module _ {W : Type 0} (G : Ghosts W) (job : Job) (before start after : W) (desk 
 
   pub happened : (replayed : Replayed) → Replays ghosts G (names_of job) job.events.items desk new start after replayed → HappenedTo G job before after (desk_of new).order (status_of_replay replayed)
   happened replayed.Ended reports =
-      has_run (Ok false) (Ok 0) status.Done reports refl (λ one two bytes prints. prints_done one two bytes false 0 prints) (λ is. (reports.closed, reports.all refl)) (λ is. absurd (cc))
+      has_run (Ok false) (Ok 0) status.Done reports refl (λ one two bytes prints. prints_well one two bytes false 0 prints) (λ is. (reports.closed, reports.all refl)) (λ is. absurd (cc))
   happened replayed.Closed reports =
-      inl (has_run (Ok true) (Ok 0) status.DiskFault reports refl (λ one two bytes prints. prints_done one two bytes true 0 prints) (λ is. absurd (cc)) (λ is. reports.closed))
+      inl (has_run (Ok true) (Ok 0) status.DiskFault reports refl (λ one two bytes prints. prints_well one two bytes true 0 prints) (λ is. absurd (cc)) (λ is. reports.closed))
   happened replayed.PutFault (failed, reports) =
-      has_run (Err failed) (Err failed) status.PutFault reports (failed, refl) (λ one two bytes prints. prints_failed Bool ℕ one two bytes failed prints) (λ is. absurd (cc)) (λ is. absurd (cc))
+      has_run (Err failed) (Err failed) status.PutFault reports (failed, refl) (λ one two bytes prints. prints_broken {T = Bool} {U = ℕ} (Err failed) (Err failed) refl refl one two bytes prints) (λ is. absurd (cc)) (λ is. absurd (cc))
 
   -- the desk is open as it opens, with number 0
   pub has_opened : HasOpened ghosts desk

@@ -4,6 +4,5 @@
 mod put;
 #[cfg(test)]
 mod tests;
-mod text;
 
 pub use put::{put_program, put_rows};

@@ -1,10 +1,10 @@
 ghost use Rattle.std.specs.Prelude.{◌≡◌, ◌+◌, ◌*◌, ◌/◌, ◌^◌, ◌≤◌, length, take, drop};
-ghost use Rattle.listing.specs.Listing.{listing_of, program_line, window_line, window_lines, place_line, row_line, row_lines};
+ghost use Rattle.listing.specs.Listing.{listing_of, digits_of, program_line, window_line, window_lines, place_line, row_line, row_lines};
 ghost use Rattle.listing.specs.Puts.{Puts};
 
-use super::text::Text;
 use flat_machine::{Program, Window};
 use outside::{Failed, Outside};
+use text_line::TextLine;
 
 /// Puts the listing of a program, each line by one put: its first line, its windows and its image
 /// (docs/FORMATS.md, "Listing"). It takes no memory.
@@ -75,31 +75,28 @@ fn put<W: Outside>(line: &[u8], outside: &mut W) -> Result<(), Failed>
 }
 
 /// The first line of a program.
-fn program_text(name: &[u8], program: &Program) -> Text
+fn program_text(name: &[u8], program: &Program) -> TextLine
     requires { length name.now ≤ 31 }
     ensures { result ≡ program_line name.now program.now.image program.now.entry }
 {
-    let mut text = Text::new();
-    text.bytes(b"program ");
-    text.bytes(name);
-    text.bytes(b" bytes ");
-    text.number(program.image.len() as u64);
-    text.bytes(b" entry ");
-    text.digits(u32::from(program.entry));
-    text.bytes(b"\n");
+    let mut text = TextLine::new(b"program");
+    text.word(name);
+    text.part(b"bytes", program.image.len() as u64);
+    text.word(b"entry");
+    text.word(&digits_of(u32::from(program.entry)));
+    text.end();
     text
 }
 
 /// The line of the window under a register.
-fn window_text(register: u64, window: &Window) -> Text
+fn window_text(register: u64, window: &Window) -> TextLine
     ensures { result ≡ window_line register window.now }
 {
-    let mut text = Text::new();
-    text.bytes(b"window ");
+    let mut text = TextLine::new(b"window");
     text.number(register);
-    text.bytes(b" segment ");
-    text.number(u64::from(window.segment));
-    text.bytes(if window.write { b" rw\n" } else { b" r\n" });
+    text.part(b"segment", u64::from(window.segment));
+    text.word(if window.write { b"rw" } else { b"r" });
+    text.end();
     text
 }
 
@@ -114,14 +111,21 @@ fn row_at(bytes: &[u8], at: usize) -> &[u8]
 }
 
 /// A row of at most sixteen bytes, the first of which has this offset.
-fn row_text(offset: u32, bytes: &[u8]) -> Text
+fn row_text(offset: u32, bytes: &[u8]) -> TextLine
     requires { length bytes.now ≤ 16 }
     ensures { result ≡ row_line offset bytes.now }
 {
-    let mut text = Text::new();
-    text.digits(offset);
-    text.bytes(b" ");
+    let mut text = TextLine::new(&digits_of(offset));
     text.hex(bytes);
-    text.bytes(b"\n");
+    text.end();
     text
+}
+
+/// A number in eight hexadecimal digits.
+fn digits_of(number: u32) -> [u8; 8]
+    ensures { result ≡ digits_of number }
+{
+    let mut digits = [0; 8];
+    let _ = hex::encode_to_slice(&number.to_be_bytes(), &mut digits);
+    digits
 }

@@ -3,7 +3,6 @@
 
 mod line;
 mod put;
-mod text;
 
 pub use line::Line;
 pub use put::put_line;

@@ -1,6 +1,5 @@
 ghost use Rattle.std.specs.Prelude.{[], ◌≡◌, ◌+◌, ◌*◌, ◌≤◌, ◌∷◌, ◌++◌, length, decimal, map};
 ghost use Rattle.std.specs.List.{flat_map};
-ghost use Rattle.hex.specs.Hex.{encode_lower};
 ghost use Rattle.desk.specs.Lines.{line_text, Commit};
 ghost use Rattle.outside.specs.Bytes.{Prints};
 ghost use Rattle.outside.specs.Causes.{HasCause};
@@ -8,9 +7,9 @@ ghost use Rattle.outside.specs.Moments.{Elapses, Shows};
 ghost use Rattle.report_text.specs.Line.{line_told, IsShort};
 
 use super::line::Line;
-use super::text::Text;
 use byteorder::{BigEndian, ByteOrder};
 use outside::{Failed, Outside};
+use text_line::TextLine;
 
 /// Puts a line, whole and with its line feed, by one put. It takes no memory.
 ///
@@ -34,7 +33,7 @@ pub fn put_line<W: Outside>(line: &Line, outside: &mut W) -> Result<(), Failed>
 }
 
 /// The whole text of a line, with its line feed.
-fn text_of(line: &Line) -> Text
+fn text_of(line: &Line) -> TextLine
     requires short { IsShort line.now }
     ensures { result ≡ line_text (line_told line.now) }
 {
@@ -44,7 +43,7 @@ fn text_of(line: &Line) -> Text
 }
 
 /// The text of a line without its line feed.
-fn begun(line: &Line) -> Text
+fn begun(line: &Line) -> TextLine
     requires short { IsShort line.now }
     ensures text { result ++ 10 ∷ [] ≡ line_text (line_told line.now) }
     ensures room { length result ≤ 8300 }
@@ -78,12 +77,12 @@ fn begun(line: &Line) -> Text
             text.part(b"number", number);
             text
         }
-        Line::Closed => Text::new(b"closed"),
+        Line::Closed => TextLine::new(b"closed"),
         Line::Stored(number) => numbered(b"stored", number),
         Line::Lost(activation) => numbered(b"lost", u64::from(activation)),
         Line::Left(activation) => numbered(b"left", u64::from(activation)),
         Line::End(number) => numbered(b"end", number),
-        Line::Cycle(members) => listed(Text::new(b"cycle"), members),
+        Line::Cycle(members) => listed(TextLine::new(b"cycle"), members),
         Line::Wait(activation, holders) => {
             let mut text = numbered(b"wait", u64::from(activation));
             text.word(b"for");
@@ -122,7 +121,7 @@ fn begun(line: &Line) -> Text
 }
 
 /// The commit line, with a dash where nothing was printed.
-fn commit(activation: u32, number: u64, steps: u64, out: &[u8]) -> Text
+fn commit(activation: u32, number: u64, steps: u64, out: &[u8]) -> TextLine
     requires { length out.now ≤ 4096 }
     ensures text { result ++ 10 ∷ [] ≡ line_text (Commit activation number steps out.now) }
     ensures room { length result ≤ 8300 }
@@ -139,7 +138,7 @@ fn commit(activation: u32, number: u64, steps: u64, out: &[u8]) -> Text
 }
 
 /// The text with a space and a number for each of these.
-fn listed(text: Text, numbers: &[u32]) -> Text
+fn listed(text: TextLine, numbers: &[u32]) -> TextLine
     requires start { length text ≤ 64 }
     requires few { length numbers.now ≤ 17 }
     ensures text { result ≡ text ++ flat_map (λ n. 32 ∷ decimal n) numbers.now }
@@ -153,18 +152,18 @@ fn listed(text: Text, numbers: &[u32]) -> Text
 }
 
 /// A word and a number.
-fn numbered(word: &[u8], number: u64) -> Text
+fn numbered(word: &[u8], number: u64) -> TextLine
     requires { length word.now ≤ 16 }
     ensures text { result ≡ word.now ++ 32 ∷ decimal number }
     ensures room { length result ≤ 37 }
 {
-    let mut text = Text::new(word);
+    let mut text = TextLine::new(word);
     text.number(number);
     text
 }
 
 /// A word, an activation and a name.
-fn named(word: &[u8], activation: u32, name: &[u8]) -> Text
+fn named(word: &[u8], activation: u32, name: &[u8]) -> TextLine
     requires word { length word.now ≤ 16 }
     requires name { length name.now ≤ 31 }
     ensures text { result ≡ word.now ++ 32 ∷ decimal activation ++ 32 ∷ name.now }

@@ -7,9 +7,6 @@ use Rattle.asm_parse.specs.declared.statement.Statement.{Statement}
 use Rattle.romp_asm.specs.Labels.{noted}
 use Rattle.romp_asm.specs.Value.{is_labelled}
 
-same_bytes : (xs ys : List ℕ) → bytes_eq xs ys ≡ true → xs ≡ ys
-same_bytes xs ys e = grind (arith, bytes_eq-Decides)
-
 -- a label that had no place gets this one, and the others keep theirs
 pub noted_new : (before : List ℕ → Option Place) (label word : List ℕ) (place : Place) → false ≡ is_some (before label) → cond (bytes_eq label word) (Some place) (before word) ≡ noted (before word) (bytes_eq label word) place
 noted_new before label word place none = by_test (bytes_eq label word) refl
@@ -20,7 +17,7 @@ noted_new before label word place none = by_test (bytes_eq label word) refl
 
     by_test : (test : Bool) → bytes_eq label word ≡ test → cond test (Some place) (before word) ≡ noted (before word) test place
     by_test true e =
-        let same : label ≡ word = same_bytes label word e in
+        let same : label ≡ word = grind (arith, bytes_eq-Decides) in
         free (before word) (none ∙ ap (λ bytes. is_some (before bytes)) same)
     by_test false e = by_place (before word)
       where

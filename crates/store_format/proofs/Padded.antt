@@ -13,16 +13,16 @@ use Rattle.store_format.specs.Header.{Field, number_at, within, name_field, segm
 abbrev Same : List ℕ → List ℕ → Type 0
 Same xs ys = (i : ℕ) → slice_index xs i ≡ slice_index ys i
 
+pub zero_byte : (count i : ℕ) → slice_index (replicate count 0) i ≡ 0
+zero_byte zero i = refl
+zero_byte (suc count) zero = refl
+zero_byte (suc count) (suc i) = zero_byte count i
+
 pub zeros_same : (xs : List ℕ) (count : ℕ) → Same (xs ++ replicate count 0) xs
 zeros_same xs count i = elim (cases_lt i (length xs)) [
   | inl within ↦ get_or_append_left xs (replicate count 0) 0 i within
   | inr past ↦ get_or-append_right xs (replicate count 0) (length xs) i 0 refl past ∙ zero_byte count (i - length xs) ∙ sym (get_or_past xs i 0 past)
 ]
-  where
-    zero_byte : (count i : ℕ) → slice_index (replicate count 0) i ≡ 0
-    zero_byte zero i = refl
-    zero_byte (suc count) zero = refl
-    zero_byte (suc count) (suc i) = zero_byte count i
 
 same_from : (xs ys : List ℕ) (i n : ℕ) → Same xs ys → big_from i n xs ≡ big_from i n ys
 same_from xs ys i zero same = refl

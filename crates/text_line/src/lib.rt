@@ -1,4 +1,7 @@
-// The text of one line, in a fixed room.
+//! The text of one line in a fixed room: words, numbers in decimal and bytes in hexadecimal, with a space between each
+//! two, and the line feed at its end (docs/FORMATS.md, "Report" and "Listing").
+#![tactic(auto)]
+
 ghost use Rattle.std.specs.Prelude.{◌≡◌, ◌+◌, ◌*◌, ◌≤◌, List, ℕ, [], ◌∷◌, ◌++◌, length, decimal};
 ghost use Rattle.hex.specs.Hex.{encode_lower};
 
@@ -6,16 +9,16 @@ use arrayvec::ArrayVec;
 use itoa::Buffer;
 use std::marker::Model;
 
-/// Room for the longest line, a commit with 4,096 printed bytes.
+/// Room for the longest line, a commit with 4,096 printed bytes, in bytes.
 pub const ROOM: usize = 8320;
 
-/// The bytes of a line so far.
+/// The bytes of a line so far, seen as their list. It takes no memory.
 #[derive(Drop)]
-pub struct Text {
+pub struct TextLine {
     bytes: ArrayVec<u8, ROOM>,
 }
 
-impl Model for Text {
+impl Model for TextLine {
     ghost use Rattle.std.specs.Prelude.{List, ℕ};
 
     ghost Value = { List ℕ };
@@ -23,7 +26,7 @@ impl Model for Text {
     ghost view = { λ text. text.bytes.items };
 }
 
-impl Text {
+impl TextLine {
     /// A line that begins with this word.
     pub fn new(word: &[u8]) -> Self
         requires { length word.now ≤ 16 }
@@ -31,9 +34,10 @@ impl Text {
     {
         let mut bytes = ArrayVec::new();
         let _ = bytes.try_extend_from_slice(word);
-        Text { bytes }
+        TextLine { bytes }
     }
 
+    /// The bytes so far.
     pub fn as_slice(&self) -> &[u8]
         ensures { result.now ≡ self.now }
     {
