@@ -13,7 +13,7 @@ use Rattle.job_text.specs.JobAnswers.{IsJobFaultOf}
 use Rattle.job_text.specs.Reading.{Reading, line_read}
 
 -- a line and what follows it
-read_line : (reading : Reading) (number : ℕ) (line : List ℕ) (next : List ℕ) (lines others : List (List ℕ)) → others ≡ next ∷ lines → read_from reading number (line ∷ others) ≡ then_read (λ more. read_from more (number + 1) others) (line_read reading.stage reading number line)
+pub read_line : (reading : Reading) (number : ℕ) (line : List ℕ) (next : List ℕ) (lines others : List (List ℕ)) → others ≡ next ∷ lines → read_from reading number (line ∷ others) ≡ then_read (λ more. read_from more (number + 1) others) (line_read reading.stage reading number line)
 unfolding read_from
 read_line reading number line next lines others some = rw some refl
 

@@ -1,3 +1,6 @@
+pub mod LawLemmas
+pub mod FormReadLemmas
+pub mod FormLemmas
 pub mod ReadyLemmas
 pub mod DrainLemmas
 pub mod GrammarLemmas

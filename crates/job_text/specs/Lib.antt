@@ -5,3 +5,4 @@ pub mod JobAnswers
 pub mod Reader
 pub mod Faults
 pub mod Written
+pub mod Form

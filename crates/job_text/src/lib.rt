@@ -3,6 +3,7 @@
 
 mod grammar;
 mod job;
+mod law;
 mod reader;
 mod stage;
 #[cfg(test)]
@@ -11,4 +12,5 @@ mod writer;
 
 pub use grammar::read_job;
 pub use job::{Job, JobFault, Name};
+pub use law::{a_text_has_one_answer, jobs_have_their_form};
 pub use writer::write_job;

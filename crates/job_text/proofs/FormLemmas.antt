@@ -1,0 +1,560 @@
+-- What is read as a job has the form of one.
+use Rattle.std.proofs.Common.{◌≡◌, ◌⊎◌, inl, inr, ℕ, ◌+◌, ◌*◌, ◌≤◌, ◌&&◌, nat_le, nat_lt, is_some, if◌then◌else◌, Bool, true, false, List, [], ◌∷◌, ◌++◌, length, map, codes, Option, Some, None, Result, Ok, Err, refl, sym, ap, ◌∙◌, subst, arith, append_assoc, append-nil, length-append}
+use Rattle.std.specs.Str.{bytes_eq}
+use Rattle.std.proofs.lemmas.Bool.{and_parts}
+use Rattle.std.proofs.lemmas.Bool.Decides.{nat_tests}
+use Rattle.std.proofs.lemmas.Slice.Eq.{bytes_eq-Decides}
+use Rattle.desk.specs.declared.event.Event.{Event}
+use Rattle.desk.specs.declared.event.Event.TheVariants.{Begin, Turn, Checkpoint, Crash}
+use Rattle.asm_parse.specs.declared.token.Token.{Token}
+use Rattle.asm_parse.specs.declared.token.Token.TheVariants.{Word, Number}
+use Rattle.asm_parse.specs.declared.statement.Statement.{Statement}
+use Rattle.asm_parse.specs.Operand.{place_among}
+use Rattle.asm_parse.specs.Statement.{is_label, line_of}
+use Rattle.asm_parse.specs.Text.{at_line, lines_of, statements_from}
+use Rattle.asm_parse.specs.Token.{tokens}
+use Rattle.romp_asm.specs.Layout.{Parts, assembled}
+use Rattle.job_text.specs.declared.stage.Stage.{Stage}
+use Rattle.job_text.specs.declared.stage.Stage.TheVariants.{Frames, Programs, Source, Schedule, Ended}
+use Rattle.job_text.specs.declared.stage.TheConstants.{TAKES_CHECKPOINT, TAKES_CRASH}
+use Rattle.job_text.specs.Grammar.{Content, job_of, last_part, read_from, then_read, whole}
+use Rattle.job_text.specs.Reading.{Reading, nothing_read, frames_line, program_begins, programs_line, is_end, program_ends, source_goes_on, source_line, with_event, values_of, four_of, begin_of, begin_line, is_limit, turn_line, rounds_of, drain_line, single_line, schedule_line, ended_line, by_tokens, line_read}
+use Rattle.job_text.specs.Form.{IsBlank, AreBlank, IsOnly, HaveNoEnd, IsFramesLine, HasPrograms, IsBegin, IsLimit, IsNoBegin, HasEvents, IsJobText}
+use Rattle.job_text.proofs.DrainLemmas.{length-rounds_of}
+use Rattle.job_text.proofs.FollowLemmas.{content_read}
+
+-- lines behind the schedule
+pub record TailLeft (so_far : Content) (lines : List (List ℕ)) (content : Content) : Type 0 where
+  pub same : content ≡ so_far
+  pub tail : List (List ℕ)
+  pub all : lines ≡ tail ++ [] ∷ []
+  pub blanks : AreBlank tail
+
+-- lines from a place in the schedule on
+pub record EventsLeft (so_far : Content) (begins : ℕ) (lines : List (List ℕ)) (content : Content) : Type 0 where
+  pub more : List Event
+  pub few : length (so_far.events ++ more) ≤ 10000
+  pub event_lines : List (List ℕ)
+  pub end_line : List ℕ
+  pub rest : List (List ℕ)
+  pub all : lines ≡ event_lines ++ end_line ∷ rest
+  pub has : HasEvents so_far.names begins event_lines more
+  pub ends : IsOnly (codes "end") end_line
+  pub left : TailLeft (record so_far { events = so_far.events ++ more }) rest content
+
+-- lines from a place between programs on
+pub record ProgramsLeft (so_far : Content) (begins number : ℕ) (lines : List (List ℕ)) (content : Content) : Type 0 where
+  pub names : List (List ℕ)
+  pub programs : List Parts
+  pub few : length (so_far.names ++ names) ≤ 64
+  pub program_lines : List (List ℕ)
+  pub schedule_line : List ℕ
+  pub rest : List (List ℕ)
+  pub all : lines ≡ program_lines ++ schedule_line ∷ rest
+  pub has : HasPrograms so_far.names number names programs program_lines
+  pub schedule : IsOnly (codes "schedule") schedule_line
+  pub left : EventsLeft (record so_far { names = so_far.names ++ names; programs = so_far.programs ++ programs }) begins rest content
+
+-- lines from a place in a source on
+pub record SourceLeft (statements : List Statement) (so_far : Content) (begins number : ℕ) (lines : List (List ℕ)) (content : Content) : Type 0 where
+  pub source : List (List ℕ)
+  pub last : List ℕ
+  pub rest : List (List ℕ)
+  pub all : lines ≡ source ++ last ∷ rest
+  pub no_end : HaveNoEnd source
+  pub more : List Statement
+  pub parsed : statements_from number source ≡ Ok more
+  pub parts : Parts
+  pub makes : assembled (statements ++ more) ≡ Ok parts
+  pub ends : IsOnly (codes "end") last
+  pub left : ProgramsLeft (record so_far { programs = so_far.programs ++ parts ∷ [] }) begins (number + length source + 1) rest content
+
+-- lines from a place before the frames on
+pub record FramesLeft (so_far : Content) (begins number : ℕ) (lines : List (List ℕ)) (content : Content) : Type 0 where
+  pub blank : List (List ℕ)
+  pub frames_line : List ℕ
+  pub rest : List (List ℕ)
+  pub frames : ℕ
+  pub all : lines ≡ blank ++ frames_line ∷ rest
+  pub blanks : AreBlank blank
+  pub is : IsFramesLine frames frames_line
+  pub left : ProgramsLeft (record so_far { frames = frames }) begins (number + length blank + 1) rest content
+
+-- what is left of a content after a reading
+abbrev pub Left : Stage → Reading → ℕ → List (List ℕ) → Content → Type 0
+Left Frames reading number lines content = FramesLeft (content_read reading) reading.begins number lines content
+Left Programs reading number lines content = ProgramsLeft (content_read reading) reading.begins number lines content
+Left Source reading number lines content = SourceLeft reading.statements (content_read reading) reading.begins number lines content
+Left Schedule reading number lines content = EventsLeft (content_read reading) reading.begins lines content
+Left Ended reading number lines content = TailLeft (content_read reading) lines content
+
+-- no more programs and events than may be
+abbrev IsFew : Reading → Type 0
+IsFew reading = (length reading.names ≤ 64) × (length reading.events ≤ 10000)
+
+-- what is left behind a line is what is left from it on
+abbrev Back : {E : Type 0} → Stage → Reading → ℕ → List ℕ → List (List ℕ) → Content → Result Reading E → Type 0
+Back stage reading number line lines content (Ok new) = (IsFew new → Left new.stage new (number + 1) lines content) → Left stage reading number (line ∷ lines) content
+Back stage reading number line lines content (Err fault) = Unit {0}
+
+same_word : (word wanted : List ℕ) → bytes_eq word wanted ≡ true → word ≡ wanted
+same_word word wanted is = (bytes_eq-Decides word wanted).0 is
+
+-- `end` alone
+pub end_is : (found : Result (List Token) ℕ) → is_end found ≡ true → found ≡ Ok (Word (codes "end") ∷ [])
+end_is (Ok (Word word ∷ [])) is = ap (λ these. Ok (Word these ∷ [])) (same_word word (codes "end") is)
+end_is _ is = absurd (cc is)
+
+-- behind the schedule
+module _ (number : ℕ) (line : List ℕ) (lines : List (List ℕ)) (content : Content) where
+  tail_step : (reading : Reading) (found : List Token) → reading.stage ≡ Ended → IsFew reading → tokens line ≡ Ok found → Back Ended reading number line lines content (ended_line reading found)
+  tail_step reading [] at few is =
+      λ left.
+      let behind : TailLeft (content_read reading) lines content = subst (λ (stage : Stage). Left stage reading (number + 1) lines content) at (left few) in
+      record { same = behind.same; tail = line ∷ behind.tail; all = ap (λ these. line ∷ these) behind.all; blanks = (is, behind.blanks) }
+  tail_step reading _ at few is = tt
+
+-- in the schedule
+module _ (number : ℕ) (line : List ℕ) (lines : List (List ℕ)) (content : Content) (reading : Reading) (found : List Token) (at : reading.stage ≡ Schedule) (small : IsFew reading) (is : tokens line ≡ Ok found) where
+  abbrev with_events : ℕ → List Event → Reading
+  with_events begins here = record reading { begins = begins; events = reading.events ++ here }
+
+  -- the events of this line, and those behind it
+  events_more : (begins : ℕ) (here : List Event) → length (reading.events ++ here) ≤ 10000 → ((IsBegin reading.names found here × (begins ≡ reading.begins + 1)) ⊎ (IsNoBegin reading.begins found here × (begins ≡ reading.begins)))
+      → (IsFew (with_events begins here) → Left reading.stage (with_events begins here) (number + 1) lines content) → EventsLeft (content_read reading) reading.begins (line ∷ lines) content
+  events_more begins here room means left =
+      let behind : EventsLeft (content_read (with_events begins here)) begins lines content = subst (λ (stage : Stage). Left stage (with_events begins here) (number + 1) lines content) at (left (small.0, room)) in
+      let all = append_assoc reading.events here behind.more in
+      record {
+        more = here ++ behind.more;
+        few = subst (λ (events : List Event). length events ≤ 10000) all behind.few;
+        event_lines = line ∷ behind.event_lines;
+        end_line = behind.end_line;
+        rest = behind.rest;
+        all = ap (λ these. line ∷ these) behind.all;
+        has = (found, here, behind.more, is, refl, by_means behind.event_lines behind.more means behind.has);
+        ends = behind.ends;
+        left = subst (λ (events : List Event). TailLeft (record (content_read reading) { events = events }) behind.rest content) all behind.left;
+      }
+    where
+      by_means : (event_lines : List (List ℕ)) (more : List Event) → ((IsBegin reading.names found here × (begins ≡ reading.begins + 1)) ⊎ (IsNoBegin reading.begins found here × (begins ≡ reading.begins))) → HasEvents reading.names begins event_lines more
+          → ((IsBegin reading.names found here × HasEvents reading.names (reading.begins + 1) event_lines more) ⊎ (IsNoBegin reading.begins found here × HasEvents reading.names reading.begins event_lines more))
+      by_means event_lines more (inl one) has = inl (one.0, subst (λ n. HasEvents reading.names n event_lines more) one.1 has)
+      by_means event_lines more (inr one) has = inr (one.0, subst (λ n. HasEvents reading.names n event_lines more) one.1 has)
+
+  abbrev BackHere : Result Reading ℕ → Type 0
+  BackHere read = Back Schedule reading number line lines content read
+
+  below_room : nat_lt (length reading.events) 10000 ≡ true → (event : Event) → length (reading.events ++ event ∷ []) ≤ 10000
+  below_room room event = let under : length reading.events + 1 ≤ 10000 = grind (arith, nat_tests, room) in omega (arith, under, length-append reading.events (event ∷ []))
+
+  event_step : (begins : ℕ) (event : Event) → ((IsBegin reading.names found (event ∷ []) × (begins ≡ reading.begins + 1)) ⊎ (IsNoBegin reading.begins found (event ∷ []) × (begins ≡ reading.begins))) → BackHere (with_event (record reading { begins = begins }) event)
+  event_step begins event means = by_room (nat_lt (length reading.events) 10000) refl
+    where
+      by_room : (room : Bool) → nat_lt (length reading.events) 10000 ≡ room → BackHere (if room then Ok (with_events begins (event ∷ [])) else Err 11)
+      by_room true room = events_more begins (event ∷ []) (below_room room event) means
+      by_room false room = tt
+
+  limit_range : (limit : ℕ) → is_limit limit ≡ true → IsLimit limit
+  limit_range limit right = (grind (arith, nat_tests, right), grind (arith, nat_tests, right))
+
+  turn_step : (activation limit : ℕ) → found ≡ Word (codes "turn") ∷ Number activation ∷ Number limit ∷ [] → BackHere (turn_line reading activation limit)
+  turn_step activation limit says = by_tests (nat_le 1 activation && nat_le activation reading.begins) (is_limit limit) refl refl
+    where
+      by_tests : (known right : Bool) → (nat_le 1 activation && nat_le activation reading.begins) ≡ known → is_limit limit ≡ right → BackHere (if known then (if right then with_event reading (Turn activation limit) else Err 11) else Err 14)
+      by_tests true true known right =
+          event_step reading.begins (Turn activation limit)
+          (inr (inr (inl (record { activation = activation; limit = limit; says = says; known = (grind (arith, nat_tests, known), grind (arith, nat_tests, known)); small = limit_range limit right; gives = refl })), refl))
+      by_tests true false known right = tt
+      by_tests false right known limited = tt
+
+  drain_step : (rounds limit : ℕ) → found ≡ Word (codes "drain") ∷ Number rounds ∷ Number limit ∷ [] → BackHere (drain_line reading rounds limit)
+  drain_step rounds limit says = by_test (nat_le 1 rounds && nat_le rounds 10000 && is_limit limit && nat_le (length reading.events + rounds * reading.begins) 10000) refl
+    where
+      by_test : (right : Bool) → (nat_le 1 rounds && nat_le rounds 10000 && is_limit limit && nat_le (length reading.events + rounds * reading.begins) 10000) ≡ right
+          → BackHere (if right then Ok (record reading { events = reading.events ++ rounds_of limit reading.begins rounds }) else Err 11)
+      by_test true right =
+          let room : length reading.events + rounds * reading.begins ≤ 10000 = grind (arith, nat_tests, right) in
+          events_more reading.begins (rounds_of limit reading.begins rounds) (omega (arith, room, length-append reading.events (rounds_of limit reading.begins rounds), length-rounds_of limit reading.begins rounds))
+          (inr (inr (inr (inl (record { rounds = rounds; limit = limit; says = says; some = (grind (arith, nat_tests, right), grind (arith, nat_tests, right)); small = (grind (arith, nat_tests, right), grind (arith, nat_tests, right)); gives = refl }))), refl))
+      by_test false right = tt
+
+  abbrev single_by : Bool → Bool → Bool → Result Reading ℕ
+  single_by ends saves stops =
+      if ends then Ok (record reading { stage = Ended }) else if saves then with_event reading Checkpoint else if stops then with_event reading Crash else Err 10
+
+  ends_here : found ≡ Word (codes "end") ∷ [] → (IsFew (record reading { stage = Ended }) → TailLeft (content_read reading) lines content) → EventsLeft (content_read reading) reading.begins (line ∷ lines) content
+  ends_here says left = record {
+    more = [];
+    few = subst (λ (events : List Event). length events ≤ 10000) (sym (append-nil reading.events)) small.1;
+    event_lines = [];
+    end_line = line;
+    rest = lines;
+    all = refl;
+    has = refl;
+    ends = is ∙ ap Ok says;
+    left = subst (λ (events : List Event). TailLeft (record (content_read reading) { events = events }) lines content) (sym (append-nil reading.events)) (left small);
+  }
+
+  single_step : (word : List ℕ) → found ≡ Word word ∷ [] → BackHere (single_line reading word)
+  single_step word says =
+      by_tests (bytes_eq word (codes "end")) (bytes_eq word (codes "checkpoint") && TAKES_CHECKPOINT) (bytes_eq word (codes "crash") && TAKES_CRASH) refl
+      (λ is. and_parts (bytes_eq word (codes "checkpoint")) TAKES_CHECKPOINT is) (λ is. and_parts (bytes_eq word (codes "crash")) TAKES_CRASH is)
+    where
+      this : (wanted : List ℕ) → bytes_eq word wanted ≡ true → found ≡ Word wanted ∷ []
+      this wanted right = says ∙ ap (λ these. Word these ∷ []) (same_word word wanted right)
+
+      by_tests : (ends saves stops : Bool) → bytes_eq word (codes "end") ≡ ends → (saves ≡ true → (bytes_eq word (codes "checkpoint") ≡ true) × (TAKES_CHECKPOINT ≡ true)) → (stops ≡ true → (bytes_eq word (codes "crash") ≡ true) × (TAKES_CRASH ≡ true)) → BackHere (single_by ends saves stops)
+      by_tests true saves stops ending taken_save taken_stop = ends_here (this (codes "end") ending)
+      by_tests false true stops ending taken_save taken_stop =
+          event_step reading.begins Checkpoint (inr (inr (inr (inr (inl ((taken_save refl).1, this (codes "checkpoint") (taken_save refl).0, refl)))), refl))
+      by_tests false false true ending taken_save taken_stop =
+          event_step reading.begins Crash (inr (inr (inr (inr (inr ((taken_stop refl).1, this (codes "crash") (taken_stop refl).0, refl)))), refl))
+      by_tests false false false ending taken_save taken_stop = tt
+
+  blank_step : found ≡ [] → BackHere (Ok reading)
+  blank_step says left =
+      events_more reading.begins [] (subst (λ (events : List Event). length events ≤ 10000) (sym (append-nil reading.events)) small.1) (inr (inl (says, refl), refl))
+      (subst (λ (events : List Event). IsFew (record reading { events = events }) → Left reading.stage (record reading { events = events }) (number + 1) lines content) (sym (append-nil reading.events)) left)
+
+  begin_step : (name values : List ℕ) → found ≡ Word (codes "begin") ∷ Word name ∷ map Number values → is_label name ≡ true → length values ≤ 4 → (place : Option ℕ) → place_among reading.names name ≡ place → BackHere (begin_of reading values place)
+  begin_step name values says label few (Some program) place =
+      event_step (reading.begins + 1) (Begin program (four_of values)) (inl (record { name = name; program = program; values = values; says = says; label = label; known = place; few = few; gives = refl }, refl))
+  begin_step name values says label few None place = tt
+
+  begins_step : (name : List ℕ) (those : List Token) → found ≡ Word (codes "begin") ∷ Word name ∷ those → is_label name ≡ true → BackHere (begin_line reading name (values_of those))
+  begins_step name [] says label = begin_step name [] says label (omega arith) (place_among reading.names name) refl
+  begins_step name (Number a ∷ []) says label = begin_step name (a ∷ []) says label (omega arith) (place_among reading.names name) refl
+  begins_step name (Number a ∷ Number b ∷ []) says label = begin_step name (a ∷ b ∷ []) says label (omega arith) (place_among reading.names name) refl
+  begins_step name (Number a ∷ Number b ∷ Number c ∷ []) says label = begin_step name (a ∷ b ∷ c ∷ []) says label (omega arith) (place_among reading.names name) refl
+  begins_step name (Number a ∷ Number b ∷ Number c ∷ Number d ∷ []) says label = begin_step name (a ∷ b ∷ c ∷ d ∷ []) says label (omega arith) (place_among reading.names name) refl
+  begins_step name _ says label = tt
+
+  found_step : (these : List Token) → found ≡ these → BackHere (schedule_line reading these)
+  found_step [] says = blank_step says
+  found_step (Word word ∷ []) says = single_step word says
+  found_step (Word word ∷ Number first ∷ Number second ∷ []) says = by_tests (bytes_eq word (codes "turn")) (bytes_eq word (codes "drain")) refl refl
+    where
+      by_tests : (turns drains : Bool) → bytes_eq word (codes "turn") ≡ turns → bytes_eq word (codes "drain") ≡ drains → BackHere (if turns then turn_line reading first second else if drains then drain_line reading first second else Err 10)
+      by_tests true drains turn drain = turn_step first second (says ∙ ap (λ w. Word w ∷ Number first ∷ Number second ∷ []) (same_word word (codes "turn") turn))
+      by_tests false true turn drain = drain_step first second (says ∙ ap (λ w. Word w ∷ Number first ∷ Number second ∷ []) (same_word word (codes "drain") drain))
+      by_tests false false turn drain = tt
+  found_step (Word word ∷ Word name ∷ values) says = by_test (bytes_eq word (codes "begin") && is_label name) refl
+    where
+      by_test : (right : Bool) → (bytes_eq word (codes "begin") && is_label name) ≡ right → BackHere (if right then begin_line reading name (values_of values) else Err 10)
+      by_test true right =
+          let both = and_parts (bytes_eq word (codes "begin")) (is_label name) right in
+          begins_step name values (says ∙ ap (λ w. Word w ∷ Word name ∷ values) (same_word word (codes "begin") both.0)) both.1
+      by_test false right = tt
+  found_step _ says = tt
+
+-- in a source
+module _ (number : ℕ) (line : List ℕ) (lines : List (List ℕ)) (content : Content) (reading : Reading) (at : reading.stage ≡ Source) (small : IsFew reading) where
+  abbrev BackSource : Result Reading (ℕ × ℕ) → Type 0
+  BackSource read = Back Source reading number line lines content read
+
+  -- a line that gives these statements, before those of the others
+  source_more : (here : List Statement) → (IsOnly (codes "end") line → ⊥) → ((others : List (List ℕ)) (more : List Statement) → statements_from (number + 1) others ≡ Ok more → statements_from number (line ∷ others) ≡ Ok (here ++ more))
+      → SourceLeft (reading.statements ++ here) (content_read reading) reading.begins (number + 1) lines content → SourceLeft reading.statements (content_read reading) reading.begins number (line ∷ lines) content
+  source_more here no_end gives behind = record {
+    source = line ∷ behind.source;
+    last = behind.last;
+    rest = behind.rest;
+    all = ap (λ these. line ∷ these) behind.all;
+    no_end = (no_end, behind.no_end);
+    more = here ++ behind.more;
+    parsed = gives behind.source behind.more behind.parsed;
+    parts = behind.parts;
+    makes = subst (λ (statements : List Statement). assembled statements ≡ Ok behind.parts) (append_assoc reading.statements here behind.more) behind.makes;
+    ends = behind.ends;
+    left = subst (λ n. ProgramsLeft (record (content_read reading) { programs = reading.programs ++ behind.parts ∷ [] }) reading.begins n behind.rest content) (omega arith) behind.left;
+  }
+
+  source_goes : is_end (tokens line) ≡ false → (meaning : Result (Option Statement) ℕ) → line_of number line ≡ meaning → BackSource (source_goes_on reading (at_line number meaning))
+  unfolding statements_from
+  source_goes no_end (Ok (Some statement)) is =
+      λ left.
+      source_more (statement ∷ []) (λ only. cc (no_end, ap is_end only)) (λ others more parsed. rw (is, parsed) refl)
+      (subst (λ (stage : Stage). Left stage (record reading { statements = reading.statements ++ statement ∷ [] }) (number + 1) lines content) at (left small))
+  source_goes no_end (Ok None) is =
+      λ left.
+      source_more [] (λ only. cc (no_end, ap is_end only)) (λ others more parsed. rw (is, parsed) refl)
+      (subst (λ (statements : List Statement). SourceLeft statements (content_read reading) reading.begins (number + 1) lines content) (sym (append-nil reading.statements))
+      (subst (λ (stage : Stage). Left stage reading (number + 1) lines content) at (left small)))
+  source_goes no_end (Err kind) is = tt
+
+  source_ends : is_end (tokens line) ≡ true → (made : Result Parts (ℕ × ℕ)) → assembled reading.statements ≡ made → BackSource (program_ends reading made)
+  unfolding statements_from
+  source_ends end (Ok parts) is =
+      λ left.
+      record {
+        source = [];
+        last = line;
+        rest = lines;
+        all = refl;
+        no_end = tt;
+        more = [];
+        parsed = refl;
+        parts = parts;
+        makes = ap assembled (append-nil reading.statements) ∙ is;
+        ends = end_is (tokens line) end;
+        left = subst (λ n. ProgramsLeft (record (content_read reading) { programs = reading.programs ++ parts ∷ [] }) reading.begins n lines content) (omega arith) (left small);
+      }
+  source_ends end (Err fault) is = tt
+
+  source_step : BackSource (source_line reading number line)
+  source_step = by_end (is_end (tokens line)) refl
+    where
+      by_end : (end : Bool) → is_end (tokens line) ≡ end → BackSource (if end then program_ends reading (assembled reading.statements) else source_goes_on reading (at_line number (line_of number line)))
+      by_end true end = source_ends end (assembled reading.statements) refl
+      by_end false end = source_goes end (line_of number line) refl
+
+-- a blank line before programs
+has_blank : (others : List (List ℕ)) (number : ℕ) (line : List ℕ) (lines : List (List ℕ)) (names : List (List ℕ)) (programs : List Parts) → IsBlank line → HasPrograms others (number + 1) names programs lines → HasPrograms others number names programs (line ∷ lines)
+has_blank others number line lines [] [] blank has = (blank, has)
+has_blank others number line lines [] (parts ∷ programs) blank has = has
+has_blank others number line lines (name ∷ names) [] blank has = has
+has_blank others number line lines (name ∷ names) (parts ∷ programs) blank has =
+    let is = has.3 in (
+      line ∷ has.0,
+      has.1,
+      ap (λ these. line ∷ these) has.2,
+      record {
+        blank = line ∷ is.blank;
+        head = is.head;
+        source = is.source;
+        last = is.last;
+        all = ap (λ these. line ∷ these) is.all;
+        blanks = (blank, is.blanks);
+        says = is.says;
+        label = is.label;
+        no_end = is.no_end;
+        statements = is.statements;
+        parsed = subst (λ n. statements_from n is.source ≡ Ok is.statements) (omega arith) is.parsed;
+        makes = is.makes;
+        ends = is.ends;
+      },
+      has.4,
+      subst (λ n. HasPrograms (others ++ name ∷ []) n names programs has.1) (omega arith) has.5,
+    )
+
+-- between programs
+module _ (number : ℕ) (line : List ℕ) (lines : List (List ℕ)) (content : Content) (reading : Reading) (found : List Token) (at : reading.stage ≡ Programs) (small : IsFew reading) (is : tokens line ≡ Ok found) where
+  abbrev BackPrograms : Result Reading ℕ → Type 0
+  BackPrograms read = Back Programs reading number line lines content read
+
+  programs_blank : found ≡ [] → BackPrograms (Ok reading)
+  programs_blank says left =
+      let behind : ProgramsLeft (content_read reading) reading.begins (number + 1) lines content = subst (λ (stage : Stage). Left stage reading (number + 1) lines content) at (left small) in
+      record {
+        names = behind.names;
+        programs = behind.programs;
+        few = behind.few;
+        program_lines = line ∷ behind.program_lines;
+        schedule_line = behind.schedule_line;
+        rest = behind.rest;
+        all = ap (λ these. line ∷ these) behind.all;
+        has = has_blank reading.names number line behind.program_lines behind.names behind.programs (is ∙ ap Ok says) behind.has;
+        schedule = behind.schedule;
+        left = behind.left;
+      }
+
+  schedule_begins : found ≡ Word (codes "schedule") ∷ [] → BackPrograms (Ok (record reading { stage = Schedule }))
+  schedule_begins says left = record {
+    names = [];
+    programs = [];
+    few = subst (λ (names : List (List ℕ)). length names ≤ 64) (sym (append-nil reading.names)) small.0;
+    program_lines = [];
+    schedule_line = line;
+    rest = lines;
+    all = refl;
+    has = tt;
+    schedule = is ∙ ap Ok says;
+    left = subst (λ (names : List (List ℕ)). EventsLeft (record (content_read reading) { names = names; programs = reading.programs ++ [] }) reading.begins lines content) (sym (append-nil reading.names))
+        (subst (λ (programs : List Parts). EventsLeft (record (content_read reading) { programs = programs }) reading.begins lines content) (sym (append-nil reading.programs)) (left small));
+  }
+
+  abbrev named : List ℕ → Reading
+  named name = record reading { stage = Source; names = reading.names ++ name ∷ []; statements = [] }
+
+  program_begun : (name : List ℕ) → found ≡ Word (codes "program") ∷ Word name ∷ [] → is_label name ≡ true → place_among reading.names name ≡ None → SourceLeft [] (content_read (named name)) reading.begins (number + 1) lines content → ProgramsLeft (content_read reading) reading.begins number (line ∷ lines) content
+  program_begun name says label apart behind =
+      let more = behind.left in
+      let first = line ∷ behind.source ++ behind.last ∷ [] in
+      let end = more.schedule_line ∷ more.rest in
+      record {
+        names = name ∷ more.names;
+        programs = behind.parts ∷ more.programs;
+        few = subst (λ (names : List (List ℕ)). length names ≤ 64) (append_assoc reading.names (name ∷ []) more.names) more.few;
+        program_lines = first ++ more.program_lines;
+        schedule_line = more.schedule_line;
+        rest = more.rest;
+        all = ap (λ these. line ∷ these) (behind.all ∙ ap (λ these. behind.source ++ behind.last ∷ these) more.all ∙ sym (append_assoc behind.source (behind.last ∷ []) (more.program_lines ++ end)))
+            ∙ sym (append_assoc first more.program_lines end);
+        has = (
+          first,
+          more.program_lines,
+          refl,
+          record {
+            blank = [];
+            head = line;
+            source = behind.source;
+            last = behind.last;
+            all = refl;
+            blanks = tt;
+            says = is ∙ ap Ok says;
+            label = label;
+            no_end = behind.no_end;
+            statements = behind.more;
+            parsed = subst (λ n. statements_from n behind.source ≡ Ok behind.more) (omega arith) behind.parsed;
+            makes = behind.makes;
+            ends = behind.ends;
+          },
+          apart,
+          subst (λ n. HasPrograms (reading.names ++ name ∷ []) n more.names more.programs more.program_lines) (omega (arith, length-append behind.source (behind.last ∷ []))) more.has,
+        );
+        schedule = more.schedule;
+        left = subst (λ (names : List (List ℕ)). EventsLeft (record (content_read reading) { names = names; programs = reading.programs ++ behind.parts ∷ more.programs }) reading.begins more.rest content) (append_assoc reading.names (name ∷ []) more.names)
+            (subst (λ (programs : List Parts). EventsLeft (record (content_read reading) { names = (reading.names ++ name ∷ []) ++ more.names; programs = programs }) reading.begins more.rest content) (append_assoc reading.programs (behind.parts ∷ []) more.programs) more.left);
+      }
+
+  program_step : (name : List ℕ) → found ≡ Word (codes "program") ∷ Word name ∷ [] → is_label name ≡ true → BackPrograms (program_begins reading name)
+  program_step name says label = by_place (place_among reading.names name) (nat_lt (length reading.names) 64) refl refl
+    where
+      by_place : (place : Option ℕ) (few : Bool) → place_among reading.names name ≡ place → nat_lt (length reading.names) 64 ≡ few → BackPrograms (if is_some place then Err 13 else if few then Ok (named name) else Err 11)
+      by_place (Some there) few is_there is_few = tt
+      by_place None true is_there is_few =
+          let under : length reading.names + 1 ≤ 64 = grind (arith, nat_tests, is_few) in
+          λ left. program_begun name says label is_there (left (omega (arith, under, length-append reading.names (name ∷ [])), small.1))
+      by_place None false is_there is_few = tt
+
+  programs_step : (these : List Token) → found ≡ these → BackPrograms (programs_line reading these)
+  programs_step [] says = programs_blank says
+  programs_step (Word word ∷ []) says = by_test (bytes_eq word (codes "schedule")) refl
+    where
+      by_test : (right : Bool) → bytes_eq word (codes "schedule") ≡ right → BackPrograms (if right then Ok (record reading { stage = Schedule }) else Err 10)
+      by_test true right = schedule_begins (says ∙ ap (λ w. Word w ∷ []) (same_word word (codes "schedule") right))
+      by_test false right = tt
+  programs_step (Word word ∷ Word name ∷ []) says = by_test (bytes_eq word (codes "program") && is_label name) refl
+    where
+      by_test : (right : Bool) → (bytes_eq word (codes "program") && is_label name) ≡ right → BackPrograms (if right then program_begins reading name else Err 10)
+      by_test true right =
+          let both = and_parts (bytes_eq word (codes "program")) (is_label name) right in
+          program_step name (says ∙ ap (λ w. Word w ∷ Word name ∷ []) (same_word word (codes "program") both.0)) both.1
+      by_test false right = tt
+  programs_step _ says = tt
+
+-- before the frames
+module _ (number : ℕ) (line : List ℕ) (lines : List (List ℕ)) (content : Content) (reading : Reading) (found : List Token) (at : reading.stage ≡ Frames) (small : IsFew reading) (is : tokens line ≡ Ok found) where
+  abbrev BackFrames : Result Reading ℕ → Type 0
+  BackFrames read = Back Frames reading number line lines content read
+
+  frames_blank : found ≡ [] → BackFrames (Ok reading)
+  frames_blank says left =
+      let behind : FramesLeft (content_read reading) reading.begins (number + 1) lines content = subst (λ (stage : Stage). Left stage reading (number + 1) lines content) at (left small) in
+      record {
+        blank = line ∷ behind.blank;
+        frames_line = behind.frames_line;
+        rest = behind.rest;
+        frames = behind.frames;
+        all = ap (λ these. line ∷ these) behind.all;
+        blanks = (is ∙ ap Ok says, behind.blanks);
+        is = behind.is;
+        left = subst (λ n. ProgramsLeft (record (content_read reading) { frames = behind.frames }) reading.begins n behind.rest content) (omega arith) behind.left;
+      }
+
+  frames_step : (these : List Token) → found ≡ these → BackFrames (frames_line reading these)
+  frames_step [] says = frames_blank says
+  frames_step (Word word ∷ Number count ∷ []) says = by_word (bytes_eq word (codes "frames")) refl
+    where
+      by_count : (right : Bool) → (nat_le 2 count && nat_le count 1024) ≡ right → bytes_eq word (codes "frames") ≡ true → BackFrames (if right then Ok (record reading { stage = Programs; frames = count }) else Err 11)
+      by_count true right same = λ left. record {
+        blank = [];
+        frames_line = line;
+        rest = lines;
+        frames = count;
+        all = refl;
+        blanks = tt;
+        is = record {
+          says = is ∙ ap Ok (says ∙ ap (λ w. Word w ∷ Number count ∷ []) (same_word word (codes "frames") same));
+          range = (grind (arith, nat_tests, right), grind (arith, nat_tests, right));
+        };
+        left = subst (λ n. ProgramsLeft (record (content_read reading) { frames = count }) reading.begins n lines content) (omega arith) (left small);
+      }
+      by_count false right same = tt
+
+      by_word : (right : Bool) → bytes_eq word (codes "frames") ≡ right → BackFrames (if right then (if nat_le 2 count && nat_le count 1024 then Ok (record reading { stage = Programs; frames = count }) else Err 11) else Err 10)
+      by_word true right = by_count (nat_le 2 count && nat_le count 1024) refl right
+      by_word false right = tt
+  frames_step _ says = tt
+
+-- at the end of a text
+last_step : (stage : Stage) (reading : Reading) (number : ℕ) (last : List ℕ) (content : Content) → reading.stage ≡ stage → last_part reading number last ≡ Ok content → Left stage reading number (last ∷ []) content
+last_step stage reading number (byte ∷ bytes) content at is = absurd (cc is)
+last_step Ended reading number [] content at is =
+    let same : content ≡ content_read reading = cc (ap (λ stage. whole stage reading number) (sym at) ∙ is) in
+    record { same = same; tail = []; all = refl; blanks = tt }
+last_step Frames reading number [] content at is = absurd (cc (ap (λ stage. whole stage reading number) (sym at) ∙ is))
+last_step Programs reading number [] content at is = absurd (cc (ap (λ stage. whole stage reading number) (sym at) ∙ is))
+last_step Source reading number [] content at is = absurd (cc (ap (λ stage. whole stage reading number) (sym at) ∙ is))
+last_step Schedule reading number [] content at is = absurd (cc (ap (λ stage. whole stage reading number) (sym at) ∙ is))
+
+-- one line more
+module _ (number : ℕ) (line : List ℕ) (lines : List (List ℕ)) (content : Content) where
+  back_at : (stage : Stage) (reading : Reading) (read : Result Reading ℕ) → Back stage reading number line lines content read → Back stage reading number line lines content (at_line number read)
+  back_at stage reading (Ok new) back = back
+  back_at stage reading (Err kind) back = tt
+
+  by_found : (stage : Stage) (reading : Reading) (meaning : List Token → Result Reading ℕ) (found : Result (List Token) ℕ) → ((those : List Token) → found ≡ Ok those → Back stage reading number line lines content (meaning those)) → Back stage reading number line lines content (at_line number (by_tokens meaning found))
+  by_found stage reading meaning (Ok those) back = back_at stage reading (meaning those) (back those refl)
+  by_found stage reading meaning (Err kind) back = tt
+
+  line_step : (stage : Stage) (reading : Reading) → reading.stage ≡ stage → IsFew reading → Back stage reading number line lines content (line_read stage reading number line)
+  line_step Frames reading at small = by_found Frames reading (frames_line reading) (tokens line) (λ those is. frames_step number line lines content reading those at small is those refl)
+  line_step Programs reading at small = by_found Programs reading (programs_line reading) (tokens line) (λ those is. programs_step number line lines content reading those at small is those refl)
+  line_step Source reading at small = source_step number line lines content reading at small
+  line_step Schedule reading at small = by_found Schedule reading (schedule_line reading) (tokens line) (λ those is. found_step number line lines content reading those at small is those refl)
+  line_step Ended reading at small = by_found Ended reading (ended_line reading) (tokens line) (λ those is. tail_step number line lines content reading those at small is)
+
+lines_left : (reading : Reading) (number : ℕ) (lines : List (List ℕ)) (content : Content) → IsFew reading → read_from reading number lines ≡ Ok content → Left reading.stage reading number lines content
+unfolding read_from
+lines_left reading number [] content small is = absurd (cc is)
+lines_left reading number (last ∷ []) content small is = last_step reading.stage reading number last content refl is
+lines_left reading number (line ∷ next ∷ lines) content small is =
+    on (line_read reading.stage reading number line) (line_step number line (next ∷ lines) content reading.stage reading refl small) is
+    (λ more small_more is_more. lines_left more (number + 1) (next ∷ lines) content small_more is_more)
+  where
+    on : (read : Result Reading (ℕ × ℕ)) → Back reading.stage reading number line (next ∷ lines) content read → then_read (λ more. read_from more (number + 1) (next ∷ lines)) read ≡ Ok content
+        → ((more : Reading) → IsFew more → read_from more (number + 1) (next ∷ lines) ≡ Ok content → Left more.stage more (number + 1) (next ∷ lines) content) → Left reading.stage reading number (line ∷ next ∷ lines) content
+    on (Ok more) back is others = back (λ small. others more small is)
+    on (Err fault) back is others = absurd (cc is)
+
+-- a job has the form of one
+pub has_form : (text : List ℕ) (content : Content) → job_of text ≡ Ok content → IsJobText text content
+has_form text content is =
+    let frames = lines_left nothing_read 1 (lines_of text) content (omega arith, omega arith) is in
+    let programs = frames.left in
+    let events = programs.left in
+    let tail = events.left in
+    subst (IsJobText text) (sym tail.same)
+    (record {
+      blank = frames.blank;
+      frames_line = frames.frames_line;
+      program_lines = programs.program_lines;
+      schedule_line = programs.schedule_line;
+      event_lines = events.event_lines;
+      end_line = events.end_line;
+      tail = tail.tail;
+      all = frames.all
+          ∙ ap (λ these. frames.blank ++ frames.frames_line ∷ these)
+          (programs.all ∙ ap (λ these. programs.program_lines ++ programs.schedule_line ∷ these) (events.all ∙ ap (λ these. events.event_lines ++ events.end_line ∷ these) tail.all));
+      blanks = frames.blanks;
+      frames = frames.is;
+      programs = subst (λ n. HasPrograms [] n programs.names programs.programs programs.program_lines) (omega arith) programs.has;
+      few_programs = programs.few;
+      schedule = programs.schedule;
+      events = events.has;
+      few_events = events.few;
+      ends = events.ends;
+      tail_blanks = tail.blanks;
+    })

@@ -1,0 +1,288 @@
+-- A text that has the form of a job is read as it.
+use Rattle.std.proofs.Common.{◌≡◌, ◌⊎◌, inl, inr, ℕ, ◌+◌, ◌*◌, ◌≤◌, Bool, true, false, List, [], ◌∷◌, ◌++◌, length, map, codes, Option, Some, None, Result, Ok, Err, refl, sym, ap, ◌∙◌, arith, append_assoc, append-nil, length-append}
+use Rattle.std.proofs.lemmas.Bool.{le-leb, lt-ltb}
+use Rattle.desk.specs.declared.event.Event.{Event}
+use Rattle.desk.specs.declared.event.Event.TheVariants.{Begin, Turn}
+use Rattle.asm_parse.specs.declared.token.Token.{Token}
+use Rattle.asm_parse.specs.declared.token.Token.TheVariants.{Word, Number}
+use Rattle.asm_parse.specs.declared.statement.Statement.{Statement}
+use Rattle.asm_parse.specs.Operand.{place_among}
+use Rattle.asm_parse.specs.Statement.{is_label, line_of}
+use Rattle.asm_parse.specs.Text.{at_line, statements_from, then_statements}
+use Rattle.asm_parse.specs.Token.{tokens}
+use Rattle.romp_asm.specs.Layout.{Parts, assembled}
+use Rattle.job_text.specs.declared.stage.Stage.{Stage}
+use Rattle.job_text.specs.declared.stage.Stage.TheVariants.{Frames, Programs, Source, Schedule, Ended}
+use Rattle.job_text.specs.Grammar.{Content, job_of, read_from, then_read}
+use Rattle.job_text.specs.Reader.{tokens_read}
+use Rattle.job_text.specs.Reading.{Reading, nothing_read, frames_line, programs_line, is_end, source_goes_on, source_line, with_event, values_of, four_of, is_limit, schedule_line, line_read}
+use Rattle.job_text.specs.Form.{AreBlank, IsOnly, HaveNoEnd, IsProgram, HasPrograms, IsBegin, IsLimit, IsTurn, IsDrain, IsSingle, IsNoBegin, HasEvents, IsJobText}
+use Rattle.job_text.proofs.DrainLemmas.{length-rounds_of}
+use Rattle.job_text.proofs.FormLemmas.{end_is}
+use Rattle.job_text.proofs.GrammarLemmas.{read_line}
+use Rattle.job_text.proofs.LeadsLemmas.{IsByTokens}
+
+-- some lines
+abbrev AreSome : List (List ℕ) → Type 0
+AreSome lines = (next : List ℕ) × (more : List (List ℕ)) × (lines ≡ next ∷ more)
+
+some_behind : (front lines : List (List ℕ)) → AreSome lines → AreSome (front ++ lines)
+some_behind [] lines some = some
+some_behind (line ∷ front) lines some = (line, front ++ lines, refl)
+
+-- a line, and lines behind it
+reads_line : (reading new : Reading) (number : ℕ) (line : List ℕ) (lines : List (List ℕ)) → AreSome lines → line_read reading.stage reading number line ≡ Ok new → read_from reading number (line ∷ lines) ≡ read_from new (number + 1) lines
+reads_line reading new number line lines some is = read_line reading number line some.0 some.1 lines some.2 ∙ ap (then_read (λ more. read_from more (number + 1) lines)) is
+
+-- a line of these tokens
+says_read : (stage : Stage) (reading new : Reading) (number : ℕ) (line : List ℕ) (found : List Token) → IsByTokens stage → tokens line ≡ Ok found → tokens_read stage reading found ≡ Ok new → line_read stage reading number line ≡ Ok new
+says_read Source reading new number line found by is read = absurd by
+says_read Frames reading new number line found by is read = rw is (ap (at_line number) read)
+says_read Programs reading new number line found by is read = rw is (ap (at_line number) read)
+says_read Schedule reading new number line found by is read = rw is (ap (at_line number) read)
+says_read Ended reading new number line found by is read = rw is (ap (at_line number) read)
+
+reads_tokens : (reading new : Reading) (number : ℕ) (line : List ℕ) (lines : List (List ℕ)) (found : List Token) → AreSome lines → IsByTokens reading.stage → tokens line ≡ Ok found → tokens_read reading.stage reading found ≡ Ok new → read_from reading number (line ∷ lines) ≡ read_from new (number + 1) lines
+reads_tokens reading new number line lines found some by is read = reads_line reading new number line lines some (says_read reading.stage reading new number line found by is read)
+
+blank_read : (stage : Stage) (reading : Reading) → IsByTokens stage → tokens_read stage reading [] ≡ Ok reading
+blank_read Source reading by = absurd by
+blank_read Frames reading by = refl
+blank_read Programs reading by = refl
+blank_read Schedule reading by = refl
+blank_read Ended reading by = refl
+
+-- blank lines
+reads_blank : (reading : Reading) (number : ℕ) (blank lines : List (List ℕ)) → AreBlank blank → AreSome lines → IsByTokens reading.stage → read_from reading number (blank ++ lines) ≡ read_from reading (number + length blank) lines
+reads_blank reading number [] lines are some by = ap (λ n. read_from reading n lines) (omega arith)
+reads_blank reading number (line ∷ blank) lines are some by =
+    reads_tokens reading reading number line (blank ++ lines) [] (some_behind blank lines some) by are.0 (blank_read reading.stage reading by)
+    ∙ reads_blank reading (number + 1) blank lines are.1 some by
+    ∙ ap (λ n. read_from reading n lines) (omega arith)
+
+-- a reading in each stage
+abbrev at_programs : ℕ → List (List ℕ) → List Parts → Reading
+at_programs frames names programs = record { stage = Programs; frames = frames; names = names; programs = programs; statements = []; events = []; begins = 0 }
+
+abbrev at_source : ℕ → List (List ℕ) → List Parts → List Statement → Reading
+at_source frames names programs statements = record { stage = Source; frames = frames; names = names; programs = programs; statements = statements; events = []; begins = 0 }
+
+abbrev at_schedule : Stage → ℕ → List (List ℕ) → List Parts → ℕ → List Event → Reading
+at_schedule stage frames names programs begins events = record { stage = stage; frames = frames; names = names; programs = programs; statements = []; events = events; begins = begins }
+
+-- the frames
+frames_read : (frames : ℕ) → (2 ≤ frames) × (frames ≤ 1024) → frames_line nothing_read (Word (codes "frames") ∷ Number frames ∷ []) ≡ Ok (at_programs frames [] [])
+frames_read frames range = rw (le-leb 2 frames range.0, le-leb frames 1024 range.1) refl
+
+-- the schedule
+module _ (frames : ℕ) (names : List (List ℕ)) (programs : List Parts) where
+  abbrev so_far : ℕ → List Event → Reading
+  so_far begins events = at_schedule Schedule frames names programs begins events
+
+  -- the tokens of a line are read as these events
+  abbrev Reads : ℕ → List Event → List Token → ℕ → List Event → Type 0
+  Reads begins events found after here = schedule_line (so_far begins events) found ≡ Ok (so_far after (events ++ here))
+
+  event_read : (begins : ℕ) (events : List Event) (event : Event) → length events + 1 ≤ 10000 → with_event (so_far begins events) event ≡ Ok (so_far begins (events ++ event ∷ []))
+  event_read begins events event room = rw (lt-ltb (length events) 10000 (omega (arith, room))) refl
+
+  values_back : (values : List ℕ) → length values ≤ 4 → values_of (map Number values) ≡ Some values
+  values_back [] few = refl
+  values_back (a ∷ []) few = refl
+  values_back (a ∷ b ∷ []) few = refl
+  values_back (a ∷ b ∷ c ∷ []) few = refl
+  values_back (a ∷ b ∷ c ∷ d ∷ []) few = refl
+  values_back (a ∷ b ∷ c ∷ d ∷ e ∷ values) few = absurd (omega (arith, few))
+
+  begin_read : (begins : ℕ) (events : List Event) (found : List Token) (here : List Event) → IsBegin names found here → length events + length here ≤ 10000 → Reads begins events found (begins + 1) here
+  begin_read begins events found here is room =
+      let line = Word (codes "begin") ∷ Word is.name ∷ map Number is.values in
+      let told : schedule_line (so_far begins events) line ≡ with_event (so_far (begins + 1) events) (Begin is.program (four_of is.values)) = rw (is.label, values_back is.values is.few, is.known) refl in
+      let few : length events + 1 ≤ 10000 = omega (arith, room, ap length is.gives) in
+      rw (is.says, is.gives) (told ∙ event_read (begins + 1) events (Begin is.program (four_of is.values)) few)
+
+  limit_back : (limit : ℕ) → IsLimit limit → is_limit limit ≡ true
+  limit_back limit small = rw (le-leb 1 limit small.0, le-leb limit 1000000 small.1) refl
+
+  turn_read : (begins : ℕ) (events : List Event) (found : List Token) (here : List Event) → IsTurn begins found here → length events + length here ≤ 10000 → Reads begins events found begins here
+  turn_read begins events found here is room =
+      let few : length events + 1 ≤ 10000 = omega (arith, room, ap length is.gives) in
+      rw (is.says, is.gives) (rw (le-leb 1 is.activation is.known.0, le-leb is.activation begins is.known.1, limit_back is.limit is.small) (event_read begins events (Turn is.activation is.limit) few))
+
+  drain_read : (begins : ℕ) (events : List Event) (found : List Token) (here : List Event) → IsDrain begins found here → length events + length here ≤ 10000 → Reads begins events found begins here
+  drain_read begins events found here is room =
+      let few : length events + is.rounds * begins ≤ 10000 = omega (arith, room, ap length is.gives, length-rounds_of is.limit begins is.rounds) in
+      rw (is.says, is.gives)
+      (rw (le-leb 1 is.rounds is.some.0, le-leb is.rounds 10000 is.some.1, limit_back is.limit is.small, le-leb (length events + is.rounds * begins) 10000 few) refl)
+
+  single_read : (begins : ℕ) (events : List Event) (found : List Token) (here : List Event) → IsSingle found here → length events + length here ≤ 10000 → Reads begins events found begins here
+  single_read begins events found here (inl is) room = absurd (cc is.0)
+  single_read begins events found here (inr is) room = absurd (cc is.0)
+
+  other_read : (begins : ℕ) (events : List Event) (found : List Token) (here : List Event) → IsNoBegin begins found here → length events + length here ≤ 10000 → Reads begins events found begins here
+  other_read begins events found here (inl is) room = rw (is.0, is.1) (ap (λ all. Ok (so_far begins all)) (sym (append-nil events)))
+  other_read begins events found here (inr (inl is)) room = turn_read begins events found here is room
+  other_read begins events found here (inr (inr (inl is))) room = drain_read begins events found here is room
+  other_read begins events found here (inr (inr (inr is))) room = single_read begins events found here is room
+
+  reads_events : (number begins : ℕ) (events : List Event) (event_lines lines : List (List ℕ)) (more : List Event) → HasEvents names begins event_lines more → length events + length more ≤ 10000 → AreSome lines
+      → (last : ℕ) × (after : ℕ) × (read_from (so_far begins events) number (event_lines ++ lines) ≡ read_from (so_far after (events ++ more)) last lines)
+  reads_events number begins events [] lines more has room some = (number, begins, ap (λ all. read_from (so_far begins all) number lines) (sym (append-nil events) ∙ ap (λ these. events ++ these) (sym has)))
+  reads_events number begins events (line ∷ event_lines) lines more has room some =
+      by_means (λ after has_more few. reads_events (number + 1) after (events ++ has.1) event_lines lines has.2 has_more few some) has.5
+    where
+      here : List Event
+      here = has.1
+
+      later : List Event
+      later = has.2
+
+      long : length more ≡ length here + length later
+      long = ap length has.4 ∙ length-append here later
+
+      first : (after : ℕ) → Reads begins events has.0 after here → read_from (so_far begins events) number (line ∷ (event_lines ++ lines)) ≡ read_from (so_far after (events ++ here)) (number + 1) (event_lines ++ lines)
+      first after read = reads_tokens (so_far begins events) (so_far after (events ++ here)) number line (event_lines ++ lines) has.0 (some_behind event_lines lines some) tt has.3 read
+
+      all : events ++ here ++ later ≡ events ++ more
+      all = append_assoc events here later ∙ ap (λ these. events ++ these) (sym has.4)
+
+      Others : Type 0
+      Others = (after : ℕ) → HasEvents names after event_lines later → length (events ++ here) + length later ≤ 10000 → (last : ℕ) × (end : ℕ) × (read_from (so_far after (events ++ here)) (number + 1) (event_lines ++ lines) ≡ read_from (so_far end ((events ++ here) ++ later)) last lines)
+
+      behind : Others → (after : ℕ) → Reads begins events has.0 after here → HasEvents names after event_lines later
+          → (last : ℕ) × (end : ℕ) × (read_from (so_far begins events) number (line ∷ (event_lines ++ lines)) ≡ read_from (so_far end (events ++ more)) last lines)
+      behind others after read has_more =
+          let rest = others after has_more (omega (arith, room, long, length-append events here)) in
+          (rest.0, rest.1, first after read ∙ rest.2 ∙ ap (λ these. read_from (so_far rest.1 these) rest.0 lines) all)
+
+      by_means : Others → ((IsBegin names has.0 here × HasEvents names (begins + 1) event_lines later) ⊎ (IsNoBegin begins has.0 here × HasEvents names begins event_lines later))
+          → (last : ℕ) × (end : ℕ) × (read_from (so_far begins events) number (line ∷ (event_lines ++ lines)) ≡ read_from (so_far end (events ++ more)) last lines)
+      by_means others (inl one) = behind others (begins + 1) (begin_read begins events has.0 here one.0 (omega (arith, room, long))) one.1
+      by_means others (inr one) = behind others begins (other_read begins events has.0 here one.0 (omega (arith, room, long))) one.1
+
+-- a source
+module _ (frames : ℕ) (names : List (List ℕ)) (programs : List Parts) where
+  abbrev in_source : List Statement → Reading
+  in_source statements = at_source frames names programs statements
+
+  -- what a source line and those behind it give, if they give statements
+  record Gives (number : ℕ) (line : List ℕ) (source : List (List ℕ)) (statements more : List Statement) : Type 0 where
+    here : List Statement
+    others : List Statement
+    goes : source_goes_on (in_source statements) (at_line number (line_of number line)) ≡ Ok (in_source (statements ++ here))
+    parsed : statements_from (number + 1) source ≡ Ok others
+    all : more ≡ here ++ others
+
+  gives_line : (number : ℕ) (line : List ℕ) (source : List (List ℕ)) (statements more : List Statement) (meaning : Result (Option Statement) ℕ) (others : Result (List Statement) (ℕ × ℕ)) → line_of number line ≡ meaning → statements_from (number + 1) source ≡ others → then_statements number meaning others ≡ Ok more → Gives number line source statements more
+  gives_line number line source statements more (Ok (Some statement)) (Ok rest) is parsed gives = record {
+    here = statement ∷ [];
+    others = rest;
+    goes = rw is refl;
+    parsed = parsed;
+    all = cc gives;
+  }
+  gives_line number line source statements more (Ok None) others is parsed gives = record {
+    here = [];
+    others = more;
+    goes = rw is (ap (λ these. Ok (in_source these)) (sym (append-nil statements)));
+    parsed = parsed ∙ gives;
+    all = refl;
+  }
+  gives_line number line source statements more (Ok (Some statement)) (Err fault) is parsed gives = absurd (cc gives)
+  gives_line number line source statements more (Err kind) others is parsed gives = absurd (cc gives)
+
+  not_end : (line : List ℕ) → (IsOnly (codes "end") line → ⊥) → is_end (tokens line) ≡ false
+  not_end line other = by_end (is_end (tokens line)) refl
+    where
+      by_end : (end : Bool) → is_end (tokens line) ≡ end → end ≡ false
+      by_end true end = absurd (other (end_is (tokens line) end))
+      by_end false end = refl
+
+  reads_source : (number : ℕ) (source lines : List (List ℕ)) (statements more : List Statement) → HaveNoEnd source → statements_from number source ≡ Ok more → AreSome lines → read_from (in_source statements) number (source ++ lines) ≡ read_from (in_source (statements ++ more)) (number + length source) lines
+  unfolding statements_from
+  reads_source number [] lines statements more are parsed some =
+      let none : [] ≡ more = cc parsed in
+      ap (λ these. read_from (in_source these) number lines) (sym (append-nil statements) ∙ ap (λ these. statements ++ these) none) ∙ ap (λ n. read_from (in_source (statements ++ more)) n lines) (omega arith)
+  reads_source number (line ∷ source) lines statements more are parsed some =
+      let gives = gives_line number line source statements more (line_of number line) (statements_from (number + 1) source) refl refl parsed in
+      reads_line (in_source statements) (in_source (statements ++ gives.here)) number line (source ++ lines) (some_behind source lines some) (rw (not_end line are.0) gives.goes)
+      ∙ reads_source (number + 1) source lines (statements ++ gives.here) gives.others are.1 gives.parsed some
+      ∙ ap (λ these. read_from (in_source these) (number + 1 + length source) lines) (append_assoc statements gives.here gives.others ∙ ap (λ these. statements ++ these) (sym gives.all))
+      ∙ ap (λ n. read_from (in_source (statements ++ more)) n lines) (omega arith)
+
+-- programs
+module _ (frames : ℕ) where
+  -- the first line of a program
+  head_read : (before : List (List ℕ)) (done : List Parts) (name : List ℕ) → is_label name ≡ true → place_among before name ≡ None → length before + 1 ≤ 64
+      → programs_line (at_programs frames before done) (Word (codes "program") ∷ Word name ∷ []) ≡ Ok (at_source frames (before ++ name ∷ []) done [])
+  head_read before done name label apart few = rw (label, apart, lt-ltb (length before) 64 (omega (arith, few))) refl
+
+  -- its `end`
+  end_read : (number : ℕ) (names : List (List ℕ)) (done : List Parts) (statements : List Statement) (parts : Parts) (last : List ℕ) → assembled statements ≡ Ok parts → IsOnly (codes "end") last → source_line (at_source frames names done statements) number last ≡ Ok (at_programs frames names (done ++ parts ∷ []))
+  end_read number names done statements parts last makes ends = rw (ends, makes) refl
+
+  reads_program : (number : ℕ) (before : List (List ℕ)) (done : List Parts) (name : List ℕ) (parts : Parts) (first lines : List (List ℕ)) → IsProgram number name parts first → place_among before name ≡ None → length before + 1 ≤ 64 → AreSome lines
+      → read_from (at_programs frames before done) number (first ++ lines) ≡ read_from (at_programs frames (before ++ name ∷ []) (done ++ parts ∷ [])) (number + length first) lines
+  reads_program number before done name parts first lines is apart few some =
+      let names = before ++ name ∷ [] in
+      let behind = is.last ∷ lines in
+      ap (λ these. read_from (at_programs frames before done) number these) split
+      ∙ reads_blank (at_programs frames before done) number is.blank (is.head ∷ (is.source ++ behind)) is.blanks (is.head, is.source ++ behind, refl) tt
+      ∙ reads_tokens (at_programs frames before done) (at_source frames names done []) (number + length is.blank) is.head (is.source ++ behind) (Word (codes "program") ∷ Word name ∷ []) (some_behind is.source behind (is.last, lines, refl)) tt is.says (head_read before done name is.label apart few)
+      ∙ reads_source frames names done (number + length is.blank + 1) is.source behind [] is.statements is.no_end is.parsed (is.last, lines, refl)
+      ∙ reads_line (at_source frames names done is.statements) (at_programs frames names (done ++ parts ∷ [])) (number + length is.blank + 1 + length is.source) is.last lines some (end_read (number + length is.blank + 1 + length is.source) names done is.statements parts is.last is.makes is.ends)
+      ∙ ap (λ n. read_from (at_programs frames names (done ++ parts ∷ [])) n lines) long
+    where
+      split : first ++ lines ≡ is.blank ++ (is.head ∷ (is.source ++ (is.last ∷ lines)))
+      split = ap (λ these. these ++ lines) is.all ∙ append_assoc is.blank (is.head ∷ is.source ++ (is.last ∷ [])) lines ∙ ap (λ these. is.blank ++ (is.head ∷ these)) (append_assoc is.source (is.last ∷ []) lines)
+
+      long : number + length is.blank + 1 + length is.source + 1 ≡ number + length first
+      long = omega (arith, ap length is.all, length-append is.blank (is.head ∷ is.source ++ (is.last ∷ [])), length-append is.source (is.last ∷ []))
+
+  reads_programs : (number : ℕ) (before : List (List ℕ)) (done : List Parts) (names : List (List ℕ)) (programs : List Parts) (program_lines lines : List (List ℕ)) → HasPrograms before number names programs program_lines → length before + length names ≤ 64 → AreSome lines
+      → (last : ℕ) × (read_from (at_programs frames before done) number (program_lines ++ lines) ≡ read_from (at_programs frames (before ++ names) (done ++ programs)) last lines)
+  reads_programs number before done [] [] program_lines lines has few some = (
+    number + length program_lines,
+    reads_blank (at_programs frames before done) number program_lines lines has some tt
+        ∙ ap (λ names. read_from (at_programs frames names done) (number + length program_lines) lines) (sym (append-nil before))
+        ∙ ap (λ programs. read_from (at_programs frames (before ++ []) programs) (number + length program_lines) lines) (sym (append-nil done)),
+  )
+  reads_programs number before done [] (parts ∷ programs) program_lines lines has few some = absurd has
+  reads_programs number before done (name ∷ names) [] program_lines lines has few some = absurd has
+  reads_programs number before done (name ∷ names) (parts ∷ programs) program_lines lines has few some =
+      let others = reads_programs (number + length has.0) (before ++ name ∷ []) (done ++ parts ∷ []) names programs has.1 lines has.5 (omega (arith, few, length-append before (name ∷ []))) some in (
+        others.0,
+        ap (λ these. read_from (at_programs frames before done) number these) (ap (λ these. these ++ lines) has.2 ∙ append_assoc has.0 has.1 lines)
+            ∙ reads_program number before done name parts has.0 (has.1 ++ lines) has.3 has.4 (omega (arith, few)) (some_behind has.1 lines some)
+            ∙ others.1
+            ∙ ap (λ all. read_from (at_programs frames all ((done ++ parts ∷ []) ++ programs)) others.0 lines) (append_assoc before (name ∷ []) names)
+            ∙ ap (λ all. read_from (at_programs frames (before ++ name ∷ names) all) others.0 lines) (append_assoc done (parts ∷ []) programs),
+      )
+
+-- at the end of a text
+ends_read : (number : ℕ) (frames : ℕ) (names : List (List ℕ)) (programs : List Parts) (begins : ℕ) (events : List Event) → read_from (at_schedule Ended frames names programs begins events) number ([] ∷ []) ≡ Ok (record { frames = frames; names = names; programs = programs; events = events })
+unfolding read_from
+ends_read number frames names programs begins events = refl
+
+-- a text that has the form of a job is read as it
+pub form_read : (text : List ℕ) (content : Content) → IsJobText text content → job_of text ≡ Ok content
+form_read text content form =
+    let c = content in
+    let behind_end = form.tail ++ ([] ∷ []) in
+    let behind_schedule = form.event_lines ++ (form.end_line ∷ behind_end) in
+    let behind_frames = form.program_lines ++ (form.schedule_line ∷ behind_schedule) in
+    let some_end : AreSome behind_end = some_behind form.tail ([] ∷ []) ([], [], refl) in
+    let some_schedule : AreSome behind_schedule = some_behind form.event_lines (form.end_line ∷ behind_end) (form.end_line, behind_end, refl) in
+    let some_frames : AreSome behind_frames = some_behind form.program_lines (form.schedule_line ∷ behind_schedule) (form.schedule_line, behind_schedule, refl) in
+    let programs = reads_programs c.frames (length form.blank + 2) [] [] c.names c.programs form.program_lines (form.schedule_line ∷ behind_schedule) form.programs (omega (arith, form.few_programs)) (form.schedule_line, behind_schedule, refl) in
+    let events = reads_events c.frames c.names c.programs (programs.0 + 1) 0 [] form.event_lines (form.end_line ∷ behind_end) c.events form.events (omega (arith, form.few_events)) (form.end_line, behind_end, refl) in
+    ap (read_from nothing_read 1) form.all
+    ∙ reads_blank nothing_read 1 form.blank (form.frames_line ∷ behind_frames) form.blanks (form.frames_line, behind_frames, refl) tt
+    ∙ reads_tokens nothing_read (at_programs c.frames [] []) (1 + length form.blank) form.frames_line behind_frames (Word (codes "frames") ∷ Number c.frames ∷ []) some_frames tt form.frames.says (frames_read c.frames form.frames.range)
+    ∙ ap (λ n. read_from (at_programs c.frames [] []) n behind_frames) (omega arith)
+    ∙ programs.1
+    ∙ reads_tokens (at_programs c.frames c.names c.programs) (at_schedule Schedule c.frames c.names c.programs 0 []) programs.0 form.schedule_line behind_schedule (Word (codes "schedule") ∷ []) some_schedule tt form.schedule refl
+    ∙ events.2
+    ∙ reads_tokens (at_schedule Schedule c.frames c.names c.programs events.1 c.events) (at_schedule Ended c.frames c.names c.programs events.1 c.events) events.0 form.end_line behind_end (Word (codes "end") ∷ []) some_end tt form.ends refl
+    ∙ reads_blank (at_schedule Ended c.frames c.names c.programs events.1 c.events) (events.0 + 1) form.tail ([] ∷ []) form.tail_blanks ([], [], refl) tt
+    ∙ ends_read (events.0 + 1 + length form.tail) c.frames c.names c.programs events.1 c.events

@@ -1,0 +1,17 @@
+// Laws of the definitions (docs/MODEL.md, "Jobs").
+ghost use Rattle.std.specs.Prelude.{◌≡◌, ◌⊎◌, ℕ, List, Err};
+ghost use Rattle.job_text.specs.Form.{IsJobText, JobsHaveTheirForm};
+ghost use Rattle.job_text.specs.Grammar.{Content, job_of};
+
+/// A text is a job exactly where it has the form of one: frames, programs, a schedule of events and `end`, as
+/// docs/FORMATS.md, "Job", says. Then it is that job.
+pub fn jobs_have_their_form()
+    ensures { JobsHaveTheirForm }
+{}
+
+/// Each text has the form of one job, or has one first fault, and not both.
+pub fn a_text_has_one_answer()
+    ensures some { (text : List ℕ) → ((content : Content) × IsJobText text content) ⊎ ((fault : ℕ × ℕ) × (job_of text ≡ Err fault)) }
+    ensures job { (text : List ℕ) (one other : Content) → IsJobText text one → IsJobText text other → one ≡ other }
+    ensures fault { (text : List ℕ) (content : Content) (fault : ℕ × ℕ) → IsJobText text content → ¬ (job_of text ≡ Err fault) }
+{}
