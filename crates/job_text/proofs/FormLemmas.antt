@@ -21,67 +21,70 @@ use Rattle.job_text.specs.Grammar.{Content, job_of, last_part, read_from, then_r
 use Rattle.job_text.specs.Reading.{Reading, nothing_read, frames_line, program_begins, programs_line, is_end, program_ends, source_goes_on, source_line, with_event, values_of, four_of, begin_of, begin_line, is_limit, turn_line, rounds_of, drain_line, single_line, schedule_line, ended_line, by_tokens, line_read}
 use Rattle.job_text.specs.Form.{IsBlank, AreBlank, IsOnly, HaveNoEnd, IsFramesLine, HasPrograms, IsBegin, IsLimit, IsNoBegin, HasEvents, IsJobText}
 use Rattle.job_text.proofs.DrainLemmas.{length-rounds_of}
-use Rattle.job_text.proofs.FollowLemmas.{content_read}
+
+-- what a reading says
+abbrev content_read : Reading → Content
+content_read reading = record { frames = reading.frames; names = reading.names; programs = reading.programs; events = reading.events }
 
 -- lines behind the schedule
-pub record TailLeft (so_far : Content) (lines : List (List ℕ)) (content : Content) : Type 0 where
-  pub same : content ≡ so_far
-  pub tail : List (List ℕ)
-  pub all : lines ≡ tail ++ [] ∷ []
-  pub blanks : AreBlank tail
+record TailLeft (so_far : Content) (lines : List (List ℕ)) (content : Content) : Type 0 where
+  same : content ≡ so_far
+  tail : List (List ℕ)
+  all : lines ≡ tail ++ [] ∷ []
+  blanks : AreBlank tail
 
 -- lines from a place in the schedule on
-pub record EventsLeft (so_far : Content) (begins : ℕ) (lines : List (List ℕ)) (content : Content) : Type 0 where
-  pub more : List Event
-  pub few : length (so_far.events ++ more) ≤ 10000
-  pub event_lines : List (List ℕ)
-  pub end_line : List ℕ
-  pub rest : List (List ℕ)
-  pub all : lines ≡ event_lines ++ end_line ∷ rest
-  pub has : HasEvents so_far.names begins event_lines more
-  pub ends : IsOnly (codes "end") end_line
-  pub left : TailLeft (record so_far { events = so_far.events ++ more }) rest content
+record EventsLeft (so_far : Content) (begins : ℕ) (lines : List (List ℕ)) (content : Content) : Type 0 where
+  more : List Event
+  few : length (so_far.events ++ more) ≤ 10000
+  event_lines : List (List ℕ)
+  end_line : List ℕ
+  rest : List (List ℕ)
+  all : lines ≡ event_lines ++ end_line ∷ rest
+  has : HasEvents so_far.names begins event_lines more
+  ends : IsOnly (codes "end") end_line
+  left : TailLeft (record so_far { events = so_far.events ++ more }) rest content
 
 -- lines from a place between programs on
-pub record ProgramsLeft (so_far : Content) (begins number : ℕ) (lines : List (List ℕ)) (content : Content) : Type 0 where
-  pub names : List (List ℕ)
-  pub programs : List Parts
-  pub few : length (so_far.names ++ names) ≤ 64
-  pub program_lines : List (List ℕ)
-  pub schedule_line : List ℕ
-  pub rest : List (List ℕ)
-  pub all : lines ≡ program_lines ++ schedule_line ∷ rest
-  pub has : HasPrograms so_far.names number names programs program_lines
-  pub schedule : IsOnly (codes "schedule") schedule_line
-  pub left : EventsLeft (record so_far { names = so_far.names ++ names; programs = so_far.programs ++ programs }) begins rest content
+record ProgramsLeft (so_far : Content) (begins number : ℕ) (lines : List (List ℕ)) (content : Content) : Type 0 where
+  names : List (List ℕ)
+  programs : List Parts
+  few : length (so_far.names ++ names) ≤ 64
+  program_lines : List (List ℕ)
+  schedule_line : List ℕ
+  rest : List (List ℕ)
+  all : lines ≡ program_lines ++ schedule_line ∷ rest
+  has : HasPrograms so_far.names number names programs program_lines
+  schedule : IsOnly (codes "schedule") schedule_line
+  left : EventsLeft (record so_far { names = so_far.names ++ names; programs = so_far.programs ++ programs }) begins rest content
 
 -- lines from a place in a source on
-pub record SourceLeft (statements : List Statement) (so_far : Content) (begins number : ℕ) (lines : List (List ℕ)) (content : Content) : Type 0 where
-  pub source : List (List ℕ)
-  pub last : List ℕ
-  pub rest : List (List ℕ)
-  pub all : lines ≡ source ++ last ∷ rest
-  pub no_end : HaveNoEnd source
-  pub more : List Statement
-  pub parsed : statements_from number source ≡ Ok more
-  pub parts : Parts
-  pub makes : assembled (statements ++ more) ≡ Ok parts
-  pub ends : IsOnly (codes "end") last
-  pub left : ProgramsLeft (record so_far { programs = so_far.programs ++ parts ∷ [] }) begins (number + length source + 1) rest content
+record SourceLeft (statements : List Statement) (so_far : Content) (begins number : ℕ) (lines : List (List ℕ)) (content : Content) : Type 0 where
+  source : List (List ℕ)
+  last : List ℕ
+  rest : List (List ℕ)
+  all : lines ≡ source ++ last ∷ rest
+  no_end : HaveNoEnd source
+  more : List Statement
+  parsed : statements_from number source ≡ Ok more
+  parts : Parts
+  makes : assembled (statements ++ more) ≡ Ok parts
+  ends : IsOnly (codes "end") last
+  left : ProgramsLeft (record so_far { programs = so_far.programs ++ parts ∷ [] }) begins (number + length source + 1) rest content
 
 -- lines from a place before the frames on
-pub record FramesLeft (so_far : Content) (begins number : ℕ) (lines : List (List ℕ)) (content : Content) : Type 0 where
-  pub blank : List (List ℕ)
-  pub frames_line : List ℕ
-  pub rest : List (List ℕ)
-  pub frames : ℕ
-  pub all : lines ≡ blank ++ frames_line ∷ rest
-  pub blanks : AreBlank blank
-  pub is : IsFramesLine frames frames_line
-  pub left : ProgramsLeft (record so_far { frames = frames }) begins (number + length blank + 1) rest content
+record FramesLeft (so_far : Content) (begins number : ℕ) (lines : List (List ℕ)) (content : Content) : Type 0 where
+  blank : List (List ℕ)
+  frames_line : List ℕ
+  rest : List (List ℕ)
+  frames : ℕ
+  all : lines ≡ blank ++ frames_line ∷ rest
+  blanks : AreBlank blank
+  is : IsFramesLine frames frames_line
+  left : ProgramsLeft (record so_far { frames = frames }) begins (number + length blank + 1) rest content
 
 -- what is left of a content after a reading
-abbrev pub Left : Stage → Reading → ℕ → List (List ℕ) → Content → Type 0
+abbrev Left : Stage → Reading → ℕ → List (List ℕ) → Content → Type 0
 Left Frames reading number lines content = FramesLeft (content_read reading) reading.begins number lines content
 Left Programs reading number lines content = ProgramsLeft (content_read reading) reading.begins number lines content
 Left Source reading number lines content = SourceLeft reading.statements (content_read reading) reading.begins number lines content

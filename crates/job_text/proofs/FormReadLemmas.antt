@@ -20,7 +20,6 @@ use Rattle.job_text.specs.Form.{AreBlank, IsOnly, HaveNoEnd, IsProgram, HasProgr
 use Rattle.job_text.proofs.DrainLemmas.{length-rounds_of}
 use Rattle.job_text.proofs.FormLemmas.{end_is}
 use Rattle.job_text.proofs.GrammarLemmas.{read_line}
-use Rattle.job_text.proofs.LeadsLemmas.{IsByTokens}
 
 -- some lines
 abbrev AreSome : List (List ℕ) → Type 0
@@ -33,6 +32,11 @@ some_behind (line ∷ front) lines some = (line, front ++ lines, refl)
 -- a line, and lines behind it
 reads_line : (reading new : Reading) (number : ℕ) (line : List ℕ) (lines : List (List ℕ)) → AreSome lines → line_read reading.stage reading number line ≡ Ok new → read_from reading number (line ∷ lines) ≡ read_from new (number + 1) lines
 reads_line reading new number line lines some is = read_line reading number line some.0 some.1 lines some.2 ∙ ap (then_read (λ more. read_from more (number + 1) lines)) is
+
+-- no source line is due
+abbrev IsByTokens : Stage → Type 0
+IsByTokens Source = ⊥
+IsByTokens _ = Unit {0}
 
 -- a line of these tokens
 says_read : (stage : Stage) (reading new : Reading) (number : ℕ) (line : List ℕ) (found : List Token) → IsByTokens stage → tokens line ≡ Ok found → tokens_read stage reading found ≡ Ok new → line_read stage reading number line ≡ Ok new

@@ -1,3 +1,4 @@
+pub mod WrittenFormLemmas
 pub mod LawLemmas
 pub mod FormReadLemmas
 pub mod FormLemmas
@@ -5,9 +6,6 @@ pub mod ReadyLemmas
 pub mod DrainLemmas
 pub mod GrammarLemmas
 pub mod WrittenLemmas
-pub mod LeadsLemmas
 pub mod SourceLemmas
-pub mod FollowLemmas
-pub mod ScheduleLemmas
 pub mod BackLemmas
 pub mod PutLemmas

@@ -1,18 +1,18 @@
 -- Events that can be run.
-use Rattle.std.proofs.Common.{◌≡◌, ℕ, zero, suc, ◌+◌, ◌≤◌, true, [], ◌∷◌, All, arith}
-use Rattle.std.proofs.lemmas.Bool.Decides.{nat_tests}
+use Rattle.std.proofs.Common.{◌≡◌, ◌⊎◌, inl, inr, ℕ, zero, suc, ◌+◌, ◌≤◌, true, List, [], ◌∷◌, ◌++◌, length, All, sym, subst}
+use Rattle.std.specs.Str.{bytes_eq}
 use Rattle.std.proofs.lemmas.List.Elements.{All-append, All-cons, All-nil}
+use Rattle.std.proofs.lemmas.List.Quantifiers.{position-Some}
 use Rattle.desk.specs.declared.event.Event.{Event}
-use Rattle.desk.specs.declared.event.Event.TheVariants.{Turn, Checkpoint, Crash}
+use Rattle.desk.specs.declared.event.Event.TheVariants.{Begin, Turn, Checkpoint, Crash}
+use Rattle.asm_parse.specs.declared.token.Token.{Token}
 use Rattle.job_text.specs.declared.stage.TheConstants.{TAKES_CHECKPOINT, TAKES_CRASH}
 use Rattle.job_text.specs.Ready.{IsEventAmong}
-use Rattle.job_text.specs.Reading.{is_limit, rounds_of, turns_to}
+use Rattle.job_text.specs.Form.{IsBegin, IsNoBegin, HasEvents}
+use Rattle.job_text.specs.Reading.{rounds_of, turns_to, four_of}
 
-pub one_event : (programs : ℕ) (event : Event) → IsEventAmong programs event → All (IsEventAmong programs) (event ∷ [])
+one_event : (programs : ℕ) (event : Event) → IsEventAmong programs event → All (IsEventAmong programs) (event ∷ [])
 one_event programs event is = All-cons (IsEventAmong programs) event [] is (All-nil (IsEventAmong programs))
-
-pub limit_small : (limit : ℕ) → is_limit limit ≡ true → limit ≤ 1000000
-limit_small limit is = grind (arith, nat_tests, is)
 
 turns_among : (programs limit n : ℕ) → limit ≤ 1000000 → All (IsEventAmong programs) (turns_to limit n)
 unfolding turns_to
@@ -20,14 +20,38 @@ turns_among programs limit zero small = All-nil (IsEventAmong programs)
 turns_among programs limit (suc n) small = All-append (IsEventAmong programs) (turns_to limit n) (Turn (n + 1) limit ∷ []) (turns_among programs limit n small) (one_event programs (Turn (n + 1) limit) small)
 
 -- the turns of a drain
-pub rounds_among : (programs limit last n : ℕ) → limit ≤ 1000000 → All (IsEventAmong programs) (rounds_of limit last n)
+rounds_among : (programs limit last n : ℕ) → limit ≤ 1000000 → All (IsEventAmong programs) (rounds_of limit last n)
 unfolding rounds_of
 rounds_among programs limit last zero small = All-nil (IsEventAmong programs)
 rounds_among programs limit last (suc n) small = All-append (IsEventAmong programs) (rounds_of limit last n) (turns_to limit last) (rounds_among programs limit last n small) (turns_among programs limit last small)
 
 -- `checkpoint` and `crash`, if such lines are taken
-pub checkpoint_among : (programs : ℕ) → TAKES_CHECKPOINT ≡ true → IsEventAmong programs Checkpoint
+checkpoint_among : (programs : ℕ) → TAKES_CHECKPOINT ≡ true → IsEventAmong programs Checkpoint
 checkpoint_among programs taken = cc taken
 
-pub crash_among : (programs : ℕ) → TAKES_CRASH ≡ true → IsEventAmong programs Crash
+crash_among : (programs : ℕ) → TAKES_CRASH ≡ true → IsEventAmong programs Crash
 crash_among programs taken = cc taken
+
+-- the events of a schedule's lines
+module _ (names : List (List ℕ)) where
+  abbrev AreAmong : List Event → Type 0
+  AreAmong events = All (IsEventAmong (length names)) events
+
+  begin_among : (found : List Token) (here : List Event) → IsBegin names found here → AreAmong here
+  begin_among found here is =
+      subst AreAmong (sym is.gives) (one_event (length names) (Begin is.program (four_of is.values)) (position-Some (λ name. bytes_eq name is.name) names is.program [] is.known).0)
+
+  other_among : (begins : ℕ) (found : List Token) (here : List Event) → IsNoBegin begins found here → AreAmong here
+  other_among begins found here (inl is) = subst AreAmong (sym is.1) (All-nil (IsEventAmong (length names)))
+  other_among begins found here (inr (inl is)) = subst AreAmong (sym is.gives) (one_event (length names) (Turn is.activation is.limit) is.small.1)
+  other_among begins found here (inr (inr (inl is))) = subst AreAmong (sym is.gives) (rounds_among (length names) is.limit begins is.rounds is.small.1)
+  other_among begins found here (inr (inr (inr (inl is)))) = subst AreAmong (sym is.2) (one_event (length names) Checkpoint (checkpoint_among (length names) is.0))
+  other_among begins found here (inr (inr (inr (inr is)))) = subst AreAmong (sym is.2) (one_event (length names) Crash (crash_among (length names) is.0))
+
+  pub events_among : (begins : ℕ) (lines : List (List ℕ)) (events : List Event) → HasEvents names begins lines events → AreAmong events
+  events_among begins [] events has = subst AreAmong (sym has) (All-nil (IsEventAmong (length names)))
+  events_among begins (line ∷ lines) events has = subst AreAmong (sym has.4) (by_means (λ after has_more. events_among after lines has.2 has_more) has.5)
+    where
+      by_means : ((after : ℕ) → HasEvents names after lines has.2 → AreAmong has.2) → ((IsBegin names has.0 has.1 × HasEvents names (begins + 1) lines has.2) ⊎ (IsNoBegin begins has.0 has.1 × HasEvents names begins lines has.2)) → AreAmong (has.1 ++ has.2)
+      by_means others (inl one) = All-append (IsEventAmong (length names)) has.1 has.2 (begin_among has.0 has.1 one.0) (others (begins + 1) one.1)
+      by_means others (inr one) = All-append (IsEventAmong (length names)) has.1 has.2 (other_among begins has.0 has.1 one.0) (others begins one.1)

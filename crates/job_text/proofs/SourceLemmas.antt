@@ -1,25 +1,29 @@
 -- The source that a program is written as.
-use Rattle.std.proofs.Common.{◌≡◌, ℕ, pos, ◌+◌, ◌<◌, ◌≤◌, ◌^◌, ◌%◌, Bool, true, false, List, [], ◌∷◌, ◌++◌, length, map, codes, Option, Some, None, Ok, refl, sym, ap, ◌∙◌, arith, append_assoc, append-nil}
+use Rattle.std.proofs.Common.{◌≡◌, ℕ, pos, ◌+◌, ◌<◌, ◌≤◌, ◌^◌, ◌%◌, Bool, true, false, List, [], ◌∷◌, ◌++◌, length, map, codes, Option, Some, None, Ok, refl, sym, ap, ◌∙◌, subst, arith}
 use Rattle.std.specs.Int.{from_be_bytes, w32}
-use Rattle.std.specs.List.{AllByRecursion, AllZip, flat_map}
-use Rattle.std.proofs.lemmas.Grind.{flat_map-append}
+use Rattle.std.specs.List.{AllByRecursion, AllZip}
+use Rattle.std.proofs.lemmas.List.{map-append}
 use Rattle.flat_machine.specs.declared.machine.Window.{Window as Sight}
-use Rattle.asm_parse.specs.Statement.{statement_of}
-use Rattle.asm_parse.specs.Text.{lines_of}
+use Rattle.asm_parse.specs.Statement.{is_label, statement_of}
+use Rattle.asm_parse.specs.Text.{statements_from}
 use Rattle.asm_parse.specs.declared.token.Token.{Token}
+use Rattle.asm_parse.specs.declared.token.Token.TheVariants.{Word}
 use Rattle.asm_parse.specs.declared.statement.Body.{Body}
 use Rattle.asm_parse.specs.declared.statement.Body.TheVariants.{Data, Window, Entry}
 use Rattle.asm_parse.specs.declared.statement.Expr.TheVariants.{Number}
 use Rattle.asm_parse.proofs.FrontLemmas.{IsToken, IsWord}
 use Rattle.asm_parse.proofs.DirectiveLemmas.{byte_stated, entry_stated, window_stated, word_stated}
-use Rattle.romp_asm.specs.Layout.{Parts, assembled}
+use Rattle.romp_asm.specs.Layout.{Parts}
 use Rattle.romp_asm.proofs.MadeLemmas.{IsByte, IsLegalPlace, byte_body, image_bodies, made, plain_at, source_bodies, source_made, window_bodies, word_small}
-use Rattle.job_text.specs.declared.stage.Stage.TheVariants.{Programs, Source}
-use Rattle.job_text.specs.Grammar.{read_from, then_read}
-use Rattle.job_text.specs.Reading.{Reading, is_end, line_read, program_ends, source_line}
-use Rattle.job_text.specs.Written.{access_text, end_line, image_lines, line_text, number_line, source_lines, tokens_text, window_line, window_lines}
-use Rattle.job_text.proofs.LeadsLemmas.{Leads, by_written}
+use Rattle.job_text.specs.Form.{HaveNoEnd, IsProgram}
+use Rattle.job_text.specs.Reading.{is_end}
+use Rattle.job_text.specs.Written.{access_text, end_line, image_lines, number_line, program_lines, tokens_text, window_line, window_lines}
 use Rattle.job_text.proofs.WrittenLemmas.{written_tokens}
+
+-- what holds of two lists holds of both
+pub all_both : {X : Type 0} (P : X → Type 0) (xs ys : List X) → AllByRecursion P xs → AllByRecursion P ys → AllByRecursion P (xs ++ ys)
+all_both P [] ys first second = second
+all_both P (x ∷ xs) ys first second = (first.0, all_both P xs ys first.1 second)
 
 -- a line is the one of a statement
 record IsSourceLine (line : List Token) (body : Body) : Type 0 where
@@ -65,36 +69,30 @@ windows_sources register (None ∷ windows) bytes small legal are = windows_sour
 windows_sources register (Some window ∷ windows) bytes small legal are =
     (window_source register window (omega arith) legal.0.1, windows_sources (register + 1) windows bytes (omega arith) legal.1 are)
 
--- a source line is read as its statement
-line_taken : (reading : Reading) (number : ℕ) (line : List Token) (body : Body) → IsSourceLine line body → source_line reading number (tokens_text line) ≡ Ok (record reading { statements = reading.statements ++ plain_at number body ∷ [] })
-line_taken reading number line body is = rw (written_tokens line is.tokens, is.on, is.says number) refl
+-- source lines that were written have the tokens of theirs
+lines_tokens : (lines : List (List Token)) (bodies : List Body) → AllZip IsSourceLine lines bodies → AllByRecursion (AllByRecursion IsToken) lines
+lines_tokens [] [] are = tt
+lines_tokens (line ∷ lines) (body ∷ bodies) are = (are.0.tokens, lines_tokens lines bodies are.1)
+lines_tokens [] (body ∷ bodies) are = absurd are
+lines_tokens (line ∷ lines) [] are = absurd are
 
--- source lines are read as their statements
-lines_taken : (reading : Reading) (lines : List (List Token)) (bodies : List Body) (number : ℕ) (rest : List ℕ) → reading.stage ≡ Source → AllZip IsSourceLine lines bodies
-    → (next : ℕ) × (read_from reading number (lines_of (flat_map line_text lines ++ rest)) ≡ read_from (record reading { statements = reading.statements ++ made number bodies }) next (lines_of rest))
-lines_taken reading [] [] number rest at are = (number, ap (λ statements. read_from (record reading { statements = statements }) number (lines_of rest)) (sym (append-nil reading.statements)))
-lines_taken reading (line ∷ lines) (body ∷ bodies) number rest at are =
-    let others = lines_taken (record reading { statements = reading.statements ++ plain_at number body ∷ [] }) lines bodies (number + 1) rest at are.1 in (
-      others.0,
-      ap (λ text. read_from reading number (lines_of text)) (append_assoc (line_text line) (flat_map line_text lines) rest)
-          ∙ by_written reading number line (flat_map line_text lines ++ rest) are.0.tokens
-          ∙ ap (λ stage. then_read (λ more. read_from more (number + 1) (lines_of (flat_map line_text lines ++ rest))) (line_read stage reading number (tokens_text line))) at
-          ∙ ap (then_read (λ more. read_from more (number + 1) (lines_of (flat_map line_text lines ++ rest)))) (line_taken reading number line body are.0)
-          ∙ others.1
-          ∙ ap (λ statements. read_from (record reading { statements = statements }) others.0 (lines_of rest)) (append_assoc reading.statements (plain_at number body ∷ []) (made (number + 1) bodies)),
-    )
-lines_taken reading [] (body ∷ bodies) number rest at are = absurd are
-lines_taken reading (line ∷ lines) [] number rest at are = absurd are
+-- none of them is `end` alone
+lines_go_on : (lines : List (List Token)) (bodies : List Body) → AllZip IsSourceLine lines bodies → HaveNoEnd (map tokens_text lines)
+lines_go_on [] [] are = tt
+lines_go_on (line ∷ lines) (body ∷ bodies) are = ((λ only. cc (are.0.on, ap is_end (sym (written_tokens line are.0.tokens) ∙ only))), lines_go_on lines bodies are.1)
+lines_go_on [] (body ∷ bodies) are = absurd are
+lines_go_on (line ∷ lines) [] are = absurd are
+
+-- they are their statements
+lines_state : (number : ℕ) (lines : List (List Token)) (bodies : List Body) → AllZip IsSourceLine lines bodies → statements_from number (map tokens_text lines) ≡ Ok (made number bodies)
+unfolding statements_from
+lines_state number [] [] are = refl
+lines_state number (line ∷ lines) (body ∷ bodies) are = rw (written_tokens line are.0.tokens, are.0.says number, lines_state (number + 1) lines bodies are.1) refl
+lines_state number [] (body ∷ bodies) are = absurd are
+lines_state number (line ∷ lines) [] are = absurd are
 
 pub end_tokens : AllByRecursion IsToken end_line
 end_tokens = ((refl, refl, omega arith), tt)
-
--- a program at its `end`
-abbrev with_program : Reading → Parts → Reading
-with_program reading parts = record reading { stage = Programs; programs = reading.programs ++ parts ∷ []; statements = [] }
-
-end_taken : (reading : Reading) (number : ℕ) (parts : Parts) → assembled reading.statements ≡ Ok parts → source_line reading number (tokens_text end_line) ≡ Ok (with_program reading parts)
-end_taken reading number parts made = rw (written_tokens end_line end_tokens) (ap (program_ends reading) made)
 
 -- bytes, and no more than a program may have
 pub record IsSound (parts : Parts) : Type 0 where
@@ -103,23 +101,36 @@ pub record IsSound (parts : Parts) : Type 0 where
   pub entry : parts.entry ≤ 16382
   pub even : parts.entry % 2 ≡ 0
 
--- the source of a program leads to the program
-pub source_leads : (reading : Reading) (parts : Parts) → reading.stage ≡ Source → reading.statements ≡ [] → IsSound parts → AllByRecursion IsLegalPlace parts.windows → length parts.windows ≡ 15
-    → Leads reading (source_lines parts) (record reading { stage = Programs; programs = reading.programs ++ parts ∷ []; statements = [] })
-source_leads reading parts at empty sound legal long number rest =
-    let zip : AllZip IsSourceLine (number_line (codes ".entry") parts.entry ∷ window_lines 1 parts.windows ++ image_lines parts.image) (source_bodies parts) =
-    (entry_source parts.entry sound.entry, windows_sources 1 parts.windows parts.image (omega arith) legal sound.bytes) in
-    let taken = lines_taken reading (number_line (codes ".entry") parts.entry ∷ window_lines 1 parts.windows ++ image_lines parts.image) (source_bodies parts) number (flat_map line_text (end_line ∷ []) ++ rest) at zip in
-    let whole = record reading { statements = reading.statements ++ made number (source_bodies parts) } in
-    let assembles : assembled (reading.statements ++ made number (source_bodies parts)) ≡ Ok parts =
-    ap (λ statements. assembled (statements ++ made number (source_bodies parts))) empty ∙ source_made number parts sound.bytes sound.few sound.entry sound.even legal long in (
-      taken.0 + 1,
-      ap (λ text. read_from reading number (lines_of text))
-          (ap (λ text. text ++ rest) (flat_map-append line_text (number_line (codes ".entry") parts.entry ∷ window_lines 1 parts.windows ++ image_lines parts.image) (end_line ∷ []))
-          ∙ append_assoc (flat_map line_text (number_line (codes ".entry") parts.entry ∷ window_lines 1 parts.windows ++ image_lines parts.image)) (flat_map line_text (end_line ∷ [])) rest)
-          ∙ taken.1
-          ∙ ap (λ text. read_from whole taken.0 (lines_of (text ++ rest))) (append-nil (line_text end_line))
-          ∙ by_written whole taken.0 end_line rest end_tokens
-          ∙ ap (λ stage. then_read (λ more. read_from more (taken.0 + 1) (lines_of rest)) (line_read stage whole taken.0 (tokens_text end_line))) at
-          ∙ ap (then_read (λ more. read_from more (taken.0 + 1) (lines_of rest))) (end_taken whole taken.0 parts assembles),
-    )
+-- the lines that a program is written as are its
+module _ (number : ℕ) (name : List ℕ) (parts : Parts) (is_word : IsWord name) (label : is_label name ≡ true) (sound : IsSound parts) (legal : AllByRecursion IsLegalPlace parts.windows) (long : length parts.windows ≡ 15) where
+  abbrev head : List Token
+  head = Word (codes "program") ∷ Word name ∷ []
+
+  head_tokens : AllByRecursion IsToken head
+  head_tokens = ((refl, refl, omega arith), (is_word, tt))
+
+  abbrev source : List (List Token)
+  source = number_line (codes ".entry") parts.entry ∷ window_lines 1 parts.windows ++ image_lines parts.image
+
+  sources : AllZip IsSourceLine source (source_bodies parts)
+  sources = (entry_source parts.entry sound.entry, windows_sources 1 parts.windows parts.image (omega arith) legal sound.bytes)
+
+  pub program_tokens : AllByRecursion (AllByRecursion IsToken) (program_lines (name, parts))
+  program_tokens = (head_tokens, all_both (AllByRecursion IsToken) source (end_line ∷ []) (lines_tokens source (source_bodies parts) sources) (end_tokens, tt))
+
+  pub program_form : IsProgram number name parts (map tokens_text (program_lines (name, parts)))
+  program_form = record {
+    blank = [];
+    head = tokens_text head;
+    source = map tokens_text source;
+    last = tokens_text end_line;
+    all = ap (λ lines. tokens_text head ∷ lines) (map-append tokens_text source (end_line ∷ []));
+    blanks = tt;
+    says = written_tokens head head_tokens;
+    label = label;
+    no_end = lines_go_on source (source_bodies parts) sources;
+    statements = made (number + 1) (source_bodies parts);
+    parsed = subst (λ n. statements_from n (map tokens_text source) ≡ Ok (made (number + 1) (source_bodies parts))) (omega arith) (lines_state (number + 1) source (source_bodies parts) sources);
+    makes = source_made (number + 1) parts sound.bytes sound.few sound.entry sound.even legal long;
+    ends = written_tokens end_line end_tokens;
+  }

@@ -1,0 +1,215 @@
+-- The text that a job is written as has the form of the job.
+use Rattle.std.proofs.Common.{◌≡◌, ◌⊎◌, inl, inr, ℕ, zero, suc, ◌+◌, ◌<◌, ◌≤◌, ◌^◌, true, List, [], ◌∷◌, ◌++◌, length, map, codes, slice_index_or, Some, refl, sym, ap, ◌∙◌, subst, arith, append_assoc, append-nil, length-append}
+use Rattle.std.specs.Str.{bytes_eq}
+use Rattle.std.specs.List.{AllByRecursion, flat_map, zip}
+use Rattle.std.proofs.lemmas.List.{map-append}
+use Rattle.std.proofs.lemmas.List.Quantifiers.{position-Some}
+use Rattle.std.proofs.lemmas.Slice.Eq.{bytes_eq-Decides}
+use Rattle.desk.specs.declared.event.Event.{Event}
+use Rattle.desk.specs.declared.event.Event.TheVariants.{Begin, Turn}
+use Rattle.asm_parse.specs.declared.token.Token.{Token}
+use Rattle.asm_parse.specs.declared.token.Token.TheVariants.{Word, Number}
+use Rattle.asm_parse.specs.Operand.{place_among}
+use Rattle.asm_parse.specs.Statement.{is_label}
+use Rattle.asm_parse.specs.Text.{lines_of}
+use Rattle.asm_parse.proofs.FoundLemmas.{found_tokens}
+use Rattle.asm_parse.proofs.FrontLemmas.{IsToken, IsWord}
+use Rattle.romp_asm.specs.Layout.{Parts}
+use Rattle.romp_asm.proofs.WindowLemmas.{assembled_windows}
+use Rattle.job_text.specs.Grammar.{Content}
+use Rattle.job_text.specs.Form.{HasPrograms, IsBegin, IsLimit, IsNoBegin, HasEvents, IsJobText}
+use Rattle.job_text.specs.Reading.{four_of, rounds_of, turns_to}
+use Rattle.job_text.specs.Written.{end_line, event_line, job_lines, line_text, number_line, program_lines, tokens_text, written}
+use Rattle.job_text.proofs.SourceLemmas.{IsSound, all_both, end_tokens, program_form, program_tokens}
+use Rattle.job_text.proofs.WrittenLemmas.{written_line, written_tokens}
+
+-- lines of tokens that can be written
+abbrev AreTokens : List (List Token) → Type 0
+AreTokens lines = AllByRecursion (AllByRecursion IsToken) lines
+
+abbrev pub AllSound : List Parts → Type 0
+AllSound programs = AllByRecursion IsSound programs
+
+-- the lines of a text that was written
+lines_written : (lines : List (List Token)) (rest : List ℕ) → AreTokens lines → lines_of (flat_map line_text lines ++ rest) ≡ map tokens_text lines ++ lines_of rest
+lines_written [] rest are = refl
+lines_written (line ∷ lines) rest are =
+    ap lines_of (append_assoc (line_text line) (flat_map line_text lines) rest ∙ append_assoc (tokens_text line) (10 ∷ []) (flat_map line_text lines ++ rest))
+    ∙ written_line line (flat_map line_text lines ++ rest) are.0
+    ∙ ap (λ others. tokens_text line ∷ others) (lines_written lines rest are.1)
+
+-- the programs, from their form in some text
+programs_form : (others : List (List ℕ)) (number there : ℕ) (names : List (List ℕ)) (programs : List Parts) (lines : List (List ℕ)) → HasPrograms others there names programs lines → AllSound programs
+    → AreTokens (flat_map program_lines (zip names programs)) × HasPrograms others number names programs (map tokens_text (flat_map program_lines (zip names programs)))
+programs_form others number there [] [] lines has sound = (tt, tt)
+programs_form others number there [] (parts ∷ programs) lines has sound = absurd has
+programs_form others number there (name ∷ names) [] lines has sound = absurd has
+programs_form others number there (name ∷ names) (parts ∷ programs) lines has sound =
+    let is = has.3 in
+    let is_word : IsWord name = (found_tokens is.head (Word (codes "program") ∷ Word name ∷ []) is.says).1.0 in
+    let legal = assembled_windows is.statements parts is.makes in
+    let first = program_lines (name, parts) in
+    let rest = flat_map program_lines (zip names programs) in
+    let more = programs_form (others ++ name ∷ []) (number + length (map tokens_text first)) (there + length has.0) names programs has.1 has.5 sound.1 in (
+      all_both (AllByRecursion IsToken) first rest (program_tokens number name parts is_word is.label sound.0 legal.0 legal.1) more.0,
+      (map tokens_text first, map tokens_text rest, map-append tokens_text first rest, program_form number name parts is_word is.label sound.0 legal.0 legal.1, has.4, more.1),
+    )
+
+-- the events, from their form in some text
+module _ (names : List (List ℕ)) where
+  abbrev lines_for : List Event → List (List Token)
+  lines_for events = map (event_line names) events
+
+  -- events are written so that they have their form, where so many begins stand before
+  abbrev AreWritten : ℕ → List Event → Type 0
+  AreWritten begins events = AreTokens (lines_for events) × HasEvents names begins (map tokens_text (lines_for events)) events
+
+  -- one event before others
+  one_written : (begins after : ℕ) (event : Event) (events : List Event) → AllByRecursion IsToken (event_line names event)
+      → ((IsBegin names (event_line names event) (event ∷ []) × (after ≡ begins + 1)) ⊎ (IsNoBegin begins (event_line names event) (event ∷ []) × (after ≡ begins)))
+      → AreWritten after events → AreWritten begins (event ∷ events)
+  one_written begins after event events are means others = (
+    (are, others.0),
+    (event_line names event, event ∷ [], events, written_tokens (event_line names event) are, refl, by_means means),
+  )
+    where
+      by_means : ((IsBegin names (event_line names event) (event ∷ []) × (after ≡ begins + 1)) ⊎ (IsNoBegin begins (event_line names event) (event ∷ []) × (after ≡ begins)))
+          → ((IsBegin names (event_line names event) (event ∷ []) × HasEvents names (begins + 1) (map tokens_text (lines_for events)) events) ⊎ (IsNoBegin begins (event_line names event) (event ∷ []) × HasEvents names begins (map tokens_text (lines_for events)) events))
+      by_means (inl one) = inl (one.0, subst (λ n. HasEvents names n (map tokens_text (lines_for events)) events) one.1 others.1)
+      by_means (inr one) = inr (one.0, subst (λ n. HasEvents names n (map tokens_text (lines_for events)) events) one.1 others.1)
+
+  -- a turn of one of so many begins
+  turn_written : (begins activation limit : ℕ) (events : List Event) → begins < 2 ^ 32 → (1 ≤ activation) × (activation ≤ begins) → IsLimit limit → AreWritten begins events → AreWritten begins (Turn activation limit ∷ events)
+  turn_written begins activation limit events few known small others =
+      one_written begins begins (Turn activation limit) events ((refl, refl, omega arith), (omega (arith, known.1, few), (omega (arith, small.1), tt)))
+      (inr (inr (inl (record { activation = activation; limit = limit; says = refl; known = known; small = small; gives = refl })), refl)) others
+
+  turns_written : (begins limit n : ℕ) (events : List Event) → begins < 2 ^ 32 → n ≤ begins → IsLimit limit → AreWritten begins events → AreWritten begins (turns_to limit n ++ events)
+  unfolding turns_to
+  turns_written begins limit zero events few within small others = others
+  turns_written begins limit (suc n) events few within small others =
+      subst (AreWritten begins) (sym (append_assoc (turns_to limit n) (Turn (n + 1) limit ∷ []) events))
+      (turns_written begins limit n (Turn (n + 1) limit ∷ events) few (omega arith) small
+      (turn_written begins (n + 1) limit events few (omega arith, omega (arith, within)) small others))
+
+  rounds_written : (begins limit rounds : ℕ) (events : List Event) → begins < 2 ^ 32 → IsLimit limit → AreWritten begins events → AreWritten begins (rounds_of limit begins rounds ++ events)
+  unfolding rounds_of
+  rounds_written begins limit zero events few small others = others
+  rounds_written begins limit (suc n) events few small others =
+      subst (AreWritten begins) (sym (append_assoc (rounds_of limit begins n) (turns_to limit begins) events))
+      (rounds_written begins limit n (turns_to limit begins ++ events) few small (turns_written begins limit begins events few (omega arith) small others))
+
+  -- the name at the place of a word is the word
+  name_there : (word : List ℕ) (place : ℕ) → place_among names word ≡ Some place → slice_index_or names place [] ≡ word
+  name_there word place is = (bytes_eq-Decides (slice_index_or names place []) word).0 (position-Some (λ name. bytes_eq name word) names place [] is).1
+
+  -- the values of a begin are numbers of 32 bits
+  value_small : (values : List ℕ) (i : ℕ) → AllByRecursion IsToken (map Number values) → slice_index_or values i 0 < 2 ^ 32
+  value_small [] i are = omega arith
+  value_small (value ∷ values) zero are = are.0
+  value_small (value ∷ values) (suc i) are = value_small values i are.1
+
+  begin_written : (begins : ℕ) (found : List Token) (here later : List Event) → AllByRecursion IsToken found → IsBegin names found here → AreWritten (begins + 1) later → AreWritten begins (here ++ later)
+  begin_written begins found here later are is others =
+      let there = name_there is.name is.program is.known in
+      let these : AllByRecursion IsToken (Word (codes "begin") ∷ Word is.name ∷ map Number is.values) = subst (AllByRecursion IsToken) is.says are in
+      subst (λ (events : List Event). AreWritten begins (events ++ later)) (sym is.gives)
+      (one_written begins (begins + 1) (Begin is.program (four_of is.values)) later
+      ((refl, refl, omega arith), (subst IsWord (sym there) these.1.0, (value_small is.values 0 these.1.1, (value_small is.values 1 these.1.1, (value_small is.values 2 these.1.1, (value_small is.values 3 these.1.1, tt))))))
+      (inl (
+        record {
+          name = slice_index_or names is.program [];
+          program = is.program;
+          values = four_of is.values;
+          says = refl;
+          label = subst (λ (name : List ℕ). is_label name ≡ true) (sym there) is.label;
+          known = subst (λ (name : List ℕ). place_among names name ≡ Some is.program) (sym there) is.known;
+          few = omega arith;
+          gives = refl;
+        },
+        refl,
+      ))
+      others)
+
+  other_written : (begins : ℕ) (found : List Token) (here later : List Event) → begins < 2 ^ 32 → IsNoBegin begins found here → AreWritten begins later → AreWritten begins (here ++ later)
+  other_written begins found here later few (inl is) others = subst (λ (events : List Event). AreWritten begins (events ++ later)) (sym is.1) others
+  other_written begins found here later few (inr (inl is)) others =
+      subst (λ (events : List Event). AreWritten begins (events ++ later)) (sym is.gives) (turn_written begins is.activation is.limit later few is.known is.small others)
+  other_written begins found here later few (inr (inr (inl is))) others =
+      subst (λ (events : List Event). AreWritten begins (events ++ later)) (sym is.gives) (rounds_written begins is.limit is.rounds later few is.small others)
+  other_written begins found here later few (inr (inr (inr (inl is)))) others = absurd (cc is.0)
+  other_written begins found here later few (inr (inr (inr (inr is)))) others = absurd (cc is.0)
+
+  events_form : (begins : ℕ) (lines : List (List ℕ)) (events : List Event) → HasEvents names begins lines events → begins + length events < 2 ^ 32 → AreWritten begins events
+  events_form begins [] events has few = subst (AreWritten begins) (sym has) (tt, refl)
+  events_form begins (line ∷ lines) events has few =
+      by_means (λ after has_more few_more. events_form after lines has.2 has_more few_more) has.5
+    where
+      long : length events ≡ length has.1 + length has.2
+      long = ap length has.4 ∙ length-append has.1 has.2
+
+      by_means : ((after : ℕ) → HasEvents names after lines has.2 → after + length has.2 < 2 ^ 32 → AreWritten after has.2) → ((IsBegin names has.0 has.1 × HasEvents names (begins + 1) lines has.2) ⊎ (IsNoBegin begins has.0 has.1 × HasEvents names begins lines has.2)) → AreWritten begins events
+      by_means others (inl one) =
+          subst (AreWritten begins) (sym has.4)
+          (begin_written begins has.0 has.1 has.2 (found_tokens line has.0 has.3) one.0 (others (begins + 1) one.1 (omega (arith, few, long, ap length one.0.gives))))
+      by_means others (inr one) =
+          subst (AreWritten begins) (sym has.4) (other_written begins has.0 has.1 has.2 (omega (arith, few)) one.0 (others begins one.1 (omega (arith, few, long))))
+
+-- what a job is written as has the job's form
+module _ (text : List ℕ) (content : Content) (form : IsJobText text content) (sound : AllSound content.programs) where
+  abbrev frames : List Token
+  frames = number_line (codes "frames") content.frames
+
+  abbrev programs : List (List Token)
+  programs = flat_map program_lines (zip content.names content.programs)
+
+  abbrev head : List (List Token)
+  head = frames ∷ programs
+
+  abbrev schedule : List Token
+  schedule = Word (codes "schedule") ∷ []
+
+  abbrev events : List (List Token)
+  events = map (event_line content.names) content.events
+
+  frames_tokens : AllByRecursion IsToken frames
+  frames_tokens = ((refl, refl, omega arith), (omega (arith, form.frames.range.1), tt))
+
+  schedule_tokens : AllByRecursion IsToken schedule
+  schedule_tokens = ((refl, refl, omega arith), tt)
+
+  programs_are : AreTokens programs × HasPrograms [] 2 content.names content.programs (map tokens_text programs)
+  programs_are = programs_form [] 2 (length form.blank + 2) content.names content.programs form.program_lines form.programs sound
+
+  events_are : AreTokens events × HasEvents content.names 0 (map tokens_text events) content.events
+  events_are = events_form content.names 0 form.event_lines content.events form.events (omega (arith, form.few_events))
+
+  are : AreTokens (job_lines content)
+  are = all_both (AllByRecursion IsToken) (head ++ (schedule ∷ events)) (end_line ∷ [])
+      (all_both (AllByRecursion IsToken) head (schedule ∷ events) (frames_tokens, programs_are.0) (schedule_tokens, events_are.0))
+      (end_tokens, tt)
+
+  pub written_form : IsJobText (written content) content
+  written_form = record {
+    blank = [];
+    frames_line = tokens_text frames;
+    program_lines = map tokens_text programs;
+    schedule_line = tokens_text schedule;
+    event_lines = map tokens_text events;
+    end_line = tokens_text end_line;
+    tail = [];
+    all = ap lines_of (sym (append-nil (written content)))
+        ∙ lines_written (job_lines content) [] are
+        ∙ ap (λ lines. lines ++ ([] ∷ [])) (map-append tokens_text (head ++ (schedule ∷ events)) (end_line ∷ []) ∙ ap (λ lines. lines ++ (tokens_text end_line ∷ [])) (map-append tokens_text head (schedule ∷ events)))
+        ∙ append_assoc (map tokens_text head ++ map tokens_text (schedule ∷ events)) (tokens_text end_line ∷ []) ([] ∷ [])
+        ∙ append_assoc (map tokens_text head) (map tokens_text (schedule ∷ events)) (tokens_text end_line ∷ [] ∷ []);
+    blanks = tt;
+    frames = record { says = written_tokens frames frames_tokens; range = form.frames.range };
+    programs = programs_are.1;
+    few_programs = form.few_programs;
+    schedule = written_tokens schedule schedule_tokens;
+    events = events_are.1;
+    few_events = form.few_events;
+    ends = written_tokens end_line end_tokens;
+    tail_blanks = tt;
+  }
