@@ -22,10 +22,10 @@ use Rattle.job_text.proofs.FormLemmas.{end_is}
 use Rattle.job_text.proofs.GrammarLemmas.{read_line}
 
 -- some lines
-abbrev AreSome : List (List ℕ) → Type 0
+abbrev pub AreSome : List (List ℕ) → Type 0
 AreSome lines = (next : List ℕ) × (more : List (List ℕ)) × (lines ≡ next ∷ more)
 
-some_behind : (front lines : List (List ℕ)) → AreSome lines → AreSome (front ++ lines)
+pub some_behind : (front lines : List (List ℕ)) → AreSome lines → AreSome (front ++ lines)
 some_behind [] lines some = some
 some_behind (line ∷ front) lines some = (line, front ++ lines, refl)
 

@@ -1,9 +1,13 @@
--- Each text has one job or one first fault.
-use Rattle.std.proofs.Common.{◌≡◌, ◌⊎◌, inl, inr, ℕ, List, Result, Ok, Err, refl}
-use Rattle.job_text.specs.Grammar.{Content, job_of}
-use Rattle.job_text.specs.Form.{IsJobText}
+-- Each text has one job or one first fault, which ends its reading.
+use Rattle.std.proofs.Common.{◌≡◌, ◌⊎◌, inl, inr, ℕ, ◌+◌, List, [], ◌∷◌, ◌++◌, length, Result, Ok, Err, refl, sym, ap, ◌∙◌, arith}
+use Rattle.job_text.specs.declared.stage.Stage.{Stage}
+use Rattle.job_text.specs.declared.stage.Stage.TheVariants.{Frames, Programs, Source, Schedule, Ended}
+use Rattle.job_text.specs.Grammar.{Content, job_of, last_part, read_from, then_read, whole}
+use Rattle.job_text.specs.Reading.{Reading, line_read, nothing_read}
+use Rattle.job_text.specs.Form.{FaultsEndTheReading, IsJobText}
 use Rattle.job_text.proofs.FormLemmas.{has_form}
-use Rattle.job_text.proofs.FormReadLemmas.{form_read}
+use Rattle.job_text.proofs.FormReadLemmas.{AreSome, form_read, some_behind}
+use Rattle.job_text.proofs.GrammarLemmas.{read_line}
 
 pub job_or_fault : (text : List ℕ) → ((content : Content) × IsJobText text content) ⊎ ((fault : ℕ × ℕ) × (job_of text ≡ Err fault))
 job_or_fault text = by_answer (job_of text) refl
@@ -17,3 +21,47 @@ one_job text one other first second = cc (form_read text one first, form_read te
 
 pub no_fault : (text : List ℕ) (content : Content) (fault : ℕ × ℕ) → IsJobText text content → ¬ (job_of text ≡ Err fault)
 no_fault text content fault form is = cc (form_read text content form, is)
+
+-- what stands behind the last line feed has kind 10, if it has a fault
+last_fault : (stage : Stage) (reading : Reading) (number : ℕ) (last : List ℕ) (fault : ℕ × ℕ) → reading.stage ≡ stage → last_part reading number last ≡ Err fault → fault ≡ (number, 10)
+last_fault stage reading number (byte ∷ bytes) fault at is = cc is
+last_fault Ended reading number [] fault at is = absurd (cc (ap (λ stage. whole stage reading number) (sym at) ∙ is))
+last_fault Frames reading number [] fault at is = cc (ap (λ stage. whole stage reading number) (sym at) ∙ is)
+last_fault Programs reading number [] fault at is = cc (ap (λ stage. whole stage reading number) (sym at) ∙ is)
+last_fault Source reading number [] fault at is = cc (ap (λ stage. whole stage reading number) (sym at) ∙ is)
+last_fault Schedule reading number [] fault at is = cc (ap (λ stage. whole stage reading number) (sym at) ∙ is)
+
+-- one line more, and lines behind it
+by_line : (reading : Reading) (number : ℕ) (line : List ℕ) (lines : List (List ℕ)) → AreSome lines → read_from reading number (line ∷ lines) ≡ then_read (λ more. read_from more (number + 1) lines) (line_read reading.stage reading number line)
+by_line reading number line lines some = read_line reading number line some.0 some.1 lines some.2
+
+faults_end : (reading : Reading) (number : ℕ) (lines more : List (List ℕ)) (last next : List ℕ) (fault : ℕ × ℕ) → read_from reading number (lines ++ (last ∷ [])) ≡ Err fault → (fault ≡ (number + length lines, 10)) ⊎ (read_from reading number (lines ++ (next ∷ more)) ≡ Err fault)
+unfolding read_from
+faults_end reading number [] more last next fault is = inl (last_fault reading.stage reading number last fault refl is ∙ ap (λ n. (n, 10)) (omega arith))
+faults_end reading number (line ∷ lines) more last next fault is =
+    on (line_read reading.stage reading number line) refl
+    (sym (by_line reading number line (lines ++ (last ∷ [])) (some_behind lines (last ∷ []) (last, [], refl))) ∙ is)
+    (λ read one. faults_end read (number + 1) lines more last next fault one)
+  where
+    other : read_from reading number (line ∷ (lines ++ (next ∷ more))) ≡ then_read (λ read. read_from read (number + 1) (lines ++ (next ∷ more))) (line_read reading.stage reading number line)
+    other = by_line reading number line (lines ++ (next ∷ more)) (some_behind lines (next ∷ more) (next, more, refl))
+
+    on : (answer : Result Reading (ℕ × ℕ)) → line_read reading.stage reading number line ≡ answer → then_read (λ read. read_from read (number + 1) (lines ++ (last ∷ []))) (line_read reading.stage reading number line) ≡ Err fault
+        → ((read : Reading) → read_from read (number + 1) (lines ++ (last ∷ [])) ≡ Err fault → (fault ≡ (number + 1 + length lines, 10)) ⊎ (read_from read (number + 1) (lines ++ (next ∷ more)) ≡ Err fault))
+        → (fault ≡ (number + length (line ∷ lines), 10)) ⊎ (read_from reading number (line ∷ (lines ++ (next ∷ more))) ≡ Err fault)
+    on (Ok read) answer one others = told (others read (sym (ap (then_read (λ read. read_from read (number + 1) (lines ++ (last ∷ [])))) answer) ∙ one))
+      where
+        told : ((fault ≡ (number + 1 + length lines, 10)) ⊎ (read_from read (number + 1) (lines ++ (next ∷ more)) ≡ Err fault)) → ((fault ≡ (number + length (line ∷ lines), 10)) ⊎ (read_from reading number (line ∷ (lines ++ (next ∷ more))) ≡ Err fault))
+        told (inl is) = inl (is ∙ ap (λ n. (n, 10)) (omega arith))
+        told (inr is) = inr (other ∙ ap (then_read (λ read. read_from read (number + 1) (lines ++ (next ∷ more)))) answer ∙ is)
+    on (Err why) answer one others =
+        inr (other ∙ ap (then_read (λ read. read_from read (number + 1) (lines ++ (next ∷ more)))) answer ∙ sym (ap (then_read (λ read. read_from read (number + 1) (lines ++ (last ∷ [])))) answer) ∙ one)
+
+-- a fault ends the reading
+pub first_fault : FaultsEndTheReading
+first_fault text other lines more last next fault split split_other is =
+    told (faults_end nothing_read 1 lines more last next fault (ap (read_from nothing_read 1) (sym split) ∙ is))
+  where
+    told : ((fault ≡ (1 + length lines, 10)) ⊎ (read_from nothing_read 1 (lines ++ (next ∷ more)) ≡ Err fault)) → ((fault ≡ (length lines + 1, 10)) ⊎ (job_of other ≡ Err fault))
+    told (inl same) = inl (same ∙ ap (λ n. (n, 10)) (omega arith))
+    told (inr same) = inr (ap (read_from nothing_read 1) split_other ∙ same)

@@ -1,5 +1,5 @@
 -- The form of a job's text: which lines stand in it, one after another, and what they say.
-use Rattle.std.specs.Prelude.{◌≡◌, ◌⊎◌, ◌↔◌, ℕ, ◌+◌, ◌≤◌, true, List, [], ◌∷◌, ◌++◌, length, map, codes, Some, None, Ok}
+use Rattle.std.specs.Prelude.{◌≡◌, ◌⊎◌, ◌↔◌, ℕ, ◌+◌, ◌≤◌, true, List, [], ◌∷◌, ◌++◌, length, map, codes, Some, None, Ok, Err}
 use Rattle.std.specs.List.{AllByRecursion}
 use Rattle.desk.specs.declared.event.Event.{Event}
 use Rattle.desk.specs.declared.event.Event.TheVariants.{Begin, Turn, Checkpoint, Crash}
@@ -133,3 +133,9 @@ pub record IsJobText (text : List ℕ) (content : Content) : Type 0 where
 -- a text is a job exactly where it has the form of one, and then it is that job
 abbrev pub JobsHaveTheirForm : Type 0
 JobsHaveTheirForm = (text : List ℕ) (content : Content) → (job_of text ≡ Ok content) ↔ IsJobText text content
+
+-- a fault ends the reading: it is of what stands behind the last line feed, or each text that begins with the same lines has it
+abbrev pub FaultsEndTheReading : Type 0
+FaultsEndTheReading =
+    (text other : List ℕ) (lines more : List (List ℕ)) (last next : List ℕ) (fault : ℕ × ℕ) → lines_of text ≡ lines ++ (last ∷ []) → lines_of other ≡ lines ++ (next ∷ more) → job_of text ≡ Err fault
+    → (fault ≡ (length lines + 1, 10)) ⊎ (job_of other ≡ Err fault)

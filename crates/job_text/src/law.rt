@@ -1,6 +1,6 @@
 // Laws of the definitions (docs/MODEL.md, "Jobs").
 ghost use Rattle.std.specs.Prelude.{◌≡◌, ◌⊎◌, ℕ, List, Err};
-ghost use Rattle.job_text.specs.Form.{IsJobText, JobsHaveTheirForm};
+ghost use Rattle.job_text.specs.Form.{FaultsEndTheReading, IsJobText, JobsHaveTheirForm};
 ghost use Rattle.job_text.specs.Grammar.{Content, job_of};
 
 /// A text is a job exactly where it has the form of one: frames, programs, a schedule of events and `end`, as
@@ -14,4 +14,10 @@ pub fn a_text_has_one_answer()
     ensures some { (text : List ℕ) → ((content : Content) × IsJobText text content) ⊎ ((fault : ℕ × ℕ) × (job_of text ≡ Err fault)) }
     ensures job { (text : List ℕ) (one other : Content) → IsJobText text one → IsJobText text other → one ≡ other }
     ensures fault { (text : List ℕ) (content : Content) (fault : ℕ × ℕ) → IsJobText text content → ¬ (job_of text ≡ Err fault) }
+{}
+
+/// The first fault from the top ends the reading: it is kind 10 of what stands behind the last line feed, or whatever
+/// follows the lines before that is of no account.
+pub fn faults_end_the_reading()
+    ensures { FaultsEndTheReading }
 {}

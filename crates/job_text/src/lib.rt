@@ -12,5 +12,5 @@ mod writer;
 
 pub use grammar::read_job;
 pub use job::{Job, JobFault, Name};
-pub use law::{a_text_has_one_answer, jobs_have_their_form};
+pub use law::{a_text_has_one_answer, faults_end_the_reading, jobs_have_their_form};
 pub use writer::write_job;

@@ -1,0 +1,5 @@
+use Rattle.job_text.proofs.LawLemmas.{first_fault}
+use Rattle.job_text.proofs.law.faults_end_the_reading.Goals as goal
+
+pub returns : goal.returns
+returns c = first_fault
