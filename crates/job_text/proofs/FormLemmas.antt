@@ -1,5 +1,5 @@
 -- What is read as a job has the form of one.
-use Rattle.std.proofs.Common.{◌≡◌, ◌⊎◌, inl, inr, ℕ, ◌+◌, ◌*◌, ◌≤◌, ◌&&◌, nat_le, nat_lt, is_some, if◌then◌else◌, Bool, true, false, List, [], ◌∷◌, ◌++◌, length, map, codes, Option, Some, None, Result, Ok, Err, refl, sym, ap, ◌∙◌, subst, arith, append_assoc, append-nil, length-append}
+use Rattle.std.proofs.Common.{◌≡◌, inl, inr, ℕ, ◌+◌, ◌*◌, ◌≤◌, ◌&&◌, nat_le, nat_lt, is_some, if◌then◌else◌, Bool, true, false, List, [], ◌∷◌, ◌++◌, length, map, codes, Option, Some, None, Result, Ok, Err, refl, sym, ap, ◌∙◌, subst, arith, append_assoc, append-nil, length-append}
 use Rattle.std.specs.Str.{bytes_eq}
 use Rattle.std.proofs.lemmas.Bool.{and_parts}
 use Rattle.std.proofs.lemmas.Bool.Decides.{nat_tests}
@@ -19,7 +19,7 @@ use Rattle.job_text.specs.declared.stage.Stage.TheVariants.{Frames, Programs, So
 use Rattle.job_text.specs.declared.stage.TheConstants.{TAKES_CHECKPOINT, TAKES_CRASH}
 use Rattle.job_text.specs.Grammar.{Content, job_of, last_part, read_from, then_read, whole}
 use Rattle.job_text.specs.Reading.{Reading, nothing_read, frames_line, program_begins, programs_line, is_end, program_ends, source_goes_on, source_line, with_event, values_of, four_of, begin_of, begin_line, is_limit, turn_line, rounds_of, drain_line, single_line, schedule_line, ended_line, by_tokens, line_read}
-use Rattle.job_text.specs.Form.{IsBlank, AreBlank, IsOnly, HaveNoEnd, IsFramesLine, HasPrograms, IsBegin, IsLimit, IsNoBegin, HasEvents, IsJobText}
+use Rattle.job_text.specs.Form.{IsBlank, AreBlank, IsOnly, HaveNoEnd, IsFramesLine, HasPrograms, IsLimit, IsEventLine, HasEvents, IsJobText}
 use Rattle.job_text.proofs.DrainLemmas.{length-rounds_of}
 
 -- what a reading says
@@ -123,7 +123,7 @@ module _ (number : ℕ) (line : List ℕ) (lines : List (List ℕ)) (content : C
   with_events begins here = record reading { begins = begins; events = reading.events ++ here }
 
   -- the events of this line, and those behind it
-  events_more : (begins : ℕ) (here : List Event) → length (reading.events ++ here) ≤ 10000 → ((IsBegin reading.names found here × (begins ≡ reading.begins + 1)) ⊎ (IsNoBegin reading.begins found here × (begins ≡ reading.begins)))
+  events_more : (begins : ℕ) (here : List Event) → length (reading.events ++ here) ≤ 10000 → IsEventLine reading.names reading.begins begins found here
       → (IsFew (with_events begins here) → Left reading.stage (with_events begins here) (number + 1) lines content) → EventsLeft (content_read reading) reading.begins (line ∷ lines) content
   events_more begins here room means left =
       let behind : EventsLeft (content_read (with_events begins here)) begins lines content = subst (λ (stage : Stage). Left stage (with_events begins here) (number + 1) lines content) at (left (small.0, room)) in
@@ -135,15 +135,10 @@ module _ (number : ℕ) (line : List ℕ) (lines : List (List ℕ)) (content : C
         end_line = behind.end_line;
         rest = behind.rest;
         all = ap (λ these. line ∷ these) behind.all;
-        has = (found, here, behind.more, is, refl, by_means behind.event_lines behind.more means behind.has);
+        has = (found, here, behind.more, begins, is, refl, means, behind.has);
         ends = behind.ends;
         left = subst (λ (events : List Event). TailLeft (record (content_read reading) { events = events }) behind.rest content) all behind.left;
       }
-    where
-      by_means : (event_lines : List (List ℕ)) (more : List Event) → ((IsBegin reading.names found here × (begins ≡ reading.begins + 1)) ⊎ (IsNoBegin reading.begins found here × (begins ≡ reading.begins))) → HasEvents reading.names begins event_lines more
-          → ((IsBegin reading.names found here × HasEvents reading.names (reading.begins + 1) event_lines more) ⊎ (IsNoBegin reading.begins found here × HasEvents reading.names reading.begins event_lines more))
-      by_means event_lines more (inl one) has = inl (one.0, subst (λ n. HasEvents reading.names n event_lines more) one.1 has)
-      by_means event_lines more (inr one) has = inr (one.0, subst (λ n. HasEvents reading.names n event_lines more) one.1 has)
 
   abbrev BackHere : Result Reading ℕ → Type 0
   BackHere read = Back Schedule reading number line lines content read
@@ -151,7 +146,7 @@ module _ (number : ℕ) (line : List ℕ) (lines : List (List ℕ)) (content : C
   below_room : nat_lt (length reading.events) 10000 ≡ true → (event : Event) → length (reading.events ++ event ∷ []) ≤ 10000
   below_room room event = let under : length reading.events + 1 ≤ 10000 = grind (arith, nat_tests, room) in omega (arith, under, length-append reading.events (event ∷ []))
 
-  event_step : (begins : ℕ) (event : Event) → ((IsBegin reading.names found (event ∷ []) × (begins ≡ reading.begins + 1)) ⊎ (IsNoBegin reading.begins found (event ∷ []) × (begins ≡ reading.begins))) → BackHere (with_event (record reading { begins = begins }) event)
+  event_step : (begins : ℕ) (event : Event) → IsEventLine reading.names reading.begins begins found (event ∷ []) → BackHere (with_event (record reading { begins = begins }) event)
   event_step begins event means = by_room (nat_lt (length reading.events) 10000) refl
     where
       by_room : (room : Bool) → nat_lt (length reading.events) 10000 ≡ room → BackHere (if room then Ok (with_events begins (event ∷ [])) else Err 11)

@@ -1,5 +1,5 @@
 -- A text that has the form of a job is read as it.
-use Rattle.std.proofs.Common.{◌≡◌, ◌⊎◌, inl, inr, ℕ, ◌+◌, ◌*◌, ◌≤◌, Bool, true, false, List, [], ◌∷◌, ◌++◌, length, map, codes, Option, Some, None, Result, Ok, Err, refl, sym, ap, ◌∙◌, arith, append_assoc, append-nil, length-append}
+use Rattle.std.proofs.Common.{◌≡◌, inl, inr, ℕ, ◌+◌, ◌*◌, ◌≤◌, Bool, true, false, List, [], ◌∷◌, ◌++◌, length, map, codes, Option, Some, None, Result, Ok, Err, refl, sym, ap, ◌∙◌, subst, arith, append_assoc, append-nil, length-append}
 use Rattle.std.proofs.lemmas.Bool.{le-leb, lt-ltb}
 use Rattle.desk.specs.declared.event.Event.{Event}
 use Rattle.desk.specs.declared.event.Event.TheVariants.{Begin, Turn}
@@ -16,7 +16,7 @@ use Rattle.job_text.specs.declared.stage.Stage.TheVariants.{Frames, Programs, So
 use Rattle.job_text.specs.Grammar.{Content, job_of, read_from, then_read}
 use Rattle.job_text.specs.Reader.{tokens_read}
 use Rattle.job_text.specs.Reading.{Reading, nothing_read, frames_line, programs_line, is_end, source_goes_on, source_line, with_event, values_of, four_of, is_limit, schedule_line, line_read}
-use Rattle.job_text.specs.Form.{AreBlank, IsOnly, HaveNoEnd, IsProgram, HasPrograms, IsBegin, IsLimit, IsTurn, IsDrain, IsSingle, IsNoBegin, HasEvents, IsJobText}
+use Rattle.job_text.specs.Form.{AreBlank, IsOnly, HaveNoEnd, IsProgram, HasPrograms, IsBegin, IsLimit, IsTurn, IsDrain, IsSingle, IsNoBegin, IsEventLine, HasEvents, IsJobText}
 use Rattle.job_text.proofs.DrainLemmas.{length-rounds_of}
 use Rattle.job_text.proofs.FormLemmas.{end_is}
 use Rattle.job_text.proofs.GrammarLemmas.{read_line}
@@ -129,40 +129,25 @@ module _ (frames : ℕ) (names : List (List ℕ)) (programs : List Parts) where
   other_read begins events found here (inr (inr (inl is))) room = drain_read begins events found here is room
   other_read begins events found here (inr (inr (inr is))) room = single_read begins events found here is room
 
+  line_events_read : (begins after : ℕ) (events : List Event) (found : List Token) (here : List Event) → IsEventLine names begins after found here → length events + length here ≤ 10000 → Reads begins events found after here
+  line_events_read begins after events found here (inl is) room = subst (λ n. Reads begins events found n here) (sym is.1) (begin_read begins events found here is.0 room)
+  line_events_read begins after events found here (inr is) room = subst (λ n. Reads begins events found n here) (sym is.1) (other_read begins events found here is.0 room)
+
   reads_events : (number begins : ℕ) (events : List Event) (event_lines lines : List (List ℕ)) (more : List Event) → HasEvents names begins event_lines more → length events + length more ≤ 10000 → AreSome lines
       → (last : ℕ) × (after : ℕ) × (read_from (so_far begins events) number (event_lines ++ lines) ≡ read_from (so_far after (events ++ more)) last lines)
   reads_events number begins events [] lines more has room some = (number, begins, ap (λ all. read_from (so_far begins all) number lines) (sym (append-nil events) ∙ ap (λ these. events ++ these) (sym has)))
   reads_events number begins events (line ∷ event_lines) lines more has room some =
-      by_means (λ after has_more few. reads_events (number + 1) after (events ++ has.1) event_lines lines has.2 has_more few some) has.5
+      let others = reads_events (number + 1) has.3 (events ++ has.1) event_lines lines has.2 has.7 (omega (arith, room, long, length-append events has.1)) some in
+      (others.0, others.1, first ∙ others.2 ∙ ap (λ these. read_from (so_far others.1 these) others.0 lines) all)
     where
-      here : List Event
-      here = has.1
+      long : length more ≡ length has.1 + length has.2
+      long = ap length has.5 ∙ length-append has.1 has.2
 
-      later : List Event
-      later = has.2
+      first : read_from (so_far begins events) number (line ∷ (event_lines ++ lines)) ≡ read_from (so_far has.3 (events ++ has.1)) (number + 1) (event_lines ++ lines)
+      first = reads_tokens (so_far begins events) (so_far has.3 (events ++ has.1)) number line (event_lines ++ lines) has.0 (some_behind event_lines lines some) tt has.4 (line_events_read begins has.3 events has.0 has.1 has.6 (omega (arith, room, long)))
 
-      long : length more ≡ length here + length later
-      long = ap length has.4 ∙ length-append here later
-
-      first : (after : ℕ) → Reads begins events has.0 after here → read_from (so_far begins events) number (line ∷ (event_lines ++ lines)) ≡ read_from (so_far after (events ++ here)) (number + 1) (event_lines ++ lines)
-      first after read = reads_tokens (so_far begins events) (so_far after (events ++ here)) number line (event_lines ++ lines) has.0 (some_behind event_lines lines some) tt has.3 read
-
-      all : events ++ here ++ later ≡ events ++ more
-      all = append_assoc events here later ∙ ap (λ these. events ++ these) (sym has.4)
-
-      Others : Type 0
-      Others = (after : ℕ) → HasEvents names after event_lines later → length (events ++ here) + length later ≤ 10000 → (last : ℕ) × (end : ℕ) × (read_from (so_far after (events ++ here)) (number + 1) (event_lines ++ lines) ≡ read_from (so_far end ((events ++ here) ++ later)) last lines)
-
-      behind : Others → (after : ℕ) → Reads begins events has.0 after here → HasEvents names after event_lines later
-          → (last : ℕ) × (end : ℕ) × (read_from (so_far begins events) number (line ∷ (event_lines ++ lines)) ≡ read_from (so_far end (events ++ more)) last lines)
-      behind others after read has_more =
-          let rest = others after has_more (omega (arith, room, long, length-append events here)) in
-          (rest.0, rest.1, first after read ∙ rest.2 ∙ ap (λ these. read_from (so_far rest.1 these) rest.0 lines) all)
-
-      by_means : Others → ((IsBegin names has.0 here × HasEvents names (begins + 1) event_lines later) ⊎ (IsNoBegin begins has.0 here × HasEvents names begins event_lines later))
-          → (last : ℕ) × (end : ℕ) × (read_from (so_far begins events) number (line ∷ (event_lines ++ lines)) ≡ read_from (so_far end (events ++ more)) last lines)
-      by_means others (inl one) = behind others (begins + 1) (begin_read begins events has.0 here one.0 (omega (arith, room, long))) one.1
-      by_means others (inr one) = behind others begins (other_read begins events has.0 here one.0 (omega (arith, room, long))) one.1
+      all : events ++ has.1 ++ has.2 ≡ events ++ more
+      all = append_assoc events has.1 has.2 ∙ ap (λ these. events ++ these) (sym has.5)
 
 -- a source
 module _ (frames : ℕ) (names : List (List ℕ)) (programs : List Parts) where

@@ -1,5 +1,5 @@
 -- Events that can be run.
-use Rattle.std.proofs.Common.{◌≡◌, ◌⊎◌, inl, inr, ℕ, zero, suc, ◌+◌, ◌≤◌, true, List, [], ◌∷◌, ◌++◌, length, All, sym, subst}
+use Rattle.std.proofs.Common.{◌≡◌, inl, inr, ℕ, zero, suc, ◌+◌, ◌≤◌, true, List, [], ◌∷◌, length, All, sym, subst}
 use Rattle.std.specs.Str.{bytes_eq}
 use Rattle.std.proofs.lemmas.List.Elements.{All-append, All-cons, All-nil}
 use Rattle.std.proofs.lemmas.List.Quantifiers.{position-Some}
@@ -8,7 +8,7 @@ use Rattle.desk.specs.declared.event.Event.TheVariants.{Begin, Turn, Checkpoint,
 use Rattle.asm_parse.specs.declared.token.Token.{Token}
 use Rattle.job_text.specs.declared.stage.TheConstants.{TAKES_CHECKPOINT, TAKES_CRASH}
 use Rattle.job_text.specs.Ready.{IsEventAmong}
-use Rattle.job_text.specs.Form.{IsBegin, IsNoBegin, HasEvents}
+use Rattle.job_text.specs.Form.{IsBegin, IsNoBegin, IsEventLine, HasEvents}
 use Rattle.job_text.specs.Reading.{rounds_of, turns_to, four_of}
 
 one_event : (programs : ℕ) (event : Event) → IsEventAmong programs event → All (IsEventAmong programs) (event ∷ [])
@@ -48,10 +48,11 @@ module _ (names : List (List ℕ)) where
   other_among begins found here (inr (inr (inr (inl is)))) = subst AreAmong (sym is.2) (one_event (length names) Checkpoint (checkpoint_among (length names) is.0))
   other_among begins found here (inr (inr (inr (inr is)))) = subst AreAmong (sym is.2) (one_event (length names) Crash (crash_among (length names) is.0))
 
+  line_among : (begins after : ℕ) (found : List Token) (here : List Event) → IsEventLine names begins after found here → AreAmong here
+  line_among begins after found here (inl is) = begin_among found here is.0
+  line_among begins after found here (inr is) = other_among begins found here is.0
+
   pub events_among : (begins : ℕ) (lines : List (List ℕ)) (events : List Event) → HasEvents names begins lines events → AreAmong events
   events_among begins [] events has = subst AreAmong (sym has) (All-nil (IsEventAmong (length names)))
-  events_among begins (line ∷ lines) events has = subst AreAmong (sym has.4) (by_means (λ after has_more. events_among after lines has.2 has_more) has.5)
-    where
-      by_means : ((after : ℕ) → HasEvents names after lines has.2 → AreAmong has.2) → ((IsBegin names has.0 has.1 × HasEvents names (begins + 1) lines has.2) ⊎ (IsNoBegin begins has.0 has.1 × HasEvents names begins lines has.2)) → AreAmong (has.1 ++ has.2)
-      by_means others (inl one) = All-append (IsEventAmong (length names)) has.1 has.2 (begin_among has.0 has.1 one.0) (others (begins + 1) one.1)
-      by_means others (inr one) = All-append (IsEventAmong (length names)) has.1 has.2 (other_among begins has.0 has.1 one.0) (others begins one.1)
+  events_among begins (line ∷ lines) events has =
+      subst AreAmong (sym has.5) (All-append (IsEventAmong (length names)) has.1 has.2 (line_among begins has.3 has.0 has.1 has.6) (events_among has.3 lines has.2 has.7))

@@ -1,5 +1,5 @@
 -- The text that a job is written as has the form of the job.
-use Rattle.std.proofs.Common.{◌≡◌, ◌⊎◌, inl, inr, ℕ, zero, suc, ◌+◌, ◌<◌, ◌≤◌, ◌^◌, true, List, [], ◌∷◌, ◌++◌, length, map, codes, slice_index_or, Some, refl, sym, ap, ◌∙◌, subst, arith, append_assoc, append-nil, length-append}
+use Rattle.std.proofs.Common.{◌≡◌, inl, inr, ℕ, zero, suc, ◌+◌, ◌<◌, ◌≤◌, ◌^◌, true, List, [], ◌∷◌, ◌++◌, length, map, codes, slice_index_or, Some, refl, sym, ap, ◌∙◌, subst, arith, append_assoc, append-nil, length-append}
 use Rattle.std.specs.Str.{bytes_eq}
 use Rattle.std.specs.List.{AllByRecursion, flat_map, zip}
 use Rattle.std.proofs.lemmas.List.{map-append}
@@ -17,7 +17,7 @@ use Rattle.asm_parse.proofs.FrontLemmas.{IsToken, IsWord}
 use Rattle.romp_asm.specs.Layout.{Parts}
 use Rattle.romp_asm.proofs.WindowLemmas.{assembled_windows}
 use Rattle.job_text.specs.Grammar.{Content}
-use Rattle.job_text.specs.Form.{HasPrograms, IsBegin, IsLimit, IsNoBegin, HasEvents, IsJobText}
+use Rattle.job_text.specs.Form.{HasPrograms, IsBegin, IsLimit, IsNoBegin, IsEventLine, HasEvents, IsJobText}
 use Rattle.job_text.specs.Reading.{four_of, rounds_of, turns_to}
 use Rattle.job_text.specs.Written.{end_line, event_line, job_lines, line_text, number_line, program_lines, tokens_text, written}
 use Rattle.job_text.proofs.SourceLemmas.{IsSound, all_both, end_tokens, program_form, program_tokens}
@@ -66,17 +66,12 @@ module _ (names : List (List ℕ)) where
 
   -- one event before others
   one_written : (begins after : ℕ) (event : Event) (events : List Event) → AllByRecursion IsToken (event_line names event)
-      → ((IsBegin names (event_line names event) (event ∷ []) × (after ≡ begins + 1)) ⊎ (IsNoBegin begins (event_line names event) (event ∷ []) × (after ≡ begins)))
+      → IsEventLine names begins after (event_line names event) (event ∷ [])
       → AreWritten after events → AreWritten begins (event ∷ events)
   one_written begins after event events are means others = (
     (are, others.0),
-    (event_line names event, event ∷ [], events, written_tokens (event_line names event) are, refl, by_means means),
+    (event_line names event, event ∷ [], events, after, written_tokens (event_line names event) are, refl, means, others.1),
   )
-    where
-      by_means : ((IsBegin names (event_line names event) (event ∷ []) × (after ≡ begins + 1)) ⊎ (IsNoBegin begins (event_line names event) (event ∷ []) × (after ≡ begins)))
-          → ((IsBegin names (event_line names event) (event ∷ []) × HasEvents names (begins + 1) (map tokens_text (lines_for events)) events) ⊎ (IsNoBegin begins (event_line names event) (event ∷ []) × HasEvents names begins (map tokens_text (lines_for events)) events))
-      by_means (inl one) = inl (one.0, subst (λ n. HasEvents names n (map tokens_text (lines_for events)) events) one.1 others.1)
-      by_means (inr one) = inr (one.0, subst (λ n. HasEvents names n (map tokens_text (lines_for events)) events) one.1 others.1)
 
   -- a turn of one of so many begins
   turn_written : (begins activation limit : ℕ) (events : List Event) → begins < 2 ^ 32 → (1 ≤ activation) × (activation ≤ begins) → IsLimit limit → AreWritten begins events → AreWritten begins (Turn activation limit ∷ events)
@@ -140,20 +135,21 @@ module _ (names : List (List ℕ)) where
   other_written begins found here later few (inr (inr (inr (inl is)))) others = absurd (cc is.0)
   other_written begins found here later few (inr (inr (inr (inr is)))) others = absurd (cc is.0)
 
+  line_written : (begins after : ℕ) (found : List Token) (here later : List Event) → begins < 2 ^ 32 → AllByRecursion IsToken found → IsEventLine names begins after found here → AreWritten after later → AreWritten begins (here ++ later)
+  line_written begins after found here later few are (inl is) others = begin_written begins found here later are is.0 (subst (λ n. AreWritten n later) is.1 others)
+  line_written begins after found here later few are (inr is) others = other_written begins found here later few is.0 (subst (λ n. AreWritten n later) is.1 others)
+
+  after_within : (begins after : ℕ) (found : List Token) (here : List Event) → IsEventLine names begins after found here → after ≤ begins + length here
+  after_within begins after found here (inl is) = omega (arith, is.1, ap length is.0.gives)
+  after_within begins after found here (inr is) = omega (arith, is.1)
+
   events_form : (begins : ℕ) (lines : List (List ℕ)) (events : List Event) → HasEvents names begins lines events → begins + length events < 2 ^ 32 → AreWritten begins events
   events_form begins [] events has few = subst (AreWritten begins) (sym has) (tt, refl)
   events_form begins (line ∷ lines) events has few =
-      by_means (λ after has_more few_more. events_form after lines has.2 has_more few_more) has.5
-    where
-      long : length events ≡ length has.1 + length has.2
-      long = ap length has.4 ∙ length-append has.1 has.2
-
-      by_means : ((after : ℕ) → HasEvents names after lines has.2 → after + length has.2 < 2 ^ 32 → AreWritten after has.2) → ((IsBegin names has.0 has.1 × HasEvents names (begins + 1) lines has.2) ⊎ (IsNoBegin begins has.0 has.1 × HasEvents names begins lines has.2)) → AreWritten begins events
-      by_means others (inl one) =
-          subst (AreWritten begins) (sym has.4)
-          (begin_written begins has.0 has.1 has.2 (found_tokens line has.0 has.3) one.0 (others (begins + 1) one.1 (omega (arith, few, long, ap length one.0.gives))))
-      by_means others (inr one) =
-          subst (AreWritten begins) (sym has.4) (other_written begins has.0 has.1 has.2 (omega (arith, few)) one.0 (others begins one.1 (omega (arith, few, long))))
+      let long : length events ≡ length has.1 + length has.2 = ap length has.5 ∙ length-append has.1 has.2 in
+      let within : has.3 ≤ begins + length has.1 = after_within begins has.3 has.0 has.1 has.6 in
+      subst (AreWritten begins) (sym has.5)
+      (line_written begins has.3 has.0 has.1 has.2 (omega (arith, few)) (found_tokens line has.0 has.4) has.6 (events_form has.3 lines has.2 has.7 (omega (arith, few, long, within))))
 
 -- what a job is written as has the job's form
 module _ (text : List ℕ) (content : Content) (form : IsJobText text content) (sound : AllSound content.programs) where

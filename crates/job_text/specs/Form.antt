@@ -103,12 +103,17 @@ IsSingle found events =
 abbrev pub IsNoBegin : (begins : ℕ) → List Token → List Event → Type 0
 IsNoBegin begins found events = ((found ≡ []) × (events ≡ [])) ⊎ IsTurn begins found events ⊎ IsDrain begins found events ⊎ IsSingle found events
 
+-- a line of the schedule and its events, where so many begins stand before it and so many behind
+abbrev pub IsEventLine : (names : List (List ℕ)) → (begins after : ℕ) → List Token → List Event → Type 0
+IsEventLine names begins after found events =
+    (IsBegin names found events × (after ≡ begins + 1)) ⊎ (IsNoBegin begins found events × (after ≡ begins))
+
 -- lines of a schedule and their events in order, where so many begins stand before
 abbrev pub HasEvents : (names : List (List ℕ)) → (begins : ℕ) → (lines : List (List ℕ)) → List Event → Type 0
 HasEvents names begins [] events = events ≡ []
 HasEvents names begins (line ∷ lines) events =
-    (found : List Token) × (here : List Event) × (later : List Event) × (tokens line ≡ Ok found) × (events ≡ here ++ later)
-    × ((IsBegin names found here × HasEvents names (begins + 1) lines later) ⊎ (IsNoBegin begins found here × HasEvents names begins lines later))
+    (found : List Token) × (here : List Event) × (later : List Event) × (after : ℕ) × (tokens line ≡ Ok found) × (events ≡ here ++ later)
+    × IsEventLine names begins after found here × HasEvents names after lines later
 
 -- a text and the job that it is: frames, programs, `schedule`, events and `end`, with blank lines everywhere, and a line feed behind the last line
 pub record IsJobText (text : List ℕ) (content : Content) : Type 0 where
