@@ -30,8 +30,11 @@ some_behind [] lines some = some
 some_behind (line ∷ front) lines some = (line, front ++ lines, refl)
 
 -- a line, and lines behind it
+pub read_some : (reading : Reading) (number : ℕ) (line : List ℕ) (lines : List (List ℕ)) → AreSome lines → read_from reading number (line ∷ lines) ≡ then_read (λ more. read_from more (number + 1) lines) (line_read reading.stage reading number line)
+read_some reading number line lines some = read_line reading number line some.0 some.1 lines some.2
+
 reads_line : (reading new : Reading) (number : ℕ) (line : List ℕ) (lines : List (List ℕ)) → AreSome lines → line_read reading.stage reading number line ≡ Ok new → read_from reading number (line ∷ lines) ≡ read_from new (number + 1) lines
-reads_line reading new number line lines some is = read_line reading number line some.0 some.1 lines some.2 ∙ ap (then_read (λ more. read_from more (number + 1) lines)) is
+reads_line reading new number line lines some is = read_some reading number line lines some ∙ ap (then_read (λ more. read_from more (number + 1) lines)) is
 
 -- no source line is due
 abbrev IsByTokens : Stage → Type 0

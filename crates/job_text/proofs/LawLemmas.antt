@@ -6,8 +6,7 @@ use Rattle.job_text.specs.Grammar.{Content, job_of, last_part, read_from, then_r
 use Rattle.job_text.specs.Reading.{Reading, line_read, nothing_read}
 use Rattle.job_text.specs.Form.{FaultsEndTheReading, IsJobText}
 use Rattle.job_text.proofs.FormLemmas.{has_form}
-use Rattle.job_text.proofs.FormReadLemmas.{AreSome, form_read, some_behind}
-use Rattle.job_text.proofs.GrammarLemmas.{read_line}
+use Rattle.job_text.proofs.FormReadLemmas.{form_read, read_some, some_behind}
 
 pub job_or_fault : (text : List ℕ) → ((content : Content) × IsJobText text content) ⊎ ((fault : ℕ × ℕ) × (job_of text ≡ Err fault))
 job_or_fault text = by_answer (job_of text) refl
@@ -31,20 +30,16 @@ last_fault Programs reading number [] fault at is = cc (ap (λ stage. whole stag
 last_fault Source reading number [] fault at is = cc (ap (λ stage. whole stage reading number) (sym at) ∙ is)
 last_fault Schedule reading number [] fault at is = cc (ap (λ stage. whole stage reading number) (sym at) ∙ is)
 
--- one line more, and lines behind it
-by_line : (reading : Reading) (number : ℕ) (line : List ℕ) (lines : List (List ℕ)) → AreSome lines → read_from reading number (line ∷ lines) ≡ then_read (λ more. read_from more (number + 1) lines) (line_read reading.stage reading number line)
-by_line reading number line lines some = read_line reading number line some.0 some.1 lines some.2
-
 faults_end : (reading : Reading) (number : ℕ) (lines more : List (List ℕ)) (last next : List ℕ) (fault : ℕ × ℕ) → read_from reading number (lines ++ (last ∷ [])) ≡ Err fault → (fault ≡ (number + length lines, 10)) ⊎ (read_from reading number (lines ++ (next ∷ more)) ≡ Err fault)
 unfolding read_from
 faults_end reading number [] more last next fault is = inl (last_fault reading.stage reading number last fault refl is ∙ ap (λ n. (n, 10)) (omega arith))
 faults_end reading number (line ∷ lines) more last next fault is =
     on (line_read reading.stage reading number line) refl
-    (sym (by_line reading number line (lines ++ (last ∷ [])) (some_behind lines (last ∷ []) (last, [], refl))) ∙ is)
+    (sym (read_some reading number line (lines ++ (last ∷ [])) (some_behind lines (last ∷ []) (last, [], refl))) ∙ is)
     (λ read one. faults_end read (number + 1) lines more last next fault one)
   where
     other : read_from reading number (line ∷ (lines ++ (next ∷ more))) ≡ then_read (λ read. read_from read (number + 1) (lines ++ (next ∷ more))) (line_read reading.stage reading number line)
-    other = by_line reading number line (lines ++ (next ∷ more)) (some_behind lines (next ∷ more) (next, more, refl))
+    other = read_some reading number line (lines ++ (next ∷ more)) (some_behind lines (next ∷ more) (next, more, refl))
 
     on : (answer : Result Reading (ℕ × ℕ)) → line_read reading.stage reading number line ≡ answer → then_read (λ read. read_from read (number + 1) (lines ++ (last ∷ []))) (line_read reading.stage reading number line) ≡ Err fault
         → ((read : Reading) → read_from read (number + 1) (lines ++ (last ∷ [])) ≡ Err fault → (fault ≡ (number + 1 + length lines, 10)) ⊎ (read_from read (number + 1) (lines ++ (next ∷ more)) ≡ Err fault))

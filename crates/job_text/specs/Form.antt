@@ -139,7 +139,7 @@ pub record IsJobText (text : List ℕ) (content : Content) : Type 0 where
 abbrev pub JobsHaveTheirForm : Type 0
 JobsHaveTheirForm = (text : List ℕ) (content : Content) → (job_of text ≡ Ok content) ↔ IsJobText text content
 
--- a fault ends the reading: it is of what stands behind the last line feed, or each text that begins with the same lines has it
+-- a fault ends the reading: it is kind 10 of what stands behind a text's last line feed, or each text that begins with all its lines has it
 abbrev pub FaultsEndTheReading : Type 0
 FaultsEndTheReading =
     (text other : List ℕ) (lines more : List (List ℕ)) (last next : List ℕ) (fault : ℕ × ℕ) → lines_of text ≡ lines ++ (last ∷ []) → lines_of other ≡ lines ++ (next ∷ more) → job_of text ≡ Err fault

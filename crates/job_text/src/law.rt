@@ -1,4 +1,4 @@
-// Laws of the definitions (docs/MODEL.md, "Jobs").
+// Laws of the definitions (docs/MODEL.md, "A job").
 ghost use Rattle.std.specs.Prelude.{◌≡◌, ◌⊎◌, ℕ, List, Err};
 ghost use Rattle.job_text.specs.Form.{FaultsEndTheReading, IsJobText, JobsHaveTheirForm};
 ghost use Rattle.job_text.specs.Grammar.{Content, job_of};
@@ -16,8 +16,8 @@ pub fn a_text_has_one_answer()
     ensures fault { (text : List ℕ) (content : Content) (fault : ℕ × ℕ) → IsJobText text content → ¬ (job_of text ≡ Err fault) }
 {}
 
-/// The first fault from the top ends the reading: it is kind 10 of what stands behind the last line feed, or whatever
-/// follows the lines before that is of no account.
+/// The first fault from the top ends the reading: it is kind 10 of what stands behind the last line feed, or it stays,
+/// whatever follows the lines of the text.
 pub fn faults_end_the_reading()
     ensures { FaultsEndTheReading }
 {}
