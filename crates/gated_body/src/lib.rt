@@ -5,6 +5,7 @@
 ghost use Rattle.std.specs.Prelude.{◌≡◌, ◌≢◌, ◌++◌, OnOk};
 ghost use Rattle.std.specs.Option.{option_map};
 ghost use Rattle.outside.specs.Causes.{HasCause, Rose};
+ghost use Rattle.outside.specs.Bytes.{PrintsSome};
 ghost use Rattle.outside.specs.Moments.{Elapses};
 ghost use Rattle.outside.specs.Runs.{CallsDisk, Leaves, held_of};
 ghost use Rattle.outside.specs.Durable.{IsSure};
@@ -48,6 +49,7 @@ pub fn keep_body<W: Outside>(outside: &mut W, body: &[u8], line: &[u8]) -> Kept
     ensures time { Elapses W.moment W.left_since outside.old outside.new }
     ensures kept { result ≢ Kept.DiskFault → IsKept W.Outside body.now outside.old outside.new }
     ensures done { result ≡ Kept.Done → W.printed outside.new ≡ option_map (λ start. start ++ line.now) (W.printed outside.old) }
+    ensures cut { result ≡ Kept.PutFault → PrintsSome (W.printed outside.old) (W.printed outside.new) line.now }
     ensures silent { result ≡ Kept.DiskFault → W.printed outside.new ≡ W.printed outside.old }
     ensures disk { result ≡ Kept.DiskFault → Rose (W.disk_faults outside.old) (W.disk_faults outside.new) }
     ensures put { result ≡ Kept.PutFault → Rose (W.put_faults outside.old) (W.put_faults outside.new) }

@@ -65,7 +65,7 @@ only_on G fewer_later old mid new value result first second = record {
   writes = second.writes ∙ first.writes;
   honest = second.honest ∙ first.honest;
   time = elapses-trans G fewer_later old mid new first.time second.time;
-  cause = cause_since (G.put_faults old) (G.put_faults mid) (G.put_faults new) result first.cause.later second.cause;
+  cause = cause_since (G.put_faults old) (G.put_faults mid) (G.put_faults new) value result first.cause second.cause;
   calls = second.calls ∙ first.calls;
   disk = second.disk ∙ first.disk;
 }

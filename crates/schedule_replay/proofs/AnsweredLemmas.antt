@@ -46,7 +46,7 @@ module _ {D W : Type 0} (S : desk.Ghosts D) (G : Ghosts W) (fewer_later : FewerL
     bytes = two.bytes;
     time = elapses-trans G fewer_later before between after one.time two.time;
     disk = omega (arith, one.disk, two.disk);
-    cause = cause_since (G.put_faults before) (G.put_faults between) (G.put_faults after) result one.cause.later two.cause;
+    cause = cause_since (G.put_faults before) (G.put_faults between) (G.put_faults after) value result one.cause two.cause;
   }
 
   module _ (events : List Event) (i : ℕ) (event : Event) (lt : i < length events) (old mid : D) (before between : W) where
@@ -81,13 +81,13 @@ module _ {D W : Type 0} (S : desk.Ghosts D) (G : Ghosts W) (fewer_later : FewerL
     bytes = is.bytes;
     time = is.time;
     disk = is.disk;
-    cause = record { later = is.cause.later; failed = tt };
+    cause = record { later = is.cause.later; failed = tt; done = is.cause.done };
   }
 
   broken_cause : {T U : Type 0} (before after : ℕ) (result : Result T Failed) (other : Result U Failed) → IsErr result → IsErr other → HasCause before after result → HasCause before after other
   broken_cause before after (Ok value) other one two cause = absurd (search (rules, one))
   broken_cause before after (Err failed) (Ok other) one two cause = absurd (search (rules, two))
-  broken_cause before after (Err failed) (Err other) one two cause = record { later = cause.later; failed = cause.failed }
+  broken_cause before after (Err failed) (Err other) one two cause = record { later = cause.later; failed = cause.failed; done = tt }
 
   pub answered_broken : {T U : Type 0} (events : List Event) (old new : D) (before after : W) (result : Result T Failed) (other : Result U Failed) → IsErr result → IsErr other → Answered S G events old new before after result → Answered S G events old new before after other
   answered_broken events old new before after result other one two is = record {
