@@ -30,7 +30,7 @@ module _ {W : Type 0} (G : Ghosts W) where
       writes = puts.only.writes;
       honest = puts.only.honest;
       time = puts.only.time;
-      cause = record { later = puts.only.cause.later; failed = puts.only.cause.failed };
+      cause = record { later = puts.only.cause.later; failed = puts.only.cause.failed; done = tt };
       calls = puts.only.calls;
       disk = puts.only.disk;
     };

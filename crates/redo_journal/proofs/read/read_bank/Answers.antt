@@ -8,7 +8,7 @@ use Rattle.store_format.specs.Bank.{gate_at, bank_held}
 use Rattle.outside.specs.Runs.{held_of}
 use Rattle.redo_journal.specs.Noted.{AreWithin}
 use Rattle.store_format.proofs.Padded.{read_is}
-use Rattle.outside.proofs.Runs.{asks_on}
+use Rattle.outside.proofs.Runs.{asks_one, asks_on}
 use Rattle.redo_journal.proofs.ReadLemmas.{reads_within}
 use Rattle.redo_journal.proofs.BankLemmas.{read_gate, starts, read_closed, read_wrong, read_sound, area_to}
 use Rattle.redo_journal.proofs.read.read_bank.Given.{Over}
@@ -56,12 +56,7 @@ read_at-requires g c = reads_within (g.W.Outside.held c.args.outside.now) (c.arg
 
 pub loop-count-init : goal.loop-count-init
 loop-count-init g c = record {
-  asks = record {
-    calls = record { quiet = c.read_at.ensures.quiet; honest = c.read_at.ensures.honest; time = c.read_at.ensures.time; disk = c.read_at.ensures.cause.later; put = c.read_at.ensures.puts };
-    held = c.read_at.ensures.held;
-    writes = c.read_at.ensures.writes;
-    crash = c.read_at.ensures.crash;
-  };
+  asks = asks_one g.W.Outside c.args.outside.now c.read_at.new.self c.read_at.ensures.held c.read_at.ensures.writes c.read_at.ensures.honest c.read_at.ensures.time c.read_at.ensures.once c.read_at.ensures.quiet c.read_at.ensures.crash c.read_at.ensures.cause.later c.read_at.ensures.puts;
   len = refl;
   placed = λ are. are;
   far = omega arith;

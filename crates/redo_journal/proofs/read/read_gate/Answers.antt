@@ -2,10 +2,10 @@ use Rattle.std.proofs.Common.{◌≡◌, ℕ, ◌+◌, ◌*◌, List, [], length
 use Rattle.std.specs.Prelude.{Option, None, Some, unwrap_or, slice_index, ◌==◌}
 use Rattle.store_format.specs.Bank.{RecordLine, lines_from, wrong_line, gate_if, lined_gate}
 use Rattle.outside.specs.Bytes.{bytes_at}
-use Rattle.outside.specs.Runs.{held_of}
+use Rattle.outside.specs.Runs.{held_of, OnlyAsks}
 use Rattle.redo_journal.specs.Noted.{noted}
 use Rattle.store_format.proofs.Padded.{read_is}
-use Rattle.outside.proofs.Runs.{asks_on}
+use Rattle.outside.proofs.Runs.{asks_on, asks_one}
 use Rattle.redo_journal.proofs.ReadLemmas.{first_read, gate_read}
 use Rattle.redo_journal.proofs.read.read_gate.Given.{Over}
 use Rattle.redo_journal.proofs.read.read_gate.Goals as goal
@@ -36,6 +36,22 @@ same g c = ap (λ (those : Option (List ℕ)). lines_from c.read_u16-count.resul
 still : (g : Over) (c : goal.After-read_lines g) → IsSome (g.W.Outside.held c.args.outside.now) → IsSome (g.W.Outside.held c.read_at-2.new.self)
 still g c some = subst (λ (those : Option (List ℕ)). IsSome those) (sym (c.read_at-2.ensures.held ∙ c.read_at.ensures.held)) some
 
+-- the two reads in front of the lines
+asked : (g : Over) (c : goal.After-read_lines g) → OnlyAsks g.W.Outside c.args.outside.now c.read_at-2.new.self
+asked g c =
+    asks_on g.W.Outside g.met.W.Outside.fewer_later c.args.outside.now c.read_at.new.self c.read_at-2.new.self
+    (asks_one g.W.Outside c.args.outside.now c.read_at.new.self c.read_at.ensures.held c.read_at.ensures.writes c.read_at.ensures.honest c.read_at.ensures.time c.read_at.ensures.once c.read_at.ensures.quiet c.read_at.ensures.crash c.read_at.ensures.cause.later c.read_at.ensures.puts)
+    (asks_one g.W.Outside c.read_at.new.self c.read_at-2.new.self c.read_at-2.ensures.held c.read_at-2.ensures.writes c.read_at-2.ensures.honest c.read_at-2.ensures.time c.read_at-2.ensures.once c.read_at-2.ensures.quiet c.read_at-2.ensures.crash c.read_at-2.ensures.cause.later c.read_at-2.ensures.puts)
+
+pub returns-in_err-offset-clause-asks : goal.returns-in_err-offset-clause-asks
+returns-in_err-offset-clause-asks g c = asks_on g.W.Outside g.met.W.Outside.fewer_later c.args.outside.now c.read_at-2.new.self c.read_lines.new.outside (asked g (goal.at.returns-in_err-offset-clause-asks g c).After-read_lines) c.in_err-offset.ensures.asks
+
+pub returns-in-Some-clause-asks : goal.returns-in-Some-clause-asks
+returns-in-Some-clause-asks g c = asks_on g.W.Outside g.met.W.Outside.fewer_later c.args.outside.now c.read_at-2.new.self c.read_lines.new.outside (asked g (goal.at.returns-in-Some-clause-asks g c).After-read_lines) c.in_ok-offset.ensures.asks
+
+pub returns-in-None-clause-asks : goal.returns-in-None-clause-asks
+returns-in-None-clause-asks g c = asks_on g.W.Outside g.met.W.Outside.fewer_later c.args.outside.now c.read_at-2.new.self c.read_lines.new.outside (asked g (goal.at.returns-in-None-clause-asks g c).After-read_lines) c.in_ok-offset.ensures.asks
+
 pub returns-in-Some-clause-found : goal.returns-in-Some-clause-found
 returns-in-Some-clause-found g c some =
     let at = (goal.at.returns-in-Some-clause-found g c).After-read_lines in
@@ -55,14 +71,4 @@ returns-in-None-clause-found g c some =
 
 pub returns-then-read_u64-due-clause-asks : goal.returns-then-read_u64-due-clause-asks
 returns-then-read_u64-due-clause-asks g c =
-    asks_on g.W.Outside g.met.W.Outside.fewer_later c.args.outside.now c.read_at.new.self c.read_at-2.new.self (record {
-      calls = record { quiet = c.read_at.ensures.quiet; honest = c.read_at.ensures.honest; time = c.read_at.ensures.time; disk = c.read_at.ensures.cause.later; put = c.read_at.ensures.puts };
-      held = c.read_at.ensures.held;
-      writes = c.read_at.ensures.writes;
-      crash = c.read_at.ensures.crash;
-    }) (record {
-      calls = record { quiet = c.read_at-2.ensures.quiet; honest = c.read_at-2.ensures.honest; time = c.read_at-2.ensures.time; disk = c.read_at-2.ensures.cause.later; put = c.read_at-2.ensures.puts };
-      held = c.read_at-2.ensures.held;
-      writes = c.read_at-2.ensures.writes;
-      crash = c.read_at-2.ensures.crash;
-    })
+    asks_on g.W.Outside g.met.W.Outside.fewer_later c.args.outside.now c.read_at.new.self c.read_at-2.new.self (asks_one g.W.Outside c.args.outside.now c.read_at.new.self c.read_at.ensures.held c.read_at.ensures.writes c.read_at.ensures.honest c.read_at.ensures.time c.read_at.ensures.once c.read_at.ensures.quiet c.read_at.ensures.crash c.read_at.ensures.cause.later c.read_at.ensures.puts) (asks_one g.W.Outside c.read_at.new.self c.read_at-2.new.self c.read_at-2.ensures.held c.read_at-2.ensures.writes c.read_at-2.ensures.honest c.read_at-2.ensures.time c.read_at-2.ensures.once c.read_at-2.ensures.quiet c.read_at-2.ensures.crash c.read_at-2.ensures.cause.later c.read_at-2.ensures.puts)

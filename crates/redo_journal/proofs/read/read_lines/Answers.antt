@@ -7,7 +7,7 @@ use Rattle.outside.specs.Bytes.{bytes_at}
 use Rattle.outside.specs.Runs.{OnlyAsks, held_of}
 use Rattle.redo_journal.specs.Noted.{noted, AreWithin}
 use Rattle.store_format.proofs.Padded.{read_is}
-use Rattle.outside.proofs.Runs.{asks_on}
+use Rattle.outside.proofs.Runs.{asks_on, asks_one}
 use Rattle.redo_journal.proofs.WithinLemmas.{within-overlaid}
 use Rattle.store_format.proofs.Lines.{in_order}
 use Rattle.redo_journal.proofs.ReadLemmas.{lines_after, wrong_here, right_here, noted_here, is_low, is_high, reads_within}
@@ -26,12 +26,7 @@ read g c some =
 -- the reads so far and this one
 asked : (g : Over) (c : goal.After-read_u32-line g) → OnlyAsks g.W.Outside c.args.outside.now c.read_at.new.self
 asked g c =
-    asks_on g.W.Outside g.met.W.Outside.fewer_later c.args.outside.now c.loop-i.outside c.read_at.new.self c.loop-i.invariant.asks (record {
-      calls = record { quiet = c.read_at.ensures.quiet; honest = c.read_at.ensures.honest; time = c.read_at.ensures.time; disk = c.read_at.ensures.cause.later; put = c.read_at.ensures.puts };
-      held = c.read_at.ensures.held;
-      writes = c.read_at.ensures.writes;
-      crash = c.read_at.ensures.crash;
-    })
+    asks_on g.W.Outside g.met.W.Outside.fewer_later c.args.outside.now c.loop-i.outside c.read_at.new.self c.loop-i.invariant.asks (asks_one g.W.Outside c.loop-i.outside c.read_at.new.self c.read_at.ensures.held c.read_at.ensures.writes c.read_at.ensures.honest c.read_at.ensures.time c.read_at.ensures.once c.read_at.ensures.quiet c.read_at.ensures.crash c.read_at.ensures.cause.later c.read_at.ensures.puts)
 
 pub returns-then-from-least-clause-asks : goal.returns-then-from-least-clause-asks
 returns-then-from-least-clause-asks g c = asked g (goal.at.returns-then-from-least-clause-asks g c).After-read_u32-line

@@ -2,19 +2,14 @@ use Rattle.std.proofs.Common.{ℕ, List, IsTrue, IsSome, sym, subst}
 use Rattle.std.specs.Prelude.{Option}
 use Rattle.outside.specs.Durable.{IsSure}
 use Rattle.outside.specs.Runs.{OnlyAsks}
-use Rattle.outside.proofs.Runs.{asks_on}
+use Rattle.outside.proofs.Runs.{asks_on, asks_one}
 use Rattle.restart.proofs.ShowLemmas.{sure_on}
 use Rattle.restart.proofs.start.start.Given.{Over}
 use Rattle.restart.proofs.start.start.Goals as goal
 use Rattle.restart.proofs.start.start.Goals.{After-read_header, After-read_selector}
 
 synced : (g : Over) (c : goal.After-read_header g) → OnlyAsks g.W.Outside c.args.outside.now c.sync.new.self
-synced g c = record {
-  calls = record { quiet = c.sync.ensures.quiet; honest = c.sync.ensures.honest; time = c.sync.ensures.time; disk = c.sync.ensures.cause.later; put = c.sync.ensures.puts };
-  held = c.sync.ensures.held;
-  writes = c.sync.ensures.writes;
-  crash = c.sync.ensures.crash;
-}
+synced g c = asks_one g.W.Outside c.args.outside.now c.sync.new.self c.sync.ensures.held c.sync.ensures.writes c.sync.ensures.honest c.sync.ensures.time c.sync.ensures.once c.sync.ensures.quiet c.sync.ensures.crash c.sync.ensures.cause.later c.sync.ensures.puts
 
 headed : (g : Over) (c : goal.After-read_header g) → OnlyAsks g.W.Outside c.args.outside.now c.read_header.new.outside
 headed g c = asks_on g.W.Outside g.met.W.Outside.fewer_later c.args.outside.now c.sync.new.self c.read_header.new.outside (synced g c) c.read_header.ensures.asks

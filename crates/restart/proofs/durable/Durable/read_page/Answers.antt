@@ -5,7 +5,7 @@ use Rattle.store_format.specs.Header.{home_at, total}
 use Rattle.store_format.specs.Stands.{home_of}
 use Rattle.outside.specs.Bytes.{bytes_at}
 use Rattle.outside.specs.Runs.{held_of}
-use Rattle.outside.proofs.Runs.{asks_on}
+use Rattle.outside.proofs.Runs.{asks_on, asks_one}
 use Rattle.outside.proofs.Durable.{told_some}
 use Rattle.redo_journal.specs.Kept.{area_end}
 use Rattle.store_format.proofs.Padded.{read_is}
@@ -22,12 +22,7 @@ loop-i-init g c =
     let held = held_of G c.args.outside.now in
     let header = c.self.inside.header in
     record {
-      asks = record {
-        calls = record { quiet = c.read_at.ensures.quiet; honest = c.read_at.ensures.honest; time = c.read_at.ensures.time; disk = c.read_at.ensures.cause.later; put = c.read_at.ensures.puts };
-        held = c.read_at.ensures.held;
-        writes = c.read_at.ensures.writes;
-        crash = c.read_at.ensures.crash;
-      };
+      asks = asks_one g.W.Outside c.args.outside.now c.read_at.new.self c.read_at.ensures.held c.read_at.ensures.writes c.read_at.ensures.honest c.read_at.ensures.time c.read_at.ensures.once c.read_at.ensures.quiet c.read_at.ensures.crash c.read_at.ensures.cause.later c.read_at.ensures.puts;
       len = c.read_at.auto.into ∙ c.requires.whole;
       composed = λ told.
           composed_none held header c.self.inside.bank.newest (c.from-first.result * 16) c.read_at.new.into
