@@ -1,5 +1,5 @@
 -- Labels and values, as they are collected one after the other.
-use Rattle.std.proofs.Common.{◌≡◌, ℕ, pos, suc, ◌+◌, ◌^◌, ◌<◌, Bool, true, false, cond, List, [], ◌∷◌, ◌++◌, length, take, get_or, Option, Some, None, Result, Ok, Err, refl, arith, length-take-le, to_z, w64}
+use Rattle.std.proofs.Common.{◌≡◌, ℕ, pos, suc, ◌+◌, ◌^◌, ◌<◌, Bool, true, false, cond, List, [], ◌∷◌, ◌++◌, length, take, get_or, Option, Some, None, Result, Ok, Err, min, refl, ap, append_assoc, arith, length-take-le, to_z, w64}
 use Rattle.std.proofs.lemmas.Int.{ints}
 use Rattle.std.proofs.lemmas.List.{take_more}
 use Rattle.std.proofs.lemmas.List.Sums.{sum_by-cons, sum_by_push}
@@ -8,16 +8,32 @@ use Rattle.romp_asm.specs.declared.value.Known.{Known}
 use Rattle.romp_asm.specs.declared.value.Place.{Place}
 use Rattle.romp_asm.specs.Labels.{noted, place_from, place_of}
 use Rattle.romp_asm.specs.Size.{size_of, total}
-use Rattle.romp_asm.specs.Value.{is_labelled}
+use Rattle.romp_asm.specs.Value.{is_labelled, known_before, least_kind}
 
--- operands behind those that were read
-abbrev pub knowns_behind : List Known → Result (List Known) ℕ → Result (List Known) ℕ
-knowns_behind read (Ok others) = Ok (read ++ others)
-knowns_behind read (Err kind) = Err kind
+-- operands behind those that were read, of which some may have had no value
+abbrev pub knowns_behind : List Known → Option ℕ → Result (List Known) ℕ → Result (List Known) ℕ
+knowns_behind read None (Ok others) = Ok (read ++ others)
+knowns_behind read None (Err kind) = Err kind
+knowns_behind read (Some kind) (Ok others) = Err kind
+knowns_behind read (Some kind) (Err other) = Err (min kind other)
 
-pub behind_nothing : (others : Result (List Known) ℕ) → knowns_behind [] others ≡ others
+pub behind_nothing : (others : Result (List Known) ℕ) → knowns_behind [] None others ≡ others
 behind_nothing (Ok others) = refl
 behind_nothing (Err kind) = refl
+
+-- one operand more that has a value
+pub behind_value : (read : List Known) (fault : Option ℕ) (known : Known) (others : Result (List Known) ℕ) → knowns_behind (read ++ known ∷ []) fault others ≡ knowns_behind read fault (known_before (Ok known) others)
+behind_value read None known (Ok others) = ap Ok (append_assoc read (known ∷ []) others)
+behind_value read None known (Err kind) = refl
+behind_value read (Some kind) known (Ok others) = refl
+behind_value read (Some kind) known (Err other) = refl
+
+-- one operand more that has none
+pub behind_fault : (read : List Known) (fault : Option ℕ) (kind : ℕ) (others : Result (List Known) ℕ) → knowns_behind read (Some (least_kind fault kind)) others ≡ knowns_behind read fault (known_before (Err kind) others)
+behind_fault read None kind (Ok others) = refl
+behind_fault read None kind (Err other) = refl
+behind_fault read (Some first) kind (Ok others) = refl
+behind_fault read (Some first) kind (Err other) = ap Err (omega arith)
 
 noted_first : (first labelled : Bool) (place later : Place) (others after : Option Place) → after ≡ noted others labelled later → cond first (Some place) after ≡ noted (cond first (Some place) others) labelled later
 noted_first true labelled place later others after e = refl

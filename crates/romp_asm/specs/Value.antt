@@ -1,5 +1,5 @@
 -- Labels and the values of expressions.
-use Rattle.std.specs.Prelude.{ℕ, ℤ, pos, negsuc, suc, ◌+◌, ◌^◌, ◌-◌, ◌+ℤ◌, nat_le, if◌then◌else◌, Bool, false, List, [], ◌∷◌, Option, Some, None, Result, Ok, Err}
+use Rattle.std.specs.Prelude.{ℕ, ℤ, pos, negsuc, suc, ◌+◌, ◌^◌, ◌-◌, ◌+ℤ◌, nat_le, min, if◌then◌else◌, Bool, false, List, [], ◌∷◌, Option, Some, None, Result, Ok, Err}
 use Rattle.std.specs.Option.{option_map, option_map_or}
 use Rattle.std.specs.Str.{bytes_eq}
 use Rattle.asm_parse.specs.declared.statement.Statement.{Statement}
@@ -61,13 +61,19 @@ known_of addresses (operand.Value value) = result_map known.Value (value_of addr
 known_of addresses (operand.Place displacement register) =
     result_map (λ value. known.Place value register) (value_of addresses displacement)
 
--- one operand before others, or the kind of the first that has no value
+-- the lesser of the kinds of two faults, of which the first may be none
+abbrev pub least_kind : Option ℕ → ℕ → ℕ
+least_kind (Some other) kind = min other kind
+least_kind None kind = kind
+
+-- one operand before others, or the least kind of those that have no value
 abbrev pub known_before : Result Known ℕ → Result (List Known) ℕ → Result (List Known) ℕ
 known_before (Ok first) (Ok others) = Ok (first ∷ others)
 known_before (Ok first) (Err kind) = Err kind
-known_before (Err kind) others = Err kind
+known_before (Err kind) (Ok others) = Err kind
+known_before (Err kind) (Err other) = Err (min kind other)
 
--- operands with their values
+-- operands with their values, or the least kind of those that have none
 abbrev pub knowns_of : (List ℕ → Option ℤ) → List Operand → Result (List Known) ℕ
 knowns_of addresses [] = Ok []
 knowns_of addresses (first ∷ others) = known_before (known_of addresses first) (knowns_of addresses others)

@@ -1,6 +1,6 @@
 ghost use Rattle.std.specs.Prelude.{◌≡◌, ◌≤◌, ◌<◌, ◌^◌, ◌+ℤ◌, ℕ, List, length, IfOk, OnOk, MatchResult, Ok, Err};
 ghost use Rattle.std.specs.Option.{option_map};
-ghost use Rattle.romp_asm.specs.Value.{is_labelled, known_of, knowns_of, value_of, within_reach};
+ghost use Rattle.romp_asm.specs.Value.{is_labelled, known_of, knowns_of, least_kind, value_of, within_reach};
 ghost use Rattle.romp_asm.specs.Labels.{addresses_in, found_in, noted, place_of};
 
 use super::field::{OUT_OF_REACH, UNKNOWN_LABEL};
@@ -122,18 +122,32 @@ fn known_of(labels: &Labels<'_>, operand: &Operand) -> Result<Known, u8>
     }
 }
 
-/// Operands with their values.
+/// Operands with their values, or the least kind of those that have none.
 pub(crate) fn knowns_of(labels: &Labels<'_>, operands: &[Operand]) -> Result<ArrayVec<Known, 4>, u8>
     requires { length operands.now ≤ 4 }
     ensures { MatchResult result (λ knowns. knowns_of (addresses_in labels.now) operands.now ≡ Ok knowns.items)
         (λ kind. knowns_of (addresses_in labels.now) operands.now ≡ Err kind) }
 {
     let mut knowns = ArrayVec::new();
+    let mut fault = None;
     for operand in operands {
         match known_of(labels, operand) {
             Ok(known) => knowns.push(known),
-            Err(kind) => return Err(kind),
+            Err(kind) => fault = Some(least(fault, kind)),
         }
     }
-    Ok(knowns)
+    match fault {
+        None => Ok(knowns),
+        Some(kind) => Err(kind),
+    }
+}
+
+/// The lesser of the kinds of two faults, of which the first may be none.
+fn least(fault: Option<u8>, kind: u8) -> u8
+    ensures { result ≡ least_kind fault kind }
+{
+    match fault {
+        Some(other) => other.min(kind),
+        None => kind,
+    }
 }

@@ -1,4 +1,4 @@
-use Rattle.std.proofs.Common.{◌≡◌, length, drop}
+use Rattle.std.proofs.Common.{◌≡◌, ◌≤◌, length, drop}
 use Rattle.romp_asm.specs.Labels.{addresses_in}
 use Rattle.romp_asm.specs.Value.{knowns_of}
 use Rattle.romp_asm.proofs.ValueLemmas.{knowns_behind}
@@ -6,6 +6,6 @@ use Rattle.romp_asm.proofs.value.knowns_of.Given as goal
 
 abbrev pub invariant-loop-operand : goal.invariant-loop-operand
 invariant-loop-operand l = record {
-  count : length l.knowns.items ≡ l.operand-index;
-  so_far : knowns_behind l.knowns.items (knowns_of (addresses_in l.labels) (drop l.operand-index l.operands)) ≡ knowns_of (addresses_in l.labels) l.operands;
+  count : length l.knowns.items ≤ l.operand-index;
+  so_far : knowns_behind l.knowns.items l.fault (knowns_of (addresses_in l.labels) (drop l.operand-index l.operands)) ≡ knowns_of (addresses_in l.labels) l.operands;
 }
