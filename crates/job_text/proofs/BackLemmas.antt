@@ -1,5 +1,5 @@
 -- A job that some text has can be run, and is the job of what is written of it.
-use Rattle.std.proofs.Common.{◌≡◌, ℕ, suc, ◌+◌, map, List, [], ◌∷◌, ◌++◌, length, Ok, Err, Result, sym, ◌∙◌, subst, arith}
+use Rattle.std.proofs.Common.{◌≡◌, ℕ, suc, ◌+◌, ◌<◌, ◌^◌, map, List, [], ◌∷◌, ◌++◌, length, Ok, Err, Result, sym, ◌∙◌, subst, arith}
 use Rattle.std.specs.List.{All, AllByRecursion, zip}
 use Rattle.std.specs.Prelude.{IfOk}
 use Rattle.std.proofs.lemmas.List.{length-map}
@@ -10,13 +10,15 @@ use Rattle.romp_asm.specs.Layout.{Parts, parts_of}
 use Rattle.romp_asm.proofs.MadeLemmas.{IsByte}
 use Rattle.job_text.specs.declared.job.Job.{Job}
 use Rattle.job_text.specs.declared.job.JobFault.{JobFault}
-use Rattle.job_text.specs.Form.{HasPrograms}
+use Rattle.job_text.specs.Form.{HasPrograms, IsJobText}
 use Rattle.job_text.specs.Grammar.{content_of, job_of}
 use Rattle.job_text.specs.JobAnswers.{IsJobAnswer}
 use Rattle.job_text.specs.Ready.{IsEventAmong, IsReady}
 use Rattle.job_text.specs.Written.{AreBytes, written}
 use Rattle.job_text.proofs.FormLemmas.{has_form}
 use Rattle.job_text.proofs.FormReadLemmas.{form_read}
+use Rattle.job_text.proofs.LengthLemmas.{written_short}
+use Rattle.job_text.proofs.NameLemmas.{job_names}
 use Rattle.job_text.proofs.ReadyLemmas.{events_among}
 use Rattle.job_text.proofs.WrittenFormLemmas.{AllSound, written_form}
 
@@ -41,14 +43,24 @@ all_sound (name ∷ names) (program ∷ programs) long are = (
   all_sound names programs (omega arith) are.1,
 )
 
+-- the programs of a job that some text has are sound
+job_sound : (text : List ℕ) (job : Job) → All (λ (program : List ℕ × Parts). AreBytes program.1.image) (zip (content_of job).names (content_of job).programs) → IsJobText text (content_of job) → AllSound (content_of job).programs
+job_sound text job are form =
+    let content = content_of job in
+    all_sound content.names job.programs.items (as_many [] (length form.blank + 2) content.names content.programs form.program_lines form.programs) (recursion_from_All (λ (program : List ℕ × Parts). AreBytes program.1.image) (zip content.names content.programs) are)
+
+-- what a job of some text is written as is short
+pub short_back : (text : List ℕ) (job : Job) → All (λ (program : List ℕ × Parts). AreBytes program.1.image) (zip (content_of job).names (content_of job).programs) → job_of text ≡ Ok (content_of job) → length (written (content_of job)) < 2 ^ 23
+short_back text job are is =
+    let form = has_form text (content_of job) is in
+    written_short text (content_of job) form (job_sound text job are form)
+
 -- the job of some text is the job of what is written of it
 pub read_back : (text : List ℕ) (job : Job) → All (λ (program : List ℕ × Parts). AreBytes program.1.image) (zip (content_of job).names (content_of job).programs) → job_of text ≡ Ok (content_of job) → job_of (written (content_of job)) ≡ Ok (content_of job)
 read_back text job are is =
     let content = content_of job in
     let form = has_form text content is in
-    form_read (written content) content
-    (written_form text content form
-    (all_sound content.names job.programs.items (as_many [] (length form.blank + 2) content.names content.programs form.program_lines form.programs) (recursion_from_All (λ (program : List ℕ × Parts). AreBytes program.1.image) (zip content.names content.programs) are)))
+    form_read (written content) content (written_form text content form (job_sound text job are form))
 
 -- the job of a text can be run
 job_ready : (text : List ℕ) (job : Job) → job_of text ≡ Ok (content_of job) → IsReady job
@@ -61,6 +73,7 @@ job_ready text job is =
     record {
       frames = form.frames.range;
       named = sym names ∙ many ∙ programs;
+      names = job_names job.names.items (length form.blank + 2) content.programs form.program_lines form.programs;
       events = subst (λ (n : ℕ). All (IsEventAmong n) job.events.items) (many ∙ programs) (events_among content.names 0 form.event_lines content.events form.events);
       few = form.few_events;
     }

@@ -9,3 +9,5 @@ pub mod WrittenLemmas
 pub mod SourceLemmas
 pub mod BackLemmas
 pub mod PutLemmas
+pub mod NameLemmas
+pub mod LengthLemmas

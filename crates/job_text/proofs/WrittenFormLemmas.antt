@@ -24,7 +24,7 @@ use Rattle.job_text.proofs.SourceLemmas.{IsSound, all_both, end_tokens, program_
 use Rattle.job_text.proofs.WrittenLemmas.{written_line, written_tokens}
 
 -- lines of tokens that can be written
-abbrev AreTokens : List (List Token) → Type 0
+abbrev pub AreTokens : List (List Token) → Type 0
 AreTokens lines = AllByRecursion (AllByRecursion IsToken) lines
 
 abbrev pub AllSound : List Parts → Type 0
@@ -180,8 +180,9 @@ module _ (text : List ℕ) (content : Content) (form : IsJobText text content) (
   events_are : AreTokens events × HasEvents content.names 0 (map tokens_text events) content.events
   events_are = events_form content.names 0 form.event_lines content.events form.events (omega (arith, form.few_events))
 
-  are : AreTokens (job_lines content)
-  are = all_both (AllByRecursion IsToken) (head ++ (schedule ∷ events)) (end_line ∷ [])
+  -- its lines can be written
+  pub job_tokens : AreTokens (job_lines content)
+  job_tokens = all_both (AllByRecursion IsToken) (head ++ (schedule ∷ events)) (end_line ∷ [])
       (all_both (AllByRecursion IsToken) head (schedule ∷ events) (frames_tokens, programs_are.0) (schedule_tokens, events_are.0))
       (end_tokens, tt)
 
@@ -195,7 +196,7 @@ module _ (text : List ℕ) (content : Content) (form : IsJobText text content) (
     end_line = tokens_text end_line;
     tail = [];
     all = ap lines_of (sym (append-nil (written content)))
-        ∙ lines_written (job_lines content) [] are
+        ∙ lines_written (job_lines content) [] job_tokens
         ∙ ap (λ lines. lines ++ ([] ∷ [])) (map-append tokens_text (head ++ (schedule ∷ events)) (end_line ∷ []) ∙ ap (λ lines. lines ++ (tokens_text end_line ∷ [])) (map-append tokens_text head (schedule ∷ events)))
         ∙ append_assoc (map tokens_text head ++ map tokens_text (schedule ∷ events)) (tokens_text end_line ∷ []) ([] ∷ [])
         ∙ append_assoc (map tokens_text head) (map tokens_text (schedule ∷ events)) (tokens_text end_line ∷ [] ∷ []);

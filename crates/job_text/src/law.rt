@@ -2,6 +2,7 @@
 ghost use Rattle.std.specs.Prelude.{◌≡◌, ◌⊎◌, ℕ, List, Err};
 ghost use Rattle.job_text.specs.Form.{FaultsEndTheReading, IsJobText, JobsHaveTheirForm};
 ghost use Rattle.job_text.specs.Grammar.{Content, job_of};
+ghost use Rattle.job_text.specs.Ready.{NamesHaveNoFeed};
 
 /// A text is a job exactly where it has the form of one: frames, programs, a schedule of events and `end`, as
 /// docs/FORMATS.md, "Job", says. Then it is that job.
@@ -20,4 +21,9 @@ pub fn a_text_has_one_answer()
 /// whatever follows the lines of the text.
 pub fn faults_end_the_reading()
     ensures { FaultsEndTheReading }
+{}
+
+/// No byte of a name is a line feed, so a report's line that has a name is one line.
+pub fn names_have_no_line_feed()
+    ensures { NamesHaveNoFeed }
 {}

@@ -11,6 +11,9 @@ mod tests;
 mod writer;
 
 pub use grammar::read_job;
+pub use desk::Event;
 pub use job::{Job, JobFault, Name};
-pub use law::{a_text_has_one_answer, faults_end_the_reading, jobs_have_their_form};
+pub use law::{
+    a_text_has_one_answer, faults_end_the_reading, jobs_have_their_form, names_have_no_line_feed,
+};
 pub use writer::write_job;

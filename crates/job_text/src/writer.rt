@@ -1,5 +1,5 @@
 // Jobs as texts (docs/FORMATS.md, "Job").
-ghost use Rattle.std.specs.Prelude.{◌≡◌, ℕ, List, [], ◌∷◌, ◌++◌, map, codes, decimal, slice_index_or, None, Some, Ok, IfOk, OnOk};
+ghost use Rattle.std.specs.Prelude.{◌≡◌, ◌<◌, ◌^◌, ℕ, List, [], ◌∷◌, ◌++◌, length, map, codes, decimal, slice_index_or, None, Some, Ok, IfOk, OnOk};
 ghost use Rattle.std.specs.List.{All, flat_map, zip};
 ghost use Rattle.asm_parse.specs.declared.token.Token.TheVariants.{Word as WordToken, Number as NumberToken};
 ghost use Rattle.romp_asm.specs.Layout.{parts_of};
@@ -15,13 +15,15 @@ use std::alloc::{AllocError, Global};
 /// The text of a job, from `frames` to the last `end`: each program by its entry address, its windows and its bytes,
 /// each begin with all four values, and no drains (docs/FORMATS.md, "Job").
 ///
-/// For each job that some text has, [`read_job`](super::read_job) of this text gives a job that says the same.
+/// For each job that some text has, this text has fewer than 2^23 bytes, so that [`read_job`](super::read_job) takes it,
+/// and gives a job that says the same.
 ///
 /// # Errors
 ///
 /// [`AllocError`] where there is no memory.
 pub fn write_job(alloc: Global, job: &Job) -> Result<Vec<u8>, AllocError>
     ensures text { IfOk result (λ text. text.items ≡ written (content_of job.now)) }
+    ensures short { IfOk result (λ text. (other : List ℕ) → job_of other ≡ Ok (content_of job.now) → length text.items < 2 ^ 23) }
     ensures back { IfOk result (λ text. (other : List ℕ) → job_of other ≡ Ok (content_of job.now) → job_of text.items ≡ Ok (content_of job.now)) }
 {
     let mut text = Vec::new(alloc);

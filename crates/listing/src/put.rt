@@ -20,9 +20,11 @@ pub fn put_program<W: Outside>(
     requires short { length name.now ≤ 31 }
     ensures { Puts W.Outside (listing_of name.now program.now.image program.now.entry program.now.windows) outside.old outside.new result }
 {
-    put(program_text(name, program).as_slice(), outside)?;
-    put_windows(&program.windows, outside)?;
-    put_rows(0, program.image.as_slice(), outside)
+    let mut text = TextLine::new();
+    program_text(&mut text, name, program);
+    put(text.as_slice(), outside)?;
+    put_windows(&mut text, &program.windows, outside)?;
+    put_rows_from(&mut text, 0, program.image.as_slice(), outside)
 }
 
 /// Puts bytes in rows of sixteen, each row by one put; the offset of the first byte is given
@@ -35,26 +37,44 @@ pub fn put_rows<W: Outside>(first: u32, bytes: &[u8], outside: &mut W) -> Result
     requires { first + length bytes.now ≤ 2 ^ 32 }
     ensures { Puts W.Outside (row_lines first bytes.now) outside.old outside.new result }
 {
+    put_rows_from(&mut TextLine::new(), first, bytes, outside)
+}
+
+/// The same, from the room of a line.
+fn put_rows_from<W: Outside>(
+    text: &mut TextLine,
+    first: u32,
+    bytes: &[u8],
+    outside: &mut W,
+) -> Result<(), Failed>
+    requires { first + length bytes.now ≤ 2 ^ 32 }
+    ensures { Puts W.Outside (row_lines first bytes.now) outside.old outside.new result }
+{
     for row in 0..bytes.len().div_ceil(16) {
         let at = 16 * row;
-        let text = row_text(first + at as u32, row_at(bytes, at));
+        row_text(text, first + at as u32, row_at(bytes, at));
         put(text.as_slice(), outside)?;
     }
     Ok(())
 }
 
 /// Puts the lines of windows, by their registers from 1 on.
-fn put_windows<W: Outside>(windows: &[Option<Window>; 15], outside: &mut W) -> Result<(), Failed>
+fn put_windows<W: Outside>(
+    text: &mut TextLine,
+    windows: &[Option<Window>; 15],
+    outside: &mut W,
+) -> Result<(), Failed>
     ensures { Puts W.Outside (window_lines windows.now) outside.old outside.new result }
 {
     for (index, place) in windows.iter().enumerate() {
-        put_place(index as u64 + 1, place, outside)?;
+        put_place(text, index as u64 + 1, place, outside)?;
     }
     Ok(())
 }
 
 /// Puts the line of the window under a register, if there is one.
 fn put_place<W: Outside>(
+    text: &mut TextLine,
     register: u64,
     place: &Option<Window>,
     outside: &mut W,
@@ -62,7 +82,10 @@ fn put_place<W: Outside>(
     ensures { Puts W.Outside (place_line register place.now) outside.old outside.new result }
 {
     match place {
-        Some(window) => put(window_text(register, window).as_slice(), outside),
+        Some(window) => {
+            window_text(text, register, window);
+            put(text.as_slice(), outside)
+        }
         None => Ok(()),
     }
 }
@@ -75,29 +98,27 @@ fn put<W: Outside>(line: &[u8], outside: &mut W) -> Result<(), Failed>
 }
 
 /// The first line of a program.
-fn program_text(name: &[u8], program: &Program) -> TextLine
+fn program_text(text: &mut TextLine, name: &[u8], program: &Program)
     requires { length name.now ≤ 31 }
-    ensures { result ≡ program_line name.now program.now.image program.now.entry }
+    ensures { text.new ≡ program_line name.now program.now.image program.now.entry }
 {
-    let mut text = TextLine::new(b"program");
+    text.begin(b"program");
     text.word(name);
     text.part(b"bytes", program.image.len() as u64);
     text.word(b"entry");
     text.word(&digits_of(u32::from(program.entry)));
     text.end();
-    text
 }
 
 /// The line of the window under a register.
-fn window_text(register: u64, window: &Window) -> TextLine
-    ensures { result ≡ window_line register window.now }
+fn window_text(text: &mut TextLine, register: u64, window: &Window)
+    ensures { text.new ≡ window_line register window.now }
 {
-    let mut text = TextLine::new(b"window");
+    text.begin(b"window");
     text.number(register);
     text.part(b"segment", u64::from(window.segment));
     text.word(if window.write { b"rw" } else { b"r" });
     text.end();
-    text
 }
 
 /// The sixteen bytes from a place on, or what remains.
@@ -111,14 +132,13 @@ fn row_at(bytes: &[u8], at: usize) -> &[u8]
 }
 
 /// A row of at most sixteen bytes, the first of which has this offset.
-fn row_text(offset: u32, bytes: &[u8]) -> TextLine
+fn row_text(text: &mut TextLine, offset: u32, bytes: &[u8])
     requires { length bytes.now ≤ 16 }
-    ensures { result ≡ row_line offset bytes.now }
+    ensures { text.new ≡ row_line offset bytes.now }
 {
-    let mut text = TextLine::new(&digits_of(offset));
+    text.begin(&digits_of(offset));
     text.hex(bytes);
     text.end();
-    text
 }
 
 /// A number in eight hexadecimal digits.

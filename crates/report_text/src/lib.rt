@@ -5,4 +5,4 @@ mod line;
 mod put;
 
 pub use line::Line;
-pub use put::put_line;
+pub use put::{Reporter, put_line};

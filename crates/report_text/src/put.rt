@@ -11,7 +11,7 @@ use byteorder::{BigEndian, ByteOrder};
 use outside::{Failed, Outside};
 use text_line::TextLine;
 
-/// Puts a line, whole and with its line feed, by one put. It takes no memory.
+/// Puts a line, whole and with its line feed, by one put, from a room of its own. It takes no memory.
 ///
 /// # Errors
 ///
@@ -28,105 +28,137 @@ pub fn put_line<W: Outside>(line: &Line, outside: &mut W) -> Result<(), Failed>
     ensures calls { (W.moment outside.new).calls ≡ (W.moment outside.old).calls }
     ensures disk { W.disk_faults outside.new ≡ W.disk_faults outside.old }
 {
-    let text = text_of(line);
-    outside.put(text.as_slice())
+    Reporter::new().put(line, outside)
+}
+
+/// What puts one line after another, from one room that it keeps.
+#[derive(Drop)]
+pub struct Reporter {
+    text: TextLine,
+}
+
+impl Reporter {
+    /// With an empty room.
+    pub fn new() -> Self {
+        Reporter {
+            text: TextLine::new(),
+        }
+    }
+
+    /// Puts a line, whole and with its line feed, by one put. It takes no memory.
+    ///
+    /// # Errors
+    ///
+    /// `Failed` where the put failed; a prefix of the line is printed then.
+    pub fn put<W: Outside>(&mut self, line: &Line, outside: &mut W) -> Result<(), Failed>
+        requires short { IsShort line.now }
+        ensures printed { Prints (W.printed outside.old) (W.printed outside.new) (line_text (line_told line.now)) result }
+        ensures held { W.held outside.new ≡ W.held outside.old }
+        ensures writes { W.writes outside.new ≡ W.writes outside.old }
+        ensures honest { W.is_honest outside.new ≡ W.is_honest outside.old }
+        ensures time { Elapses W.moment W.left_since outside.old outside.new }
+        ensures crash { Shows (line_text (line_told line.now)) W.moment W.left_since outside.old outside.new }
+        ensures cause { HasCause (W.put_faults outside.old) (W.put_faults outside.new) result }
+        ensures calls { (W.moment outside.new).calls ≡ (W.moment outside.old).calls }
+        ensures disk { W.disk_faults outside.new ≡ W.disk_faults outside.old }
+    {
+        fill(&mut self.text, line);
+        outside.put(self.text.as_slice())
+    }
 }
 
 /// The whole text of a line, with its line feed.
-fn text_of(line: &Line) -> TextLine
+fn fill(text: &mut TextLine, line: &Line)
     requires short { IsShort line.now }
-    ensures { result ≡ line_text (line_told line.now) }
+    ensures { text.new ≡ line_text (line_told line.now) }
 {
-    let mut text = begun(line);
+    begin(text, line);
     text.end();
-    text
 }
 
 /// The text of a line without its line feed.
-fn begun(line: &Line) -> TextLine
+fn begin(text: &mut TextLine, line: &Line)
     requires short { IsShort line.now }
-    ensures text { result ++ 10 ∷ [] ≡ line_text (line_told line.now) }
-    ensures room { length result ≤ 8300 }
+    ensures text { text.new ++ 10 ∷ [] ≡ line_text (line_told line.now) }
+    ensures room { length text.new ≤ 8300 }
 {
     match *line {
-        Line::Open(number) => numbered(b"open", number),
-        Line::Begin(activation, name) => named(b"begin", activation, name),
-        Line::Busy(activation, name) => named(b"busy", activation, name),
+        Line::Open(number) => numbered(text, b"open", number),
+        Line::Begin(activation, name) => named(text, b"begin", activation, name),
+        Line::Busy(activation, name) => named(text, b"busy", activation, name),
         Line::NoSegment(activation, name, segment) => {
-            let mut text = named(b"nosegment", activation, name);
+            named(text, b"nosegment", activation, name);
             text.number(u64::from(segment));
-            text
         }
-        Line::Idle(activation) => numbered(b"idle", u64::from(activation)),
+        Line::Idle(activation) => numbered(text, b"idle", u64::from(activation)),
         Line::Turn {
             activation,
             ran,
             pages,
             locks,
         } => {
-            let mut text = numbered(b"turn", u64::from(activation));
+            numbered(text, b"turn", u64::from(activation));
             text.part(b"ran", u64::from(ran));
             text.part(b"page", u64::from(pages));
             text.part(b"lock", u64::from(locks));
-            text
         }
-        Line::Victim(activation) => numbered(b"victim", u64::from(activation)),
-        Line::Disk(activation) => numbered(b"disk", u64::from(activation)),
+        Line::Victim(activation) => numbered(text, b"victim", u64::from(activation)),
+        Line::Disk(activation) => numbered(text, b"disk", u64::from(activation)),
         Line::Doubt(activation, number) => {
-            let mut text = numbered(b"doubt", u64::from(activation));
+            numbered(text, b"doubt", u64::from(activation));
             text.part(b"number", number);
-            text
         }
-        Line::Closed => TextLine::new(b"closed"),
-        Line::Stored(number) => numbered(b"stored", number),
-        Line::Lost(activation) => numbered(b"lost", u64::from(activation)),
-        Line::Left(activation) => numbered(b"left", u64::from(activation)),
-        Line::End(number) => numbered(b"end", number),
-        Line::Cycle(members) => listed(TextLine::new(b"cycle"), members),
+        Line::Closed => text.begin(b"closed"),
+        Line::Stored(number) => numbered(text, b"stored", number),
+        Line::Lost(activation) => numbered(text, b"lost", u64::from(activation)),
+        Line::Left(activation) => numbered(text, b"left", u64::from(activation)),
+        Line::End(number) => numbered(text, b"end", number),
+        Line::Cycle(members) => {
+            text.begin(b"cycle");
+            listed(text, members);
+        }
         Line::Wait(activation, holders) => {
-            let mut text = numbered(b"wait", u64::from(activation));
+            numbered(text, b"wait", u64::from(activation));
             text.word(b"for");
-            listed(text, holders)
+            listed(text, holders);
         }
         Line::Commit {
             activation,
             number,
             steps,
             out,
-        } => commit(activation, number, steps, out),
+        } => commit(text, activation, number, steps, out),
         Line::Check {
             activation,
             code,
             iar,
         } => {
-            let mut text = numbered(b"check", u64::from(activation));
+            numbered(text, b"check", u64::from(activation));
             text.part(b"code", u64::from(code));
             text.word(b"at");
             let mut address = [0; 4];
             BigEndian::write_u32(&mut address, iar);
             text.hex(&address);
-            text
         }
         Line::Journal {
             activation,
             lines,
             limit,
         } => {
-            let mut text = numbered(b"journal", u64::from(activation));
+            numbered(text, b"journal", u64::from(activation));
             text.part(b"lines", u64::from(lines));
             text.part(b"limit", u64::from(limit));
-            text
         }
     }
 }
 
 /// The commit line, with a dash where nothing was printed.
-fn commit(activation: u32, number: u64, steps: u64, out: &[u8]) -> TextLine
+fn commit(text: &mut TextLine, activation: u32, number: u64, steps: u64, out: &[u8])
     requires { length out.now ≤ 4096 }
-    ensures text { result ++ 10 ∷ [] ≡ line_text (Commit activation number steps out.now) }
-    ensures room { length result ≤ 8300 }
+    ensures text { text.new ++ 10 ∷ [] ≡ line_text (Commit activation number steps out.now) }
+    ensures room { length text.new ≤ 8300 }
 {
-    let mut text = numbered(b"commit", u64::from(activation));
+    numbered(text, b"commit", u64::from(activation));
     text.part(b"number", number);
     text.part(b"steps", steps);
     text.word(b"out");
@@ -134,42 +166,37 @@ fn commit(activation: u32, number: u64, steps: u64, out: &[u8]) -> TextLine
         [] => text.word(b"-"),
         _ => text.hex(out),
     }
-    text
 }
 
 /// The text with a space and a number for each of these.
-fn listed(text: TextLine, numbers: &[u32]) -> TextLine
-    requires start { length text ≤ 64 }
+fn listed(text: &mut TextLine, numbers: &[u32])
+    requires start { length text.old ≤ 64 }
     requires few { length numbers.now ≤ 17 }
-    ensures text { result ≡ text ++ flat_map (λ n. 32 ∷ decimal n) numbers.now }
-    ensures room { length result ≤ 500 }
+    ensures text { text.new ≡ text.old ++ flat_map (λ n. 32 ∷ decimal n) numbers.now }
+    ensures room { length text.new ≤ 500 }
 {
-    let mut text = text;
     for number in numbers {
         text.number(u64::from(*number));
     }
-    text
 }
 
 /// A word and a number.
-fn numbered(word: &[u8], number: u64) -> TextLine
+fn numbered(text: &mut TextLine, word: &[u8], number: u64)
     requires { length word.now ≤ 16 }
-    ensures text { result ≡ word.now ++ 32 ∷ decimal number }
-    ensures room { length result ≤ 37 }
+    ensures text { text.new ≡ word.now ++ 32 ∷ decimal number }
+    ensures room { length text.new ≤ 37 }
 {
-    let mut text = TextLine::new(word);
+    text.begin(word);
     text.number(number);
-    text
 }
 
 /// A word, an activation and a name.
-fn named(word: &[u8], activation: u32, name: &[u8]) -> TextLine
+fn named(text: &mut TextLine, word: &[u8], activation: u32, name: &[u8])
     requires word { length word.now ≤ 16 }
     requires name { length name.now ≤ 31 }
-    ensures text { result ≡ word.now ++ 32 ∷ decimal activation ++ 32 ∷ name.now }
-    ensures room { length result ≤ 69 }
+    ensures text { text.new ≡ word.now ++ 32 ∷ decimal activation ++ 32 ∷ name.now }
+    ensures room { length text.new ≤ 69 }
 {
-    let mut text = numbered(word, u64::from(activation));
+    numbered(text, word, u64::from(activation));
     text.word(name);
-    text
 }

@@ -12,7 +12,7 @@ use std::marker::Model;
 /// Room for the longest line, a commit with 4,096 printed bytes, in bytes.
 pub const ROOM: usize = 8320;
 
-/// The bytes of a line so far, seen as their list. It takes no memory.
+/// The bytes of a line so far, seen as their list. It is filled in place, and takes no memory.
 #[derive(Drop)]
 pub struct TextLine {
     bytes: ArrayVec<u8, ROOM>,
@@ -27,14 +27,22 @@ impl Model for TextLine {
 }
 
 impl TextLine {
-    /// A line that begins with this word.
-    pub fn new(word: &[u8]) -> Self
-        requires { length word.now ≤ 16 }
-        ensures value { result ≡ word.now }
+    /// An empty line, whose room is then kept for one line after another.
+    pub fn new() -> Self
+        ensures { result ≡ [] }
     {
-        let mut bytes = ArrayVec::new();
-        let _ = bytes.try_extend_from_slice(word);
-        TextLine { bytes }
+        TextLine {
+            bytes: ArrayVec::new(),
+        }
+    }
+
+    /// Begins a line anew with a word. Of the line before nothing is left.
+    pub fn begin(&mut self, word: &[u8])
+        requires { length word.now ≤ 16 }
+        ensures { self.new ≡ word.now }
+    {
+        self.bytes.clear();
+        let _ = self.bytes.try_extend_from_slice(word);
     }
 
     /// The bytes so far.
@@ -50,7 +58,7 @@ impl TextLine {
         ensures value { self.new ≡ self.old ++ 32 ∷ word.now }
         ensures longer { length self.new ≡ length self.old + (length word.now + 1) }
     {
-        self.bytes.push(b' ');
+        self.space();
         let _ = self.bytes.try_extend_from_slice(word);
     }
 
@@ -76,15 +84,14 @@ impl TextLine {
 
     /// A space and bytes in hexadecimal.
     pub fn hex(&mut self, bytes: &[u8])
-        requires few { length bytes.now ≤ 4096 }
-        requires room { length self.old + (2 * length bytes.now + 1) ≤ ROOM }
+        requires { length self.old + (2 * length bytes.now + 1) ≤ ROOM }
         ensures value { self.new ≡ self.old ++ 32 ∷ encode_lower bytes.now }
         ensures longer { length self.new ≡ length self.old + (2 * length bytes.now + 1) }
     {
-        let mut digits = [0; 8192];
-        let used = &mut digits[..2 * bytes.len()];
-        let _ = hex::encode_to_slice(bytes, used);
-        self.word(used);
+        self.space();
+        for byte in bytes {
+            self.digits(*byte);
+        }
     }
 
     /// The line feed.
@@ -93,5 +100,24 @@ impl TextLine {
         ensures { self.new ≡ self.old ++ 10 ∷ [] }
     {
         self.bytes.push(b'\n');
+    }
+
+    /// A space.
+    fn space(&mut self)
+        requires { length self.old + 1 ≤ ROOM }
+        ensures { self.new ≡ self.old ++ 32 ∷ [] }
+    {
+        self.bytes.push(b' ');
+    }
+
+    /// The two digits of a byte.
+    fn digits(&mut self, byte: u8)
+        requires { length self.old + 2 ≤ ROOM }
+        ensures value { self.new ≡ self.old ++ encode_lower (byte ∷ []) }
+        ensures longer { length self.new ≡ length self.old + 2 }
+    {
+        let mut digits = [0; 2];
+        let _ = hex::encode_to_slice(&[byte], &mut digits);
+        let _ = self.bytes.try_extend_from_slice(&digits);
     }
 }

@@ -26,7 +26,7 @@ returns g c =
     let program = c.args.program.now in
     let first = program_line c.args.name.now program.image program.entry in
     let line : c.as_slice.result.now ≡ first = c.as_slice.ensures ∙ c.program_text.ensures in
-    puts_on g.W.Outside g.met.W.Outside.fewer_later c.args.outside.now c.put_windows.new.outside c.put_rows.new.outside (first ++ window_lines program.windows) (row_lines 0 program.image) tt c.put_rows.result
+    puts_on g.W.Outside g.met.W.Outside.fewer_later c.args.outside.now c.put_windows.new.outside c.put_rows_from.new.outside (first ++ window_lines program.windows) (row_lines 0 program.image) tt c.put_rows_from.result
     (puts_on g.W.Outside g.met.W.Outside.fewer_later c.args.outside.now c.put.new.outside c.put_windows.new.outside first (window_lines program.windows) tt done
     (puts_same g.W.Outside c.args.outside.now c.put.new.outside c.as_slice.result.now first done line c.in_ok-put.ensures) c.in_ok-put_windows.ensures)
-    (puts_same g.W.Outside c.put_windows.new.outside c.put_rows.new.outside (row_lines 0 c.as_slice-2.result.now) (row_lines 0 program.image) c.put_rows.result (ap (row_lines 0) c.as_slice-2.ensures) c.put_rows.ensures)
+    (puts_same g.W.Outside c.put_windows.new.outside c.put_rows_from.new.outside (row_lines 0 c.as_slice-2.result.now) (row_lines 0 program.image) c.put_rows_from.result (ap (row_lines 0) c.as_slice-2.ensures) c.put_rows_from.ensures)

@@ -6,7 +6,7 @@ use Rattle.std.proofs.lemmas.List.FromFn.{get_or-range_with_len, length-range_wi
 use Rattle.listing.specs.Listing.{row_line}
 use Rattle.listing.specs.Puts.{Puts}
 use Rattle.listing.proofs.PutsLemmas.{done, puts_more, puts_no_more}
-use Rattle.listing.proofs.put.put_rows.Goals as goal
+use Rattle.listing.proofs.put.put_rows_from.Goals as goal
 
 abbrev line_at : ℕ → List ℕ → ℕ → List ℕ
 line_at first bytes row = row_line (first + 16 * row) (take 16 (drop (16 * row) bytes))
@@ -23,7 +23,7 @@ returns-in_err-put g c =
     let lt : c.loop-row.row < count = omega (arith, c.loop-row-test.true, c.div_ceil-row-end.ensures) in
     puts_no_more g.W.Outside g.met.W.Outside.fewer_later (line_at c.args.first c.args.bytes.now) (range_with_len 0 count) c.loop-row.row 0 c.as_slice.result.now
     (omega (arith, lt, length-range_with_len 0 count))
-    (same_line c.args.first c.args.bytes.now count c.loop-row.row c.as_slice.result.now c.row_at.result.now lt (c.as_slice.ensures ∙ c.row_text-text.ensures) c.row_at.ensures.value)
+    (same_line c.args.first c.args.bytes.now count c.loop-row.row c.as_slice.result.now c.row_at.result.now lt (c.as_slice.ensures ∙ c.row_text.ensures) c.row_at.ensures.value)
     c.args.outside.now c.loop-row.outside c.put.new.outside tt c.put.result c.from_residual.result (search rules) c.from_residual.ensures.0 c.loop-row.invariant c.put.ensures
 
 pub loop-row-preserved : goal.loop-row-preserved
@@ -32,7 +32,7 @@ loop-row-preserved g c =
     let lt : c.loop-row.row < count = omega (arith, c.loop-row-test.true, c.div_ceil-row-end.ensures) in
     puts_more g.W.Outside g.met.W.Outside.fewer_later (line_at c.args.first c.args.bytes.now) (range_with_len 0 count) c.loop-row.row 0 c.as_slice.result.now
     (omega (arith, lt, length-range_with_len 0 count))
-    (same_line c.args.first c.args.bytes.now count c.loop-row.row c.as_slice.result.now c.row_at.result.now lt (c.as_slice.ensures ∙ c.row_text-text.ensures) c.row_at.ensures.value)
+    (same_line c.args.first c.args.bytes.now count c.loop-row.row c.as_slice.result.now c.row_at.result.now lt (c.as_slice.ensures ∙ c.row_text.ensures) c.row_at.ensures.value)
     c.args.outside.now c.loop-row.outside c.put.new.outside tt done c.loop-row.invariant c.in_ok-put.ensures
 
 pub returns : goal.returns

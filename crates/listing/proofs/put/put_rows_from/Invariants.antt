@@ -4,7 +4,7 @@ use Rattle.std.specs.List.{flat_map, range_with_len}
 use Rattle.listing.specs.Listing.{row_line}
 use Rattle.listing.specs.Puts.{Puts}
 use Rattle.listing.proofs.PutsLemmas.{done}
-use Rattle.listing.proofs.put.put_rows.Given as goal
+use Rattle.listing.proofs.put.put_rows_from.Given as goal
 
 -- the rows so far are put
 abbrev pub invariant-loop-row : goal.invariant-loop-row
