@@ -99,9 +99,21 @@ program_short name parts are few long =
     let behind = are.1.1 in
     let source = all_first AreLine (windows ++ image) (end_line ∷ []) behind in
     let end = all_second AreLine (windows ++ image) (end_line ∷ []) behind in
-    omega (arith,
-    line_before head (entry ∷ (windows ++ image) ++ end_line ∷ []), line_before entry ((windows ++ image) ++ end_line ∷ []), both_bytes (windows ++ image) (end_line ∷ []), both_bytes windows image, line_before end_line [],
-    line_short head are.0, line_short entry are.1.0, windows_short 1 parts.windows (all_first AreLine windows image source), image_short parts.image (all_second AreLine windows image source), line_short end_line end.0, few, long)
+    omega (
+      arith,
+      line_before head (entry ∷ (windows ++ image) ++ end_line ∷ []),
+      line_before entry ((windows ++ image) ++ end_line ∷ []),
+      both_bytes (windows ++ image) (end_line ∷ []),
+      both_bytes windows image,
+      line_before end_line [],
+      line_short head are.0,
+      line_short entry are.1.0,
+      windows_short 1 parts.windows (all_first AreLine windows image source),
+      image_short parts.image (all_second AreLine windows image source),
+      line_short end_line end.0,
+      few,
+      long,
+    )
 
 programs_short : (others : List (List ℕ)) (number : ℕ) (names : List (List ℕ)) (programs : List Parts) (lines : List (List ℕ)) → HasPrograms others number names programs lines → AllSound programs → AreTokens (flat_map program_lines (zip names programs))
     → bytes_in (flat_map program_lines (zip names programs)) ≤ 73000 * length names
@@ -181,8 +193,18 @@ written_short text content form sound =
     let end = all_second AreLine (head ++ (schedule ∷ events)) (end_line ∷ []) all in
     let first = all_first AreLine head (schedule ∷ events) front in
     let later = all_second AreLine head (schedule ∷ events) front in
-    omega (arith,
-    both_bytes (head ++ (schedule ∷ events)) (end_line ∷ []), both_bytes head (schedule ∷ events), line_before frames programs, line_before schedule events, line_before end_line [],
-    line_short frames first.0, programs_short [] (length form.blank + 2) content.names content.programs form.program_lines form.programs sound first.1,
-    line_short schedule later.0, events_short content.names content.events (events_four content.names 0 form.event_lines content.events form.events) later.1,
-    line_short end_line end.0, form.few_programs, form.few_events)
+    omega (
+      arith,
+      both_bytes (head ++ (schedule ∷ events)) (end_line ∷ []),
+      both_bytes head (schedule ∷ events),
+      line_before frames programs,
+      line_before schedule events,
+      line_before end_line [],
+      line_short frames first.0,
+      programs_short [] (length form.blank + 2) content.names content.programs form.program_lines form.programs sound first.1,
+      line_short schedule later.0,
+      events_short content.names content.events (events_four content.names 0 form.event_lines content.events form.events) later.1,
+      line_short end_line end.0,
+      form.few_programs,
+      form.few_events,
+    )

@@ -10,8 +10,8 @@ mod stage;
 mod tests;
 mod writer;
 
-pub use grammar::read_job;
 pub use desk::Event;
+pub use grammar::read_job;
 pub use job::{Job, JobFault, Name};
 pub use law::{
     a_text_has_one_answer, faults_end_the_reading, jobs_have_their_form, names_have_no_line_feed,
