@@ -12,7 +12,7 @@ mod word;
 
 pub use fault::{AsmFault, LineFault};
 pub use form::{Form, form_of};
-pub use line::{first_line, parse, parse_line};
+pub use line::{first_line, parse, parse_line, statement_of};
 pub use statement::{Body, Expr, Operand, Statement};
-pub use token::{Token, tokens_of};
+pub use token::{Token, tokens_into, tokens_of};
 pub use word::Word;

@@ -11,7 +11,7 @@ use super::fault::{AsmFault, LineFault, MNEMONIC, OPERANDS};
 use super::form::{form_of, sorts_of};
 use super::operand::{expression_of, operands_of};
 use super::statement::{Body, Statement};
-use super::token::{Token, tokens_of};
+use super::token::{Token, tokens_into};
 use super::word::Word;
 use romp_table::{Op, by_name};
 use std::alloc::Global;
@@ -30,20 +30,21 @@ pub fn parse(alloc: Global, text: &[u8]) -> Result<Vec<Statement>, AsmFault>
     ensures few { IfOk result (λ statements. length statements.items ≤ 2 ^ 30) }
 {
     let mut statements = Vec::new(alloc);
+    let mut tokens = Vec::new(alloc);
     let mut number: u32 = 1;
     let mut left = Some(text);
     while let Some(rest) = left {
         let (line, behind) = first_line(rest);
-        push_line(alloc, &mut statements, number, line)?;
+        push_line(&mut tokens, &mut statements, number, line)?;
         number += 1;
         left = behind;
     }
     Ok(statements)
 }
 
-/// Appends the statement of a line, if it has one.
+/// Appends the statement of a line, if it has one; its tokens lie in the room.
 fn push_line(
-    alloc: Global,
+    room: &mut Vec<Token>,
     statements: &mut Vec<Statement>,
     number: u32,
     line: &[u8],
@@ -52,7 +53,7 @@ fn push_line(
         (λ _. Gains statements.old.items statements.new.items (at_line number (line_of number line.now)))
         (λ fault. IsTextFaultOf fault (at_line number (line_of number line.now))) }
 {
-    match parse_line(alloc, number, line)? {
+    match parse_in(room, number, line)? {
         Some(statement) => {
             statements.push(statement)?;
             Ok(())
@@ -70,14 +71,21 @@ fn push_line(
 pub fn parse_line(alloc: Global, number: u32, line: &[u8]) -> Result<Option<Statement>, AsmFault>
     ensures { IsAnswer (λ statement. statement) result (at_line number (line_of number line.now)) }
 {
-    let tokens = match tokens_of(alloc, line) {
-        Ok(tokens) => tokens,
-        Err(LineFault::Kind(kind)) => return Err(AsmFault::Fault { line: number, kind }),
-        Err(LineFault::Memory) => return Err(AsmFault::Memory),
-    };
-    match statement_of(number, tokens.as_slice()) {
-        Ok(statement) => Ok(statement),
-        Err(kind) => Err(AsmFault::Fault { line: number, kind }),
+    let mut room = Vec::new(alloc);
+    parse_in(&mut room, number, line)
+}
+
+/// The statement of one line, whose tokens lie in the room.
+fn parse_in(room: &mut Vec<Token>, number: u32, line: &[u8]) -> Result<Option<Statement>, AsmFault>
+    ensures { IsAnswer (λ statement. statement) result (at_line number (line_of number line.now)) }
+{
+    match tokens_into(room, line) {
+        Ok(()) => match statement_of(number, room.as_slice()) {
+            Ok(statement) => Ok(statement),
+            Err(kind) => Err(AsmFault::Fault { line: number, kind }),
+        },
+        Err(LineFault::Kind(kind)) => Err(AsmFault::Fault { line: number, kind }),
+        Err(LineFault::Memory) => Err(AsmFault::Memory),
     }
 }
 
@@ -102,8 +110,12 @@ fn feed_in(text: &[u8]) -> Option<usize>
     text.iter().position(|byte| *byte == b'\n')
 }
 
-/// The statement of a line's tokens.
-fn statement_of(number: u32, tokens: &[Token]) -> Result<Option<Statement>, u8>
+/// The statement of a line's tokens; none where there are no tokens.
+///
+/// # Errors
+///
+/// The kind of the line's fault, 2 or 3.
+pub fn statement_of(number: u32, tokens: &[Token]) -> Result<Option<Statement>, u8>
     ensures { result ≡ statement_of number tokens.now }
 {
     if tokens.is_empty() {

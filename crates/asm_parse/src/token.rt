@@ -53,11 +53,26 @@ pub fn tokens_of(alloc: Global, line: &[u8]) -> Result<Vec<Token>, LineFault>
     ensures { Answers (λ found. found.items) result (tokens line.now) }
 {
     let mut found = Vec::new(alloc);
+    match tokens_into(&mut found, line) {
+        Ok(()) => Ok(found),
+        Err(fault) => Err(fault),
+    }
+}
+
+/// The same, in a room that is kept for one line after another. Of the tokens before nothing is left.
+///
+/// # Errors
+///
+/// As [`tokens_of`].
+pub fn tokens_into(found: &mut Vec<Token>, line: &[u8]) -> Result<(), LineFault>
+    ensures { Answers (λ _. found.new.items) result (tokens line.now) }
+{
+    found.clear();
     let mut left = line;
     while let Some((first, rest)) = left.split_first() {
         match begin_of(left, *first, rest) {
             Begin::Blank => left = rest,
-            Begin::Comment => return Ok(found),
+            Begin::Comment => return Ok(()),
             Begin::Takes(token, more) => {
                 found.push(token)?;
                 left = rest.split_at(more).1;
@@ -65,7 +80,7 @@ pub fn tokens_of(alloc: Global, line: &[u8]) -> Result<Vec<Token>, LineFault>
             Begin::Bad(kind) => return Err(LineFault::Kind(kind)),
         }
     }
-    Ok(found)
+    Ok(())
 }
 
 /// What begins at the first byte of what is left of a line.

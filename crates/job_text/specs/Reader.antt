@@ -1,16 +1,18 @@
 -- What a reader of jobs has read.
-use Rattle.std.specs.Prelude.{◌≡◌, ℕ, List, map, Result, Ok, Err}
+use Rattle.std.specs.Prelude.{◌≡◌, ℕ, if◌then◌else◌, List, map, Result, Ok, Err}
 use Rattle.arrayvec.specs.ArrayVec.{ArrayVec}
 use Rattle.asm_parse.specs.declared.fault.LineFault.{LineFault}
 use Rattle.asm_parse.specs.declared.token.Token.{Token}
 use Rattle.asm_parse.specs.Answers.{IsFaultOf}
-use Rattle.romp_asm.specs.Layout.{parts_of}
+use Rattle.asm_parse.specs.Statement.{statement_by}
+use Rattle.asm_parse.specs.Text.{at_line}
+use Rattle.romp_asm.specs.Layout.{assembled, parts_of}
 use Rattle.job_text.specs.declared.job.JobFault.{JobFault}
 use Rattle.job_text.specs.declared.reader.Reader.{Reader}
 use Rattle.job_text.specs.declared.stage.Stage.{Stage}
 use Rattle.job_text.specs.declared.stage.Stage.TheVariants.{Frames, Programs, Source, Schedule, Ended}
 use Rattle.job_text.specs.JobAnswers.{IsJobFaultOf}
-use Rattle.job_text.specs.Reading.{Reading, ended_line, frames_line, programs_line, schedule_line}
+use Rattle.job_text.specs.Reading.{Reading, by_tokens, ended_line, frames_line, is_end, program_ends, programs_line, schedule_line, source_goes_on}
 
 -- what a reader has read
 abbrev pub reading_of : Reader → Reading
@@ -31,6 +33,20 @@ tokens_read Programs reading tokens = programs_line reading tokens
 tokens_read Source reading tokens = Ok reading
 tokens_read Schedule reading tokens = schedule_line reading tokens
 tokens_read Ended reading tokens = ended_line reading tokens
+
+-- what the tokens of a line between `program` and its `end` give, or the kind of the first that is bad
+abbrev pub source_found : Reading → ℕ → Result (List Token) ℕ → Result Reading (ℕ × ℕ)
+source_found reading number found =
+    if is_end found then program_ends reading (assembled reading.statements)
+    else source_goes_on reading (at_line number (statement_by number found))
+
+-- what the tokens of a line give, by which lines are due
+abbrev pub found_read : Stage → Reading → ℕ → Result (List Token) ℕ → Result Reading (ℕ × ℕ)
+found_read Frames reading number found = at_line number (by_tokens (frames_line reading) found)
+found_read Programs reading number found = at_line number (by_tokens (programs_line reading) found)
+found_read Source reading number found = source_found reading number found
+found_read Schedule reading number found = at_line number (by_tokens (schedule_line reading) found)
+found_read Ended reading number found = at_line number (by_tokens (ended_line reading) found)
 
 -- a reader has read what a line's tokens give, or the fault is theirs
 abbrev pub IsStep : {A : Type 0} → Result A LineFault → Reader → Result Reading ℕ → Type 0

@@ -162,6 +162,11 @@ abbrev pub by_tokens : (List Token → Result Reading ℕ) → Result (List Toke
 by_tokens meaning (Ok found) = meaning found
 by_tokens meaning (Err kind) = Err 10
 
+-- the kind of a line whose token is bad: the token's between `program` and its `end`, and otherwise that of another form
+abbrev pub bad_token : Stage → ℕ → ℕ
+bad_token Source kind = kind
+bad_token _ kind = 10
+
 -- what has been read after one line more, or the fault that it has
 abbrev pub line_read : Stage → Reading → ℕ → List ℕ → Result Reading (ℕ × ℕ)
 line_read Frames reading number line = at_line number (by_tokens (frames_line reading) (tokens line))

@@ -24,10 +24,11 @@ pub fn read_job(alloc: Global, text: &[u8]) -> Result<Job, JobFault>
     ensures ready { IfOk result IsReady }
 {
     let mut reader = Reader::new(alloc);
+    let mut room = Vec::new(alloc);
     let mut number: u32 = 1;
     let mut left = text;
     while let Some((line, behind)) = next_line(left) {
-        match reader.line(alloc, number, line) {
+        match reader.line(alloc, &mut room, number, line) {
             Ok(()) => {}
             Err(fault) => return Err(fault),
         }

@@ -2,12 +2,11 @@ ghost use Rattle.std.specs.Prelude.{◌≡◌, ℕ, ◌+◌, ◌*◌, ◌≤◌,
 ghost use Rattle.std.specs.Option.{option_map};
 ghost use Rattle.std.specs.Str.{bytes_eq};
 ghost use Rattle.asm_parse.specs.Operand.{place_among};
-ghost use Rattle.asm_parse.specs.Token.{tokens};
-ghost use Rattle.job_text.specs.Reading.{four_of, is_end, is_limit, rounds_of, turns_to, values_of};
+ghost use Rattle.job_text.specs.Reading.{bad_token, four_of, is_end, is_limit, rounds_of, turns_to, values_of};
 
 use super::job::{JobFault, Name};
 use super::stage::{Stage, TAKES_CHECKPOINT, TAKES_CRASH};
-use asm_parse::{AsmFault, LineFault, Statement, Token, Word, parse_line, tokens_of};
+use asm_parse::{LineFault, Statement, Token, Word, statement_of, tokens_into};
 use desk::Event;
 use flat_machine::Program;
 use romp_asm::assemble;
@@ -47,8 +46,8 @@ pub(crate) struct Reader {
 }
 
 impl Reader {
-    ghost use Rattle.job_text.specs.Reading.{begin_line, begin_of, drain_line, ended_line, frames_line, line_read, nothing_read, program_begins, programs_line, schedule_line, single_line, source_line, turn_line, with_event};
-    ghost use Rattle.job_text.specs.Reader.{IsRead, IsStep, reading_of, tokens_read};
+    ghost use Rattle.job_text.specs.Reading.{begin_line, begin_of, drain_line, ended_line, frames_line, line_read, nothing_read, program_begins, programs_line, schedule_line, single_line, turn_line, with_event};
+    ghost use Rattle.job_text.specs.Reader.{IsRead, IsStep, found_read, reading_of, source_found, tokens_read};
 
     /// Nothing yet.
     pub fn new(alloc: Global) -> Self
@@ -65,26 +64,38 @@ impl Reader {
         }
     }
 
-    /// Reads one line more.
-    pub fn line(&mut self, alloc: Global, number: u32, line: &[u8]) -> Result<(), JobFault>
+    /// Reads one line more, whose tokens lie in the room.
+    pub fn line(
+        &mut self,
+        alloc: Global,
+        room: &mut Vec<Token>,
+        number: u32,
+        line: &[u8],
+    ) -> Result<(), JobFault>
         requires { length self.old.statements.items ≤ 2 ^ 30 }
         ensures read { IsRead result self.new (line_read self.old.stage (reading_of self.old) number line.now) }
         ensures few { length self.new.statements.items ≤ length self.old.statements.items + 1 }
     {
-        if self.stage == Stage::Source {
-            return self.source_line(alloc, number, line);
+        match tokens_into(room, line) {
+            Ok(()) => self.found(alloc, number, room.as_slice()),
+            Err(LineFault::Kind(kind)) => Err(JobFault::Fault {
+                line: number,
+                kind: bad_token(self.stage, kind),
+            }),
+            Err(LineFault::Memory) => Err(JobFault::Memory),
         }
-        let tokens = match tokens_of(alloc, line) {
-            Ok(tokens) => tokens,
-            Err(LineFault::Kind(_)) => {
-                return Err(JobFault::Fault {
-                    line: number,
-                    kind: FORM,
-                });
-            }
-            Err(LineFault::Memory) => return Err(JobFault::Memory),
-        };
-        match self.tokens(tokens.as_slice()) {
+    }
+
+    /// Reads the tokens of one line more.
+    fn found(&mut self, alloc: Global, number: u32, found: &[Token]) -> Result<(), JobFault>
+        requires { length self.old.statements.items ≤ 2 ^ 30 }
+        ensures read { IsRead result self.new (found_read self.old.stage (reading_of self.old) number (Ok found.now)) }
+        ensures few { length self.new.statements.items ≤ length self.old.statements.items + 1 }
+    {
+        if self.stage == Stage::Source {
+            return self.source_line(alloc, number, found);
+        }
+        match self.tokens(found) {
             Ok(()) => Ok(()),
             Err(LineFault::Kind(kind)) => Err(JobFault::Fault { line: number, kind }),
             Err(LineFault::Memory) => Err(JobFault::Memory),
@@ -159,20 +170,22 @@ impl Reader {
     }
 
     /// A line between `program` and its `end`.
-    fn source_line(&mut self, alloc: Global, number: u32, line: &[u8]) -> Result<(), JobFault>
+    fn source_line(&mut self, alloc: Global, number: u32, found: &[Token]) -> Result<(), JobFault>
         requires { length self.old.statements.items ≤ 2 ^ 30 }
-        ensures read { IsRead result self.new (source_line (reading_of self.old) number line.now) }
+        ensures read { IsRead result self.new (source_found (reading_of self.old) number (Ok found.now)) }
         ensures few { length self.new.statements.items ≤ length self.old.statements.items + 1 }
     {
-        if is_end(alloc, line)? {
+        if is_end(found) {
             let program = assemble(alloc, self.statements.as_slice())?;
             self.programs.push(program)?;
             self.statements.clear();
             self.stage = Stage::Programs;
             return Ok(());
         }
-        if let Some(statement) = parse_line(alloc, number, line)? {
-            self.statements.push(statement)?;
+        match statement_of(number, found) {
+            Ok(Some(statement)) => self.statements.push(statement)?,
+            Ok(None) => {}
+            Err(kind) => return Err(JobFault::Fault { line: number, kind }),
         }
         Ok(())
     }
@@ -293,19 +306,15 @@ impl Reader {
     }
 }
 
-/// Whether a line is `end` alone.
-fn is_end(alloc: Global, line: &[u8]) -> Result<bool, AllocError>
-    ensures { IfOk result (λ end. end ≡ is_end (tokens line.now)) }
+/// The kind of a line whose token is bad: the token's between `program` and its `end`, and otherwise that of another form.
+fn bad_token(stage: Stage, kind: u8) -> u8
+    ensures { result ≡ bad_token stage kind }
 {
-    match tokens_of(alloc, line) {
-        Ok(tokens) => Ok(is_end_word(tokens.as_slice())),
-        Err(LineFault::Kind(_)) => Ok(false),
-        Err(LineFault::Memory) => Err(AllocError),
-    }
+    if stage == Stage::Source { kind } else { FORM }
 }
 
 /// Whether tokens are `end` alone.
-fn is_end_word(tokens: &[Token]) -> bool
+fn is_end(tokens: &[Token]) -> bool
     ensures { result ≡ is_end (Ok tokens.now) }
 {
     match tokens {

@@ -1,20 +1,32 @@
 -- Puts, one after another.
-use Rattle.std.proofs.Common.{◌≡◌, ⊎_elim, ℕ, ◌+◌, ◌<◌, List, [], ◌++◌, length, take, drop, get_or, sym, ◌∙◌, ap, subst, rules}
-use Rattle.std.specs.Prelude.{Result, Ok, Err, IsErr}
+use Rattle.std.proofs.Common.{◌≡◌, ⊎_elim, ℕ, ◌+◌, ◌<◌, List, [], ◌++◌, length, take, drop, get_or, sym, ◌∙◌, ap, subst, rules, arith}
+use Rattle.std.specs.Prelude.{Option, None, Some, IsSome, Result, Ok, Err, IsErr}
 use Rattle.std.proofs.lemmas.List.{take_more, take-append-drop, flat_map_more}
 use Rattle.std.proofs.lemmas.Grind.{flat_map-append}
 use Rattle.std.specs.List.{flat_map}
 use Rattle.outside.specs.declared.failed.Failed.{Failed}
 use Rattle.outside.specs.declared.world.Outside.{Ghosts}
+use Rattle.outside.specs.Bytes.{Prints}
 use Rattle.outside.specs.Runs.{FewerLater}
 use Rattle.outside.proofs.Prints.{prints_on, prints_stop, only_on}
-use Rattle.listing.specs.Puts.{Puts}
+use Rattle.listing.specs.Puts.{Puts, PutsTimes}
 
 -- puts that went well
 abbrev pub done : Result (Unit {0}) Failed
 done = Ok tt
 
+-- printed bytes that were told are told after a put that went well
+told_by : {T : Type 0} (before after : Option (List ℕ)) (bytes : List ℕ) (value : T) → Prints before after bytes (Ok value) → IsSome before → IsSome after
+told_by None after bytes value is some = absurd (search (rules, some))
+told_by (Some old) after bytes value is some = rw is (search rules)
+
 module _ {W : Type 0} (G : Ghosts W) where
+  -- so many puts, and then so many
+  pub times_on : {T U : Type 0} (old mid new : W) (first second : ℕ) (bytes : List ℕ) (value : T) (result : Result U Failed) → Puts G bytes old mid (Ok value) → PutsTimes G first old mid (Ok value) → PutsTimes G second mid new result → PutsTimes G (first + second) old new result
+  times_on old mid new first second bytes value (Ok other) puts one two =
+      λ some. omega (arith, one some, two (told_by (G.printed old) (G.printed mid) bytes value puts.printed some))
+  times_on old mid new first second bytes value (Err failed) puts one two = tt
+
   -- the same bytes
   pub puts_same : {T : Type 0} (old new : W) (first second : List ℕ) (result : Result T Failed) → first ≡ second → Puts G first old new result → Puts G second old new result
   puts_same old new first second result same puts = subst (λ (bytes : List ℕ). Puts G bytes old new result) same puts

@@ -1,5 +1,5 @@
 -- The text of a program's listing.
-use Rattle.std.specs.Prelude.{ℕ, ◌+◌, ◌*◌, Bool, true, false, List, [], ◌++◌, length, take, drop, codes, decimal, Option, Some, None}
+use Rattle.std.specs.Prelude.{ℕ, ◌+◌, ◌*◌, Bool, true, false, List, [], ◌++◌, length, take, drop, codes, count_by, decimal, is_some, Option, Some, None}
 use Rattle.std.specs.Int.{w32, to_be_bytes, div_ceil}
 use Rattle.std.specs.List.{flat_map, enumerate_from, range_with_len}
 use Rattle.hex.specs.Hex.{encode_lower}
@@ -43,3 +43,7 @@ row_lines first bytes =
 -- the listing of a program with this name, image, entry address and windows under registers 1 to 15: a line, its windows, and its image with offsets from 0 on
 abbrev pub listing_of : List ℕ → List ℕ → ℕ → List (Option Window) → List ℕ
 listing_of name image entry windows = program_line name image entry ++ window_lines windows ++ row_lines 0 image
+
+-- the lines of a listing: the first, one for each window, and one for each sixteen bytes of the image that begin
+abbrev pub lines_in : List ℕ → List (Option Window) → ℕ
+lines_in image windows = 1 + count_by is_some windows + div_ceil (length image) 16

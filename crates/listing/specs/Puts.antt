@@ -1,5 +1,5 @@
 -- What putting bytes does to an outside.
-use Rattle.std.specs.Prelude.{ℕ, List, Result}
+use Rattle.std.specs.Prelude.{◌≡◌, ℕ, ◌+◌, List, Result, OnOk, IsSome}
 use Rattle.outside.specs.declared.world.Outside.{Ghosts}
 use Rattle.outside.specs.declared.failed.Failed.{Failed}
 use Rattle.outside.specs.Bytes.{Prints}
@@ -11,3 +11,7 @@ pub record Puts {W T : Type 0} (G : Ghosts W) (bytes : List ℕ) (old new : W) (
   pub printed : Prints (G.printed old) (G.printed new) bytes result
   pub only : OnlyPuts G old new result
   pub images : (image seen : List ℕ) → G.left_since new (G.moment old) image seen → (start : List ℕ) × G.left_since old (G.moment old) image start
+
+-- so many puts were recorded, where the last succeeded and the printed bytes are told
+abbrev pub PutsTimes : {W T : Type 0} → Ghosts W → ℕ → W → W → Result T Failed → Type 0
+PutsTimes G count old new result = OnOk result (IsSome (G.printed old) → (G.moment new).puts ≡ (G.moment old).puts + count)

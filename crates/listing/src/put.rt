@@ -1,6 +1,7 @@
-ghost use Rattle.std.specs.Prelude.{◌≡◌, ◌+◌, ◌*◌, ◌/◌, ◌^◌, ◌≤◌, length, take, drop};
-ghost use Rattle.listing.specs.Listing.{listing_of, digits_of, program_line, window_line, window_lines, place_line, row_line, row_lines};
-ghost use Rattle.listing.specs.Puts.{Puts};
+ghost use Rattle.std.specs.Prelude.{◌≡◌, ◌+◌, ◌*◌, ◌/◌, ◌^◌, ◌≤◌, [], ◌∷◌, count_by, is_some, length, take, drop};
+ghost use Rattle.std.specs.Int.{div_ceil};
+ghost use Rattle.listing.specs.Listing.{listing_of, digits_of, lines_in, program_line, window_line, window_lines, place_line, row_line, row_lines};
+ghost use Rattle.listing.specs.Puts.{Puts, PutsTimes};
 
 use flat_machine::{Program, Window};
 use outside::{Failed, Outside};
@@ -18,7 +19,8 @@ pub fn put_program<W: Outside>(
     outside: &mut W,
 ) -> Result<(), Failed>
     requires short { length name.now ≤ 31 }
-    ensures { Puts W.Outside (listing_of name.now program.now.image program.now.entry program.now.windows) outside.old outside.new result }
+    ensures puts { Puts W.Outside (listing_of name.now program.now.image program.now.entry program.now.windows) outside.old outside.new result }
+    ensures times { PutsTimes W.Outside (lines_in program.now.image program.now.windows) outside.old outside.new result }
 {
     let mut text = TextLine::new();
     program_text(&mut text, name, program);
@@ -35,7 +37,8 @@ pub fn put_program<W: Outside>(
 /// `Failed` where a put failed; a prefix of the rows is printed then, and nothing more is put.
 pub fn put_rows<W: Outside>(first: u32, bytes: &[u8], outside: &mut W) -> Result<(), Failed>
     requires { first + length bytes.now ≤ 2 ^ 32 }
-    ensures { Puts W.Outside (row_lines first bytes.now) outside.old outside.new result }
+    ensures puts { Puts W.Outside (row_lines first bytes.now) outside.old outside.new result }
+    ensures times { PutsTimes W.Outside (div_ceil (length bytes.now) 16) outside.old outside.new result }
 {
     put_rows_from(&mut TextLine::new(), first, bytes, outside)
 }
@@ -48,7 +51,8 @@ fn put_rows_from<W: Outside>(
     outside: &mut W,
 ) -> Result<(), Failed>
     requires { first + length bytes.now ≤ 2 ^ 32 }
-    ensures { Puts W.Outside (row_lines first bytes.now) outside.old outside.new result }
+    ensures puts { Puts W.Outside (row_lines first bytes.now) outside.old outside.new result }
+    ensures times { PutsTimes W.Outside (div_ceil (length bytes.now) 16) outside.old outside.new result }
 {
     for row in 0..bytes.len().div_ceil(16) {
         let at = 16 * row;
@@ -64,7 +68,8 @@ fn put_windows<W: Outside>(
     windows: &[Option<Window>; 15],
     outside: &mut W,
 ) -> Result<(), Failed>
-    ensures { Puts W.Outside (window_lines windows.now) outside.old outside.new result }
+    ensures puts { Puts W.Outside (window_lines windows.now) outside.old outside.new result }
+    ensures times { PutsTimes W.Outside (count_by is_some windows.now) outside.old outside.new result }
 {
     for (index, place) in windows.iter().enumerate() {
         put_place(text, index as u64 + 1, place, outside)?;
@@ -79,7 +84,8 @@ fn put_place<W: Outside>(
     place: &Option<Window>,
     outside: &mut W,
 ) -> Result<(), Failed>
-    ensures { Puts W.Outside (place_line register place.now) outside.old outside.new result }
+    ensures puts { Puts W.Outside (place_line register place.now) outside.old outside.new result }
+    ensures times { PutsTimes W.Outside (count_by is_some (place.now ∷ [])) outside.old outside.new result }
 {
     match place {
         Some(window) => {
@@ -92,7 +98,8 @@ fn put_place<W: Outside>(
 
 /// Puts a line.
 fn put<W: Outside>(line: &[u8], outside: &mut W) -> Result<(), Failed>
-    ensures { Puts W.Outside line.now outside.old outside.new result }
+    ensures puts { Puts W.Outside line.now outside.old outside.new result }
+    ensures times { PutsTimes W.Outside 1 outside.old outside.new result }
 {
     outside.put(line)
 }

@@ -3,7 +3,7 @@ ghost use Rattle.std.specs.List.{flat_map};
 ghost use Rattle.desk.specs.Lines.{line_text, Commit};
 ghost use Rattle.outside.specs.Bytes.{Prints};
 ghost use Rattle.outside.specs.Causes.{HasCause};
-ghost use Rattle.outside.specs.Moments.{Elapses, Shows};
+ghost use Rattle.outside.specs.Moments.{Elapses, IsOnePut, Shows};
 ghost use Rattle.report_text.specs.Line.{line_told, IsShort};
 
 use super::line::Line;
@@ -26,6 +26,7 @@ pub fn put_line<W: Outside>(line: &Line, outside: &mut W) -> Result<(), Failed>
     ensures crash { Shows (line_text (line_told line.now)) W.moment W.left_since outside.old outside.new }
     ensures cause { HasCause (W.put_faults outside.old) (W.put_faults outside.new) result }
     ensures calls { (W.moment outside.new).calls ≡ (W.moment outside.old).calls }
+    ensures once { IsOnePut (W.printed outside.old) (W.moment outside.old) (W.moment outside.new) result }
     ensures disk { W.disk_faults outside.new ≡ W.disk_faults outside.old }
 {
     Reporter::new().put(line, outside)
@@ -60,6 +61,7 @@ impl Reporter {
         ensures crash { Shows (line_text (line_told line.now)) W.moment W.left_since outside.old outside.new }
         ensures cause { HasCause (W.put_faults outside.old) (W.put_faults outside.new) result }
         ensures calls { (W.moment outside.new).calls ≡ (W.moment outside.old).calls }
+        ensures once { IsOnePut (W.printed outside.old) (W.moment outside.old) (W.moment outside.new) result }
         ensures disk { W.disk_faults outside.new ≡ W.disk_faults outside.old }
     {
         fill(&mut self.text, line);

@@ -38,7 +38,7 @@ returns-in_err-put_program g c =
     puts_no_more g.W.Outside g.met.W.Outside.fewer_later listing_named (named_in names programs) c.loop-index.index ([], parts_of c.program-item.result) _
     (omega (arith, within, count names programs c.requires))
     (same_listing names programs c.deref-program-items.result.now c.loop-index.index c.as_slice.result.now c.index.result.now c.program-item.result (omega (arith, within, c.requires)) within c.as_slice.ensures.value c.index.ensures c.deref-program-items.ensures.value c.program-item.is)
-    c.args.outside.now c.loop-index.outside c.put_program.new.outside tt c.put_program.result c.from_residual.result (search rules) c.from_residual.ensures.0 c.loop-index.invariant c.put_program.ensures
+    c.args.outside.now c.loop-index.outside c.put_program.new.outside tt c.put_program.result c.from_residual.result (search rules) c.from_residual.ensures.0 c.loop-index.invariant c.put_program.ensures.puts
 
 pub loop-index-preserved : goal.loop-index-preserved
 loop-index-preserved g c =
@@ -48,7 +48,7 @@ loop-index-preserved g c =
     puts_more g.W.Outside g.met.W.Outside.fewer_later listing_named (named_in names programs) c.loop-index.index ([], parts_of c.program-item.result) _
     (omega (arith, within, count names programs c.requires))
     (same_listing names programs c.deref-program-items.result.now c.loop-index.index c.as_slice.result.now c.index.result.now c.program-item.result (omega (arith, within, c.requires)) within c.as_slice.ensures.value c.index.ensures c.deref-program-items.ensures.value c.program-item.is)
-    c.args.outside.now c.loop-index.outside c.put_program.new.outside tt done c.loop-index.invariant c.in_ok-put_program.ensures
+    c.args.outside.now c.loop-index.outside c.put_program.new.outside tt done c.loop-index.invariant c.in_ok-put_program.ensures.puts
 
 pub returns : goal.returns
 returns g c =

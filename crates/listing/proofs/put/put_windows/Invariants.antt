@@ -1,10 +1,14 @@
 use Rattle.std.proofs.Common.{take}
+use Rattle.std.specs.Prelude.{count_by, is_some}
 use Rattle.std.specs.List.{flat_map, enumerate_from}
 use Rattle.listing.specs.Listing.{place_line}
-use Rattle.listing.specs.Puts.{Puts}
+use Rattle.listing.specs.Puts.{Puts, PutsTimes}
 use Rattle.listing.proofs.PutsLemmas.{done}
 use Rattle.listing.proofs.put.put_windows.Given as goal
 
 -- the lines so far are put
 abbrev pub invariant-loop-index : goal.invariant-loop-index
-invariant-loop-index g l = Puts g.W.Outside (flat_map (λ place. place_line place.0 place.1) (take l.index (enumerate_from 1 l.windows))) l.initial.outside l.outside done
+invariant-loop-index g l = record {
+  puts : Puts g.W.Outside (flat_map (λ place. place_line place.0 place.1) (take l.index (enumerate_from 1 l.windows))) l.initial.outside l.outside done;
+  times : PutsTimes g.W.Outside (count_by is_some (take l.index l.windows)) l.initial.outside l.outside done;
+}

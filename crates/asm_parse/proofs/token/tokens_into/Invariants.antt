@@ -1,7 +1,7 @@
 use Rattle.std.proofs.Common.{◌≡◌, length}
 use Rattle.asm_parse.specs.Token.{tokens_past}
 use Rattle.asm_parse.proofs.TokenLemmas.{behind}
-use Rattle.asm_parse.proofs.token.tokens_of.Given as goal
+use Rattle.asm_parse.proofs.token.tokens_into.Given as goal
 
 abbrev pub invariant-loop-first : goal.invariant-loop-first
 invariant-loop-first l = behind l.found.items (tokens_past l.left 0) ≡ tokens_past l.line 0

@@ -1,10 +1,10 @@
 use Rattle.std.proofs.Common.{sym, ◌∙◌, append-nil}
 use Rattle.asm_parse.proofs.TokenLemmas.{step, behind_none, behind_one, behind_all}
 use Rattle.asm_parse.specs.declared.token.Begin.TheVariants.{Blank, Comment, Takes, Bad}
-use Rattle.asm_parse.proofs.token.tokens_of.Goals as goal
+use Rattle.asm_parse.proofs.token.tokens_into.Goals as goal
 
 pub loop-first-init : goal.loop-first-init
-loop-first-init c = rw c.new-found.ensures.items (behind_none _)
+loop-first-init c = rw c.clear.ensures.items (behind_none _)
 
 pub loop-first-preserved-in-Blank : goal.loop-first-preserved-in-Blank
 loop-first-preserved-in-Blank c =
