@@ -6,3 +6,4 @@ pub mod RunLemmas
 pub mod FrontLemmas
 pub mod FoundLemmas
 pub mod DirectiveLemmas
+pub mod KeptLemmas

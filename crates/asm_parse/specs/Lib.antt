@@ -2,6 +2,7 @@ pub mod Cut
 pub mod Number
 pub mod Token
 pub mod Answers
+pub mod Kept
 pub mod Form
 pub mod Operand
 pub mod Statement

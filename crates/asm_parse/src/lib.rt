@@ -3,16 +3,20 @@
 
 mod fault;
 mod form;
+mod head;
 mod line;
 mod numbers;
 mod operand;
 mod statement;
+mod statements;
 mod token;
 mod word;
 
 pub use fault::{AsmFault, LineFault};
 pub use form::{Form, form_of};
+pub use head::Part;
 pub use line::{first_line, parse, parse_line, statement_of};
 pub use statement::{Body, Expr, Operand, Statement};
+pub use statements::Statements;
 pub use token::{Token, tokens_into, tokens_of};
 pub use word::Word;
