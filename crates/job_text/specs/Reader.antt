@@ -21,7 +21,7 @@ reading_of reader = record {
   frames = reader.frames;
   names = map (λ (name : ArrayVec ℕ). name.items) reader.names.items;
   programs = map parts_of reader.programs.items;
-  statements = reader.statements.items;
+  statements = reader.statements;
   events = reader.events.items;
   begins = reader.begins;
 }

@@ -6,10 +6,10 @@ ghost use Rattle.job_text.specs.Reading.{bad_token, four_of, is_end, is_limit, r
 
 use super::job::{JobFault, Name};
 use super::stage::{Stage, TAKES_CHECKPOINT, TAKES_CRASH};
-use asm_parse::{LineFault, Statement, Token, Word, statement_of, tokens_into};
+use asm_parse::{LineFault, Statements, Token, Word, statement_of, tokens_into};
 use desk::Event;
 use flat_machine::Program;
-use romp_asm::assemble;
+use romp_asm::assemble_kept;
 use std::alloc::{AllocError, Global};
 
 /// A line of another form than those that are due.
@@ -36,7 +36,7 @@ pub(crate) struct Reader {
     pub names: Vec<Name>,
     pub programs: Vec<Program>,
     /// The statements of the program that is being read.
-    pub statements: Vec<Statement>,
+    pub statements: Statements,
     pub events: Vec<Event>,
     /// How many of the events are begins.
     pub begins: u32,
@@ -58,7 +58,7 @@ impl Reader {
             frames: 0,
             names: Vec::new(alloc),
             programs: Vec::new(alloc),
-            statements: Vec::new(alloc),
+            statements: Statements::new(alloc),
             events: Vec::new(alloc),
             begins: 0,
         }
@@ -72,9 +72,9 @@ impl Reader {
         number: u32,
         line: &[u8],
     ) -> Result<(), JobFault>
-        requires { length self.old.statements.items ≤ 2 ^ 30 }
+        requires { length self.old.statements ≤ 2 ^ 30 }
         ensures read { IsRead result self.new (line_read self.old.stage (reading_of self.old) number line.now) }
-        ensures few { length self.new.statements.items ≤ length self.old.statements.items + 1 }
+        ensures few { length self.new.statements ≤ length self.old.statements + 1 }
     {
         match tokens_into(room, line) {
             Ok(()) => self.found(alloc, number, room.as_slice()),
@@ -88,9 +88,9 @@ impl Reader {
 
     /// Reads the tokens of one line more.
     fn found(&mut self, alloc: Global, number: u32, found: &[Token]) -> Result<(), JobFault>
-        requires { length self.old.statements.items ≤ 2 ^ 30 }
+        requires { length self.old.statements ≤ 2 ^ 30 }
         ensures read { IsRead result self.new (found_read self.old.stage (reading_of self.old) number (Ok found.now)) }
-        ensures few { length self.new.statements.items ≤ length self.old.statements.items + 1 }
+        ensures few { length self.new.statements ≤ length self.old.statements + 1 }
     {
         if self.stage == Stage::Source {
             return self.source_line(alloc, number, found);
@@ -105,7 +105,7 @@ impl Reader {
     /// Reads the tokens of a line that is no source line.
     fn tokens(&mut self, tokens: &[Token]) -> Result<(), LineFault>
         ensures read { IsStep result self.new (tokens_read self.old.stage (reading_of self.old) tokens.now) }
-        ensures few { length self.new.statements.items ≤ length self.old.statements.items }
+        ensures few { length self.new.statements ≤ length self.old.statements }
     {
         match self.stage {
             Stage::Frames => self.frames_line(tokens),
@@ -119,7 +119,7 @@ impl Reader {
     /// `frames C`.
     fn frames_line(&mut self, tokens: &[Token]) -> Result<(), LineFault>
         ensures read { IsStep result self.new (frames_line (reading_of self.old) tokens.now) }
-        ensures few { length self.new.statements.items ≤ length self.old.statements.items }
+        ensures few { length self.new.statements ≤ length self.old.statements }
     {
         match tokens {
             [] => Ok(()),
@@ -138,7 +138,7 @@ impl Reader {
     /// `program NAME` or `schedule`.
     fn programs_line(&mut self, tokens: &[Token]) -> Result<(), LineFault>
         ensures read { IsStep result self.new (programs_line (reading_of self.old) tokens.now) }
-        ensures few { length self.new.statements.items ≤ length self.old.statements.items }
+        ensures few { length self.new.statements ≤ length self.old.statements }
     {
         match tokens {
             [] => Ok(()),
@@ -155,7 +155,7 @@ impl Reader {
     /// A program of this name begins.
     fn program_begins(&mut self, name: &Word) -> Result<(), LineFault>
         ensures read { IsStep result self.new (program_begins (reading_of self.old) name.now) }
-        ensures few { length self.new.statements.items ≤ length self.old.statements.items }
+        ensures few { length self.new.statements ≤ length self.old.statements }
     {
         if place_of(self.names.as_slice(), name.as_bytes()).is_some() {
             return Err(LineFault::Kind(DUPLICATE_PROGRAM));
@@ -171,12 +171,12 @@ impl Reader {
 
     /// A line between `program` and its `end`.
     fn source_line(&mut self, alloc: Global, number: u32, found: &[Token]) -> Result<(), JobFault>
-        requires { length self.old.statements.items ≤ 2 ^ 30 }
+        requires { length self.old.statements ≤ 2 ^ 30 }
         ensures read { IsRead result self.new (source_found (reading_of self.old) number (Ok found.now)) }
-        ensures few { length self.new.statements.items ≤ length self.old.statements.items + 1 }
+        ensures few { length self.new.statements ≤ length self.old.statements + 1 }
     {
         if is_end(found) {
-            let program = assemble(alloc, self.statements.as_slice())?;
+            let program = assemble_kept(alloc, &self.statements)?;
             self.programs.push(program)?;
             self.statements.clear();
             self.stage = Stage::Programs;
@@ -193,7 +193,7 @@ impl Reader {
     /// An event, or the `end` of the schedule.
     fn schedule_line(&mut self, tokens: &[Token]) -> Result<(), LineFault>
         ensures read { IsStep result self.new (schedule_line (reading_of self.old) tokens.now) }
-        ensures few { self.new.statements.items ≡ self.old.statements.items }
+        ensures few { self.new.statements ≡ self.old.statements }
     {
         match tokens {
             [] => Ok(()),
@@ -216,7 +216,7 @@ impl Reader {
     /// `end`, `checkpoint` or `crash`.
     fn single_line(&mut self, word: &str) -> Result<(), LineFault>
         ensures read { IsStep result self.new (single_line (reading_of self.old) word.now) }
-        ensures few { self.new.statements.items ≡ self.old.statements.items }
+        ensures few { self.new.statements ≡ self.old.statements }
     {
         if word == "end" {
             self.stage = Stage::Ended;
@@ -234,7 +234,7 @@ impl Reader {
     /// `begin NAME v ..`.
     fn begin_line(&mut self, name: &Word, values: &[Token]) -> Result<(), LineFault>
         ensures read { IsStep result self.new (begin_line (reading_of self.old) name.now (values_of values.now)) }
-        ensures few { self.new.statements.items ≡ self.old.statements.items }
+        ensures few { self.new.statements ≡ self.old.statements }
     {
         let Some(args) = args_of(values) else {
             return Err(LineFault::Kind(FORM));
@@ -256,7 +256,7 @@ impl Reader {
     /// `turn A K`.
     fn turn_line(&mut self, activation: u32, limit: u32) -> Result<(), LineFault>
         ensures read { IsStep result self.new (turn_line (reading_of self.old) activation limit) }
-        ensures few { self.new.statements.items ≡ self.old.statements.items }
+        ensures few { self.new.statements ≡ self.old.statements }
     {
         if activation < 1 || activation > self.begins {
             return Err(LineFault::Kind(UNKNOWN_ACTIVATION));
@@ -270,7 +270,7 @@ impl Reader {
     /// `drain R K`.
     fn drain_line(&mut self, rounds: u32, limit: u32) -> Result<(), LineFault>
         ensures read { IsStep result self.new (drain_line (reading_of self.old) rounds limit) }
-        ensures few { self.new.statements.items ≡ self.old.statements.items }
+        ensures few { self.new.statements ≡ self.old.statements }
     {
         if rounds < 1 || rounds > 10_000 || !is_limit(limit) {
             return Err(LineFault::Kind(LIMIT));
@@ -285,7 +285,7 @@ impl Reader {
     /// Nothing behind the schedule's `end`.
     fn ended_line(&mut self, tokens: &[Token]) -> Result<(), LineFault>
         ensures read { IsStep result self.new (ended_line (reading_of self.old) tokens.now) }
-        ensures few { length self.new.statements.items ≤ length self.old.statements.items }
+        ensures few { length self.new.statements ≤ length self.old.statements }
     {
         match tokens {
             [] => Ok(()),
@@ -296,7 +296,7 @@ impl Reader {
     /// One event more that is no begin.
     fn add(&mut self, event: Event) -> Result<(), LineFault>
         ensures read { IsStep result self.new (with_event (reading_of self.old) event) }
-        ensures few { self.new.statements.items ≡ self.old.statements.items }
+        ensures few { self.new.statements ≡ self.old.statements }
     {
         if self.events.len() >= MOST_EVENTS {
             return Err(LineFault::Kind(LIMIT));

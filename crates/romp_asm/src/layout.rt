@@ -1,5 +1,6 @@
 ghost use Rattle.std.specs.Prelude.{◌≡◌, ◌<◌, ◌≤◌, ◌^◌, length, MatchResult};
 ghost use Rattle.asm_parse.specs.Answers.{IsAnswer, IsTextFaultOf};
+ghost use Rattle.asm_parse.specs.Kept.{stated};
 ghost use Rattle.asm_parse.specs.Text.{at_line};
 ghost use Rattle.romp_asm.specs.Labels.{addresses_in, found_in, repeated_in, stands_before};
 ghost use Rattle.romp_asm.specs.Laid.{IsLaid};
@@ -7,8 +8,8 @@ ghost use Rattle.romp_asm.specs.Source.{source_of};
 ghost use Rattle.romp_asm.specs.Layout.{assembled, parts_of, piece_of};
 
 use super::output::Output;
-use super::value::{Labels, labels_of};
-use asm_parse::{AsmFault, LineFault, Statement, parse};
+use super::value::{Labels, labels_kept, labels_of};
+use asm_parse::{AsmFault, LineFault, Part, Statement, Statements, parse};
 use flat_machine::Program;
 use std::alloc::Global;
 
@@ -47,7 +48,24 @@ pub fn assemble(alloc: Global, statements: &[Statement]) -> Result<Program, AsmF
     let labels = labels_of(alloc, statements)?;
     let mut output = Output::new(alloc);
     for (index, statement) in statements.iter().enumerate() {
-        add(&mut output, &labels, index, statement)?;
+        add(&mut output, &labels, index, &Part::of(statement))?;
+    }
+    Ok(output.finish())
+}
+
+/// The program that statements make which are kept. It answers as [`assemble`] does.
+///
+/// # Errors
+///
+/// As [`assemble`].
+pub fn assemble_kept(alloc: Global, statements: &Statements) -> Result<Program, AsmFault>
+    requires { length statements.now ≤ 2 ^ 30 }
+    ensures { IsAnswer parts_of result (assembled statements.now) }
+{
+    let labels = labels_kept(alloc, statements)?;
+    let mut output = Output::new(alloc);
+    for index in 0..statements.len() {
+        add(&mut output, &labels, index, &statements.at(index))?;
     }
     Ok(output.finish())
 }
@@ -57,17 +75,18 @@ fn add(
     output: &mut Output,
     labels: &Labels<'_>,
     index: usize,
-    statement: &Statement,
+    part: &Part<'_>,
 ) -> Result<(), AsmFault>
-    ensures { let reading = piece_of (addresses_in labels.now) (repeated_in labels.now index statement.now) (length output.old.image.items) output.old.entry output.old.windows statement.now.body in
-        MatchResult result (λ _. IsLaid (addresses_in labels.now) output.old output.new statement.now.body reading)
-        (λ fault. IsTextFaultOf fault (at_line statement.now.line reading)) }
+    ensures { let statement = stated part.now in
+        let reading = piece_of (addresses_in labels.now) (repeated_in labels.now index statement) (length output.old.image.items) output.old.entry output.old.windows statement.body in
+        MatchResult result (λ _. IsLaid (addresses_in labels.now) output.old output.new statement.body reading)
+        (λ fault. IsTextFaultOf fault (at_line statement.line reading)) }
 {
-    let repeated = is_repeated(labels, index, statement);
-    match output.add(labels, repeated, &statement.body) {
+    let repeated = is_repeated(labels, index, part);
+    match output.add(labels, repeated, part.body) {
         Ok(()) => Ok(()),
         Err(LineFault::Kind(kind)) => Err(AsmFault::Fault {
-            line: statement.line,
+            line: part.line,
             kind,
         }),
         Err(LineFault::Memory) => Err(AsmFault::Memory),
@@ -75,10 +94,10 @@ fn add(
 }
 
 /// Whether an earlier statement than the one with this number has its label too.
-fn is_repeated(labels: &Labels<'_>, index: usize, statement: &Statement) -> bool
-    ensures { result ≡ repeated_in labels.now index statement.now }
+fn is_repeated(labels: &Labels<'_>, index: usize, part: &Part<'_>) -> bool
+    ensures { result ≡ repeated_in labels.now index (stated part.now) }
 {
-    match &statement.label {
+    match part.label {
         Some(label) => stands_before(labels, index, label.as_str()),
         None => false,
     }

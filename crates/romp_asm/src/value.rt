@@ -1,12 +1,13 @@
 ghost use Rattle.std.specs.Prelude.{◌≡◌, ◌≤◌, ◌<◌, ◌^◌, ◌+ℤ◌, ℕ, List, length, IfOk, OnOk, MatchResult, Ok, Err};
 ghost use Rattle.std.specs.Option.{option_map};
+ghost use Rattle.asm_parse.specs.Kept.{stated};
 ghost use Rattle.romp_asm.specs.Value.{is_labelled, known_of, knowns_of, least_kind, value_of, within_reach};
 ghost use Rattle.romp_asm.specs.Labels.{addresses_in, found_in, noted, place_of};
 
 use super::field::{OUT_OF_REACH, UNKNOWN_LABEL};
 use super::size::size_of;
 use arrayvec::ArrayVec;
-use asm_parse::{Expr, Operand, Statement};
+use asm_parse::{Expr, Operand, Part, Statement, Statements};
 use std::alloc::{AllocError, Global};
 use std::collections::BTreeMap;
 
@@ -47,22 +48,37 @@ pub(crate) fn labels_of(alloc: Global, statements: &[Statement]) -> Result<Label
             statement: index,
             address: address as i64,
         };
-        note(&mut labels, statement, place)?;
+        note(&mut labels, &Part::of(statement), place)?;
         address += u64::from(size_of(&statement.body));
     }
     Ok(labels)
 }
 
-/// Notes the label of a statement, if it has one and no statement had it before.
-fn note<'a>(
-    labels: &mut Labels<'a>,
-    statement: &'a Statement,
-    place: Place,
-) -> Result<(), AllocError>
-    ensures { OnOk result ((word : List ℕ) →
-        found_in labels.new word ≡ noted (found_in labels.old word) (is_labelled word statement.now) place) }
+/// The labels of statements that are kept.
+pub(crate) fn labels_kept(alloc: Global, statements: &Statements) -> Result<Labels<'_>, AllocError>
+    requires { length statements.now ≤ 2 ^ 30 }
+    ensures { IfOk result (λ labels. (word : List ℕ) → found_in labels word ≡ place_of statements.now word) }
 {
-    let Some(label) = &statement.label else {
+    let mut labels = BTreeMap::new(alloc);
+    let mut address: u64 = 0;
+    for index in 0..statements.len() {
+        let part = statements.at(index);
+        let place = Place {
+            statement: index,
+            address: address as i64,
+        };
+        note(&mut labels, &part, place)?;
+        address += u64::from(size_of(part.body));
+    }
+    Ok(labels)
+}
+
+/// Notes the label of a statement, if it has one and no statement had it before.
+fn note<'a>(labels: &mut Labels<'a>, part: &Part<'a>, place: Place) -> Result<(), AllocError>
+    ensures { OnOk result ((word : List ℕ) →
+        found_in labels.new word ≡ noted (found_in labels.old word) (is_labelled word (stated part.now)) place) }
+{
+    let Some(label) = part.label else {
         return Ok(());
     };
     if !labels.contains_key(label.as_str()) {

@@ -8,7 +8,7 @@ abbrev pub invariant-loop-line : goal.invariant-loop-line
 invariant-loop-line l = record {
   so_far : read_from (reading_of l.reader) l.number (lines_of l.left) ≡ job_of l.text;
   number : l.number + length l.left ≤ length l.text + 1;
-  few : length l.reader.statements.items + length l.left ≤ length l.text;
+  few : length l.reader.statements + length l.left ≤ length l.text;
 }
 
 abbrev pub decreases-loop-line : goal.decreases-loop-line

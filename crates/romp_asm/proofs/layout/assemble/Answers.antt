@@ -1,4 +1,6 @@
+use Rattle.std.proofs.Common.{◌≡◌, get_or, sym, ap, ◌∙◌}
 use Rattle.std.proofs.lemmas.Result.{err_from_is_err_and}
+use Rattle.asm_parse.specs.Kept.{stated}
 use Rattle.romp_asm.proofs.LayoutLemmas.{Before, all_laid, before_more, fault_told, image_more}
 use Rattle.romp_asm.proofs.layout.assemble.Goals as goal
 
@@ -6,11 +8,12 @@ pub loop-index-preserved : goal.loop-index-preserved
 loop-index-preserved c =
     let all = c.args.statements.now in
     let i = c.loop-index.index in
-    let statement = c.index-statements-index.result in
+    let statement = stated c.of.result in
+    let here : statement ≡ get_or all i statement = c.of.ensures ∙ c.index-statements-index.is ∙ ap (get_or all i) (sym c.of.ensures) in
     let before : Before all i c.loop-index.output = record { size = c.loop-index.invariant.size; entry = c.loop-index.invariant.entry; windows = c.loop-index.invariant.windows } in
-    let after = before_more c.in_ok-labels.labels all i statement c.loop-index.output c.add.new.output c.in_ok-labels.ensures c.loop-index-test.true c.index-statements-index.is before c.in_ok-add.ensures in
+    let after = before_more c.in_ok-labels.labels all i statement c.loop-index.output c.add.new.output c.in_ok-labels.ensures c.loop-index-test.true here before c.in_ok-add.ensures in
     record {
-      so_far = image_more c.in_ok-labels.labels all i statement c.loop-index.output c.add.new.output c.in_ok-labels.ensures c.loop-index-test.true c.index-statements-index.is before c.in_ok-add.ensures c.loop-index.invariant.so_far;
+      so_far = image_more c.in_ok-labels.labels all i statement c.loop-index.output c.add.new.output c.in_ok-labels.ensures c.loop-index-test.true here before c.in_ok-add.ensures c.loop-index.invariant.so_far;
       size = after.size;
       entry = after.entry;
       windows = after.windows;
@@ -19,9 +22,11 @@ loop-index-preserved c =
 pub returns-in_err-add : goal.returns-in_err-add
 returns-in_err-add c =
     let all = c.args.statements.now in
+    let statement = stated c.of.result in
+    let here : statement ≡ get_or all c.loop-index.index statement = c.of.ensures ∙ c.index-statements-index.is ∙ ap (get_or all c.loop-index.index) (sym c.of.ensures) in
     let before : Before all c.loop-index.index c.loop-index.output = record { size = c.loop-index.invariant.size; entry = c.loop-index.invariant.entry; windows = c.loop-index.invariant.windows } in
     let told = err_from_is_err_and c.from_residual-in_err-add.result c.from_residual-in_err-add.ensures.1 in
-    rw (told.1, told.2) (fault_told c.in_ok-labels.labels all c.loop-index.index c.index-statements-index.result c.loop-index.output c.in_err-add.field-0.0 c.in_ok-labels.ensures c.loop-index-test.true c.index-statements-index.is before c.in_err-add.ensures c.loop-index.invariant.so_far)
+    rw (told.1, told.2) (fault_told c.in_ok-labels.labels all c.loop-index.index statement c.loop-index.output c.in_err-add.field-0.0 c.in_ok-labels.ensures c.loop-index-test.true here before c.in_err-add.ensures c.loop-index.invariant.so_far)
 
 pub returns : goal.returns
 returns c =

@@ -1,4 +1,7 @@
-use Rattle.std.proofs.Common.{arith, refl, sym, ◌∙◌}
+use Rattle.std.proofs.Common.{◌≡◌, get_or, arith, refl, sym, ap, ◌∙◌}
+use Rattle.asm_parse.specs.declared.statement.Statement.{Statement}
+use Rattle.asm_parse.specs.Kept.{stated}
+use Rattle.romp_asm.specs.Size.{size_of}
 use Rattle.romp_asm.proofs.ValueLemmas.{no_place, place_more, signed_same, total_more}
 use Rattle.romp_asm.proofs.value.labels_of.Goals as goal
 
@@ -8,10 +11,12 @@ loop-index-init c = record { table = λ word. rw c.new-labels.ensures.empty (sym
 pub loop-index-preserved : goal.loop-index-preserved
 loop-index-preserved c =
     let i = c.loop-index.index in
-    let statement = c.index-statements-index.result in
-    let more = total_more c.args.statements.now i statement c.loop-index-test.true c.index-statements-index.is in
+    let statement = stated c.of.result in
+    let here : statement ≡ get_or c.args.statements.now i statement = c.of.ensures ∙ c.index-statements-index.is ∙ ap (get_or c.args.statements.now i) (sym c.of.ensures) in
+    let size : size_of statement.body ≡ size_of c.index-statements-index.result.body = ap (λ (statement : Statement). size_of statement.body) c.of.ensures in
+    let more = total_more c.args.statements.now i statement c.loop-index-test.true here in
     record {
-      table = λ word. c.in_ok-note.ensures word ∙ rw (signed_same c.loop-index.address (omega arith), c.loop-index.invariant.table word) (sym (place_more c.args.statements.now i statement word c.loop-index.address c.loop-index-test.true c.index-statements-index.is c.loop-index.invariant.address));
+      table = λ word. c.in_ok-note.ensures word ∙ rw (signed_same c.loop-index.address (omega arith), c.loop-index.invariant.table word) (sym (place_more c.args.statements.now i statement word c.loop-index.address c.loop-index-test.true here c.loop-index.invariant.address));
       address = omega arith;
       small = omega arith;
     }
