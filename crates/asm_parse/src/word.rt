@@ -2,21 +2,27 @@ ghost use Rattle.std.specs.Prelude.{◌≡◌, ◌≤◌, nat_le, if◌then◌el
 ghost use Rattle.std.specs.Str.{IsAscii};
 ghost use Rattle.asm_parse.specs.Statement.{is_label};
 
-use arrayvec::ArrayString;
 use std::marker::Model;
+
+/// The most bytes of a word.
+const MOST: usize = 31;
 
 /// A word of the source: at most 31 bytes of ASCII. Contracts see it as the list of its bytes.
 #[derive(Debug, Drop)]
 pub struct Word {
-    text: ArrayString<31>,
+    bytes: [u8; MOST],
+    length: u8,
 }
 
 impl Model for Word {
-    ghost use Rattle.std.specs.Prelude.{ℕ, List};
+    ghost use Rattle.std.specs.Prelude.{ℕ, List, ◌≤◌, take};
+    ghost use Rattle.std.specs.Str.{IsAscii};
 
     ghost Value = { List ℕ };
 
-    ghost view = { λ word. word.text.bytes };
+    ghost view = { λ word. take word.length word.bytes };
+
+    ghost invariant = { λ word. (word.length ≤ 31) × IsAscii (take word.length word.bytes) };
 }
 
 impl Word {
@@ -25,27 +31,35 @@ impl Word {
         requires { IsAscii bytes.now }
         ensures { result ≡ (if nat_le (length bytes.now) 31 then Some bytes.now else None) }
     {
-        let Ok(text) = str::from_utf8(bytes) else {
+        if bytes.len() > MOST {
             return None;
-        };
-        match ArrayString::from(text) {
-            Ok(text) => Some(Word { text }),
-            Err(_) => None,
         }
+        let mut kept = [0; MOST];
+        kept[..bytes.len()].copy_from_slice(bytes);
+        Some(Word {
+            bytes: kept,
+            length: bytes.len() as u8,
+        })
     }
 
     /// The same word once more.
     pub fn copied(&self) -> Self
         ensures { result ≡ self.now }
     {
-        Word { text: self.text }
+        Word {
+            bytes: self.bytes,
+            length: self.length,
+        }
     }
 
     /// Its text.
     pub fn as_str(&self) -> &str
         ensures { result.now ≡ self.now }
     {
-        self.text.as_str()
+        match str::from_utf8(&self.bytes[..usize::from(self.length)]) {
+            Ok(text) => text,
+            Err(_) => unreachable!(),
+        }
     }
 
     /// Whether it may be a label or a name: it doesn't begin with `.`.
@@ -60,6 +74,6 @@ impl Word {
         ensures value { result.now ≡ self.now }
         ensures fits { length result.now ≤ 31 }
     {
-        self.text.as_str().as_bytes()
+        &self.bytes[..usize::from(self.length)]
     }
 }

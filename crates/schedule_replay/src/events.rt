@@ -16,7 +16,7 @@ use super::lines::{put_begun, put_left, put_turn};
 use desk::{Event, Supervisor, TurnEnd};
 use job_text::Name;
 use outside::{Failed, Outside};
-use report_text::{Line, put_line};
+use report_text::{Line, Reporter};
 
 /// How the events went.
 #[derive(Debug, Clone, Copy, PartialEq, Eq)]
@@ -57,7 +57,7 @@ pub fn replay<S: Supervisor, W: Outside>(
     ensures opened { S.opened desk.new ≡ S.opened desk.old }
     ensures kept { S.answers desk.old → HasOpened S.Supervisor desk.old → Kept S.Supervisor W.Outside desk.old desk.new outside.old outside.new }
 {
-    match put_report(desk, names, events, outside) {
+    match put_report(desk, names, events, &mut Reporter::new(), outside) {
         Err(Failed) => Replayed::PutFault,
         Ok(Going::Closed) => Replayed::Closed,
         Ok(Going::On) => Replayed::Ended,
@@ -69,6 +69,7 @@ fn put_report<S: Supervisor, W: Outside>(
     desk: &mut S,
     names: &[Name],
     events: &[Event],
+    reporter: &mut Reporter,
     outside: &mut W,
 ) -> Result<Going, Failed>
     requires ready { IsReady S.Supervisor W.Outside events.now desk.old outside.old }
@@ -81,24 +82,28 @@ fn put_report<S: Supervisor, W: Outside>(
     ensures bytes { HoldsStore S.Supervisor W.Outside desk.new outside.new }
     ensures opened { S.opened desk.new ≡ S.opened desk.old }
 {
-    put_line(&Line::Open(desk.number()), outside)?;
-    match put_events(desk, names, events, outside)? {
+    reporter.put(&Line::Open(desk.number()), outside)?;
+    match put_events(desk, names, events, reporter, outside)? {
         Going::Closed => Ok(Going::Closed),
         Going::On => {
-            put_closing(desk, outside)?;
+            put_closing(desk, reporter, outside)?;
             Ok(Going::On)
         }
     }
 }
 
 /// The lines of the end, where the desk is open.
-fn put_closing<S: Supervisor, W: Outside>(desk: &S, outside: &mut W) -> Result<(), Failed>
+fn put_closing<S: Supervisor, W: Outside>(
+    desk: &S,
+    reporter: &mut Reporter,
+    outside: &mut W,
+) -> Result<(), Failed>
     requires sound { S.sound desk.now }
     ensures only { OnlyPuts W.Outside outside.old outside.new result }
     ensures printed { S.answers desk.now → (S.desk desk.now).closed ≡ false → Prints (W.printed outside.old) (W.printed outside.new) (flat_map line_text (closing_lines (S.opened desk.now) (S.desk desk.now))) result }
 {
-    put_left(desk.active().as_slice(), outside)?;
-    put_line(&Line::End(desk.number()), outside)
+    put_left(desk.active().as_slice(), reporter, outside)?;
+    reporter.put(&Line::End(desk.number()), outside)
 }
 
 /// The events and their lines, to the one that closed the desk.
@@ -106,6 +111,7 @@ fn put_events<S: Supervisor, W: Outside>(
     desk: &mut S,
     names: &[Name],
     events: &[Event],
+    reporter: &mut Reporter,
     outside: &mut W,
 ) -> Result<Going, Failed>
     requires ready { IsReady S.Supervisor W.Outside events.now desk.old outside.old }
@@ -114,7 +120,7 @@ fn put_events<S: Supervisor, W: Outside>(
     ensures ran { S.answers desk.old → (S.desk desk.old).closed ≡ false → RanSome S.Supervisor W.Outside (map (λ name. name.items) names.now) events.now desk.old desk.new outside.old outside.new result }
 {
     for event in events {
-        match answer(desk, names, *event, outside)? {
+        match answer(desk, names, *event, reporter, outside)? {
             Going::Closed => return Ok(Going::Closed),
             Going::On => {}
         }
@@ -127,6 +133,7 @@ fn answer<S: Supervisor, W: Outside>(
     desk: &mut S,
     names: &[Name],
     event: Event,
+    reporter: &mut Reporter,
     outside: &mut W,
 ) -> Result<Going, Failed>
     requires ready { IsReady S.Supervisor W.Outside (event ∷ []) desk.old outside.old }
@@ -137,10 +144,10 @@ fn answer<S: Supervisor, W: Outside>(
 {
     match event {
         Event::Begin { program, args } => {
-            begin(desk, names, program, args, outside)?;
+            begin(desk, names, program, args, reporter, outside)?;
             Ok(Going::On)
         }
-        Event::Turn { activation, limit } => turn(desk, activation, limit, outside),
+        Event::Turn { activation, limit } => turn(desk, activation, limit, reporter, outside),
         Event::Checkpoint | Event::Crash => unreachable!(),
     }
 }
@@ -151,6 +158,7 @@ fn begin<S: Supervisor, W: Outside>(
     names: &[Name],
     program: u16,
     args: [u32; 4],
+    reporter: &mut Reporter,
     outside: &mut W,
 ) -> Result<(), Failed>
     requires ready { IsReady S.Supervisor W.Outside (event.Begin program args ∷ []) desk.old outside.old }
@@ -160,7 +168,7 @@ fn begin<S: Supervisor, W: Outside>(
     ensures open { S.answers desk.old → (S.desk desk.old).closed ≡ false → (S.desk desk.new).closed ≡ false }
 {
     let begun = desk.begin(program, args);
-    put_begun(begun, program, names, outside)
+    put_begun(begun, program, names, reporter, outside)
 }
 
 /// A turn and its lines.
@@ -168,6 +176,7 @@ fn turn<S: Supervisor, W: Outside>(
     desk: &mut S,
     activation: u32,
     limit: u32,
+    reporter: &mut Reporter,
     outside: &mut W,
 ) -> Result<Going, Failed>
     requires ready { IsReady S.Supervisor W.Outside (event.Turn activation limit ∷ []) desk.old outside.old }
@@ -176,7 +185,7 @@ fn turn<S: Supervisor, W: Outside>(
     ensures going { S.answers desk.old → (S.desk desk.old).closed ≡ false → IfOk result (λ going. (S.desk desk.new).closed ≡ is_closed going) }
 {
     let turn = desk.turn(outside, activation, limit);
-    put_turn(&turn, activation, desk.printed(), outside)?;
+    put_turn(&turn, activation, desk.printed(), reporter, outside)?;
     Ok(going_after(&turn.end))
 }
 

@@ -12,13 +12,14 @@ ghost use Rattle.schedule_replay.specs.Puts.{number_told, counted_lines};
 use desk::{Begun, Cycle, Turn, TurnEnd};
 use job_text::Name;
 use outside::{Failed, Outside};
-use report_text::{Line, put_line};
+use report_text::{Line, Reporter};
 
 /// The line of a begin of the program with this place.
 pub fn put_begun<W: Outside>(
     begun: Begun,
     program: u16,
     names: &[Name],
+    reporter: &mut Reporter,
     outside: &mut W,
 ) -> Result<(), Failed>
     requires { program < length names.now }
@@ -27,11 +28,11 @@ pub fn put_begun<W: Outside>(
 {
     let name = names[usize::from(program)].as_slice();
     match begun {
-        Begun::Started(activation) => put_line(&Line::Begin(activation, name), outside),
-        Begun::Busy(activation) => put_line(&Line::Busy(activation, name), outside),
+        Begun::Started(activation) => reporter.put(&Line::Begin(activation, name), outside),
+        Begun::Busy(activation) => reporter.put(&Line::Busy(activation, name), outside),
         Begun::NoSegment(activation, segment) => {
             let line = Line::NoSegment(activation, name, u32::from(segment));
-            put_line(&line, outside)
+            reporter.put(&line, outside)
         }
         Begun::Shut => Ok(()),
     }
@@ -42,6 +43,7 @@ pub fn put_turn<W: Outside>(
     turn: &Turn,
     activation: u32,
     printed: &[u8],
+    reporter: &mut Reporter,
     outside: &mut W,
 ) -> Result<(), Failed>
     requires { length printed.now ≤ 4096 }
@@ -49,9 +51,9 @@ pub fn put_turn<W: Outside>(
     ensures printed { (names : List (List ℕ)) → Prints (W.printed outside.old) (W.printed outside.new) (flat_map line_text (happening_lines names (number_told turn.now.end) (turn_told activation turn.now printed.now))) result }
 {
     match turn.end {
-        TurnEnd::Idle => put_line(&Line::Idle(activation), outside),
+        TurnEnd::Idle => reporter.put(&Line::Idle(activation), outside),
         TurnEnd::Shut => Ok(()),
-        _ => put_counted(turn, activation, printed, outside),
+        _ => put_counted(turn, activation, printed, reporter, outside),
     }
 }
 
@@ -60,6 +62,7 @@ fn put_counted<W: Outside>(
     turn: &Turn,
     activation: u32,
     printed: &[u8],
+    reporter: &mut Reporter,
     outside: &mut W,
 ) -> Result<(), Failed>
     requires { length printed.now ≤ 4096 }
@@ -72,30 +75,38 @@ fn put_counted<W: Outside>(
         pages: turn.pages,
         locks: turn.locks,
     };
-    put_line(&counts, outside)?;
-    put_cycles(turn.cycles.as_slice(), outside)?;
-    put_end(&turn.end, activation, printed, outside)
+    reporter.put(&counts, outside)?;
+    put_cycles(turn.cycles.as_slice(), reporter, outside)?;
+    put_end(&turn.end, activation, printed, reporter, outside)
 }
 
 /// The lines of rollbacks, one cycle after another.
-fn put_cycles<W: Outside>(cycles: &[Cycle], outside: &mut W) -> Result<(), Failed>
+fn put_cycles<W: Outside>(
+    cycles: &[Cycle],
+    reporter: &mut Reporter,
+    outside: &mut W,
+) -> Result<(), Failed>
     ensures only { OnlyPuts W.Outside outside.old outside.new result }
     ensures printed { Prints (W.printed outside.old) (W.printed outside.new) (flat_map line_text (flat_map cycle_lines (map (λ cycle. cycle.members.items) cycles.now))) result }
 {
     for cycle in cycles {
-        put_cycle(cycle.members.as_slice(), outside)?;
+        put_cycle(cycle.members.as_slice(), reporter, outside)?;
     }
     Ok(())
 }
 
 /// The lines of a cycle, whose victim is its greatest member.
-fn put_cycle<W: Outside>(members: &[u32], outside: &mut W) -> Result<(), Failed>
+fn put_cycle<W: Outside>(
+    members: &[u32],
+    reporter: &mut Reporter,
+    outside: &mut W,
+) -> Result<(), Failed>
     requires { length members.now ≤ 17 }
     ensures only { OnlyPuts W.Outside outside.old outside.new result }
     ensures printed { Prints (W.printed outside.old) (W.printed outside.new) (flat_map line_text (cycle_lines members.now)) result }
 {
-    put_line(&Line::Cycle(members), outside)?;
-    put_line(&Line::Victim(greatest(members)), outside)
+    reporter.put(&Line::Cycle(members), outside)?;
+    reporter.put(&Line::Victim(greatest(members)), outside)
 }
 
 /// The greatest member of a cycle.
@@ -110,6 +121,7 @@ fn put_end<W: Outside>(
     end: &TurnEnd,
     activation: u32,
     printed: &[u8],
+    reporter: &mut Reporter,
     outside: &mut W,
 ) -> Result<(), Failed>
     requires { length printed.now ≤ 4096 }
@@ -125,7 +137,7 @@ fn put_end<W: Outside>(
                 steps: *steps,
                 out: printed,
             };
-            put_line(&commit, outside)
+            reporter.put(&commit, outside)
         }
         TurnEnd::Checked(code, iar) => {
             let check = Line::Check {
@@ -133,10 +145,10 @@ fn put_end<W: Outside>(
                 code: u32::from(*code),
                 iar: *iar,
             };
-            put_line(&check, outside)
+            reporter.put(&check, outside)
         }
         TurnEnd::Waits(_, holders) => {
-            put_line(&Line::Wait(activation, holders.as_slice()), outside)
+            reporter.put(&Line::Wait(activation, holders.as_slice()), outside)
         }
         TurnEnd::Journal(lines, limit) => {
             let journal = Line::Journal {
@@ -144,33 +156,42 @@ fn put_end<W: Outside>(
                 lines: *lines,
                 limit: *limit,
             };
-            put_line(&journal, outside)
+            reporter.put(&journal, outside)
         }
-        TurnEnd::Disk => put_line(&Line::Disk(activation), outside),
-        TurnEnd::Closed { doubt: None, .. } => put_line(&Line::Closed, outside),
+        TurnEnd::Disk => reporter.put(&Line::Disk(activation), outside),
+        TurnEnd::Closed { doubt: None, .. } => reporter.put(&Line::Closed, outside),
         TurnEnd::Closed {
             doubt: Some(_),
             number,
-        } => put_doubt(activation, *number, outside),
+        } => put_doubt(activation, *number, reporter, outside),
     }
 }
 
 /// The lines of a commit that is in doubt: the desk is closed.
-fn put_doubt<W: Outside>(activation: u32, number: u64, outside: &mut W) -> Result<(), Failed>
+fn put_doubt<W: Outside>(
+    activation: u32,
+    number: u64,
+    reporter: &mut Reporter,
+    outside: &mut W,
+) -> Result<(), Failed>
     ensures only { OnlyPuts W.Outside outside.old outside.new result }
     ensures printed { Prints (W.printed outside.old) (W.printed outside.new) (flat_map line_text (Doubt activation number ∷ Closed ∷ [])) result }
 {
-    put_line(&Line::Doubt(activation, number), outside)?;
-    put_line(&Line::Closed, outside)
+    reporter.put(&Line::Doubt(activation, number), outside)?;
+    reporter.put(&Line::Closed, outside)
 }
 
 /// A line for each activation that was active at the end.
-pub fn put_left<W: Outside>(activations: &[u32], outside: &mut W) -> Result<(), Failed>
+pub fn put_left<W: Outside>(
+    activations: &[u32],
+    reporter: &mut Reporter,
+    outside: &mut W,
+) -> Result<(), Failed>
     ensures only { OnlyPuts W.Outside outside.old outside.new result }
     ensures printed { Prints (W.printed outside.old) (W.printed outside.new) (flat_map line_text (map Left activations.now)) result }
 {
     for activation in activations {
-        put_line(&Line::Left(*activation), outside)?;
+        reporter.put(&Line::Left(*activation), outside)?;
     }
     Ok(())
 }

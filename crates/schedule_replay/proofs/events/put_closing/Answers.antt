@@ -30,11 +30,11 @@ returns-clause-printed g c =
     let number = g.S.Supervisor.opened c.args.desk.now in
     let old = g.W.Outside.printed c.args.outside.now in
     let mid = g.W.Outside.printed c.put_left.new.outside in
-    let new = g.W.Outside.printed c.put_line.new.outside in
+    let new = g.W.Outside.printed c.put.new.outside in
     let left = flat_map line_text (map Left (numbers desk)) in
     let ends = flat_map line_text (End (number_after number desk) ∷ []) in
-    prints_same old new (left ++ ends) (flat_map line_text (closing_lines number desk)) c.put_line.result (closing_bytes number desk was_open)
-    (prints_on old mid new left ends c.in_ok-put_left.field-0 c.put_line.result
+    prints_same old new (left ++ ends) (flat_map line_text (closing_lines number desk)) c.put.result (closing_bytes number desk was_open)
+    (prints_on old mid new left ends c.in_ok-put_left.field-0 c.put.result
     (prints_same old mid (flat_map line_text (map Left c.as_slice.result.now)) left (Ok c.in_ok-put_left.field-0) (ap (λ (these : List ℕ). flat_map line_text (map Left these)) (c.as_slice.ensures.value ∙ c.active.ensures answers)) c.in_ok-put_left.ensures.printed)
-    (prints_one mid new (End (number_after number desk)) c.put_line.result
-    (prints_same mid new (line_text (End c.number.result)) (line_text (End (number_after number desk))) c.put_line.result (ap (λ n. line_text (End n)) {y = number_after number desk} (c.number.ensures answers)) c.put_line.ensures.printed)))
+    (prints_one mid new (End (number_after number desk)) c.put.result
+    (prints_same mid new (line_text (End c.number.result)) (line_text (End (number_after number desk))) c.put.result (ap (λ n. line_text (End n)) {y = number_after number desk} (c.number.ensures answers)) c.put.ensures.printed)))

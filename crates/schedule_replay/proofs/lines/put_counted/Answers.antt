@@ -16,10 +16,10 @@ use Rattle.schedule_replay.proofs.lines.put_counted.Goals as goal
 two_parts : (cycles : List (List ℕ)) (ends : List Line) → flat_map line_text (flat_map cycle_lines cycles) ++ flat_map line_text ends ≡ flat_map line_text (flat_map cycle_lines cycles ++ ends)
 two_parts cycles ends = sym (flat_map-append line_text (flat_map cycle_lines cycles) ends)
 
-pub returns-in_err-put_line-clause-printed : goal.returns-in_err-put_line-clause-printed
-returns-in_err-put_line-clause-printed g c =
+pub returns-in_err-put-clause-printed : goal.returns-in_err-put-clause-printed
+returns-in_err-put-clause-printed g c =
     let turn = c.args.turn.now in
-    prints_stop (g.W.Outside.printed c.args.outside.now) (g.W.Outside.printed c.put_line.new.outside) (line_text (Turn c.args.activation turn.ran turn.pages turn.locks)) (flat_map line_text (flat_map cycle_lines (counts_told turn).cycles ++ ending_lines (number_told turn.end) c.args.activation (ending_told turn.end c.args.printed.now))) c.put_line.result c.from_residual.result (search rules) c.from_residual.ensures.0 c.put_line.ensures.printed
+    prints_stop (g.W.Outside.printed c.args.outside.now) (g.W.Outside.printed c.put.new.outside) (line_text (Turn c.args.activation turn.ran turn.pages turn.locks)) (flat_map line_text (flat_map cycle_lines (counts_told turn).cycles ++ ending_lines (number_told turn.end) c.args.activation (ending_told turn.end c.args.printed.now))) c.put.result c.from_residual.result (search rules) c.from_residual.ensures.0 c.put.ensures.printed
 
 -- the rollbacks are those that the answer tells
 cycles_put : (old new : Option (List ℕ)) (slice items : List Cycle) (result : Result (Unit {0}) Failed) → slice ≡ items → Prints old new (flat_map line_text (flat_map cycle_lines (map (λ cycle. cycle.members.items) slice))) result → Prints old new (flat_map line_text (flat_map cycle_lines (map (λ cycle. cycle.members.items) items))) result
@@ -30,7 +30,7 @@ pub returns-in_err-put_cycles-clause-printed : goal.returns-in_err-put_cycles-cl
 returns-in_err-put_cycles-clause-printed g c =
     let turn = c.args.turn.now in
     let old = g.W.Outside.printed c.args.outside.now in
-    let mid = g.W.Outside.printed c.put_line.new.outside in
+    let mid = g.W.Outside.printed c.put.new.outside in
     let new = g.W.Outside.printed c.put_cycles.new.outside in
     let counts = line_text (Turn c.args.activation turn.ran turn.pages turn.locks) in
     let cycles = flat_map line_text (flat_map cycle_lines (counts_told turn).cycles) in
@@ -38,20 +38,20 @@ returns-in_err-put_cycles-clause-printed g c =
     prints_same old new ((counts ++ cycles) ++ flat_map line_text ends) (flat_map line_text (counted_lines c.args.activation turn c.args.printed.now)) c.from_residual-in_err-put_cycles.result
     (append_assoc counts cycles (flat_map line_text ends) ∙ ap (λ (rest : List ℕ). counts ++ rest) (two_parts (counts_told turn).cycles ends))
     (prints_stop old new (counts ++ cycles) (flat_map line_text ends) c.put_cycles.result c.from_residual-in_err-put_cycles.result (search rules) c.from_residual-in_err-put_cycles.ensures.0
-    (prints_on old mid new counts cycles c.in_ok-put_line.field-0 c.put_cycles.result c.in_ok-put_line.ensures.printed
+    (prints_on old mid new counts cycles c.in_ok-put.field-0 c.put_cycles.result c.in_ok-put.ensures.printed
     (cycles_put mid new c.as_slice.result.now turn.cycles.items c.put_cycles.result c.as_slice.ensures.value c.put_cycles.ensures.printed)))
 
 pub returns-clause-printed : goal.returns-clause-printed
 returns-clause-printed g c =
     let turn = c.args.turn.now in
     let old = g.W.Outside.printed c.args.outside.now in
-    let mid = g.W.Outside.printed c.put_line.new.outside in
+    let mid = g.W.Outside.printed c.put.new.outside in
     let late = g.W.Outside.printed c.put_cycles.new.outside in
     let new = g.W.Outside.printed c.put_end.new.outside in
     let counts = line_text (Turn c.args.activation turn.ran turn.pages turn.locks) in
     let cycles = flat_map line_text (flat_map cycle_lines (counts_told turn).cycles) in
     let ends = ending_lines (number_told turn.end) c.args.activation (ending_told turn.end c.args.printed.now) in
-    prints_on old mid new counts (flat_map line_text (flat_map cycle_lines (counts_told turn).cycles ++ ends)) c.in_ok-put_line.field-0 c.put_end.result c.in_ok-put_line.ensures.printed
+    prints_on old mid new counts (flat_map line_text (flat_map cycle_lines (counts_told turn).cycles ++ ends)) c.in_ok-put.field-0 c.put_end.result c.in_ok-put.ensures.printed
     (prints_same mid new (cycles ++ flat_map line_text ends) (flat_map line_text (flat_map cycle_lines (counts_told turn).cycles ++ ends)) c.put_end.result (two_parts (counts_told turn).cycles ends)
     (prints_on mid late new cycles (flat_map line_text ends) c.in_ok-put_cycles.field-0 c.put_end.result
     (cycles_put mid late c.as_slice.result.now turn.cycles.items (Ok c.in_ok-put_cycles.field-0) c.as_slice.ensures.value c.in_ok-put_cycles.ensures.printed) c.put_end.ensures.printed))

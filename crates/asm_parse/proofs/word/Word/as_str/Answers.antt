@@ -1,0 +1,8 @@
+use Rattle.std.proofs.Common.{ℕ, take, sym, subst}
+use Rattle.std.specs.Str.{IsAscii}
+use Rattle.std.proofs.lemmas.Str.{IsUtf8-from_ascii}
+use Rattle.asm_parse.proofs.word.Word.as_str.Goals as goal
+
+pub unreachable-requires : goal.unreachable-requires
+unreachable-requires c =
+    c.in-Err.ensures.cases.0 (IsUtf8-from_ascii _ (subst (λ (n : ℕ). IsAscii (take n c.self.inside.bytes)) (sym c.from.ensures) c.self.invariant.1))
