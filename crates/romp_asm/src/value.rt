@@ -81,10 +81,13 @@ fn note<'a>(labels: &mut Labels<'a>, part: &Part<'a>, place: Place) -> Result<()
     let Some(label) = part.label else {
         return Ok(());
     };
-    if !labels.contains_key(label.as_str()) {
-        labels.insert(label.as_str(), place)?;
+    match labels.insert(label.as_str(), place)? {
+        None => Ok(()),
+        Some(first) => {
+            labels.insert(label.as_str(), first)?;
+            Ok(())
+        }
     }
-    Ok(())
 }
 
 /// The value of an expression.
