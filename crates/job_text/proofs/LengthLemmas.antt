@@ -3,7 +3,6 @@ use Rattle.std.proofs.Common.{◌≡◌, inl, inr, ℕ, zero, suc, ◌+◌, ◌*
 use Rattle.std.specs.Int.{from_be_bytes, w32}
 use Rattle.std.specs.List.{AllByRecursion, flat_map, zip}
 use Rattle.std.proofs.lemmas.Fmt.{length-decimal-le}
-use Rattle.std.proofs.lemmas.Grind.{flat_map-append}
 use Rattle.desk.specs.declared.event.Event.{Event}
 use Rattle.desk.specs.declared.event.Event.TheVariants.{Begin, Turn, Checkpoint, Crash}
 use Rattle.flat_machine.specs.declared.machine.Window.{Window as Sight}
@@ -13,10 +12,9 @@ use Rattle.asm_parse.proofs.FrontLemmas.{IsToken, IsWord}
 use Rattle.romp_asm.specs.Layout.{Parts}
 use Rattle.romp_asm.proofs.WindowLemmas.{assembled_windows}
 use Rattle.job_text.specs.Grammar.{Content}
-use Rattle.job_text.specs.Form.{HasPrograms, IsBegin, IsNoBegin, IsEventLine, HasEvents, IsJobText}
-use Rattle.job_text.specs.Reading.{four_of, rounds_of, turns_to}
-use Rattle.job_text.specs.Written.{behind_text, end_line, event_line, head_lines, image_lines, job_lines, line_text, number_line, program_lines, source_lines, token_text, tokens_text, window_line, window_lines, written}
-use Rattle.job_text.proofs.SourceLemmas.{IsSound}
+use Rattle.job_text.specs.Form.{HasPrograms, IsNoBegin, IsEventLine, HasEvents, IsJobText}
+use Rattle.job_text.specs.Reading.{rounds_of, turns_to}
+use Rattle.job_text.specs.Written.{behind_text, end_line, event_line, image_lines, line_text, number_line, program_lines, token_text, window_line, window_lines, written}
 use Rattle.job_text.proofs.WrittenFormLemmas.{AllSound, AreTokens, job_tokens}
 
 word_short : (word : List ℕ) → IsWord word → length word ≤ 31

@@ -1,4 +1,4 @@
-use Rattle.std.proofs.Common.{◌≡◌, ℕ, [], List, ◌++◌, map, refl, ap, ◌∙◌, sym, subst, rules, arith, append-nil}
+use Rattle.std.proofs.Common.{◌≡◌, ℕ, [], List, ◌++◌, map, refl, ap, ◌∙◌, sym, subst, rules, append-nil}
 use Rattle.std.specs.Prelude.{Ok, false}
 use Rattle.std.specs.List.{flat_map}
 use Rattle.outside.specs.Bytes.{Prints}
