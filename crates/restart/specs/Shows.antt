@@ -5,6 +5,7 @@ use Rattle.store_format.specs.Stands.{Standing, Stands, NotAStore, Damaged, HasH
 use Rattle.outside.specs.declared.world.Outside.{Ghosts}
 use Rattle.outside.specs.Runs.{held_of}
 use Rattle.outside.specs.Durable.{IsSure}
+use Rattle.redo_journal.specs.Kept.{begun_of}
 use Rattle.redo_journal.specs.Opened.{IsRead}
 use Rattle.restart.specs.Kept.{KeptStore, Fits, number_of}
 
@@ -14,6 +15,11 @@ pub record Shows (held : List ℕ) (store : KeptStore) : Type 0 where
   pub chosen_is : chosen held ≡ store.bank.which
   pub read : IsRead held store.bank
   pub fits : Fits store.header store.bank
+
+-- The kept bank is what these bytes hold where the selector chooses, whatever their header is.
+pub record IsReopened (held : List ℕ) (store : KeptStore) : Type 0 where
+  pub chosen_is : chosen held ≡ store.bank.which
+  pub read : IsRead held store.bank
 
 -- The outside is honest and tells its bytes, a crash leaves them, and the store is what they show.
 pub record Tracks {W : Type 0} (G : Ghosts W) (store : KeptStore) (outside : W) : Type 0 where
@@ -33,4 +39,4 @@ page_in (Damaged offset) page = []
 -- the begun record was added, and the store is tracked
 pub record IsCommitted {W : Type 0} (G : Ghosts W) (old_store store : KeptStore) (old new : W) : Type 0 where
   pub tracks : Tracks G store new
-  pub stood : stands (held_of G new) ≡ one_more old_store.bank.begun (stands (held_of G old))
+  pub stood : stands (held_of G new) ≡ one_more (begun_of old_store.bank) (stands (held_of G old))

@@ -1,4 +1,4 @@
-ghost use Rattle.std.specs.Prelude.{◌≡◌, ◌↔◌, ◌+◌, ◌*◌, ◌≤◌, ◌<◌, [], All, length, slice_set, IsNone, IsTrue, IsSome, IfSome, IfOk, IfErr, OnOk, OnErr};
+ghost use Rattle.std.specs.Prelude.{◌≡◌, ◌↔◌, ◌+◌, ◌*◌, ◌≤◌, ◌<◌, [], All, length, slice_set, IsNone, Some, None, IsTrue, IsSome, IfSome, IfOk, IfErr, OnOk, OnErr};
 ghost use Rattle.std.specs.Option.{option_map};
 ghost use Rattle.line_geometry.specs.Directory.{page_count};
 ghost use Rattle.line_geometry.specs.Lines.{line_count};
@@ -6,12 +6,13 @@ ghost use Rattle.store_format.specs.Header.{total};
 ghost use Rattle.store_format.specs.Bank.{record_bytes};
 ghost use Rattle.store_format.specs.Stands.{stands, one_more, HasHeader};
 ghost use Rattle.outside.specs.Causes.{Rose};
-ghost use Rattle.outside.specs.Runs.{CallsDisk, OnlyAsks, Leaves, held_of};
-ghost use Rattle.redo_journal.specs.Held.{HoldsAtLeast, IsNoShorter};
-ghost use Rattle.redo_journal.specs.Kept.{KeptBank, area_end, with_line};
+ghost use Rattle.outside.specs.Runs.{OnlyAsks, Leaves, held_of};
+ghost use Rattle.redo_journal.specs.Held.{HoldsAtLeast, OnlyWrites};
+ghost use Rattle.redo_journal.specs.Kept.{KeptBank, area_end, begun_of, needed_end, with_line};
 ghost use Rattle.redo_journal.specs.Tracks.{IsEither};
 ghost use Rattle.restart.specs.Kept.{KeptStore, number_of};
-ghost use Rattle.restart.specs.Shows.{Shows, Tracks, IsCommitted, page_in};
+ghost use Rattle.restart.specs.Shows.{Shows, IsReopened, Tracks, IsCommitted, page_in};
+ghost use Rattle.restart.specs.Committed.{bank_after};
 ghost use Rattle.restart.specs.Faults.{IsOpenFault, IsReopenFault};
 
 use crate::page::read_newest;
@@ -88,6 +89,8 @@ impl Durable {
         requires room { HoldsAtLeast W.Outside (total self.old.header) outside.old }
         ensures asks { OnlyAsks W.Outside outside.old outside.new }
         ensures header { self.new.header ≡ self.old.header }
+        ensures begun { OnOk result (self.new.bank.begun ≡ None) }
+        ensures read { OnOk result (IsSome (W.held outside.old) → IsReopened (held_of W.Outside outside.old) self.new) }
         ensures shows { OnOk result (HasHeader (held_of W.Outside outside.old) self.old.header → IsSome (W.held outside.old) → Shows (held_of W.Outside outside.old) self.new) }
         ensures tracks { OnOk result (HasHeader (held_of W.Outside outside.old) self.old.header → IsTrue (W.is_honest outside.old) → IsSome (W.held outside.old) → Tracks W.Outside self.new outside.new) }
         ensures fault { IfErr result (IsReopenFault W.Outside outside.old outside.new self.old.header) }
@@ -101,39 +104,42 @@ impl Durable {
 
     /// Begins a record, in place of any other that was begun.
     pub fn record_start(&mut self)
-        ensures { self.new ≡ record self.old { bank = record self.old.bank { begun = [] } } }
+        ensures { self.new ≡ record self.old { bank = record self.old.bank { begun = Some [] } } }
     {
         self.bank.record_start();
     }
 
     /// Adds a line to the record that is begun: a line of the store, above those before it.
     pub fn record_line(&mut self, line: u32, bytes: &[u8])
+        requires begun { IsSome self.old.bank.begun }
         requires whole { length bytes.now ≡ 128 }
         requires below { line < line_count self.old.header.directory }
-        requires ascending { All (λ begun. begun.line < line) self.old.bank.begun }
-        requires room { record_bytes (length self.old.bank.begun + 1) + 1 ≤ self.old.header.bank_bytes }
+        requires ascending { All (λ begun. begun.line < line) (begun_of self.old.bank) }
+        requires room { record_bytes (length (begun_of self.old.bank) + 1) + 1 ≤ self.old.header.bank_bytes }
         ensures { self.new ≡ record self.old { bank = with_line self.old.bank line bytes.now } }
     {
         self.bank.record_line(line, bytes);
     }
 
-    /// Adds the record that is begun, which fits the rest of the bank, and makes it sure. It takes no memory. After
+    /// Adds the record that is begun, which fits the rest of the bank, and makes it sure. It takes no memory. No record
+    /// is begun afterwards. After
     /// [`Kept::Unwritten`] and [`Kept::Doubt`] the store has to be reopened before it is used again
     /// (docs/FORMATS.md, "Protocols").
     pub fn commit<W: Outside>(&mut self, outside: &mut W) -> Kept
+        requires begun { IsSome self.old.bank.begun }
         requires room { HoldsAtLeast W.Outside (total self.old.header) outside.old }
-        requires fits { self.old.bank.gate + record_bytes (length self.old.bank.begun) + 1 ≤ area_end self.old.bank }
-        ensures calls { CallsDisk W.Outside outside.old outside.new }
+        requires fits { needed_end self.old.bank ≤ area_end self.old.bank }
+        ensures only { OnlyWrites W.Outside outside.old outside.new }
         ensures header { self.new.header ≡ self.old.header }
-        ensures longer { IsNoShorter W.Outside outside.old outside.new }
+        ensures kept { self.new.bank ≡ bank_after result self.old.bank }
         ensures writes { result ≡ Kept.Done → W.writes outside.new ≡ option_map (λ count. count + 2) (W.writes outside.old) }
         ensures unwritten_cause { result ≡ Kept.Unwritten → Rose (W.disk_faults outside.old) (W.disk_faults outside.new) }
         ensures doubt_cause { result ≡ Kept.Doubt → Rose (W.disk_faults outside.old) (W.disk_faults outside.new) }
 
         // Of a store that is tracked: whenever a crash comes, it leaves what stood, or that with the record.
-        ensures crash { Tracks W.Outside self.old outside.old → Leaves W.Outside (IsEither self.old.bank.begun (held_of W.Outside outside.old)) outside.old outside.new }
-        ensures unwritten { result ≡ Kept.Unwritten → Tracks W.Outside self.old outside.old → Leaves W.Outside (λ image seen. stands image ≡ stands (held_of W.Outside outside.old)) outside.new outside.new }
-        ensures doubt { result ≡ Kept.Doubt → Tracks W.Outside self.old outside.old → Leaves W.Outside (λ image seen. stands (slice_set image self.old.bank.gate 0xA5) ≡ one_more self.old.bank.begun (stands (held_of W.Outside outside.old))) outside.new outside.new }
+        ensures crash { Tracks W.Outside self.old outside.old → Leaves W.Outside (IsEither (begun_of self.old.bank) (held_of W.Outside outside.old)) outside.old outside.new }
+        ensures unwritten { result ≡ Kept.Unwritten → Tracks W.Outside self.old outside.old → Leaves W.Outside (λ image seen. stands image ≡ stands (held_of W.Outside outside.old)) outside.old outside.new }
+        ensures doubt { result ≡ Kept.Doubt → Tracks W.Outside self.old outside.old → Leaves W.Outside (λ image seen. stands (slice_set image self.old.bank.gate 0xA5) ≡ one_more (begun_of self.old.bank) (stands (held_of W.Outside outside.old))) outside.new outside.new }
         ensures done { result ≡ Kept.Done → Tracks W.Outside self.old outside.old → IsCommitted W.Outside self.old self.new outside.old outside.new }
     {
         match self.bank.append(outside) {
