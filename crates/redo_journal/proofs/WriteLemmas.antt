@@ -7,7 +7,7 @@ use Rattle.outside.specs.declared.world.Outside.{Ghosts}
 use Rattle.outside.specs.declared.failed.Failed.{Failed}
 use Rattle.outside.specs.Bytes.{Torn, Writes, CountsWrite, written}
 use Rattle.outside.specs.Causes.{HasCause}
-use Rattle.outside.specs.Moments.{Elapses, PrintsNothing, Follows}
+use Rattle.outside.specs.Moments.{IsOneCall, Elapses, PrintsNothing, Follows}
 use Rattle.outside.specs.Runs.{OnlyAsks, FewerLater, held_of}
 use Rattle.outside.proofs.Durable.{told_some}
 use Rattle.outside.proofs.Runs.{calls_on, still_told}
@@ -57,11 +57,11 @@ asks_only G old new asks = record {
 
 -- a call that writes
 pub once : {W : Type 0} (G : Ghosts W) {T : Type 0} (at : ℕ) (bytes : List ℕ) (old new : W) (result : Result T Failed) → Writes (G.held old) (G.held new) at bytes result → CountsWrite (G.writes old) (G.writes new) result → G.is_honest new ≡ G.is_honest old
-    → Elapses G.moment G.left_since old new → PrintsNothing G.moment G.left_since G.printed old new → (IsTrue (G.is_honest old) → IsSome (G.held old) → Follows (Torn at (length bytes)) G.moment G.left_since old new)
+    → Elapses G.moment G.left_since old new → IsOneCall (G.moment old) (G.moment new) → PrintsNothing G.moment G.left_since G.printed old new → (IsTrue (G.is_honest old) → IsSome (G.held old) → Follows (Torn at (length bytes)) G.moment G.left_since old new)
     → HasCause (G.disk_faults old) (G.disk_faults new) result → G.put_faults new ≡ G.put_faults old → WritesOnce G at bytes old new result
-once G at bytes old new result written counted honest time quiet crash cause put = record {
+once G at bytes old new result written counted honest time one quiet crash cause put = record {
   only = record {
-    calls = record { quiet = quiet; honest = honest; time = time; disk = cause.later; put = put };
+    calls = record { quiet = quiet; honest = honest; time = time; disk = cause.later; put = put; puts = one.puts };
     told = λ told. still_told (G.held old) (G.held new) at bytes result told written;
     longer = λ count room. written_longer (G.held old) (G.held new) at bytes result count written room;
     writes = counted_fewer (G.writes old) (G.writes new) result counted;

@@ -80,6 +80,7 @@ impl Bank {
         ensures asks { OnlyAsks W.Outside outside.old outside.new }
         ensures opened { IfOk result (IsBankOf header.now which) }
         ensures read { IfOk result (λ bank. IsSome (W.held outside.old) → IsRead (held_of W.Outside outside.old) bank) }
+        ensures no_fault { IfOk result (λ bank. W.disk_faults outside.new ≡ W.disk_faults outside.old) }
         ensures fault { IfErr result (IsOpenFault W.Outside outside.old outside.new header.now which) }
     {
         let mut bank = match Bank::of_store(alloc, header) {
@@ -126,6 +127,7 @@ impl Bank {
         ensures turned { OnOk result (self.new.which ≡ which) }
         ensures begun { self.new.begun ≡ None }
         ensures read { OnOk result (IsSome (W.held outside.old) → IsRead (held_of W.Outside outside.old) self.new) }
+        ensures no_fault { OnOk result (W.disk_faults outside.new ≡ W.disk_faults outside.old) }
         ensures fault { IfErr result (IsReopenFault W.Outside outside.old outside.new which self.old) }
     {
         forget(&mut self.newest);
@@ -267,6 +269,7 @@ impl Bank {
         ensures full { result ≡ Appended.Full ↔ (area_end self.old < needed_end self.old) }
         ensures nothing { result ≡ Appended.Full → outside.new ≡ outside.old }
         ensures writes { result ≡ Appended.Done → W.writes outside.new ≡ option_map (λ count. count + 2) (W.writes outside.old) }
+        ensures done_cause { result ≡ Appended.Done → W.disk_faults outside.new ≡ W.disk_faults outside.old }
         ensures unwritten_cause { result ≡ Appended.Unwritten → Rose (W.disk_faults outside.old) (W.disk_faults outside.new) }
         ensures doubt_cause { result ≡ Appended.Doubt → Rose (W.disk_faults outside.old) (W.disk_faults outside.new) }
 

@@ -2,19 +2,14 @@ use Rattle.std.proofs.Common.{List, ℕ, length}
 use Rattle.outside.specs.Bytes.{Torn}
 use Rattle.outside.specs.Runs.{held_of}
 use Rattle.outside.proofs.Durable.{torn_first}
-use Rattle.outside.proofs.Runs.{leaves_same}
+use Rattle.outside.proofs.Runs.{asks_one, leaves_same}
 use Rattle.redo_journal.proofs.WriteLemmas.{writes_on, asks_only}
 use Rattle.redo_journal.proofs.keep.write_sure.Goals as goal
 
 pub returns-clause-only : goal.returns-clause-only
 returns-clause-only g c =
     writes_on g.W.Outside g.met.W.Outside.fewer_later c.args.outside.now c.write_once.new.outside c.sync.new.self c.write_once.ensures.only
-    (asks_only g.W.Outside c.write_once.new.outside c.sync.new.self (record {
-      calls = record { quiet = c.sync.ensures.quiet; honest = c.sync.ensures.honest; time = c.sync.ensures.time; disk = c.sync.ensures.cause.later; put = c.sync.ensures.puts };
-      held = c.sync.ensures.held;
-      writes = c.sync.ensures.writes;
-      crash = c.sync.ensures.crash;
-    }))
+    (asks_only g.W.Outside c.write_once.new.outside c.sync.new.self (asks_one g.W.Outside c.write_once.new.outside c.sync.new.self c.sync.ensures.held c.sync.ensures.writes c.sync.ensures.honest c.sync.ensures.time c.sync.ensures.once c.sync.ensures.quiet c.sync.ensures.crash c.sync.ensures.cause.later c.sync.ensures.puts))
 
 pub returns-clause-crash : goal.returns-clause-crash
 returns-clause-crash g c sure =
