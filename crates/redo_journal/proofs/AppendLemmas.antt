@@ -6,7 +6,7 @@ use Rattle.std.proofs.lemmas.List.{drop-drop, take_all, take-set-le, drop-set-lt
 use Rattle.line_geometry.specs.Lines.{line_count}
 use Rattle.store_format.specs.declared.header.Which.{Which}
 use Rattle.store_format.specs.declared.header.Which.TheVariants.{A, B}
-use Rattle.store_format.specs.Header.{Header, number_at, home_at}
+use Rattle.store_format.specs.Header.{Header, number_at, home_at, bank_at}
 use Rattle.store_format.specs.Bank.{RecordLine, lines_from, wrong_line, record_bytes, area_of}
 use Rattle.store_format.specs.Stands.{IsStore, stands, one_more}
 use Rattle.store_format.specs.Body.{IsBody}
@@ -17,7 +17,7 @@ use Rattle.outside.specs.declared.world.Outside.{Ghosts}
 use Rattle.outside.specs.Runs.{held_of}
 use Rattle.redo_journal.specs.declared.bank.Bank.TheInside.{Inside}
 use Rattle.redo_journal.specs.Gate.{is_open, HasBody, IsSafe}
-use Rattle.redo_journal.specs.Kept.{KeptBank, end_of, area_end, begun_of, needed_end, with_record}
+use Rattle.redo_journal.specs.Kept.{KeptBank, place_of, end_of, area_end, begun_of, needed_end, with_record}
 use Rattle.redo_journal.specs.Noted.{noted, AreNewest}
 use Rattle.redo_journal.specs.Inside.{buffered, begun_count, begun_lines, kept_of, IsWhole}
 use Rattle.redo_journal.specs.Tracks.{Tracks, IsEither, HoldsOneOf}
@@ -32,6 +32,11 @@ pub record Ready (held : List ℕ) (header : Header) (which : Which) (base gate 
 end_is : (header : Header) (which : Which) (bytes : ℕ) → header.bank_bytes ≡ bytes → (area_of header which).end ≡ end_of which bytes
 end_is header A bytes same = omega (arith, same)
 end_is header B bytes same = omega (arith, same)
+
+-- a bank lies where the header says
+pub place_is : (header : Header) (which : Which) (bytes : ℕ) → header.bank_bytes ≡ bytes → bank_at header which ≡ place_of which bytes
+place_is header A bytes same = refl
+place_is header B bytes same = omega (arith, same)
 
 -- the body that was filled in is one
 body_of : (bound due gate count : ℕ) (old new : List ℕ) → 11 + 132 * count ≤ length old → length new ≡ length old → number_at new 0 2 ≡ count → number_at new 2 8 ≡ due

@@ -11,3 +11,4 @@ pub mod Newest
 pub mod Places
 pub mod WriteLemmas
 pub mod TurnLemmas
+pub mod HeadLemmas

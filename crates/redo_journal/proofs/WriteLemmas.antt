@@ -1,5 +1,5 @@
 -- Calls that write, one after another.
-use Rattle.std.proofs.Common.{◌≡◌, ℕ, ◌+◌, ◌≤◌, List, ◌++◌, length, take, drop, refl, sym, ◌∙◌, ap, subst, arith, length-append}
+use Rattle.std.proofs.Common.{◌≡◌, inl, ℕ, ◌+◌, ◌≤◌, List, ◌++◌, length, take, drop, refl, sym, ◌∙◌, ap, subst, arith, length-append}
 use Rattle.std.specs.Prelude.{Option, None, Some, IsSome, IsTrue, Result, Ok, Err}
 use Rattle.std.specs.Option.{ForSome, option_map}
 use Rattle.std.proofs.lemmas.List.{length-take, length-drop}
@@ -76,3 +76,19 @@ once G at bytes old new result written counted honest time one quiet crash cause
 pub held_left : {W : Type 0} (G : Ghosts W) → ((w : W) (image : List ℕ) → G.held w ≡ Some image → (seen : List ℕ) × G.left_since w (G.moment w) image seen) → (now : W) → IsSome (G.held now)
     → (seen : List ℕ) × G.left_since now (G.moment now) (held_of G now) seen
 held_left G held_now now told = held_now now (held_of G now) (told_some (G.held now) told)
+
+-- no call at all
+pub wrote_nothing : {W : Type 0} (G : Ghosts W) (now : W) → OnlyWrites G now now
+wrote_nothing G now = record {
+  calls = record {
+    quiet = record { same = refl; crash = λ image seen left. inl left };
+    honest = refl;
+    time = record { later = record { calls = omega arith; puts = omega arith }; nothing_else = λ t image seen earlier left. inl left; keeps = λ t image seen earlier left. left };
+    disk = omega arith;
+    put = refl;
+    puts = refl;
+  };
+  told = λ told. told;
+  longer = λ count room. room;
+  writes = same_fewer (G.writes now) (G.writes now) refl;
+}

@@ -207,7 +207,7 @@ impl Bank {
     /// Only where the disk's count rose.
     pub fn write_head<W: Outside>(&self, which: Which, outside: &mut W) -> Result<(), Failed>
         requires other { self.now.which ≢ which }
-        requires room { HoldsAtLeast W.Outside (place_of which self.now.bank_bytes + 9) outside.old }
+        requires room { HoldsAtLeast W.Outside (end_of which self.now.bank_bytes) outside.old }
         ensures { WritesOnce W.Outside (place_of which self.now.bank_bytes) (head_bytes (number_of self.now)) outside.old outside.new result }
     {
         let head = head_of_bank(number_of(self.base, self.count));

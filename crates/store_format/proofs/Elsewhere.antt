@@ -10,6 +10,7 @@ use Rattle.store_format.specs.Bank.{RecordLine, Area, Gate, Closed, Wrong, Sound
 use Rattle.store_format.specs.Stands.{Stands, stands, IsStore, HasHeader, laid, home_of, chosen}
 use Rattle.store_format.proofs.Fronts.{shorter_front, same_byte}
 use Rattle.store_format.proofs.Walk.{sound_is, closed_gate}
+use Rattle.store_format.proofs.Sound.{sound_header}
 use Rattle.store_format.proofs.Stores.{end_of, area_within, store_same, stands_is}
 
 -- with the same bytes from an offset on the gates there are the same
@@ -85,6 +86,13 @@ module _ (header : Header) (which : Which) (base gate : ℕ) (records : List (Li
       let inside : gate < k = omega (arith, ends.fits, within) in
       store_same image header which base gate records is big new (shorter_front gate k new image front (omega (arith, inside))) long
       (ap (λ (n : ℕ). n == 0xA5) (same_byte gate k new image front inside) ∙ ends.closed)
+
+-- the banks of a store have bytes
+pub store_big : (header : Header) (which : Which) (base gate : ℕ) (records : List (List RecordLine)) (image : List ℕ) → IsStore image header which base gate records → 0 < header.bank_bytes
+store_big header which base gate records image is =
+    let head = sound_header (take 128 image) (length image) is.sound in
+    let bytes : number_at (take 128 image) 12 4 ≡ header.bank_bytes = ap (λ (those : Header). those.bank_bytes) is.said in
+    omega (arith, head.least_bank, bytes)
 
 -- a bank that was begun anew: a base, and a closed gate
 pub store_empty : (header : Header) (which : Which) (base : ℕ) (image : List ℕ) → HasHeader image header → chosen image ≡ which → base_of image header which ≡ base → (slice_index image (area_at header which) == 0xA5) ≡ false
