@@ -169,6 +169,7 @@ impl Banks {
     pub fn checkpoint<W: Outside>(&mut self, outside: &mut W) -> Result<(), Failed>
         requires room { HoldsAtLeast W.Outside (store_bytes self.old) outside.old }
         ensures only { OnlyWrites W.Outside outside.old outside.new }
+        ensures shape { SameShape self.old self.new }
         ensures kept { self.new ≡ kept_after result self.old }
         ensures fits { OnOk result (needed_end self.new ≤ area_end self.new) }
         ensures cause { HasCause (W.disk_faults outside.old) (W.disk_faults outside.new) result }

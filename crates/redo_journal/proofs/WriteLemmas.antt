@@ -11,19 +11,19 @@ use Rattle.outside.specs.Moments.{IsOneCall, Elapses, PrintsNothing, Follows}
 use Rattle.outside.specs.Runs.{OnlyAsks, FewerLater, held_of}
 use Rattle.outside.proofs.Durable.{told_some}
 use Rattle.outside.proofs.Runs.{calls_on, still_told}
-use Rattle.redo_journal.specs.Held.{IsNoFewer, OnlyWrites, WritesOnce}
+use Rattle.redo_journal.specs.Held.{IsMoreBy, OnlyWrites, WritesOnce}
 
-pub fewer_on : (old mid new : Option ℕ) → IsNoFewer old mid → IsNoFewer mid new → IsNoFewer old new
-fewer_on old mid new first second before is =
+pub more_on : (a b : ℕ) (old mid new : Option ℕ) → IsMoreBy a old mid → IsMoreBy b mid new → IsMoreBy (a + b) old new
+more_on a b old mid new first second before is =
     let one = first before is in
     let two = second one.0 one.1 in
     (two.0, two.1, omega (arith, one.2, two.2))
 
-same_fewer : (old new : Option ℕ) → new ≡ old → IsNoFewer old new
+same_fewer : (old new : Option ℕ) → new ≡ old → IsMoreBy 0 old new
 same_fewer old new same before is = (before, same ∙ is, omega arith)
 
 -- the writes that a call counts
-counted_fewer : {T : Type 0} (old new : Option ℕ) (result : Result T Failed) → CountsWrite old new result → IsNoFewer old new
+counted_fewer : {T : Type 0} (old new : Option ℕ) (result : Result T Failed) → CountsWrite old new result → IsMoreBy 0 old new
 counted_fewer old new (Ok done) counts before is = (before + 1, counts ∙ ap (option_map (λ count. count + 1)) is, omega arith)
 counted_fewer old new (Err failed) counts before is = same_fewer old new counts before is
 
@@ -43,7 +43,7 @@ module _ {W : Type 0} (G : Ghosts W) (fewer_later : FewerLater G) (old mid new :
     calls = calls_on G fewer_later old mid new first.calls.time second.calls.time first.calls second.calls;
     told = λ told. second.told (first.told told);
     longer = λ count room. second.longer count (first.longer count room);
-    writes = fewer_on (G.writes old) (G.writes mid) (G.writes new) first.writes second.writes;
+    writes = more_on 0 0 (G.writes old) (G.writes mid) (G.writes new) first.writes second.writes;
   }
 
 -- calls that only ask
@@ -92,3 +92,7 @@ wrote_nothing G now = record {
   longer = λ count room. room;
   writes = same_fewer (G.writes now) (G.writes now) refl;
 }
+
+-- two writes more
+pub two_more : (old new : Option ℕ) → new ≡ option_map (λ count. count + 2) old → IsMoreBy 2 old new
+two_more old new counts before is = (before + 2, counts ∙ ap (option_map (λ count. count + 2)) is, omega arith)

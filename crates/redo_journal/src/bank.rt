@@ -217,6 +217,7 @@ impl Bank {
     /// Becomes the bank at a place, with the number as its base and no records. A begun record stays begun. It calls
     /// no disk.
     pub fn turn_to(&mut self, which: Which)
+        ensures shape { SameShape self.old self.new }
         ensures turned { self.new ≡ turned which self.old }
         ensures fits { needed_end self.new ≤ area_end self.new }
     {

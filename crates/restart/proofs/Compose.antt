@@ -10,7 +10,7 @@ use Rattle.store_format.specs.Stands.{Standing, laid, home_of, stands}
 use Rattle.store_format.proofs.Stores.{stands_is}
 use Rattle.outside.specs.Bytes.{bytes_at}
 use Rattle.redo_journal.specs.Noted.{newest_place}
-use Rattle.redo_journal.proofs.Newest.{line_bytes, newest_bytes, same_line, other_line, Agree, store_agrees}
+use Rattle.redo_journal.proofs.Newest.{line_bytes, newest_bytes, same_line, other_line, same_lines, Agree, store_agrees}
 use Rattle.restart.specs.Kept.{KeptStore}
 use Rattle.restart.specs.Shows.{Shows, page_in}
 use Rattle.restart.proofs.ShowLemmas.{shown_store}
@@ -79,24 +79,6 @@ composed_more image home newest first i page new (Some at) more long place_is wi
 
     behind : (k i : ℕ) → i + 1 ≤ k → k ≡ i → ⊥
     behind k i past same = omega (arith, past, same)
-
--- lists of as many lines that have the same lines
-same_lines : (n : ℕ) (xs ys : List ℕ) → length xs ≡ n * 128 → length ys ≡ n * 128 → ((k : ℕ) → k < n → line_bytes k xs ≡ line_bytes k ys) → xs ≡ ys
-same_lines zero xs ys long long' each = empty xs (omega arith) ∙ sym (empty ys (omega arith))
-  where
-    empty : (zs : List ℕ) → length zs ≡ 0 → zs ≡ []
-    empty [] none = refl
-    empty (z ∷ zs) none = absurd (omega arith)
-same_lines (suc n) xs ys long long' each =
-    sym (take-append-drop 128 xs)
-    ∙ ap (λ (these : List ℕ). these ++ drop 128 xs) (each 0 (omega arith))
-    ∙ ap (λ (these : List ℕ). take 128 ys ++ these)
-    (same_lines n (drop 128 xs) (drop 128 ys) (omega (arith, length-drop 128 xs)) (omega (arith, length-drop 128 ys))
-    (λ k few. ap (λ (these : List ℕ). take 128 these) (moved xs k) ∙ each (suc k) (omega arith) ∙ ap (λ (these : List ℕ). take 128 these) (sym (moved ys k))))
-    ∙ take-append-drop 128 ys
-  where
-    moved : (zs : List ℕ) (k : ℕ) → drop (k * 128) (drop 128 zs) ≡ drop (suc k * 128) zs
-    moved zs k = let place : 128 + k * 128 ≡ suc k * 128 = omega arith in drop-drop (k * 128) 128 zs ∙ ap (λ (n : ℕ). drop n zs) place
 
 -- with all sixteen lines the page is that of the store
 pub composed_all : (image home bytes : List ℕ) (newest : List (Option ℕ)) (places : ℕ → Option ℕ) (bound page_number : ℕ) (page : List ℕ) → Agree bound image home bytes places → ((k : ℕ) → k < bound → get_or newest k None ≡ places k) → page_number * 16 + 16 ≤ bound → length page ≡ 2048

@@ -2,7 +2,7 @@ use Rattle.std.proofs.Common.{◌≡◌, ℕ, ◌+◌, List, length, drop, refl,
 use Rattle.std.specs.Prelude.{Option, None}
 use Rattle.std.proofs.lemmas.List.{length-replicate}
 use Rattle.store_format.specs.Bank.{RecordLine, wrong_line}
-use Rattle.redo_journal.specs.Kept.{end_of}
+use Rattle.redo_journal.specs.Kept.{KeptBank, end_of}
 use Rattle.redo_journal.specs.Noted.{AreWithin}
 use Rattle.redo_journal.specs.Inside.{begun_count, begun_lines, kept_of}
 use Rattle.redo_journal.proofs.AppendLemmas.{length-begun}
@@ -38,3 +38,9 @@ pub returns-clause-fits : goal.returns-clause-fits
 returns-clause-fits c =
     let fields = turned_fields c.args.which c.self.inside c.number_of-self-inside.result c.place_of.result c.forget.new.newest in
     omega (arith, length-begun fields (kept_of fields) refl, c.place_of.ensures.end, c.self.invariant.fits)
+
+pub returns-clause-shape : goal.returns-clause-shape
+returns-clause-shape c = record {
+  bank_bytes = ap (λ (bank : KeptBank). bank.bank_bytes) c.self.view_is;
+  lines = ap length c.forget.ensures ∙ length-replicate {A = Option ℕ} (length c.self.inside.newest) None ∙ ap (λ (bank : KeptBank). length bank.newest) c.self.view_is;
+}

@@ -1,73 +1,56 @@
-use Rattle.std.proofs.Common.{◌≡◌, ◌<◌, ap, subst, refl, sym, ◌∙◌, arith, ⊎_elim}
+use Rattle.std.proofs.Common.{◌≡◌, ℕ, ◌≤◌, List, length, ap, subst, sym, ◌∙◌, arith}
+use Rattle.store_format.specs.Header.{Header, total}
 use Rattle.store_format.specs.Stands.{stands, one_more}
-use Rattle.outside.specs.Runs.{held_of}
-use Rattle.redo_journal.specs.declared.bank.Appended.{Appended}
-use Rattle.redo_journal.specs.declared.bank.Appended.TheVariants as appended
-use Rattle.redo_journal.specs.declared.keep.Kept.{Kept}
-use Rattle.redo_journal.specs.declared.keep.Kept.TheVariants as keeping
-use Rattle.redo_journal.specs.Appended.{kept_after}
-use Rattle.restart.specs.Committed.{bank_after}
+use Rattle.outside.specs.Runs.{Leaves, held_of}
+use Rattle.redo_journal.specs.Kept.{KeptBank, begun_of}
 use Rattle.redo_journal.specs.Tracks as journal
-use Rattle.redo_journal.specs.Kept.{KeptBank, area_end, begun_of, needed_end}
 use Rattle.restart.specs.Kept.{KeptStore}
 use Rattle.restart.specs.Shows.{Tracks}
-use Rattle.restart.proofs.ShowLemmas.{bank_tracked, store_tracked}
+use Rattle.restart.specs.Committed.{HoldsCommitted}
+use Rattle.restart.proofs.ShowLemmas.{bank_tracked, store_tracked, total_is}
+use Rattle.restart.proofs.CommitLemmas.{committed_intact}
 use Rattle.restart.proofs.durable.Durable.commit.Given.{Over}
 use Rattle.restart.proofs.durable.Durable.commit.Goals as goal
-use Rattle.restart.proofs.durable.Durable.commit.Goals.{After-append, in-Done, in-Full, in-Doubt}
+use Rattle.restart.proofs.durable.Durable.commit.Goals.{After-add_record}
 
-tracked : (g : Over) (c : goal.After-append g) → Tracks g.W.Outside c.args.self.now c.args.outside.now → journal.Tracks g.W.Outside c.self.inside.bank c.args.outside.now
-tracked g c tracks =
-    subst (λ (store : KeptStore). journal.Tracks g.W.Outside store.bank c.args.outside.now) (sym c.self.view_is) (bank_tracked g.W.Outside c.args.self.now c.args.outside.now tracks)
+pub add_record-requires-clause-room : goal.add_record-requires-clause-room
+add_record-requires-clause-room g c held is =
+    omega (arith, c.requires.room held is, total_is c.self.inside.header c.self.inside.banks c.self.invariant, ap (λ (store : KeptStore). total store.header) c.self.view_is)
 
-bank : (g : Over) (c : goal.After-append g) → c.self.inside.bank ≡ c.args.self.now.bank
+bank : (g : Over) (c : goal.After-add_record g) → c.self.inside.banks ≡ c.args.self.now.bank
 bank g c = ap (λ (store : KeptStore). store.bank) c.self.view_is
 
--- the record fits
-not_full : (g : Over) (c : goal.After-append g) → area_end c.self.inside.bank < needed_end c.self.inside.bank → ⊥
-not_full g c full = omega (arith, full, c.requires.fits, ap area_end (bank g c), ap needed_end (bank g c))
-
-pub returns-clause-kept : goal.returns-clause-kept
-returns-clause-kept g c =
-    let at = (goal.at.returns-clause-kept g c).After-append in
-    let after : (answer : Appended) (kept : Kept) → c.append.result ≡ answer → c.match-append.result ≡ kept → kept_after answer c.self.inside.bank ≡ bank_after kept c.self.inside.bank → c.append.new.self ≡ bank_after c.match-append.result c.args.self.now.bank =
-    λ answer kept is result same.
-    c.append.ensures.kept ∙ ap (λ (those : Appended). kept_after those c.self.inside.bank) is ∙ same ∙ ap (λ (those : Kept). bank_after those c.self.inside.bank) (sym result) ∙ ap (bank_after c.match-append.result) (bank g at) in
-    elim c.match-append.branch [
-      | in-Done w ↦ after appended.Done keeping.Done w.in-Done.is w.result-is refl
-      | in-Full w ↦ ⊎_elim (λ full. absurd (not_full g at (c.append.ensures.full.0 full))) (λ unwritten. after appended.Unwritten keeping.Unwritten unwritten w.result-is refl) w.in-Full.is
-      | in-Doubt w ↦ after appended.Doubt keeping.Doubt w.in-Doubt.is w.result-is refl
-    ]
-
 pub returns-clause-crash : goal.returns-clause-crash
-returns-clause-crash g c tracks image seen left =
-    let at = (goal.at.returns-clause-crash g c).After-append in
-    subst (λ (kept : KeptBank). journal.IsEither (begun_of kept) (held_of g.W.Outside c.args.outside.now) image seen) (bank g at) (c.append.ensures.crash (tracked g at tracks) image seen left)
+returns-clause-crash g c tracks =
+    let G = g.W.Outside in
+    let at = (goal.at.returns-clause-crash g c).After-add_record in
+    subst (λ (kept : KeptBank). journal.Tracks G kept c.args.outside.now → Leaves G (journal.IsEither (begun_of kept) (held_of G c.args.outside.now)) c.args.outside.now c.add_record.new.outside) (bank g at) c.add_record.ensures.crash (bank_tracked G c.args.self.now c.args.outside.now tracks)
 
-pub returns-clause-unwritten : goal.returns-clause-unwritten
-returns-clause-unwritten g c is tracks =
-    let at = (goal.at.returns-clause-unwritten g c).After-append in
-    elim c.match-append.branch [
-      | in-Done w ↦ absurd (let no = sym w.result-is ∙ is in cc)
-      | in-Full w ↦ ⊎_elim (λ full. absurd (not_full g at (c.append.ensures.full.0 full))) (λ unwritten. c.append.ensures.unwritten unwritten (tracked g at tracks)) w.in-Full.is
-      | in-Doubt w ↦ absurd (let no = sym w.result-is ∙ is in cc)
-    ]
+-- the records of the bytes held
+records : (g : Over) (c : goal.After-add_record g) (tracks : Tracks g.W.Outside c.args.self.now c.args.outside.now) → HoldsCommitted c.args.self.now.header c.args.self.now.bank tracks.shows.read.records (held_of g.W.Outside c.add_record.new.outside)
+records g c tracks =
+    let G = g.W.Outside in
+    subst (λ (kept : KeptBank). (tracks : journal.Tracks G kept c.args.outside.now) → HoldsCommitted tracks.header kept tracks.records (held_of G c.add_record.new.outside)) (bank g c) c.add_record.ensures.records (bank_tracked G c.args.self.now c.args.outside.now tracks)
+
+pub returns-clause-records : goal.returns-clause-records
+returns-clause-records g c tracks = records g (goal.at.returns-clause-records g c).After-add_record tracks
+
+pub returns-clause-intact : goal.returns-clause-intact
+returns-clause-intact g c tracks =
+    committed_intact c.args.self.now.header c.args.self.now.bank tracks.shows.read.records (held_of g.W.Outside c.add_record.new.outside) (records g (goal.at.returns-clause-intact g c).After-add_record tracks)
 
 pub returns-clause-done : goal.returns-clause-done
 returns-clause-done g c is tracks =
-    let at = (goal.at.returns-clause-done g c).After-append in
-    elim c.match-append.branch [
-      | in-Done w ↦
-          let added = c.append.ensures.done w.in-Done.is (tracked g at tracks) in
-          let header : c.args.self.now.header ≡ c.self.inside.header = ap (λ (store : KeptStore). store.header) (sym c.self.view_is) in
-          record {
-            tracks =
-                store_tracked g.W.Outside c.self.inside.header c.append.new.self c.append.new.outside
-                (record { bank_bytes = c.self.invariant.bank_bytes ∙ sym c.append.ensures.shape.bank_bytes; lines = c.self.invariant.lines ∙ sym c.append.ensures.shape.lines })
-                (added.header ∙ tracks.shows.header.said ∙ header)
-                added.tracks;
-            stood = added.stood ∙ ap (λ (kept : KeptBank). one_more (begun_of kept) (stands (held_of g.W.Outside c.args.outside.now))) (bank g at);
-          }
-      | in-Full w ↦ absurd (let no = sym w.result-is ∙ is in cc)
-      | in-Doubt w ↦ absurd (let no = sym w.result-is ∙ is in cc)
-    ]
+    let G = g.W.Outside in
+    let at = (goal.at.returns-clause-done g c).After-add_record in
+    let added = subst (λ (kept : KeptBank). journal.Tracks G kept c.args.outside.now → journal.IsAppended G kept c.add_record.new.banks c.args.outside.now c.add_record.new.outside) (bank g at) (c.add_record.ensures.done is) (bank_tracked G c.args.self.now c.args.outside.now tracks) in
+    let header : c.args.self.now.header ≡ c.self.inside.header = ap (λ (store : KeptStore). store.header) (sym c.self.view_is) in
+    let shape = c.add_record.ensures.shape in
+    record {
+      tracks =
+          store_tracked G c.self.inside.header c.add_record.new.banks c.add_record.new.outside
+          (record { bank_bytes = c.self.invariant.bank_bytes ∙ sym shape.bank_bytes; lines = c.self.invariant.lines ∙ sym shape.lines })
+          (added.header ∙ tracks.shows.header.said ∙ header)
+          added.tracks;
+      stood = added.stood;
+    }
