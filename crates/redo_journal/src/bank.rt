@@ -225,7 +225,8 @@ impl Bank {
         self.which = which;
         self.count = 0;
         self.gate = place_of(which, self.bank_bytes) + 8;
-        forget(&mut self.newest);
+        let newest = &mut self.newest;
+        forget(newest);
     }
 
     /// Begins a record, in place of any other that was begun.

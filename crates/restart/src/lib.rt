@@ -8,9 +8,9 @@ mod law;
 mod page;
 mod start;
 
+pub use checkpoint::{OpenFault, ReopenFault};
 pub use durable::Durable;
 pub use law::what_is_shown_stands;
-pub use checkpoint::{OpenFault, ReopenFault};
 pub use redo_journal::Kept;
 
 #[cfg(test)]

@@ -8,8 +8,8 @@ ghost use Rattle.redo_journal.specs.Held.{HoldsAtLeast};
 ghost use Rattle.redo_journal.specs.Kept.{area_end};
 ghost use Rattle.restart.specs.Page.{newest_over};
 
-use outside::{Failed, Outside};
 use checkpoint::Banks;
+use outside::{Failed, Outside};
 
 /// Reads the newest bytes of a line, where the bank holds it, over a part of a page.
 pub fn read_newest<W: Outside>(
