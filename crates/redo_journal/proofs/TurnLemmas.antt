@@ -1,5 +1,5 @@
 -- Lines that are placed anew.
-use Rattle.std.proofs.Common.{◌≡◌, ℕ, zero, suc, ◌+◌, ◌*◌, List, [], ◌∷◌, length, take, drop, refl, ◌∙◌, ap, sym, arith, replicate}
+use Rattle.std.proofs.Common.{◌≡◌, ℕ, zero, suc, ◌+◌, ◌*◌, List, [], ◌∷◌, length, take, drop, refl, ◌∙◌, ap, arith, replicate}
 use Rattle.std.specs.Prelude.{Option, None, Some, IfSome, ◌%◌, ◌^◌, ◌≤◌}
 use Rattle.std.specs.Option.{option_map}
 use Rattle.std.proofs.lemmas.List.Elements.{All-replicate}

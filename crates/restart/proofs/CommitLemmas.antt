@@ -1,5 +1,5 @@
 -- A record that is added behind a checkpoint.
-use Rattle.std.proofs.Common.{◌≡◌, inl, inr, ⊎_elim, ◌⊎◌, ℕ, ◌+◌, ◌<◌, ◌≤◌, Bool, true, false, List, [], ◌∷◌, ◌++◌, length, refl, sym, subst, ◌∙◌, ap, arith, replicate}
+use Rattle.std.proofs.Common.{◌≡◌, inl, inr, ⊎_elim, ◌⊎◌, ℕ, ◌+◌, ◌%◌, ◌^◌, ◌<◌, ◌≤◌, Bool, true, false, List, [], ◌∷◌, ◌++◌, length, refl, sym, subst, ◌∙◌, ap, arith}
 use Rattle.std.specs.Prelude.{Option, None, Some, IsSome, unwrap_or, nat_lt, if◌then◌else◌}
 use Rattle.std.specs.Option.{option_map}
 use Rattle.std.proofs.lemmas.Bool.Decides.{nat_tests}
@@ -7,12 +7,12 @@ use Rattle.std.proofs.lemmas.List.{length-replicate}
 use Rattle.store_format.specs.declared.header.Which.{Which}
 use Rattle.store_format.specs.Bank.{RecordLine}
 use Rattle.store_format.specs.Stands.{Standing, stands, one_more}
-use Rattle.redo_journal.specs.Kept.{KeptBank, area_end, needed_end, begun_of, number_of}
+use Rattle.redo_journal.specs.Kept.{KeptBank, area_end, needed_end, begun_of, number_of, with_record}
 use Rattle.redo_journal.specs.Tracks.{IsEither, HoldsOneOf}
 use Rattle.redo_journal.specs.Turned.{placed, turned}
 use Rattle.redo_journal.proofs.TurnLemmas.{one_more_placed}
 use Rattle.checkpoint.specs.Home.{store_bytes}
-use Rattle.restart.specs.Committed.{emptied, roomy, kept_by, HoldsCommitted}
+use Rattle.restart.specs.Committed.{emptied, roomy, kept_by, number_after, IsKeptAfter, HoldsCommitted}
 use Rattle.restart.specs.Shows.{IsIntact}
 use Rattle.restart.proofs.ShowLemmas.{records_intact}
 use Rattle.store_format.specs.Header.{Header}
@@ -88,3 +88,30 @@ one_intact header which base records lines held one = ⊎_elim (λ before. recor
 pub committed_intact : (header : Header) (bank : KeptBank) (records : List (List RecordLine)) (held : List ℕ) → HoldsCommitted header bank records held → IsIntact header held
 committed_intact header bank records held one =
     ⊎_elim (λ here. one_intact header bank.which bank.base records (begun_of bank) held here) (λ there. one_intact header (other bank.which) (number_of bank) [] (begun_of (emptied bank)) held there) one
+
+-- the number and the records of the bank that a record is added to
+roomy_by : (P : KeptBank → Type 0) (bank : KeptBank) (full : Bool) → P (emptied bank) → P bank → P (if full then emptied bank else bank)
+roomy_by P bank true there here = there
+roomy_by P bank false there here = here
+
+roomy_number : (bank : KeptBank) → number_of (roomy bank) ≡ number_of bank
+roomy_number bank =
+    let there : number_of (emptied bank) ≡ number_of bank = omega arith in
+    roomy_by (λ those. number_of those ≡ number_of bank) bank (nat_lt (area_end bank) (needed_end bank)) there refl
+
+roomy_count : (bank : KeptBank) → (roomy bank).count ≤ bank.count
+roomy_count bank = roomy_by (λ those. those.count ≤ bank.count) bank (nat_lt (area_end bank) (needed_end bank)) (omega arith) (omega arith)
+
+pub number_kept : (kept : Kept) (old new : KeptBank) → IsKeptAfter kept (roomy old) old new → number_of new ≡ number_after kept (number_of old)
+number_kept keeping.Done old new is =
+    let same = ap number_of is in
+    let more : number_of (with_record (roomy old)) ≡ (number_of (roomy old) + 1) % 2 ^ 64 = omega arith in
+    same ∙ more ∙ ap (λ (n : ℕ). (n + 1) % 2 ^ 64) (roomy_number old)
+number_kept keeping.Unwritten old new is = ⊎_elim (λ there. ap number_of there ∙ roomy_number old) (λ here. ap number_of here) is
+number_kept keeping.Doubt old new is = ap number_of is ∙ roomy_number old
+
+pub count_kept : (kept : Kept) (old new : KeptBank) → IsKeptAfter kept (roomy old) old new → new.count ≤ old.count + 1
+count_kept keeping.Done old new is = omega (arith, ap (λ (bank : KeptBank). bank.count) is, roomy_count old)
+count_kept keeping.Unwritten old new is =
+    ⊎_elim (λ there. let same : new.count ≡ (roomy old).count = ap (λ (bank : KeptBank). bank.count) there in omega (arith, same, roomy_count old)) (λ here. let same : new.count ≡ old.count = ap (λ (bank : KeptBank). bank.count) here in omega (arith, same)) is
+count_kept keeping.Doubt old new is = let same : new.count ≡ (roomy old).count = ap (λ (bank : KeptBank). bank.count) is in omega (arith, same, roomy_count old)

@@ -13,7 +13,7 @@ use Rattle.outside.specs.Runs.{OnlyAsks, FewerLater, held_of}
 use Rattle.outside.specs.Bytes.{AreTold}
 use Rattle.outside.specs.Durable.{IsSure}
 use Rattle.redo_journal.specs.Kept.{KeptBank, place_of, end_of}
-use Rattle.redo_journal.specs.Opened.{IsRead, bank_in}
+use Rattle.redo_journal.specs.Opened.{bank_in}
 use Rattle.redo_journal.proofs.AppendLemmas.{place_is}
 use Rattle.checkpoint.specs.Chosen as opened
 use Rattle.checkpoint.specs.Chosen.{IsChosen, IsOneOf}

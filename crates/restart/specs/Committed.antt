@@ -1,5 +1,5 @@
 -- What a commit leaves, which makes its own room.
-use Rattle.std.specs.Prelude.{◌≡◌, ◌⊎◌, ℕ, nat_lt, if◌then◌else◌, List, []}
+use Rattle.std.specs.Prelude.{◌≡◌, ◌⊎◌, ℕ, ◌+◌, ◌%◌, ◌^◌, nat_lt, if◌then◌else◌, List, []}
 use Rattle.store_format.specs.Header.{Header}
 use Rattle.store_format.specs.Bank.{RecordLine}
 use Rattle.redo_journal.specs.declared.bank.Appended.{Appended}
@@ -25,6 +25,12 @@ kept_by appended.Done = Done
 kept_by appended.Full = Unwritten
 kept_by appended.Unwritten = Unwritten
 kept_by appended.Doubt = Doubt
+
+-- the number after a commit
+abbrev pub number_after : Kept → ℕ → ℕ
+number_after Done number = (number + 1) % 2 ^ 64
+number_after Unwritten number = number
+number_after Doubt number = number
 
 -- What is kept after a commit: the record is the bank's, or no record is begun, there or where the checkpoint in front failed.
 abbrev pub IsKeptAfter : Kept → KeptBank → KeptBank → KeptBank → Type 0

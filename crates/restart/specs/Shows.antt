@@ -21,6 +21,12 @@ pub record Shows (held : List ℕ) (store : KeptStore) : Type 0 where
   pub read : IsRead held store.bank
   pub fits : Fits store.header store.bank
 
+-- The kept bank is what these bytes hold where the selector chooses, whatever their header is.
+pub record IsReopened (held : List ℕ) (store : KeptStore) : Type 0 where
+  pub chosen_is : chosen held ≡ store.bank.which
+  pub read : IsRead held store.bank
+  pub fits : Fits store.header store.bank
+
 -- These bytes are a store with this header.
 pub record IsIntact (header : Header) (held : List ℕ) : Type 0 where
   pub which : Which

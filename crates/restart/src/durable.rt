@@ -10,10 +10,9 @@ ghost use Rattle.redo_journal.specs.Held.{HoldsAtLeast, IsMoreBy, OnlyWrites};
 ghost use Rattle.redo_journal.specs.Kept.{KeptBank, area_end, begun_of, needed_end, with_line};
 ghost use Rattle.redo_journal.specs.Tracks.{IsEither};
 ghost use Rattle.restart.specs.Kept.{KeptStore, number_of};
-ghost use Rattle.checkpoint.specs.Chosen.{IsChosen};
 ghost use Rattle.checkpoint.specs.Moved.{IsSame, kept_after};
-ghost use Rattle.restart.specs.Shows.{Shows, IsIntact, Tracks, IsCommitted, IsEmptied, page_in};
-ghost use Rattle.restart.specs.Committed.{roomy, IsKeptAfter, HoldsCommitted};
+ghost use Rattle.restart.specs.Shows.{Shows, IsIntact, IsReopened, Tracks, IsCommitted, IsEmptied, page_in};
+ghost use Rattle.restart.specs.Committed.{roomy, number_after, IsKeptAfter, HoldsCommitted};
 ghost use Rattle.restart.specs.Faults.{IsOpenFault, IsReopenFault};
 
 use crate::commit::add_record;
@@ -59,6 +58,7 @@ impl Durable {
         ensures shows { IfOk result (λ store. IsSome (W.held outside.old) → Shows (held_of W.Outside outside.old) store) }
         ensures tracks { IfOk result (λ store. IsTrue (W.is_honest outside.old) → IsSome (W.held outside.old) → Tracks W.Outside store outside.new) }
         ensures begun { IfOk result (λ store. store.bank.begun ≡ None) }
+        ensures no_fault { IfOk result (λ store. W.disk_faults outside.new ≡ W.disk_faults outside.old) }
         ensures fault { IfErr result (IsOpenFault W.Outside outside.old outside.new) }
     {
         let header = start(outside)?;
@@ -95,7 +95,7 @@ impl Durable {
         ensures asks { OnlyAsks W.Outside outside.old outside.new }
         ensures header { self.new.header ≡ self.old.header }
         ensures begun { OnOk result (self.new.bank.begun ≡ None) }
-        ensures read { OnOk result (IsSome (W.held outside.old) → IsChosen (held_of W.Outside outside.old) self.new.bank) }
+        ensures read { OnOk result (IsSome (W.held outside.old) → IsReopened (held_of W.Outside outside.old) self.new) }
         ensures shows { OnOk result (HasHeader (held_of W.Outside outside.old) self.old.header → IsSome (W.held outside.old) → Shows (held_of W.Outside outside.old) self.new) }
         ensures tracks { OnOk result (HasHeader (held_of W.Outside outside.old) self.old.header → IsTrue (W.is_honest outside.old) → IsSome (W.held outside.old) → Tracks W.Outside self.new outside.new) }
         ensures no_fault { OnOk result (W.disk_faults outside.new ≡ W.disk_faults outside.old) }
@@ -136,6 +136,8 @@ impl Durable {
         ensures only { OnlyWrites W.Outside outside.old outside.new }
         ensures header { self.new.header ≡ self.old.header }
         ensures kept { IsKeptAfter result (roomy self.old.bank) self.old.bank self.new.bank }
+        ensures number { number_of self.new ≡ number_after result (number_of self.old) }
+        ensures count { self.new.bank.count ≤ self.old.bank.count + 1 }
         ensures writes { result ≡ Kept.Done → IsMoreBy 2 (W.writes outside.old) (W.writes outside.new) }
         ensures done_cause { result ≡ Kept.Done → W.disk_faults outside.new ≡ W.disk_faults outside.old }
         ensures unwritten_cause { result ≡ Kept.Unwritten → Rose (W.disk_faults outside.old) (W.disk_faults outside.new) }
@@ -164,6 +166,7 @@ impl Durable {
         ensures header { self.new.header ≡ self.old.header }
         ensures kept { self.new.bank ≡ kept_after result self.old.bank }
         ensures number { number_of self.new ≡ number_of self.old }
+        ensures count { OnOk result (self.new.bank.count ≡ 0) }
         ensures cause { HasCause (W.disk_faults outside.old) (W.disk_faults outside.new) result }
 
         // Of a store that is tracked: whenever a crash comes, it leaves what stood.

@@ -18,6 +18,7 @@ pub fn start<W: Outside>(outside: &mut W) -> Result<Header, OpenFault>
     ensures sure { OnOk result (IsTrue (W.is_honest outside.old) → IsSome (W.held outside.old) → IsSure W.Outside outside.new) }
     ensures room { IfOk result (λ header. HoldsAtLeast W.Outside (total header) outside.new) }
     ensures header { IfOk result (λ header. IsSome (W.held outside.old) → HasHeader (held_of W.Outside outside.old) header) }
+    ensures no_fault { OnOk result (W.disk_faults outside.new ≡ W.disk_faults outside.old) }
     ensures fault { IfErr result (IsStartFault W.Outside outside.old outside.new) }
 {
     match synced(outside) {

@@ -1,11 +1,11 @@
-use Rattle.std.proofs.Common.{◌≡◌, inl, inr, ⊎_elim, ℕ, ◌<◌, ◌≤◌, List, [], length, sym, subst, ◌∙◌, ap, arith}
-use Rattle.std.specs.Prelude.{slice_set, take}
-use Rattle.store_format.specs.Header.{Header, header_of}
+use Rattle.std.proofs.Common.{◌≡◌, inl, inr, ⊎_elim, ℕ, List, [], sym, subst, ◌∙◌, ap, arith}
+use Rattle.std.specs.Prelude.{slice_set}
+use Rattle.store_format.specs.Header.{Header}
 use Rattle.store_format.specs.Bank.{RecordLine}
 use Rattle.store_format.specs.Stands.{stands, one_more}
 use Rattle.outside.specs.Runs.{Leaves, held_of}
 use Rattle.outside.proofs.Runs.{leaves_on}
-use Rattle.redo_journal.specs.Kept.{KeptBank, area_end, begun_of, needed_end}
+use Rattle.redo_journal.specs.Kept.{KeptBank, begun_of}
 use Rattle.redo_journal.specs.Tracks.{Tracks, IsEither, HoldsOneOf}
 use Rattle.redo_journal.proofs.WriteLemmas.{writes_on}
 use Rattle.checkpoint.specs.Chosen.{other}

@@ -1,4 +1,4 @@
-use Rattle.std.proofs.Common.{◌≡◌, ℕ, List, sym, subst, ◌∙◌, ap, arith}
+use Rattle.std.proofs.Common.{◌≡◌, sym, subst, ◌∙◌, ap}
 use Rattle.std.specs.Prelude.{slice_set}
 use Rattle.store_format.specs.Stands.{stands, one_more}
 use Rattle.outside.specs.Runs.{Leaves, held_of}

@@ -1,4 +1,4 @@
-use Rattle.std.proofs.Common.{◌≡◌, ℕ, ◌≤◌, List, [], length, ap, subst, sym, ◌∙◌, ⊎_elim, arith}
+use Rattle.std.proofs.Common.{◌≡◌, [], ap, subst, sym, ◌∙◌, ⊎_elim, arith}
 use Rattle.store_format.specs.Header.{Header, header_of, total}
 use Rattle.std.specs.Prelude.{take, OnOk}
 use Rattle.outside.specs.Runs.{Leaves, held_of}
@@ -7,8 +7,7 @@ use Rattle.redo_journal.specs.Tracks as journal
 use Rattle.checkpoint.specs.Chosen.{other}
 use Rattle.checkpoint.specs.Moved.{IsSame, IsCheckpointed}
 use Rattle.checkpoint.proofs.StepLemmas.{map_ok}
-use Rattle.restart.specs.Kept.{KeptStore, Fits}
-use Rattle.restart.specs.Shows.{Tracks}
+use Rattle.restart.specs.Kept.{KeptStore}
 use Rattle.restart.proofs.ShowLemmas.{bank_tracked, store_tracked, total_is, records_intact}
 use Rattle.restart.proofs.durable.Durable.checkpoint.Given.{Over}
 use Rattle.restart.proofs.durable.Durable.checkpoint.Goals as goal

@@ -1,14 +1,13 @@
-use Rattle.std.proofs.Common.{◌≡◌, ℕ, ◌≤◌, List, length, ap, subst, sym, ◌∙◌, arith}
-use Rattle.store_format.specs.Header.{Header, total}
-use Rattle.store_format.specs.Stands.{stands, one_more}
+use Rattle.std.proofs.Common.{◌≡◌, ap, subst, sym, ◌∙◌, arith}
+use Rattle.store_format.specs.Header.{total}
 use Rattle.outside.specs.Runs.{Leaves, held_of}
 use Rattle.redo_journal.specs.Kept.{KeptBank, begun_of}
 use Rattle.redo_journal.specs.Tracks as journal
 use Rattle.restart.specs.Kept.{KeptStore}
 use Rattle.restart.specs.Shows.{Tracks}
-use Rattle.restart.specs.Committed.{HoldsCommitted}
+use Rattle.restart.specs.Committed.{roomy, IsKeptAfter, HoldsCommitted}
 use Rattle.restart.proofs.ShowLemmas.{bank_tracked, store_tracked, total_is}
-use Rattle.restart.proofs.CommitLemmas.{committed_intact}
+use Rattle.restart.proofs.CommitLemmas.{committed_intact, number_kept, count_kept}
 use Rattle.restart.proofs.durable.Durable.commit.Given.{Over}
 use Rattle.restart.proofs.durable.Durable.commit.Goals as goal
 use Rattle.restart.proofs.durable.Durable.commit.Goals.{After-add_record}
@@ -54,3 +53,13 @@ returns-clause-done g c is tracks =
           added.tracks;
       stood = added.stood;
     }
+
+-- what is kept of the bank
+kept : (g : Over) (c : goal.After-add_record g) → IsKeptAfter c.add_record.result (roomy c.args.self.now.bank) c.args.self.now.bank c.add_record.new.banks
+kept g c = subst (λ (old : KeptBank). IsKeptAfter c.add_record.result (roomy old) old c.add_record.new.banks) (bank g c) c.add_record.ensures.kept
+
+pub returns-clause-number : goal.returns-clause-number
+returns-clause-number g c = number_kept c.add_record.result c.args.self.now.bank c.add_record.new.banks (kept g (goal.at.returns-clause-number g c).After-add_record)
+
+pub returns-clause-count : goal.returns-clause-count
+returns-clause-count g c = count_kept c.add_record.result c.args.self.now.bank c.add_record.new.banks (kept g (goal.at.returns-clause-count g c).After-add_record)

@@ -1,6 +1,6 @@
-use Rattle.std.proofs.Common.{◌≡◌, ℕ, List, [], length, ap, subst, sym, IsSome, ◌∙◌, ◌≤◌, arith}
+use Rattle.std.proofs.Common.{◌≡◌, ℕ, List, [], ap, subst, sym, IsSome, ◌∙◌, arith}
 use Rattle.std.specs.Prelude.{Option, unwrap_or}
-use Rattle.store_format.specs.Header.{Header, total}
+use Rattle.store_format.specs.Header.{total}
 use Rattle.store_format.specs.Stands.{HasHeader}
 use Rattle.outside.specs.Runs.{held_of}
 use Rattle.checkpoint.specs.Chosen.{IsChosen}
@@ -41,7 +41,9 @@ reopen-requires g c = record {
 pub returns-in-Ok-clause-read : goal.returns-in-Ok-clause-read
 returns-in-Ok-clause-read g c =
     let at = (goal.at.returns-in-Ok-clause-read g c).After-reopen in
-    map_ok c.reopen.result c.reopen.ensures.read (λ read told. subst (λ (held : List ℕ). IsChosen held c.reopen.new.self) (first g at) (read (still g at told)))
+    map_ok c.reopen.result c.reopen.ensures.read (λ read told.
+    let chosen = subst (λ (held : List ℕ). IsChosen held c.reopen.new.self) (first g at) (read (still g at told)) in
+    record { chosen_is = chosen.chosen_is; read = chosen.read; fits = fits g at })
 
 pub returns-in-Ok-clause-shows : goal.returns-in-Ok-clause-shows
 returns-in-Ok-clause-shows g c =
