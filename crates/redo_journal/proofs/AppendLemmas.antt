@@ -1,26 +1,26 @@
 -- What the images of an append stand for.
 use Rattle.std.proofs.Common.{◌≡◌, inl, inr, ℕ, zero, suc, ◌+◌, ◌*◌, ◌-◌, ◌%◌, ◌^◌, ◌<◌, ◌≤◌, Bool, true, false, List, [], ◌∷◌, ◌++◌, length, take, drop, refl, sym, ◌∙◌, ap, subst, arith, slice_index, slice_set}
-use Rattle.std.specs.Prelude.{Option, None, ◌==◌, replicate}
+use Rattle.std.specs.Prelude.{Option, None, Some, unwrap_or, IsSome, ◌==◌}
+use Rattle.std.specs.Option.{option_map}
 use Rattle.std.proofs.lemmas.List.{drop-drop, take_all, take-set-le, drop-set-lt, length-set, get_or-set_same, length-take-le}
-use Rattle.std.proofs.lemmas.List.Sums.{fold-append}
 use Rattle.line_geometry.specs.Lines.{line_count}
 use Rattle.store_format.specs.declared.header.Which.{Which}
 use Rattle.store_format.specs.declared.header.Which.TheVariants.{A, B}
-use Rattle.store_format.specs.Header.{Header, number_at, home_at}
+use Rattle.store_format.specs.Header.{Header, number_at, home_at, bank_at}
 use Rattle.store_format.specs.Bank.{RecordLine, lines_from, wrong_line, record_bytes, area_of}
 use Rattle.store_format.specs.Stands.{IsStore, stands, one_more}
 use Rattle.store_format.specs.Body.{IsBody}
 use Rattle.store_format.proofs.Fronts.{same_number_at, same_lines, same_byte, later_front, shorter_front}
-use Rattle.store_format.proofs.Stores.{Around, area_within, stands_same, stands_more, store_more}
+use Rattle.store_format.proofs.Stores.{Around, area_within, store_same, stands_same, stands_more, store_more}
 use Rattle.store_format.proofs.Stores as stores
 use Rattle.outside.specs.declared.world.Outside.{Ghosts}
 use Rattle.outside.specs.Runs.{held_of}
 use Rattle.redo_journal.specs.declared.bank.Bank.TheInside.{Inside}
 use Rattle.redo_journal.specs.Gate.{is_open, HasBody, IsSafe}
-use Rattle.redo_journal.specs.Noted.{noted, newest_of}
-use Rattle.redo_journal.specs.Kept.{KeptBank, end_of, area_end}
-use Rattle.redo_journal.specs.Inside.{begun_lines, kept_of, IsWhole}
-use Rattle.redo_journal.specs.Tracks.{Tracks, IsEither}
+use Rattle.redo_journal.specs.Kept.{KeptBank, place_of, end_of, area_end, begun_of, needed_end, with_record}
+use Rattle.redo_journal.specs.Noted.{noted, AreNewest}
+use Rattle.redo_journal.specs.Inside.{buffered, begun_count, begun_lines, kept_of, IsWhole}
+use Rattle.redo_journal.specs.Tracks.{Tracks, IsEither, HoldsOneOf}
 
 -- a store, and a body that adds these lines to it
 pub record Ready (held : List ℕ) (header : Header) (which : Which) (base gate : ℕ) (records : List (List RecordLine)) (count : ℕ) (lines : List RecordLine) (body : List ℕ) : Type 0 where
@@ -32,6 +32,11 @@ pub record Ready (held : List ℕ) (header : Header) (which : Which) (base gate 
 end_is : (header : Header) (which : Which) (bytes : ℕ) → header.bank_bytes ≡ bytes → (area_of header which).end ≡ end_of which bytes
 end_is header A bytes same = omega (arith, same)
 end_is header B bytes same = omega (arith, same)
+
+-- a bank lies where the header says
+pub place_is : (header : Header) (which : Which) (bytes : ℕ) → header.bank_bytes ≡ bytes → bank_at header which ≡ place_of which bytes
+place_is header A bytes same = refl
+place_is header B bytes same = omega (arith, same)
 
 -- the body that was filled in is one
 body_of : (bound due gate count : ℕ) (old new : List ℕ) → 11 + 132 * count ≤ length old → length new ≡ length old → number_at new 0 2 ≡ count → number_at new 2 8 ≡ due
@@ -52,15 +57,15 @@ body_of bound due gate count old new room long counted numbered lines closed ord
     }
 
 pub make_ready : {W : Type 0} (G : Ghosts W) (bank : Inside) (outside : W) (tracks : Tracks G (kept_of bank) outside) → IsWhole bank
-    → (filled body : List ℕ) (due : ℕ) → body ≡ take (record_bytes bank.begun) filled → length filled ≡ length bank.body → number_at filled 0 2 ≡ bank.begun → number_at filled 2 8 ≡ due
-    → take (132 * bank.begun) (drop 10 filled) ≡ take (132 * bank.begun) (drop 10 bank.body) → slice_index filled (10 + 132 * bank.begun) ≡ 0
-    → due ≡ ((bank.base + bank.count) % 2 ^ 64 + 1) % 2 ^ 64 → bank.gate + record_bytes bank.begun + 1 ≤ end_of bank.which bank.bank_bytes
-    → Ready (held_of G outside) tracks.header bank.which bank.base bank.gate tracks.records bank.begun (begun_lines bank) body
+    → (filled body : List ℕ) (due : ℕ) → body ≡ take (record_bytes (begun_count bank)) filled → length filled ≡ length bank.body → number_at filled 0 2 ≡ (begun_count bank) → number_at filled 2 8 ≡ due
+    → take (132 * begun_count bank) (drop 10 filled) ≡ take (132 * begun_count bank) (drop 10 bank.body) → slice_index filled (10 + 132 * begun_count bank) ≡ 0
+    → due ≡ ((bank.base + bank.count) % 2 ^ 64 + 1) % 2 ^ 64 → bank.gate + record_bytes (begun_count bank) + 1 ≤ end_of bank.which bank.bank_bytes
+    → Ready (held_of G outside) tracks.header bank.which bank.base bank.gate tracks.records (begun_count bank) (begun_lines bank) body
 make_ready G bank outside tracks whole filled body due is long counted numbered lines closed due_is fits =
     let due_of : due ≡ (bank.base + length tracks.records + 1) % 2 ^ 64 = omega (arith, due_is, tracks.count) in
     let bound : wrong_line (line_count tracks.header.directory) 0 (begun_lines bank) ≡ None = ap (λ (n : ℕ). wrong_line n 0 (begun_lines bank)) tracks.bound ∙ whole.ordered in
-    let good = body_of (line_count tracks.header.directory) ((bank.base + length tracks.records + 1) % 2 ^ 64) bank.gate bank.begun bank.body filled (omega (arith, whole.buffer, whole.fits)) long counted (numbered ∙ due_of) lines closed bound in
-    subst (λ (these : List ℕ). Ready (held_of G outside) tracks.header bank.which bank.base bank.gate tracks.records bank.begun (begun_lines bank) these) (sym is) (record {
+    let good = body_of (line_count tracks.header.directory) ((bank.base + length tracks.records + 1) % 2 ^ 64) bank.gate (begun_count bank) bank.body filled (omega (arith, whole.buffer, whole.fits)) long counted (numbered ∙ due_of) lines closed bound in
+    subst (λ (these : List ℕ). Ready (held_of G outside) tracks.header bank.which bank.base bank.gate tracks.records (begun_count bank) (begun_lines bank) these) (sym is) (record {
       store = tracks.store;
       big = omega (arith, tracks.bank_bytes, whole.some_bytes);
       good = good;
@@ -95,6 +100,9 @@ module _ (held : List ℕ) (header : Header) (which : Which) (base gate : ℕ) (
     pub more : is_open gate image ≡ true → stands image ≡ one_more lines (stands held)
     more shown = stands_more held header which base gate records ready.store ready.big image around count lines body ready.good ready.fits shown (safe.whole shown)
 
+    pub before : is_open gate image ≡ false → IsStore image header which base gate records
+    before closed = store_same held header which base gate records ready.store ready.big image around.front around.long closed
+
     pub after : is_open gate image ≡ true → IsStore image header which base (gate + length body) (records ++ lines ∷ [])
     after shown = store_more held header which base gate records ready.store ready.big image around count lines body ready.good ready.fits shown (safe.whole shown)
 
@@ -104,6 +112,13 @@ module _ (held : List ℕ) (header : Header) (which : Which) (base gate : ℕ) (
 
     pub either : (seen : List ℕ) → IsEither lines held image seen
     either seen = either_by (is_open gate image) refl seen
+
+    one_of_by : (shown : Bool) → is_open gate image ≡ shown → HoldsOneOf header which base records lines image
+    one_of_by false is = inl (record { gate = gate; store = before is })
+    one_of_by true is = inr (record { gate = gate + length body; store = after is })
+
+    pub one_of : HoldsOneOf header which base records lines image
+    one_of = one_of_by (is_open gate image) refl
 
   pub doubted : (image : List ℕ) → IsSafe gate body held image → HasBody gate body image → stands (slice_set image gate 0xA5) ≡ one_more lines (stands held)
   doubted image safe body_there =
@@ -119,33 +134,73 @@ module _ (held : List ℕ) (header : Header) (which : Which) (base gate : ℕ) (
       (ap (λ (n : ℕ). n == 0xA5) (get_or-set_same image gate 0xA5 0 within))
 
 -- the lines that were filled in around are those that were begun
-pub filled_lines : (bank : Inside) (filled those : List ℕ) → take (132 * bank.begun) (drop 10 filled) ≡ take (132 * bank.begun) (drop 10 bank.body) → those ≡ filled
-    → lines_from bank.begun (bank.gate + 11) (drop 10 those) ≡ begun_lines bank
+pub filled_lines : (bank : Inside) (filled those : List ℕ) → take (132 * begun_count bank) (drop 10 filled) ≡ take (132 * begun_count bank) (drop 10 bank.body) → those ≡ filled
+    → lines_from (begun_count bank) (bank.gate + 11) (drop 10 those) ≡ begun_lines bank
 filled_lines bank filled those lines is =
-    ap (λ (these : List ℕ). lines_from bank.begun (bank.gate + 11) (drop 10 these)) is
-    ∙ same_lines bank.begun (bank.gate + 11) (132 * bank.begun) (drop 10 filled) (drop 10 bank.body) lines (omega arith)
-
-pub newest_more : (newest new : List (Option ℕ)) (records : List (List RecordLine)) (lines : List RecordLine) → newest ≡ newest_of (length newest) records → new ≡ noted newest lines → length new ≡ length newest
-    → new ≡ newest_of (length new) (records ++ lines ∷ [])
-newest_more newest new records lines old is long =
-    is
-    ∙ ap (λ (these : List (Option ℕ)). noted these lines) old
-    ∙ sym (fold-append noted (replicate (length newest) None) records (lines ∷ []))
-    ∙ ap (λ (n : ℕ). newest_of n (records ++ lines ∷ [])) (sym long)
+    ap (λ (these : List ℕ). lines_from (begun_count bank) (bank.gate + 11) (drop 10 these)) is
+    ∙ same_lines (begun_count bank) (bank.gate + 11) (132 * begun_count bank) (drop 10 filled) (drop 10 bank.body) lines (omega arith)
 
 pub length-lines_from : (count at : ℕ) (bytes : List ℕ) → length (lines_from count at bytes) ≡ count
 length-lines_from zero at bytes = refl
 length-lines_from (suc count) at bytes = omega (arith, length-lines_from count (at + 132) (drop 132 bytes))
 
+-- the lines that are begun are those of the buffer
+begun_by : (begun : Option ℕ) (bank : Inside) → unwrap_or (option_map (buffered bank) begun) [] ≡ buffered bank (unwrap_or begun 0)
+begun_by None bank = refl
+begun_by (Some count) bank = refl
+
+pub begun_is : (bank : Inside) (kept : KeptBank) → kept_of bank ≡ kept → begun_lines bank ≡ begun_of kept
+begun_is bank kept is = sym (begun_by bank.begun bank) ∙ ap begun_of is
+
+pub length-begun : (bank : Inside) (kept : KeptBank) → kept_of bank ≡ kept → length (begun_of kept) ≡ (begun_count bank)
+length-begun bank kept is = ap length (sym (begun_is bank kept is)) ∙ length-lines_from (begun_count bank) (bank.gate + 11) (drop 10 bank.body)
+
+-- a record that is begun is in the fields
+some_by : (begun : Option ℕ) (bank : Inside) → IsSome (option_map (buffered bank) begun) → IsSome begun
+some_by None bank some = cc
+some_by (Some count) bank some = refl
+
+pub is_begun : (bank : Inside) (kept : KeptBank) → kept_of bank ≡ kept → IsSome kept.begun → IsSome bank.begun
+is_begun bank kept is some = some_by bank.begun bank (subst (λ (those : KeptBank). IsSome those.begun) (sym is) some)
+
+pub unwrapped : (begun : Option ℕ) (count : ℕ) → begun ≡ Some count → unwrap_or begun 0 ≡ count
+unwrapped begun count is = ap (λ (those : Option ℕ). unwrap_or those 0) is
+
 -- what the fields say of room is what the kept bank says
 pub record SaysRoom (bank : Inside) (kept : KeptBank) : Type 0 where
   pub end : area_end kept ≡ end_of bank.which bank.bank_bytes
-  pub need : kept.gate + record_bytes (length kept.begun) + 1 ≡ bank.gate + record_bytes bank.begun + 1
+  pub need : needed_end kept ≡ bank.gate + record_bytes (begun_count bank) + 1
 
 pub says_room : (bank : Inside) (kept : KeptBank) → kept_of bank ≡ kept → SaysRoom bank kept
-says_room bank kept is = subst (λ (those : KeptBank). SaysRoom bank those) is (record { end = refl; need = omega (arith, length-lines_from bank.begun (bank.gate + 11) (drop 10 bank.body)) })
+says_room bank kept is = record {
+  end = ap area_end (sym is);
+  need = let gate : kept.gate ≡ bank.gate = ap (λ (those : KeptBank). those.gate) (sym is) in omega (arith, gate, length-begun bank kept is);
+}
+
+-- the fields are tracked as the bank is
+abbrev pub fields_tracked : {W : Type 0} (G : Ghosts W) (bank : Inside) (kept : KeptBank) (outside : W) → kept_of bank ≡ kept → Tracks G kept outside → Tracks G (kept_of bank) outside
+fields_tracked G bank kept outside is tracks = record {
+  sure = tracks.sure;
+  header = tracks.header;
+  records = tracks.records;
+  store = subst (λ (those : KeptBank). IsStore (held_of G outside) tracks.header those.which those.base those.gate tracks.records) (sym is) tracks.store;
+  bank_bytes = tracks.bank_bytes ∙ ap (λ (those : KeptBank). those.bank_bytes) (sym is);
+  bound = tracks.bound ∙ ap (λ (those : KeptBank). length those.newest) (sym is);
+  count = tracks.count ∙ ap (λ (those : KeptBank). those.count) (sym is);
+  newest = subst (λ (those : KeptBank). AreNewest those.newest tracks.records) (sym is) tracks.newest;
+}
+
+-- the bank with its begun record is what the fields say then
+pub with_record_is : (bank : Inside) (kept : KeptBank) (gate : ℕ) (newest : List (Option ℕ)) → kept_of bank ≡ kept → gate ≡ bank.gate + record_bytes (begun_count bank) → newest ≡ noted bank.newest (begun_lines bank)
+    → record (kept_of bank) { count = bank.count + 1; gate = gate; newest = newest; begun = None } ≡ with_record kept
+with_record_is bank kept gate newest is gate_is newest_is =
+    let lines = begun_is bank (kept_of bank) refl in
+    let place : gate ≡ bank.gate + record_bytes (length (begun_of (kept_of bank))) = omega (arith, gate_is, length-begun bank (kept_of bank) refl) in
+    ap (λ (n : ℕ). record (kept_of bank) { count = bank.count + 1; gate = n; newest = newest; begun = None }) place
+    ∙ ap (λ (these : List (Option ℕ)). record (kept_of bank) { count = bank.count + 1; gate = bank.gate + record_bytes (length (begun_of (kept_of bank))); newest = these; begun = None }) (newest_is ∙ ap (noted bank.newest) lines)
+    ∙ ap with_record is
 
 -- a bank that is tracked, and a body that adds its begun record
 pub record IsReadied {W : Type 0} (G : Ghosts W) (bank : Inside) (outside : W) (body : List ℕ) : Type 0 where
   pub tracks : Tracks G (kept_of bank) outside
-  pub ready : Ready (held_of G outside) tracks.header bank.which bank.base bank.gate tracks.records bank.begun (begun_lines bank) body
+  pub ready : Ready (held_of G outside) tracks.header bank.which bank.base bank.gate tracks.records (begun_count bank) (begun_lines bank) body

@@ -7,7 +7,7 @@ use Rattle.store_format.proofs.Fronts.{shorter_front, same_byte}
 use Rattle.redo_journal.specs.Gate.{is_open, HasBody, IsSafe}
 use Rattle.outside.proofs.Torn.{torn_by_written}
 
-drop-written : (held : List ℕ) (at : ℕ) (bytes : List ℕ) → at ≤ length held → drop at (written held at bytes) ≡ bytes ++ drop (at + length bytes) held
+pub drop-written : (held : List ℕ) (at : ℕ) (bytes : List ℕ) → at ≤ length held → drop at (written held at bytes) ≡ bytes ++ drop (at + length bytes) held
 drop-written held at bytes within =
     ap (λ (these : List ℕ). drop at these) (append_assoc (take at held) bytes (drop (at + length bytes) held))
     ∙ drop_at (take at held) (bytes ++ drop (at + length bytes) held) at (length-take-le at held within)

@@ -8,3 +8,7 @@ pub mod WithinLemmas
 pub mod ReadLemmas
 pub mod BankLemmas
 pub mod Newest
+pub mod Places
+pub mod WriteLemmas
+pub mod TurnLemmas
+pub mod HeadLemmas

@@ -1,15 +1,17 @@
 -- The newest place of a line has its bytes of the store.
-use Rattle.std.proofs.Common.{◌≡◌, inl, inr, ℕ, zero, suc, ◌+◌, ◌*◌, ◌-◌, ◌<◌, ◌≤◌, List, [], ◌∷◌, length, take, drop, get_or, refl, sym, ◌∙◌, ap, subst, arith, replicate}
-use Rattle.std.specs.Prelude.{Option, None, Some, fold}
+use Rattle.std.proofs.Common.{◌≡◌, inl, inr, ℕ, zero, suc, ◌+◌, ◌*◌, ◌-◌, ◌<◌, ◌≤◌, List, [], ◌∷◌, ◌++◌, length, take, drop, refl, sym, ◌∙◌, ap, subst, arith}
+use Rattle.std.specs.Prelude.{Option, None, Some, fold, Bool, true, false, if◌then◌else◌}
+use Rattle.std.specs.Option.{option_or}
+use Rattle.std.proofs.lemmas.Bool.Decides.{nat_tests}
 use Rattle.std.proofs.lemmas.Bool.{cases_lt, cases_eq}
-use Rattle.std.proofs.lemmas.List.{take_at, drop-drop, length-drop, length-take-le, get_or-take, get_or-drop, get_or-replicate, length-replicate}
+use Rattle.std.proofs.lemmas.List.{take_at, drop-drop, take-append-drop, length-drop, length-take-le}
 use Rattle.owned_list.specs.Overlay.{overlaid}
 use Rattle.std.specs.Prelude.{◌%◌, ◌^◌, ◌==◌, slice_index}
 use Rattle.byteorder.specs.Endian.{big_number}
 use Rattle.line_geometry.specs.Lines.{line_count}
 use Rattle.store_format.specs.declared.header.Which.{Which}
-use Rattle.store_format.specs.Header.{Header, home_at}
-use Rattle.store_format.specs.Bank.{RecordLine, lines_from, wrong_line, lines_of, count_of, Area, Gate, Closed, Wrong, Sound, Holds, gate_at, holds_from, area_of, area_at, base_of}
+use Rattle.store_format.specs.Header.{Header, home_at, bank_at, number_at}
+use Rattle.store_format.specs.Bank.{RecordLine, lines_from, wrong_line, lines_of, count_of, Area, Gate, Closed, Wrong, Sound, Holds, gate_at, holds_from, bank_held}
 use Rattle.store_format.proofs.Stores.{area_within}
 use Rattle.store_format.specs.Stands.{laid, home_of, IsStore}
 use Rattle.store_format.proofs.Fronts.{shorter_front, rest_front}
@@ -17,7 +19,8 @@ use Rattle.store_format.proofs.Walk.{sound_is, preceded_is}
 use Rattle.owned_list.proofs.Overlay.{length-overlaid}
 use Rattle.redo_journal.proofs.Overlaid.{take-overlaid, drop-overlaid, behind-overlaid}
 use Rattle.redo_journal.proofs.NoteLemmas.{first_in_order}
-use Rattle.redo_journal.specs.Noted.{noted, newest_of}
+use Rattle.redo_journal.specs.Noted.{place_in, newest_place}
+use Rattle.redo_journal.proofs.Places.{or_assoc, or_none, last_of, if_some, AreBelow, AllBelow}
 
 -- the bytes of a line in a list of lines
 abbrev pub line_bytes : ℕ → List ℕ → List ℕ
@@ -46,106 +49,104 @@ other_line bytes part j k long within other = elim (cases_lt k j) [
     later : (k j : ℕ) → j ≤ k → (k ≡ j → ⊥) → j * 128 + length part + (k * 128 - (j * 128 + 128)) ≡ k * 128
     later k j le more = omega (arith, long, more)
 
-same_place : (newest : List (Option ℕ)) (j place : ℕ) → j < length newest → get_or (overlaid newest j (Some place ∷ [])) j None ≡ Some place
-same_place newest j place within =
-    let here : j + 0 ≡ j = omega arith in
-    ap (λ (n : ℕ). get_or (overlaid newest j (Some place ∷ [])) n None) (sym here)
-    ∙ sym (get_or-drop j (overlaid newest j (Some place ∷ [])) 0 None)
-    ∙ ap (λ (these : List (Option ℕ)). get_or these 0 None) (drop-overlaid newest j (Some place ∷ []) (omega arith))
-
-other_place : (newest : List (Option ℕ)) (j place k : ℕ) → j < length newest → (k ≡ j → ⊥) → get_or (overlaid newest j (Some place ∷ [])) k None ≡ get_or newest k None
-other_place newest j place k within other = elim (cases_lt k j) [
-  | inl before ↦
-      sym (get_or-take j (overlaid newest j (Some place ∷ [])) k None before)
-      ∙ ap (λ (these : List (Option ℕ)). get_or these k None) (take-overlaid newest j (Some place ∷ []) (omega arith))
-      ∙ get_or-take j newest k None before
-  | inr behind ↦
-      let whole : j + 1 + (k - (j + 1)) ≡ k = later k j behind other in
-      ap (λ (n : ℕ). get_or (overlaid newest j (Some place ∷ [])) n None) (sym whole)
-      ∙ sym (get_or-drop (j + 1) (overlaid newest j (Some place ∷ [])) (k - (j + 1)) None)
-      ∙ ap (λ (these : List (Option ℕ)). get_or these (k - (j + 1)) None) (behind-overlaid newest j (Some place ∷ []) (omega arith))
-      ∙ get_or-drop (j + 1) newest (k - (j + 1)) None
-      ∙ ap (λ (n : ℕ). get_or newest n None) whole
-]
-  where
-    later : (k j : ℕ) → j ≤ k → (k ≡ j → ⊥) → j + 1 + (k - (j + 1)) ≡ k
-    later k j le more = omega (arith, more)
-
 -- the bytes of a line by its newest place in an image, or by its home
 abbrev pub newest_bytes : List ℕ → List ℕ → ℕ → Option ℕ → List ℕ
 newest_bytes image home k None = line_bytes k home
 newest_bytes image home k (Some place) = take 128 (drop place image)
 
 -- each line of the bytes is where the newest places say
-pub record Agree (bound : ℕ) (image home bytes : List ℕ) (newest : List (Option ℕ)) : Type 0 where
+pub record Agree (bound : ℕ) (image home bytes : List ℕ) (newest : ℕ → Option ℕ) : Type 0 where
   pub long : length bytes ≡ bound * 128
-  pub places : length newest ≡ bound
-  pub each : (k : ℕ) → k < bound → line_bytes k bytes ≡ newest_bytes image home k (get_or newest k None)
+  pub each : (k : ℕ) → k < bound → line_bytes k bytes ≡ newest_bytes image home k (newest k)
 
--- a line of a record of an image
-pub record IsLine (bound : ℕ) (image : List ℕ) (line : RecordLine) : Type 0 where
+-- a line of a record of an image, in front of an end
+pub record IsLine (bound end : ℕ) (image : List ℕ) (line : RecordLine) : Type 0 where
   pub below : line.line < bound
   pub has : line.bytes ≡ take 128 (drop (line.at + 4) image)
   pub whole : length line.bytes ≡ 128
+  pub within : line.at + 132 ≤ end
 
-agree_line : (bound : ℕ) (image home bytes : List ℕ) (newest : List (Option ℕ)) (line : RecordLine) → IsLine bound image line → Agree bound image home bytes newest
-    → Agree bound image home (overlaid bytes (line.line * 128) line.bytes) (overlaid newest line.line (Some (line.at + 4) ∷ []))
-agree_line bound image home bytes newest line is agree = record {
+-- the newest places with a record more
+abbrev pub newer : List RecordLine → (ℕ → Option ℕ) → ℕ → Option ℕ
+newer lines newest k = option_or (place_in k lines) (newest k)
+
+agree_line : (bound end : ℕ) (image home bytes : List ℕ) (newest : ℕ → Option ℕ) (line : RecordLine) → IsLine bound end image line → Agree bound image home bytes newest
+    → Agree bound image home (overlaid bytes (line.line * 128) line.bytes) (newer (line ∷ []) newest)
+agree_line bound end image home bytes newest line is agree = record {
   long = length-overlaid bytes (line.line * 128) line.bytes (omega (arith, is.below, is.whole, agree.long)) ∙ agree.long;
-  places = length-overlaid newest line.line (Some (line.at + 4) ∷ []) (omega (arith, is.below, agree.places)) ∙ agree.places;
   each = λ k within. elim (cases_eq k line.line) [
     | inl same ↦
+        let here : (line.line == k) ≡ true = grind (arith, nat_tests) in
         ap (λ (n : ℕ). line_bytes n (overlaid bytes (line.line * 128) line.bytes)) same
         ∙ same_line bytes line.bytes line.line is.whole (omega (arith, is.below, agree.long))
         ∙ is.has
-        ∙ ap (newest_bytes image home k) (sym (ap (λ (n : ℕ). get_or (overlaid newest line.line (Some (line.at + 4) ∷ [])) n None) same ∙ same_place newest line.line (line.at + 4) (omega (arith, is.below, agree.places))))
+        ∙ ap (λ (b : Bool). newest_bytes image home k (option_or (if b then Some (line.at + 4) else None) (newest k))) (sym here)
     | inr other ↦
+        let here : (line.line == k) ≡ false = grind (arith, nat_tests) in
         other_line bytes line.bytes line.line k is.whole (omega (arith, is.below, agree.long)) other
         ∙ agree.each k within
-        ∙ ap (newest_bytes image home k) (sym (other_place newest line.line (line.at + 4) k (omega (arith, is.below, agree.places)) other))
+        ∙ ap (λ (b : Bool). newest_bytes image home k (option_or (if b then Some (line.at + 4) else None) (newest k))) (sym here)
   ];
 }
 
-abbrev pub AreLines : ℕ → List ℕ → List RecordLine → Type 0
-AreLines bound image [] = Unit {0}
-AreLines bound image (line ∷ lines) = IsLine bound image line × AreLines bound image lines
+abbrev pub AreLines : (bound end : ℕ) → List ℕ → List RecordLine → Type 0
+AreLines bound end image [] = Unit {0}
+AreLines bound end image (line ∷ lines) = IsLine bound end image line × AreLines bound end image lines
 
-abbrev pub AreRecords : ℕ → List ℕ → List (List RecordLine) → Type 0
-AreRecords bound image [] = Unit {0}
-AreRecords bound image (lines ∷ records) = AreLines bound image lines × AreRecords bound image records
+abbrev pub AreRecords : (bound end : ℕ) → List ℕ → List (List RecordLine) → Type 0
+AreRecords bound end image [] = Unit {0}
+AreRecords bound end image (lines ∷ records) = AreLines bound end image lines × AreRecords bound end image records
 
-agree_lines : (bound : ℕ) (image home bytes : List ℕ) (newest : List (Option ℕ)) (lines : List RecordLine) → AreLines bound image lines → Agree bound image home bytes newest
-    → Agree bound image home (laid bytes lines) (noted newest lines)
-agree_lines bound image home bytes newest [] are agree = agree
-agree_lines bound image home bytes newest (line ∷ lines) are agree =
-    agree_lines bound image home (overlaid bytes (line.line * 128) line.bytes) (overlaid newest line.line (Some (line.at + 4) ∷ [])) lines are.1 (agree_line bound image home bytes newest line are.0 agree)
+agree_lines : (bound end : ℕ) (image home bytes : List ℕ) (newest : ℕ → Option ℕ) (lines : List RecordLine) → AreLines bound end image lines → Agree bound image home bytes newest
+    → Agree bound image home (laid bytes lines) (newer lines newest)
+agree_lines bound end image home bytes newest [] are agree = agree
+agree_lines bound end image home bytes newest (line ∷ lines) are agree =
+    let rest = agree_lines bound end image home (overlaid bytes (line.line * 128) line.bytes) (newer (line ∷ []) newest) lines are.1 (agree_line bound end image home bytes newest line are.0 agree) in
+    record {
+      long = rest.long;
+      each = λ k within. rest.each k within ∙ ap (newest_bytes image home k) (or_assoc (place_in k lines) (if line.line == k then Some (line.at + 4) else None) (newest k));
+    }
 
-agree_records : (bound : ℕ) (image home bytes : List ℕ) (newest : List (Option ℕ)) (records : List (List RecordLine)) → AreRecords bound image records → Agree bound image home bytes newest
-    → Agree bound image home (fold laid bytes records) (fold noted newest records)
-agree_records bound image home bytes newest [] are agree = agree
-agree_records bound image home bytes newest (lines ∷ records) are agree =
-    agree_records bound image home (laid bytes lines) (noted newest lines) records are.1 (agree_lines bound image home bytes newest lines are.0 agree)
+agree_records : (bound end : ℕ) (image home bytes : List ℕ) (newest : ℕ → Option ℕ) (records : List (List RecordLine)) → AreRecords bound end image records → Agree bound image home bytes newest
+    → Agree bound image home (fold laid bytes records) (λ k. option_or (newest_place k records) (newest k))
+agree_records bound end image home bytes newest [] are agree = agree
+agree_records bound end image home bytes newest (lines ∷ records) are agree =
+    let rest = agree_records bound end image home (laid bytes lines) (newer lines newest) records are.1 (agree_lines bound end image home bytes newest lines are.0 agree) in
+    record {
+      long = rest.long;
+      each = λ k within. rest.each k within ∙ ap (newest_bytes image home k) (or_assoc (newest_place k records) (place_in k lines) (newest k));
+    }
+
+-- lines of an image are below its bound
+lines_below : (bound end : ℕ) (image : List ℕ) (lines : List RecordLine) → AreLines bound end image lines → AreBelow bound lines
+lines_below bound end image [] are = tt
+lines_below bound end image (line ∷ lines) are = (are.0.below, lines_below bound end image lines are.1)
+
+pub all_below : (bound end : ℕ) (image : List ℕ) (records : List (List RecordLine)) → AreRecords bound end image records → AllBelow bound records
+all_below bound end image [] are = tt
+all_below bound end image (lines ∷ records) are = (lines_below bound end image lines are.0, all_below bound end image records are.1)
 
 -- lines in order that lie in an image
-lines_are : (bound least count at : ℕ) (image : List ℕ) → at + 132 * count ≤ length image → wrong_line bound least (lines_from count at (drop at image)) ≡ None → AreLines bound image (lines_from count at (drop at image))
-lines_are bound least zero at image fits none = tt
-lines_are bound least (suc count) at image fits none =
+lines_are : (bound least count at end : ℕ) (image : List ℕ) → at + 132 * count ≤ end → end ≤ length image → wrong_line bound least (lines_from count at (drop at image)) ≡ None → AreLines bound end image (lines_from count at (drop at image))
+lines_are bound least zero at end image fits whole none = tt
+lines_are bound least (suc count) at end image fits whole none =
     let here : RecordLine = record { line = big_number 4 (drop at image); at = at; bytes = take 128 (drop 4 (drop at image)) } in
     let rest : lines_from count (at + 132) (drop 132 (drop at image)) ≡ lines_from count (at + 132) (drop (at + 132) image) = ap (λ (these : List ℕ). lines_from count (at + 132) these) (drop-drop 132 at image) in
     let first = first_in_order bound least here (lines_from count (at + 132) (drop 132 (drop at image))) none in
-    let others = lines_are bound (here.line + 1) count (at + 132) image (omega arith) (ap (wrong_line bound (here.line + 1)) (sym rest) ∙ first.rest) in (
+    let others = lines_are bound (here.line + 1) count (at + 132) end image (omega arith) whole (ap (wrong_line bound (here.line + 1)) (sym rest) ∙ first.rest) in (
       record {
         below = first.below;
         has = ap (λ (these : List ℕ). take 128 these) (drop-drop 4 at image);
         whole = length-take-le 128 (drop 4 (drop at image)) (omega (arith, length-drop 4 (drop at image), length-drop at image));
+        within = omega arith;
       },
-      subst (λ (these : List RecordLine). AreLines bound image these) (sym rest) others,
+      subst (λ (these : List RecordLine). AreLines bound end image these) (sym rest) others,
     )
 
 records_are : (image : List ℕ) (area : Area) (most number from gate : ℕ) (records : List (List RecordLine)) (at : Gate) → area.end ≤ length image → gate_at image area number from ≡ at
-    → holds_from image area most number at ≡ Holds gate records → AreRecords area.bound image records
+    → holds_from image area most number at ≡ Holds gate records → AreRecords area.bound area.end image records
 unfolding holds_from
-records_are image area most number from gate records (Closed closed) whole is holds = let none : records ≡ [] = cc in subst (λ (these : List (List RecordLine)). AreRecords area.bound image these) (sym none) tt
+records_are image area most number from gate records (Closed closed) whole is holds = let none : records ≡ [] = cc in subst (λ (these : List (List RecordLine)). AreRecords area.bound area.end image these) (sym none) tt
 records_are image area most number from gate records (Wrong offset) whole is holds = cc
 records_are image area zero number from gate records (Sound lines next) whole is holds = cc
 records_are image area (suc most) number from gate records (Sound lines next) whole is holds =
@@ -154,18 +155,54 @@ records_are image area (suc most) number from gate records (Sound lines next) wh
     let rest = records_are image area most (number + 1) next gate parts.0 (gate_at image area (number + 1) next) whole refl parts.1 in
     let count = count_of (drop from image) in
     let place : lines_of from (drop from image) ≡ lines_from count (from + 11) (drop (from + 11) image) = ap (λ (these : List ℕ). lines_from count (from + 11) these) (drop-drop 11 from image) in
-    let first = lines_are area.bound 0 count (from + 11) image (omega (arith, sound.is_next, sound.fits)) (ap (wrong_line area.bound 0) (sym place) ∙ sound.in_order) in
-    let here : AreLines area.bound image lines = subst (λ (these : List RecordLine). AreLines area.bound image these) (sym (sound.lines_are ∙ place)) first in
-    subst (λ (these : List (List RecordLine)). AreRecords area.bound image these) (sym parts.2) (here, rest)
+    let first = lines_are area.bound 0 count (from + 11) area.end image (omega (arith, sound.is_next, sound.fits)) whole (ap (wrong_line area.bound 0) (sym place) ∙ sound.in_order) in
+    let here : AreLines area.bound area.end image lines = subst (λ (these : List RecordLine). AreLines area.bound area.end image these) (sym (sound.lines_are ∙ place)) first in
+    subst (λ (these : List (List RecordLine)). AreRecords area.bound area.end image these) (sym parts.2) (here, rest)
+
+-- where a line has its newest bytes there are as many before the end
+place_within : (bound end : ℕ) (image : List ℕ) (k place : ℕ) (lines : List RecordLine) → AreLines bound end image lines → place_in k lines ≡ Some place → place + 128 ≤ end
+place_within bound end image k place [] are is = cc
+place_within bound end image k place (line ∷ lines) are is = elim (last_of (place_in k lines) (if line.line == k then Some (line.at + 4) else None) place is) [
+  | inl later ↦ place_within bound end image k place lines are.1 later
+  | inr here ↦ let at = if_some (line.line == k) (line.at + 4) place here in omega (arith, at, are.0.within)
+]
+
+pub newest_within : (bound end : ℕ) (image : List ℕ) (k place : ℕ) (records : List (List RecordLine)) → AreRecords bound end image records → newest_place k records ≡ Some place → place + 128 ≤ end
+newest_within bound end image k place [] are is = cc
+newest_within bound end image k place (lines ∷ records) are is = elim (last_of (newest_place k records) (place_in k lines) place is) [
+  | inl later ↦ newest_within bound end image k place records are.1 later
+  | inr here ↦ place_within bound end image k place lines are.0 here
+]
+
+-- the records that a bank holds lie in the image
+pub held_records : (image : List ℕ) (bound at bank_bytes gate : ℕ) (records : List (List RecordLine)) → at + 8 + bank_bytes ≤ length image → bank_held image bound at bank_bytes ≡ Holds gate records → AreRecords bound (at + 8 + bank_bytes) image records
+held_records image bound at bank_bytes gate records whole holds =
+    records_are image (record { bound = bound; end = at + 8 + bank_bytes }) bank_bytes (number_at image at 8) (at + 8) gate records (gate_at image (record { bound = bound; end = at + 8 + bank_bytes }) (number_at image at 8) (at + 8)) whole refl holds
 
 -- each line of the store that an image stands for is where its newest place says, or at home
 pub store_agrees : (image : List ℕ) (header : Header) (which : Which) (base gate : ℕ) (records : List (List RecordLine)) → IsStore image header which base gate records
-    → Agree (line_count header.directory) image (home_of image header) (fold laid (home_of image header) records) (newest_of (line_count header.directory) records)
+    → Agree (line_count header.directory) image (home_of image header) (fold laid (home_of image header) records) (λ k. newest_place k records)
 store_agrees image header which base gate records is =
-    agree_records (line_count header.directory) image (home_of image header) (home_of image header) (replicate (line_count header.directory) None) records
-    (records_are image (area_of header which) header.bank_bytes (base_of image header which) (area_at header which) gate records (gate_at image (area_of header which) (base_of image header which) (area_at header which)) (omega (arith, (area_within header which).0, is.whole)) refl is.holds)
-    (record {
-      long = omega (arith, length-drop (home_at header 0) image, is.whole);
-      places = length-replicate {A = Option ℕ} (line_count header.directory) None;
-      each = λ k within. ap (newest_bytes image (home_of image header) k) (sym (get_or-replicate (line_count header.directory) k None None within));
-    })
+    let all =
+    agree_records (line_count header.directory) (bank_at header which + 8 + header.bank_bytes) image (home_of image header) (home_of image header) (λ k. None) records
+    (held_records image (line_count header.directory) (bank_at header which) header.bank_bytes gate records (omega (arith, (area_within header which).0, is.whole)) is.holds)
+    (record { long = omega (arith, length-drop (home_at header 0) image, is.whole); each = λ k within. refl }) in
+    record { long = all.long; each = λ k within. all.each k within ∙ ap (newest_bytes image (home_of image header) k) (or_none (newest_place k records)) }
+
+-- lists of as many lines that have the same lines
+pub same_lines : (n : ℕ) (xs ys : List ℕ) → length xs ≡ n * 128 → length ys ≡ n * 128 → ((k : ℕ) → k < n → line_bytes k xs ≡ line_bytes k ys) → xs ≡ ys
+same_lines zero xs ys long long' each = empty xs (omega arith) ∙ sym (empty ys (omega arith))
+  where
+    empty : (zs : List ℕ) → length zs ≡ 0 → zs ≡ []
+    empty [] none = refl
+    empty (z ∷ zs) none = absurd (omega arith)
+same_lines (suc n) xs ys long long' each =
+    sym (take-append-drop 128 xs)
+    ∙ ap (λ (these : List ℕ). these ++ drop 128 xs) (each 0 (omega arith))
+    ∙ ap (λ (these : List ℕ). take 128 ys ++ these)
+    (same_lines n (drop 128 xs) (drop 128 ys) (omega (arith, length-drop 128 xs)) (omega (arith, length-drop 128 ys))
+    (λ k few. ap (λ (these : List ℕ). take 128 these) (moved xs k) ∙ each (suc k) (omega arith) ∙ ap (λ (these : List ℕ). take 128 these) (sym (moved ys k))))
+    ∙ take-append-drop 128 ys
+  where
+    moved : (zs : List ℕ) (k : ℕ) → drop (k * 128) (drop 128 zs) ≡ drop (suc k * 128) zs
+    moved zs k = let place : 128 + k * 128 ≡ suc k * 128 = omega arith in drop-drop (k * 128) 128 zs ∙ ap (λ (n : ℕ). drop n zs) place

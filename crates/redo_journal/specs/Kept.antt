@@ -1,11 +1,12 @@
 -- A bank as it is kept.
-use Rattle.std.specs.Prelude.{◌≡◌, ℕ, ◌+◌, ◌*◌, List, [], ◌∷◌, ◌++◌, length, Option}
+use Rattle.std.specs.Prelude.{◌≡◌, ℕ, ◌+◌, ◌*◌, ◌%◌, ◌^◌, List, [], ◌∷◌, ◌++◌, length, Option, None, Some, unwrap_or}
 use Rattle.store_format.specs.declared.header.Which.{Which}
 use Rattle.store_format.specs.declared.header.Which.TheVariants.{A, B}
 use Rattle.store_format.specs.Bank.{RecordLine, record_bytes}
+use Rattle.redo_journal.specs.Noted.{noted}
 
 -- Which bank it is, the bytes of its record area, its base number, how many records it has, where its closed gate is,
--- the newest place of each line of the store, and the lines of the record that is begun, as they will lie behind the gate.
+-- the newest place of each line of the store, and the lines of the record that is begun, where one is, as they will lie behind the gate.
 pub record KeptBank : Type 0 where
   pub which : Which
   pub bank_bytes : ℕ
@@ -13,7 +14,7 @@ pub record KeptBank : Type 0 where
   pub count : ℕ
   pub gate : ℕ
   pub newest : List (Option ℕ)
-  pub begun : List RecordLine
+  pub begun : Option (List RecordLine)
 
 -- where a bank with so many bytes lies, and where its area ends
 abbrev pub place_of : Which → ℕ → ℕ
@@ -28,10 +29,35 @@ end_of B bank_bytes = 272 + 2 * bank_bytes
 abbrev pub area_end : KeptBank → ℕ
 area_end bank = end_of bank.which bank.bank_bytes
 
+-- the number that the bank's records lead to
+abbrev pub number_of : KeptBank → ℕ
+number_of bank = (bank.base + bank.count) % 2 ^ 64
+
+-- the lines of the record that is begun
+abbrev pub begun_of : KeptBank → List RecordLine
+begun_of bank = unwrap_or bank.begun []
+
+-- where the begun record ends, with the gate behind it
+abbrev pub needed_end : KeptBank → ℕ
+needed_end bank = bank.gate + record_bytes (length (begun_of bank)) + 1
+
 -- the bank with one line more in its begun record
 abbrev pub with_line : KeptBank → ℕ → List ℕ → KeptBank
 with_line bank line bytes =
-    record bank { begun = bank.begun ++ record { line = line; at = bank.gate + record_bytes (length bank.begun); bytes = bytes } ∷ [] }
+    record bank { begun = Some (begun_of bank ++ record { line = line; at = bank.gate + record_bytes (length (begun_of bank)); bytes = bytes } ∷ []) }
+
+-- the bank without a begun record
+abbrev pub unbegun : KeptBank → KeptBank
+unbegun bank = record bank { begun = None }
+
+-- the bank with the begun record as one record more
+abbrev pub with_record : KeptBank → KeptBank
+with_record bank = record bank {
+  count = bank.count + 1;
+  gate = bank.gate + record_bytes (length (begun_of bank));
+  newest = noted bank.newest (begun_of bank);
+  begun = None;
+}
 
 -- a bank of the same size, of a store with as many lines
 pub record SameShape (old new : KeptBank) : Type 0 where

@@ -6,3 +6,5 @@ pub mod Inside
 pub mod Read
 pub mod Opened
 pub mod Tracks
+pub mod Appended
+pub mod Turned

@@ -1,5 +1,5 @@
 -- What a bank is that was read from the disk.
-use Rattle.std.specs.Prelude.{◌≡◌, ℕ, List, [], length, IsSome}
+use Rattle.std.specs.Prelude.{◌≡◌, ◌↔◌, ◌<◌, ℕ, List, length, slice_get, Some, None, IsSome}
 use Rattle.line_geometry.specs.Lines.{line_count}
 use Rattle.store_format.specs.declared.header.Which.{Which}
 use Rattle.store_format.specs.Header.{Header, number_at}
@@ -12,7 +12,7 @@ use Rattle.redo_journal.specs.declared.fault.OpenFault.TheVariants as opening
 use Rattle.redo_journal.specs.declared.fault.ReopenFault.{ReopenFault}
 use Rattle.redo_journal.specs.declared.fault.ReopenFault.TheVariants as reopening
 use Rattle.redo_journal.specs.Kept.{KeptBank, place_of}
-use Rattle.redo_journal.specs.Noted.{newest_of}
+use Rattle.redo_journal.specs.Noted.{AreNewest, IsNowhere}
 
 -- what these bytes hold where such a bank of a store with so many lines lies
 abbrev pub bank_in : List ℕ → Which → (bank_bytes bound : ℕ) → Bank
@@ -24,14 +24,18 @@ pub record IsRead (held : List ℕ) (bank : KeptBank) : Type 0 where
   pub base : number_at held (place_of bank.which bank.bank_bytes) 8 ≡ bank.base
   pub holds : bank_in held bank.which bank.bank_bytes (length bank.newest) ≡ Holds bank.gate records
   pub count : length records ≡ bank.count
-  pub newest : bank.newest ≡ newest_of (length bank.newest) records
+  pub newest : AreNewest bank.newest records
+
+-- a line of a bank that was read has no newest place exactly where no record of the bank has the line
+abbrev pub NewestLaw : Type 0
+NewestLaw = (held : List ℕ) (bank : KeptBank) (read : IsRead held bank) (line : ℕ) → line < length bank.newest → (slice_get bank.newest line ≡ Some None) ↔ IsNowhere line read.records
 
 -- the bank is this one of a store with such a header, and has no record begun
 pub record IsBankOf (header : Header) (which : Which) (bank : KeptBank) : Type 0 where
   pub bank_bytes : header.bank_bytes ≡ bank.bank_bytes
   pub bound : line_count header.directory ≡ length bank.newest
   pub which_is : bank.which ≡ which
-  pub begun : bank.begun ≡ []
+  pub begun : bank.begun ≡ None
 
 -- a disk's fault is counted; damage is a fault of the bank in the bytes that are told
 abbrev pub IsReopenFault : {W : Type 0} → Ghosts W → W → W → Which → KeptBank → ReopenFault → Type 0

@@ -1,5 +1,6 @@
 -- What a bank that is kept says of the bytes on the disk.
-use Rattle.std.specs.Prelude.{◌≡◌, ◌⊎◌, ℕ, List, length, take}
+use Rattle.std.specs.Prelude.{◌≡◌, ◌⊎◌, ℕ, List, [], ◌∷◌, ◌++◌, length, take}
+use Rattle.store_format.specs.declared.header.Which.{Which}
 use Rattle.line_geometry.specs.Lines.{line_count}
 use Rattle.store_format.specs.Header.{Header, header_of}
 use Rattle.store_format.specs.Bank.{RecordLine}
@@ -7,8 +8,8 @@ use Rattle.store_format.specs.Stands.{IsStore, stands, one_more}
 use Rattle.outside.specs.declared.world.Outside.{Ghosts}
 use Rattle.outside.specs.Runs.{held_of}
 use Rattle.outside.specs.Durable.{IsSure}
-use Rattle.redo_journal.specs.Kept.{KeptBank}
-use Rattle.redo_journal.specs.Noted.{newest_of}
+use Rattle.redo_journal.specs.Kept.{KeptBank, begun_of}
+use Rattle.redo_journal.specs.Noted.{AreNewest}
 
 -- The bytes held are sure and stand, and what is kept is what they say of their chosen bank.
 pub record Tracks {W : Type 0} (G : Ghosts W) (bank : KeptBank) (outside : W) : Type 0 where
@@ -19,14 +20,23 @@ pub record Tracks {W : Type 0} (G : Ghosts W) (bank : KeptBank) (outside : W) : 
   pub bank_bytes : header.bank_bytes ≡ bank.bank_bytes
   pub bound : line_count header.directory ≡ length bank.newest
   pub count : length records ≡ bank.count
-  pub newest : bank.newest ≡ newest_of (length bank.newest) records
+  pub newest : AreNewest bank.newest records
 
 -- an image stands for what another one stands for, or for that with these lines as one record more
 abbrev pub IsEither : List RecordLine → List ℕ → List ℕ → List ℕ → Type 0
 IsEither lines held image seen = (stands image ≡ stands held) ⊎ (stands image ≡ one_more lines (stands held))
 
+-- the bytes are a store with this header, which chooses this bank, and the bank has this base number and holds these records
+pub record HoldsRecords (header : Header) (which : Which) (base : ℕ) (records : List (List RecordLine)) (held : List ℕ) : Type 0 where
+  pub gate : ℕ
+  pub store : IsStore held header which base gate records
+
+-- the same with these records, or with one record more
+abbrev pub HoldsOneOf : Header → Which → ℕ → List (List RecordLine) → List RecordLine → List ℕ → Type 0
+HoldsOneOf header which base records lines held = HoldsRecords header which base records held ⊎ HoldsRecords header which base (records ++ lines ∷ []) held
+
 -- the begun record was added, the header is the same, and the bank is tracked
 pub record IsAppended {W : Type 0} (G : Ghosts W) (old_bank bank : KeptBank) (old new : W) : Type 0 where
   pub tracks : Tracks G bank new
-  pub stood : stands (held_of G new) ≡ one_more old_bank.begun (stands (held_of G old))
+  pub stood : stands (held_of G new) ≡ one_more (begun_of old_bank) (stands (held_of G old))
   pub header : header_of (take 128 (held_of G new)) ≡ header_of (take 128 (held_of G old))

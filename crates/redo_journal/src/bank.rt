@@ -1,19 +1,22 @@
-ghost use Rattle.std.specs.Prelude.{◌≡◌, ◌↔◌, ◌+◌, ◌*◌, ◌%◌, ◌≤◌, ◌<◌, ◌^◌, [], All, length, take, slice_set, slice_get, Some, None, IsNone, IsSome, IfSome, IfOk, IfErr, OnOk};
+ghost use Rattle.std.specs.Prelude.{◌≡◌, ◌≢◌, ◌↔◌, ◌+◌, ◌*◌, ◌%◌, ◌≤◌, ◌<◌, ◌^◌, [], All, length, take, slice_set, slice_get, Some, None, IsNone, IsSome, IfSome, IfOk, IfErr, OnOk};
 ghost use Rattle.std.specs.Option.{option_map};
 ghost use Rattle.store_format.specs.Header.{total, HasRanges};
 ghost use Rattle.store_format.specs.Bank.{record_bytes};
 ghost use Rattle.store_format.specs.Stands.{stands, one_more};
 ghost use Rattle.outside.specs.Causes.{Rose};
-ghost use Rattle.outside.specs.Runs.{CallsDisk, OnlyAsks, Leaves, held_of};
-ghost use Rattle.redo_journal.specs.Kept.{KeptBank, place_of, end_of, area_end, with_line, SameShape};
-ghost use Rattle.redo_journal.specs.Held.{HoldsAtLeast, IsNoShorter};
+ghost use Rattle.outside.specs.Runs.{OnlyAsks, Leaves, held_of};
+ghost use Rattle.redo_journal.specs.Kept.{KeptBank, place_of, end_of, area_end, number_of, begun_of, needed_end, with_line, unbegun, SameShape};
+ghost use Rattle.redo_journal.specs.Appended.{kept_after};
+ghost use Rattle.redo_journal.specs.Turned.{turned, head_bytes};
+ghost use Rattle.redo_journal.specs.Held.{HoldsAtLeast, OnlyWrites, WritesOnce};
 ghost use Rattle.redo_journal.specs.Opened.{IsRead, IsBankOf, IsReopenFault, IsOpenFault};
-ghost use Rattle.redo_journal.specs.Tracks.{Tracks, IsEither, IsAppended};
+ghost use Rattle.redo_journal.specs.Tracks.{Tracks, IsEither, HoldsOneOf, IsAppended};
 
 use crate::fault::{OpenFault, ReopenFault};
-use crate::keep::{Kept, keep_body};
+use crate::keep::{Kept, keep_body, write_once};
 use crate::read::{Found, read_bank};
-use crate::record::{fill, forget, note, word};
+use crate::record::{fill, forget, head_of_bank, note, word};
+use byteorder::{BigEndian, ByteOrder};
 use outside::{Failed, Outside};
 use owned_list::OwnedList;
 use std::alloc::{AllocError, Global};
@@ -30,7 +33,7 @@ pub struct Bank {
     count: u32,
     gate: u64,
     newest: OwnedList<Option<u64>>,
-    begun: u16,
+    begun: Option<u16>,
     body: OwnedList<u8>,
 }
 
@@ -77,6 +80,7 @@ impl Bank {
         ensures asks { OnlyAsks W.Outside outside.old outside.new }
         ensures opened { IfOk result (IsBankOf header.now which) }
         ensures read { IfOk result (λ bank. IsSome (W.held outside.old) → IsRead (held_of W.Outside outside.old) bank) }
+        ensures no_fault { IfOk result (λ bank. W.disk_faults outside.new ≡ W.disk_faults outside.old) }
         ensures fault { IfErr result (IsOpenFault W.Outside outside.old outside.new header.now which) }
     {
         let mut bank = match Bank::of_store(alloc, header) {
@@ -104,7 +108,7 @@ impl Bank {
             count: 0,
             gate: 264,
             newest: OwnedList::from_vec(vec![in alloc; None; lines]?),
-            begun: 0,
+            begun: None,
             body: OwnedList::from_vec(vec![in alloc; 0; bank_bytes as usize]?),
         })
     }
@@ -121,8 +125,9 @@ impl Bank {
         ensures asks { OnlyAsks W.Outside outside.old outside.new }
         ensures shape { SameShape self.old self.new }
         ensures turned { OnOk result (self.new.which ≡ which) }
-        ensures begun { OnOk result (self.new.begun ≡ []) }
+        ensures begun { self.new.begun ≡ None }
         ensures read { OnOk result (IsSome (W.held outside.old) → IsRead (held_of W.Outside outside.old) self.new) }
+        ensures no_fault { OnOk result (W.disk_faults outside.new ≡ W.disk_faults outside.old) }
         ensures fault { IfErr result (IsReopenFault W.Outside outside.old outside.new which self.old) }
     {
         forget(&mut self.newest);
@@ -130,7 +135,7 @@ impl Bank {
         self.which = which;
         self.count = 0;
         self.gate = at + 8;
-        self.begun = 0;
+        self.begun = None;
         match read_bank(outside, &mut self.newest, at, self.bank_bytes) {
             Err(Failed) => Err(ReopenFault::DiskFault),
             Ok(Found::Faulty(offset)) => Err(ReopenFault::Damaged(offset)),
@@ -143,9 +148,31 @@ impl Bank {
         }
     }
 
+    /// Which bank it is.
+    pub fn which(&self) -> Which
+        ensures { result ≡ self.now.which }
+    {
+        self.which
+    }
+
+    /// The bytes of its record area.
+    pub fn bank_bytes(&self) -> u32
+        ensures value { result ≡ self.now.bank_bytes }
+        ensures few { result ≤ 131072 }
+    {
+        self.bank_bytes
+    }
+
+    /// The number of the store's lines.
+    pub fn lines(&self) -> u32
+        ensures { result ≡ length self.now.newest }
+    {
+        self.newest.len() as u32
+    }
+
     /// The number that the bank's records lead to.
     pub fn number(&self) -> u64
-        ensures { result ≡ (self.now.base + self.now.count) % 2 ^ 64 }
+        ensures { result ≡ number_of self.now }
     {
         number_of(self.base, self.count)
     }
@@ -173,54 +200,95 @@ impl Bank {
         }
     }
 
+    /// Writes the head of the store's other bank: the number as its base, and a closed gate.
+    ///
+    /// # Errors
+    ///
+    /// Only where the disk's count rose.
+    pub fn write_head<W: Outside>(&self, which: Which, outside: &mut W) -> Result<(), Failed>
+        requires other { self.now.which ≢ which }
+        requires room { HoldsAtLeast W.Outside (end_of which self.now.bank_bytes) outside.old }
+        ensures { WritesOnce W.Outside (place_of which self.now.bank_bytes) (head_bytes (number_of self.now)) outside.old outside.new result }
+    {
+        let head = head_of_bank(number_of(self.base, self.count));
+        write_once(outside, place_of(which, self.bank_bytes), &head)
+    }
+
+    /// Becomes the bank at a place, with the number as its base and no records. A begun record stays begun. It calls
+    /// no disk.
+    pub fn turn_to(&mut self, which: Which)
+        ensures shape { SameShape self.old self.new }
+        ensures turned { self.new ≡ turned which self.old }
+        ensures fits { needed_end self.new ≤ area_end self.new }
+    {
+        self.base = number_of(self.base, self.count);
+        self.which = which;
+        self.count = 0;
+        self.gate = place_of(which, self.bank_bytes) + 8;
+        let newest = &mut self.newest;
+        forget(newest);
+    }
+
     /// Begins a record, in place of any other that was begun.
     pub fn record_start(&mut self)
-        ensures { self.new ≡ record self.old { begun = [] } }
+        ensures { self.new ≡ record self.old { begun = Some [] } }
     {
-        self.begun = 0;
+        self.begun = Some(0);
+    }
+
+    /// Forgets the record that is begun.
+    pub fn record_drop(&mut self)
+        ensures { self.new ≡ unbegun self.old }
+    {
+        self.begun = None;
     }
 
     /// Adds a line to the record that is begun: a line of the store, above those before it.
     pub fn record_line(&mut self, line: u32, bytes: &[u8])
+        requires begun { IsSome self.old.begun }
         requires whole { length bytes.now ≡ 128 }
         requires below { line < length self.old.newest }
-        requires ascending { All (λ begun. begun.line < line) self.old.begun }
-        requires room { record_bytes (length self.old.begun + 1) + 1 ≤ self.old.bank_bytes }
+        requires ascending { All (λ begun. begun.line < line) (begun_of self.old) }
+        requires room { record_bytes (length (begun_of self.old) + 1) + 1 ≤ self.old.bank_bytes }
         ensures { self.new ≡ with_line self.old line bytes.now }
     {
-        let at = 10 + 132 * usize::from(self.begun);
+        let begun = self.begun.unwrap();
+        let at = 10 + 132 * usize::from(begun);
         self.body.write(at, &word(line));
         self.body.write(at + 4, bytes);
-        self.begun += 1;
+        self.begun = Some(begun + 1);
     }
 
     /// Adds the record that is begun to the bank, and makes it sure. After [`Appended::Full`] the record stays
-    /// begun; after [`Appended::Unwritten`] and [`Appended::Doubt`] the bank has to be reopened before it is used
-    /// again (docs/FORMATS.md, "Protocols").
+    /// begun, and after any other answer no record is; after [`Appended::Unwritten`] and [`Appended::Doubt`] the bank
+    /// has to be reopened before it is used again (docs/FORMATS.md, "Protocols").
     pub fn append<W: Outside>(&mut self, outside: &mut W) -> Appended
+        requires begun { IsSome self.old.begun }
         requires room { HoldsAtLeast W.Outside (area_end self.old) outside.old }
-        ensures calls { CallsDisk W.Outside outside.old outside.new }
+        ensures only { OnlyWrites W.Outside outside.old outside.new }
         ensures shape { SameShape self.old self.new }
-        ensures longer { IsNoShorter W.Outside outside.old outside.new }
-        ensures full { result ≡ Appended.Full ↔ (area_end self.old < self.old.gate + record_bytes (length self.old.begun) + 1) }
-        ensures nothing { result ≡ Appended.Full → (self.new ≡ self.old) × (outside.new ≡ outside.old) }
+        ensures kept { self.new ≡ kept_after result self.old }
+        ensures full { result ≡ Appended.Full ↔ (area_end self.old < needed_end self.old) }
+        ensures nothing { result ≡ Appended.Full → outside.new ≡ outside.old }
         ensures writes { result ≡ Appended.Done → W.writes outside.new ≡ option_map (λ count. count + 2) (W.writes outside.old) }
+        ensures done_cause { result ≡ Appended.Done → W.disk_faults outside.new ≡ W.disk_faults outside.old }
         ensures unwritten_cause { result ≡ Appended.Unwritten → Rose (W.disk_faults outside.old) (W.disk_faults outside.new) }
         ensures doubt_cause { result ≡ Appended.Doubt → Rose (W.disk_faults outside.old) (W.disk_faults outside.new) }
 
         // Of a bank that is tracked: whenever a crash comes, it leaves what stood, or that with the record.
-        ensures crash { Tracks W.Outside self.old outside.old → Leaves W.Outside (IsEither self.old.begun (held_of W.Outside outside.old)) outside.old outside.new }
-        ensures unwritten { result ≡ Appended.Unwritten → Tracks W.Outside self.old outside.old → Leaves W.Outside (λ image seen. stands image ≡ stands (held_of W.Outside outside.old)) outside.new outside.new }
-        ensures doubt { result ≡ Appended.Doubt → Tracks W.Outside self.old outside.old → Leaves W.Outside (λ image seen. stands (slice_set image self.old.gate 0xA5) ≡ one_more self.old.begun (stands (held_of W.Outside outside.old))) outside.new outside.new }
+        ensures crash { Tracks W.Outside self.old outside.old → Leaves W.Outside (IsEither (begun_of self.old) (held_of W.Outside outside.old)) outside.old outside.new }
+        ensures unwritten { result ≡ Appended.Unwritten → Tracks W.Outside self.old outside.old → Leaves W.Outside (λ image seen. stands image ≡ stands (held_of W.Outside outside.old)) outside.old outside.new }
+        ensures doubt { result ≡ Appended.Doubt → Tracks W.Outside self.old outside.old → Leaves W.Outside (λ image seen. stands (slice_set image self.old.gate 0xA5) ≡ one_more (begun_of self.old) (stands (held_of W.Outside outside.old))) outside.new outside.new }
+        ensures records { (tracks : Tracks W.Outside self.old outside.old) → HoldsOneOf tracks.header self.old.which self.old.base tracks.records (begun_of self.old) (held_of W.Outside outside.new) }
         ensures done { result ≡ Appended.Done → Tracks W.Outside self.old outside.old → IsAppended W.Outside self.old self.new outside.old outside.new }
     {
-        let begun = self.begun;
+        let begun = self.begun.unwrap();
         let bytes = 11 + 132 * u64::from(begun);
         if end_of(self.which, self.bank_bytes) < self.gate + bytes + 1 {
             return Appended::Full;
         }
         let due = number_of(self.base, self.count).wrapping_add(1);
-        self.begun = 0;
+        self.begun = None;
         fill(&mut self.body, begun, due);
         match keep_body(outside, self.gate, record_of(&self.body, begun)) {
             Kept::Unwritten => Appended::Unwritten,

@@ -1,11 +1,11 @@
 // A body that is kept behind a gate.
-ghost use Rattle.std.specs.Prelude.{◌≡◌, ◌+◌, ◌≤◌, ◌<◌, ◌^◌, length, false, OnOk, OnErr};
+ghost use Rattle.std.specs.Prelude.{◌≡◌, ◌+◌, ◌≤◌, ◌<◌, ◌^◌, length, false, OnOk};
 ghost use Rattle.std.specs.Option.{option_map};
-ghost use Rattle.outside.specs.Causes.{Rose};
-ghost use Rattle.outside.specs.Runs.{CallsDisk, Leaves, held_of};
+ghost use Rattle.outside.specs.Causes.{Rose, HasCause};
+ghost use Rattle.outside.specs.Runs.{Leaves, held_of};
 ghost use Rattle.outside.specs.Bytes.{Torn};
 ghost use Rattle.outside.specs.Durable.{IsSure, IsWritten};
-ghost use Rattle.redo_journal.specs.Held.{HoldsAtLeast, IsNoShorter};
+ghost use Rattle.redo_journal.specs.Held.{HoldsAtLeast, OnlyWrites, WritesOnce};
 ghost use Rattle.redo_journal.specs.Gate.{is_open, HasBody, IsShut, IsSafe, IsKept};
 
 use outside::{Failed, Outside};
@@ -28,13 +28,13 @@ pub enum Kept {
 pub fn keep_body<W: Outside>(outside: &mut W, gate: u64, body: &[u8]) -> Kept
     requires room { HoldsAtLeast W.Outside (gate + 1 + length body.now) outside.old }
     requires few { gate < 2 ^ 63 }
-    ensures calls { CallsDisk W.Outside outside.old outside.new }
-    ensures longer { IsNoShorter W.Outside outside.old outside.new }
+    ensures only { OnlyWrites W.Outside outside.old outside.new }
     ensures crash { IsShut W.Outside gate outside.old → Leaves W.Outside (λ image seen. IsSafe gate body.now (held_of W.Outside outside.old) image) outside.old outside.new }
-    ensures unwritten { result ≡ Kept.Unwritten → IsShut W.Outside gate outside.old → Leaves W.Outside (λ image seen. is_open gate image ≡ false) outside.new outside.new }
+    ensures unwritten { result ≡ Kept.Unwritten → IsShut W.Outside gate outside.old → Leaves W.Outside (λ image seen. is_open gate image ≡ false) outside.old outside.new }
     ensures doubt { result ≡ Kept.Doubt → IsShut W.Outside gate outside.old → Leaves W.Outside (λ image seen. HasBody gate body.now image) outside.new outside.new }
     ensures done { result ≡ Kept.Done → IsShut W.Outside gate outside.old → IsKept W.Outside gate body.now outside.old outside.new }
     ensures writes { result ≡ Kept.Done → W.writes outside.new ≡ option_map (λ count. count + 2) (W.writes outside.old) }
+    ensures done_cause { result ≡ Kept.Done → W.disk_faults outside.new ≡ W.disk_faults outside.old }
     ensures unwritten_cause { result ≡ Kept.Unwritten → Rose (W.disk_faults outside.old) (W.disk_faults outside.new) }
     ensures doubt_cause { result ≡ Kept.Doubt → Rose (W.disk_faults outside.old) (W.disk_faults outside.new) }
 {
@@ -49,15 +49,30 @@ pub fn keep_body<W: Outside>(outside: &mut W, gate: u64, body: &[u8]) -> Kept
 }
 
 /// Writes over bytes that are held, and makes them sure. From the start on a crash may leave anything in their range.
-fn write_sure<W: Outside>(outside: &mut W, at: u64, bytes: &[u8]) -> Result<(), Failed>
+///
+/// # Errors
+///
+/// Only where the disk's count rose.
+pub fn write_sure<W: Outside>(outside: &mut W, at: u64, bytes: &[u8]) -> Result<(), Failed>
     requires room { HoldsAtLeast W.Outside (at + length bytes.now) outside.old }
-    ensures calls { CallsDisk W.Outside outside.old outside.new }
-    ensures longer { IsNoShorter W.Outside outside.old outside.new }
+    ensures only { OnlyWrites W.Outside outside.old outside.new }
     ensures crash { IsSure W.Outside outside.old → Leaves W.Outside (λ image seen. Torn at (length bytes.now) (held_of W.Outside outside.old) image) outside.old outside.new }
     ensures done { OnOk result (IsSure W.Outside outside.old → IsWritten W.Outside at bytes.now outside.old outside.new) }
     ensures writes { OnOk result (W.writes outside.new ≡ option_map (λ count. count + 1) (W.writes outside.old)) }
-    ensures cause { OnErr result (Rose (W.disk_faults outside.old) (W.disk_faults outside.new)) }
+    ensures cause { HasCause (W.disk_faults outside.old) (W.disk_faults outside.new) result }
 {
-    outside.write_at(at, bytes)?;
+    write_once(outside, at, bytes)?;
     outside.sync()
+}
+
+/// Writes over bytes that are held.
+///
+/// # Errors
+///
+/// Only where the disk's count rose.
+pub fn write_once<W: Outside>(outside: &mut W, at: u64, bytes: &[u8]) -> Result<(), Failed>
+    requires { HoldsAtLeast W.Outside (at + length bytes.now) outside.old }
+    ensures { WritesOnce W.Outside at bytes.now outside.old outside.new result }
+{
+    outside.write_at(at, bytes)
 }

@@ -4,12 +4,14 @@
 mod bank;
 mod fault;
 mod keep;
+mod law;
 mod read;
 mod record;
 
 pub use bank::{Appended, Bank};
 pub use fault::{OpenFault, ReopenFault};
-pub use keep::Kept;
+pub use keep::{Kept, write_once, write_sure};
+pub use law::what_no_record_has_is_nowhere;
 
 #[cfg(test)]
 mod tests;

@@ -4,6 +4,7 @@ ghost use Rattle.byteorder.specs.Endian.{big_bytes};
 ghost use Rattle.store_format.specs.Header.{number_at};
 ghost use Rattle.store_format.specs.Bank.{lines_from, wrong_line};
 ghost use Rattle.redo_journal.specs.Noted.{noted, AreWithin};
+ghost use Rattle.redo_journal.specs.Turned.{head_bytes};
 
 use byteorder::{BigEndian, ByteOrder};
 use owned_list::OwnedList;
@@ -29,6 +30,15 @@ fn head_of(count: u16, due: u64) -> [u8; 10]
     let mut head = [0; 10];
     BigEndian::write_u16(&mut head, count);
     BigEndian::write_u64(&mut head[2..], due);
+    head
+}
+
+/// What a bank without records begins with.
+pub fn head_of_bank(base: u64) -> [u8; 9]
+    ensures { result ≡ head_bytes base }
+{
+    let mut head = [0; 9];
+    BigEndian::write_u64(&mut head, base);
     head
 }
 

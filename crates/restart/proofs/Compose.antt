@@ -1,16 +1,16 @@
 -- A page whose home lines have the newest lines over them.
-use Rattle.std.proofs.Common.{◌≡◌, inl, inr, ℕ, zero, suc, ◌+◌, ◌*◌, ◌-◌, ◌<◌, ◌≤◌, List, [], ◌∷◌, ◌++◌, length, take, drop, get_or, refl, sym, ◌∙◌, ap, subst, arith}
+use Rattle.std.proofs.Common.{◌≡◌, inl, inr, ℕ, ◌+◌, ◌*◌, ◌-◌, ◌<◌, ◌≤◌, List, length, take, drop, get_or, refl, sym, ◌∙◌, ap, arith}
 use Rattle.std.specs.Prelude.{Option, None, Some, IfSome, fold}
 use Rattle.std.proofs.lemmas.Bool.{cases_eq}
-use Rattle.std.proofs.lemmas.List.{drop-drop, drop-take, take-take, take-append-drop, length-drop, length-take-le}
+use Rattle.std.proofs.lemmas.List.{drop-drop, drop-take, take-take, length-drop, length-take-le}
 use Rattle.line_geometry.specs.Directory.{page_count}
 use Rattle.line_geometry.specs.Lines.{line_count}
 use Rattle.store_format.specs.Header.{Header, home_at}
 use Rattle.store_format.specs.Stands.{Standing, laid, home_of, stands}
 use Rattle.store_format.proofs.Stores.{stands_is}
 use Rattle.outside.specs.Bytes.{bytes_at}
-use Rattle.redo_journal.specs.Noted.{newest_of}
-use Rattle.redo_journal.proofs.Newest.{line_bytes, newest_bytes, same_line, other_line, Agree, store_agrees}
+use Rattle.redo_journal.specs.Noted.{newest_place}
+use Rattle.redo_journal.proofs.Newest.{line_bytes, newest_bytes, same_line, other_line, same_lines, Agree, store_agrees}
 use Rattle.restart.specs.Kept.{KeptStore}
 use Rattle.restart.specs.Shows.{Shows, page_in}
 use Rattle.restart.proofs.ShowLemmas.{shown_store}
@@ -80,32 +80,15 @@ composed_more image home newest first i page new (Some at) more long place_is wi
     behind : (k i : ℕ) → i + 1 ≤ k → k ≡ i → ⊥
     behind k i past same = omega (arith, past, same)
 
--- lists of as many lines that have the same lines
-same_lines : (n : ℕ) (xs ys : List ℕ) → length xs ≡ n * 128 → length ys ≡ n * 128 → ((k : ℕ) → k < n → line_bytes k xs ≡ line_bytes k ys) → xs ≡ ys
-same_lines zero xs ys long long' each = empty xs (omega arith) ∙ sym (empty ys (omega arith))
-  where
-    empty : (zs : List ℕ) → length zs ≡ 0 → zs ≡ []
-    empty [] none = refl
-    empty (z ∷ zs) none = absurd (omega arith)
-same_lines (suc n) xs ys long long' each =
-    sym (take-append-drop 128 xs)
-    ∙ ap (λ (these : List ℕ). these ++ drop 128 xs) (each 0 (omega arith))
-    ∙ ap (λ (these : List ℕ). take 128 ys ++ these)
-    (same_lines n (drop 128 xs) (drop 128 ys) (omega (arith, length-drop 128 xs)) (omega (arith, length-drop 128 ys))
-    (λ k few. ap (λ (these : List ℕ). take 128 these) (moved xs k) ∙ each (suc k) (omega arith) ∙ ap (λ (these : List ℕ). take 128 these) (sym (moved ys k))))
-    ∙ take-append-drop 128 ys
-  where
-    moved : (zs : List ℕ) (k : ℕ) → drop (k * 128) (drop 128 zs) ≡ drop (suc k * 128) zs
-    moved zs k = let place : 128 + k * 128 ≡ suc k * 128 = omega arith in drop-drop (k * 128) 128 zs ∙ ap (λ (n : ℕ). drop n zs) place
-
 -- with all sixteen lines the page is that of the store
-pub composed_all : (image home bytes : List ℕ) (newest : List (Option ℕ)) (bound page_number : ℕ) (page : List ℕ) → Agree bound image home bytes newest → page_number * 16 + 16 ≤ bound → length page ≡ 2048
+pub composed_all : (image home bytes : List ℕ) (newest : List (Option ℕ)) (places : ℕ → Option ℕ) (bound page_number : ℕ) (page : List ℕ) → Agree bound image home bytes places → ((k : ℕ) → k < bound → get_or newest k None ≡ places k) → page_number * 16 + 16 ≤ bound → length page ≡ 2048
     → Composed image home newest (page_number * 16) 16 page → page ≡ take 2048 (drop (page_number * 2048) bytes)
-composed_all image home bytes newest bound page_number page agree within long composed =
+composed_all image home bytes newest places bound page_number page agree same within long composed =
     same_lines 16 page (take 2048 (drop (page_number * 2048) bytes)) long (length-take-le 2048 (drop (page_number * 2048) bytes) (omega (arith, length-drop (page_number * 2048) bytes, agree.long, within)))
     (λ k few.
     let place : page_number * 2048 + k * 128 ≡ (page_number * 16 + k) * 128 = omega arith in
     composed.done k few
+    ∙ ap (newest_bytes image home (page_number * 16 + k)) (same (page_number * 16 + k) (omega (arith, within)))
     ∙ sym (agree.each (page_number * 16 + k) (omega (arith, within)))
     ∙ ap (λ (n : ℕ). take 128 (drop n bytes)) (sym place)
     ∙ sym (line_of_part bytes (page_number * 2048) k few))
@@ -116,10 +99,8 @@ pub shown_page : (held : List ℕ) (store : KeptStore) (shows : Shows held store
 shown_page held store shows page page_number within long composed =
     let is = shown_store held store shows in
     let bytes = fold laid (home_of held store.header) shows.read.records in
-    let newest : newest_of (line_count store.header.directory) shows.read.records ≡ store.bank.newest = ap (λ (n : ℕ). newest_of n shows.read.records) shows.fits.lines ∙ sym shows.read.newest in
-    let agree : Agree (line_count store.header.directory) held (home_of held store.header) bytes store.bank.newest =
-    subst (λ (those : List (Option ℕ)). Agree (line_count store.header.directory) held (home_of held store.header) bytes those) newest (store_agrees held store.header store.bank.which store.bank.base store.bank.gate shows.read.records is) in
-    composed_all held (home_of held store.header) bytes store.bank.newest (line_count store.header.directory) page_number page agree (omega (arith, within)) long composed
+    composed_all held (home_of held store.header) bytes store.bank.newest (λ k. newest_place k shows.read.records) (line_count store.header.directory) page_number page (store_agrees held store.header store.bank.which store.bank.base store.bank.gate shows.read.records is)
+    (λ k below. shows.read.newest k (omega (arith, below, shows.fits.lines))) (omega (arith, within)) long composed
     ∙ ap (λ (standing : Standing). page_in standing page_number) (sym (stands_is held store.header store.bank.which store.bank.base store.bank.gate shows.read.records is))
 
 pub placed_at : (place : Option ℕ) (at end : ℕ) → place ≡ Some at → IfSome place (λ those. those + 128 ≤ end) → at + 128 ≤ end

@@ -1,16 +1,7 @@
 -- A page that is put together from lines.
 use Rattle.std.proofs.Common.{◌≡◌, ℕ, ◌+◌, ◌++◌, List, length, take, drop, sym, ◌∙◌, ap, append_assoc}
-use Rattle.std.specs.Prelude.{Result, Ok, Err, OnOk}
 use Rattle.std.proofs.lemmas.List.{drop-drop}
 use Rattle.owned_list.specs.Overlay.{overlaid}
-
-pub map_ok : {T E P Q : Type 0} (r : Result T E) → OnOk r P → (P → Q) → OnOk r Q
-map_ok (Ok x) has f = f has
-map_ok (Err e) has f = has
-
-pub map_both : {T E P P' Q : Type 0} (r : Result T E) → OnOk r P → OnOk r P' → (P → P' → Q) → OnOk r Q
-map_both (Ok x) has also f = f has also
-map_both (Err e) has also f = has
 
 -- a part of a list written over in place
 pub spliced : (page front rest line tail part : List ℕ) (at : ℕ) → front ≡ take at page → rest ≡ drop at page → tail ≡ drop 128 rest → line ≡ part → length part ≡ 128 → front ++ (line ++ tail) ≡ overlaid page at part

@@ -1,11 +1,11 @@
 -- What a store shows of bytes, and what these stand for.
 use Rattle.std.proofs.Common.{◌≡◌, ℕ, ◌+◌, ◌%◌, ◌^◌, ◌≤◌, List, [], length, take, refl, sym, ◌∙◌, ap, subst, arith, IsSome, IsTrue}
-use Rattle.std.specs.Prelude.{Option, None, fold, unwrap_or}
+use Rattle.std.specs.Prelude.{Option, None, fold, unwrap_or, Result, Ok, Err, IfErr}
 use Rattle.line_geometry.specs.Lines.{line_count}
 use Rattle.store_format.specs.declared.header.Which.{Which}
 use Rattle.store_format.specs.declared.header.Which.TheVariants.{A, B}
 use Rattle.store_format.specs.Header.{Header, bank_at, number_at, header_of, total}
-use Rattle.store_format.specs.Bank.{Faulty, base_of, bank_of, bank_held}
+use Rattle.store_format.specs.Bank.{RecordLine, Holds, Faulty, base_of, bank_of, bank_held}
 use Rattle.store_format.specs.Stands.{Stands, Damaged, stands, standing_if, standing_by, HasHeader, IsStore, chosen, laid, home_of}
 use Rattle.store_format.proofs.Stores.{stands_is, not_less}
 use Rattle.outside.specs.declared.world.Outside.{Ghosts}
@@ -13,18 +13,20 @@ use Rattle.outside.specs.Runs.{OnlyAsks, FewerLater, held_of}
 use Rattle.outside.specs.Bytes.{AreTold}
 use Rattle.outside.specs.Durable.{IsSure}
 use Rattle.redo_journal.specs.Kept.{KeptBank, place_of, end_of}
-use Rattle.redo_journal.specs.Opened.{IsRead, bank_in}
-use Rattle.redo_journal.specs.Opened as opened
+use Rattle.redo_journal.specs.Opened.{bank_in}
+use Rattle.redo_journal.proofs.AppendLemmas.{place_is}
+use Rattle.checkpoint.specs.Chosen as opened
+use Rattle.checkpoint.specs.Chosen.{IsChosen, IsOneOf}
+use Rattle.redo_journal.specs.declared.fault.ReopenFault.{ReopenFault}
+use Rattle.redo_journal.specs.declared.fault.ReopenFault.TheVariants as reopening
 use Rattle.redo_journal.specs.declared.fault.OpenFault.{OpenFault}
 use Rattle.redo_journal.specs.declared.fault.OpenFault.TheVariants as opening
 use Rattle.redo_journal.specs.Tracks as journal
-use Rattle.restart.specs.Faults.{IsOpenFault}
+use Rattle.redo_journal.specs.Tracks.{HoldsRecords}
+use Rattle.checkpoint.specs.Home.{store_bytes}
+use Rattle.restart.specs.Faults.{IsOpenFault, IsReopenFault}
 use Rattle.restart.specs.Kept.{KeptStore, Fits}
-use Rattle.restart.specs.Shows.{Shows, Tracks, ShownStands}
-
-place_is : (header : Header) (which : Which) (bytes : ℕ) → header.bank_bytes ≡ bytes → bank_at header which ≡ place_of which bytes
-place_is header A bytes same = refl
-place_is header B bytes same = omega (arith, same)
+use Rattle.restart.specs.Shows.{Shows, IsIntact, Tracks, ShownStands}
 
 -- the bank of a header is the one that such a bank's size says
 pub bank_is : (held : List ℕ) (header : Header) (which : Which) (bytes bound : ℕ) → header.bank_bytes ≡ bytes → line_count header.directory ≡ bound → bank_of held header which ≡ bank_in held which bytes bound
@@ -52,7 +54,7 @@ shown_stands held store shows = (
 )
 
 -- a store that is tracked has a bank that is
-pub bank_tracked : {W : Type 0} (G : Ghosts W) (store : KeptStore) (outside : W) → Tracks G store outside → journal.Tracks G store.bank outside
+abbrev pub bank_tracked : {W : Type 0} (G : Ghosts W) (store : KeptStore) (outside : W) → Tracks G store outside → journal.Tracks G store.bank outside
 bank_tracked G store outside tracks = record {
   sure = tracks.sure;
   header = store.header;
@@ -63,6 +65,10 @@ bank_tracked G store outside tracks = record {
   count = tracks.shows.read.count;
   newest = tracks.shows.read.newest;
 }
+
+-- a store whose bank is as the header says is as long as the bank thinks
+pub total_is : (header : Header) (bank : KeptBank) → Fits header bank → total header ≡ store_bytes bank
+total_is header bank fits = omega (arith, fits.bank_bytes, fits.lines)
 
 -- a bank that is tracked under a header is the store's
 pub store_tracked : {W : Type 0} (G : Ghosts W) (header : Header) (bank : KeptBank) (outside : W) → Fits header bank → header_of (take 128 (held_of G outside)) ≡ header → journal.Tracks G bank outside
@@ -113,21 +119,48 @@ sure_on G fewer_later old new sure asks = record {
 }
 
 -- what is wrong with the chosen bank is wrong with the store
-pub opening_fault : {W : Type 0} (G : Ghosts W) (old mid new : W) (header : Header) (which : Which) (fault : OpenFault) → OnlyAsks G old mid
-    → (IsSome (G.held old) → HasHeader (held_of G old) header) → (IsSome (G.held old) → chosen (held_of G old) ≡ which)
-    → opened.IsOpenFault G mid new header which fault → IsOpenFault G old new fault
-opening_fault G old mid new header which (opening.NotAStore offset) asks has chooses is = absurd is
-opening_fault G old mid new header which (opening.Damaged offset) asks has chooses is =
+pub opening_fault : {W : Type 0} (G : Ghosts W) (old mid new : W) (header : Header) (fault : OpenFault) → OnlyAsks G old mid → (IsSome (G.held old) → HasHeader (held_of G old) header) → opened.IsOpenFault G mid new header fault → IsOpenFault G old new fault
+opening_fault G old mid new header (opening.NotAStore offset) asks has is = absurd is
+opening_fault G old mid new header (opening.Damaged offset) asks has is =
     λ told.
     let still : IsSome (G.held mid) = subst (λ (those : Option (List ℕ)). IsSome those) (sym asks.held) told in
     let same : held_of G mid ≡ held_of G old = ap (λ (those : Option (List ℕ)). unwrap_or those []) asks.held in
-    damaged_is (held_of G old) header which offset (has told) (chooses told) (ap (λ (held : List ℕ). bank_of held header which) (sym same) ∙ is still)
-opening_fault G old mid new header which opening.DiskFault asks has chooses is = omega (arith, is, asks.calls.disk)
-opening_fault G old mid new header which opening.Memory asks has chooses is = tt
+    damaged_is (held_of G old) header (chosen (held_of G old)) offset (has told) refl (ap (λ (held : List ℕ). bank_of held header (chosen held)) (sym same) ∙ is still)
+opening_fault G old mid new header opening.DiskFault asks has is = omega (arith, is, asks.calls.disk)
+opening_fault G old mid new header opening.Memory asks has is = tt
 
--- a bank that was read of the bytes of a store makes that store
-pub shows_read : (held : List ℕ) (header : Header) (which : Which) (bank : KeptBank) → HasHeader held header → chosen held ≡ which → bank.which ≡ which → Fits header bank → IsRead held bank → Shows held (record { header = header; bank = bank })
-shows_read held header which bank has chooses is fits read = record { header = has; chosen_is = chooses ∙ sym is; read = read; fits = fits }
+-- the same of a store that is reopened
+pub reopening_fault : {W : Type 0} (G : Ghosts W) (old mid new : W) (header : Header) (bank : KeptBank) (fault : ReopenFault) → Fits header bank → OnlyAsks G old mid → opened.IsReopenFault G mid new bank fault → IsReopenFault G old new header fault
+reopening_fault G old mid new header bank (reopening.Damaged offset) fits asks is =
+    λ told.
+    let still : IsSome (G.held mid) = subst (λ (those : Option (List ℕ)). IsSome those) (sym asks.held) told in
+    let same : held_of G mid ≡ held_of G old = ap (λ (those : Option (List ℕ)). unwrap_or those []) asks.held in
+    bank_is (held_of G old) header (chosen (held_of G old)) bank.bank_bytes (length bank.newest) fits.bank_bytes fits.lines
+    ∙ ap (λ (held : List ℕ). bank_in held (chosen held) bank.bank_bytes (length bank.newest)) (sym same)
+    ∙ is still
+reopening_fault G old mid new header bank reopening.DiskFault fits asks is = omega (arith, is, asks.calls.disk)
+
+-- a store that is intact under a header has no fault in its bank
+pub intact_fault : {W : Type 0} (G : Ghosts W) (old new : W) (header : Header) (fault : ReopenFault) → IsSome (G.held old) → IsIntact header (held_of G old) → IsReopenFault G old new header fault → fault ≡ reopening.DiskFault
+intact_fault G old new header (reopening.Damaged offset) told intact is =
+    let held = held_of G old in
+    let holds : bank_of held header (chosen held) ≡ Holds intact.gate intact.records = ap (bank_of held header) intact.store.chooses ∙ intact.store.holds in
+    let both = sym holds ∙ is told in
+    cc
+intact_fault G old new header reopening.DiskFault told intact is = refl
+
+-- a fact on a fault that leads to another
+pub if_err : {T E : Type 0} (P Q : E → Type 0) (result : Result T E) → IfErr result P → ((fault : E) → P fault → Q fault) → IfErr result Q
+if_err P Q (Ok value) is leads = is
+if_err P Q (Err fault) is leads = leads fault is
+
+-- a chosen bank of the bytes of a store makes that store
+pub shows_read : (held : List ℕ) (header : Header) (bank : KeptBank) → HasHeader held header → Fits header bank → IsChosen held bank → Shows held (record { header = header; bank = bank })
+shows_read held header bank has fits read = record { header = has; chosen_is = read.chosen_is; read = read.read; fits = fits }
+
+-- bytes that hold records under a header are intact
+pub records_intact : (header : Header) (which : Which) (base : ℕ) (records : List (List RecordLine)) (held : List ℕ) → HoldsRecords header which base records held → IsIntact header held
+records_intact header which base records held is = record { which = which; base = base; gate = is.gate; records = records; store = is.store }
 
 -- a bank lies in front of the home lines
 pub end_inside : (header : Header) (which : Which) (bytes : ℕ) → header.bank_bytes ≡ bytes → end_of which bytes ≤ total header

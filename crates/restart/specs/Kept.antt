@@ -1,8 +1,9 @@
 -- A store as it is kept in memory: its header, and the chosen bank.
-use Rattle.std.specs.Prelude.{◌≡◌, ℕ, ◌+◌, ◌%◌, ◌^◌, length}
+use Rattle.std.specs.Prelude.{◌≡◌, ℕ, length}
 use Rattle.line_geometry.specs.Lines.{line_count}
 use Rattle.store_format.specs.Header.{Header}
 use Rattle.redo_journal.specs.Kept.{KeptBank}
+use Rattle.redo_journal.specs.Kept as bank
 
 pub record KeptStore : Type 0 where
   pub header : Header
@@ -15,4 +16,4 @@ pub record Fits (header : Header) (bank : KeptBank) : Type 0 where
 
 -- the number of the store
 abbrev pub number_of : KeptStore → ℕ
-number_of store = (store.bank.base + store.bank.count) % 2 ^ 64
+number_of store = bank.number_of store.bank

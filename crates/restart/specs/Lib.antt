@@ -2,3 +2,4 @@ pub mod Kept
 pub mod Shows
 pub mod Faults
 pub mod Page
+pub mod Committed

@@ -1,11 +1,17 @@
 -- What a store that is kept says of the bytes on the disk.
 use Rattle.std.specs.Prelude.{◌≡◌, ℕ, ◌*◌, List, [], take, drop}
 use Rattle.line_geometry.specs.FlatStore.{FlatStore}
-use Rattle.store_format.specs.Stands.{Standing, Stands, NotAStore, Damaged, HasHeader, chosen, stands, one_more}
+use Rattle.store_format.specs.declared.header.Which.{Which}
+use Rattle.store_format.specs.Header.{Header}
+use Rattle.store_format.specs.Bank.{RecordLine}
+use Rattle.store_format.specs.Stands.{Standing, IsStore, Stands, NotAStore, Damaged, HasHeader, chosen, stands, one_more}
 use Rattle.outside.specs.declared.world.Outside.{Ghosts}
-use Rattle.outside.specs.Runs.{held_of}
+use Rattle.outside.specs.Runs.{Leaves, held_of}
 use Rattle.outside.specs.Durable.{IsSure}
+use Rattle.redo_journal.specs.Kept.{begun_of}
 use Rattle.redo_journal.specs.Opened.{IsRead}
+use Rattle.redo_journal.specs.Tracks.{HoldsRecords}
+use Rattle.checkpoint.specs.Chosen.{other}
 use Rattle.restart.specs.Kept.{KeptStore, Fits, number_of}
 
 -- Header, chosen bank, its base, number of records, closed gate and newest places are those of these bytes.
@@ -14,6 +20,20 @@ pub record Shows (held : List ℕ) (store : KeptStore) : Type 0 where
   pub chosen_is : chosen held ≡ store.bank.which
   pub read : IsRead held store.bank
   pub fits : Fits store.header store.bank
+
+-- The kept bank is what these bytes hold where the selector chooses, whatever their header is.
+pub record IsReopened (held : List ℕ) (store : KeptStore) : Type 0 where
+  pub chosen_is : chosen held ≡ store.bank.which
+  pub read : IsRead held store.bank
+  pub fits : Fits store.header store.bank
+
+-- These bytes are a store with this header.
+pub record IsIntact (header : Header) (held : List ℕ) : Type 0 where
+  pub which : Which
+  pub base : ℕ
+  pub gate : ℕ
+  pub records : List (List RecordLine)
+  pub store : IsStore held header which base gate records
 
 -- The outside is honest and tells its bytes, a crash leaves them, and the store is what they show.
 pub record Tracks {W : Type 0} (G : Ghosts W) (store : KeptStore) (outside : W) : Type 0 where
@@ -33,4 +53,10 @@ page_in (Damaged offset) page = []
 -- the begun record was added, and the store is tracked
 pub record IsCommitted {W : Type 0} (G : Ghosts W) (old_store store : KeptStore) (old new : W) : Type 0 where
   pub tracks : Tracks G store new
-  pub stood : stands (held_of G new) ≡ one_more old_store.bank.begun (stands (held_of G old))
+  pub stood : stands (held_of G new) ≡ one_more (begun_of old_store.bank) (stands (held_of G old))
+
+-- the bank turned to is empty, and the store is tracked and stands for what stood
+pub record IsEmptied {W : Type 0} (G : Ghosts W) (old_store store : KeptStore) (old new : W) : Type 0 where
+  pub tracks : Tracks G store new
+  pub stood : stands (held_of G new) ≡ stands (held_of G old)
+  pub emptied : Leaves G (λ image seen. HoldsRecords store.header (other old_store.bank.which) (number_of old_store) [] image) new new

@@ -1,23 +1,26 @@
-ghost use Rattle.std.specs.Prelude.{◌≡◌, ◌↔◌, ◌+◌, ◌*◌, ◌≤◌, ◌<◌, [], All, length, slice_set, IsNone, IsTrue, IsSome, IfSome, IfOk, IfErr, OnOk, OnErr};
-ghost use Rattle.std.specs.Option.{option_map};
+ghost use Rattle.std.specs.Prelude.{◌≡◌, ◌+◌, ◌*◌, ◌%◌, ◌^◌, ◌≤◌, ◌<◌, [], All, length, slice_set, Some, None, IsTrue, IsSome, IfOk, IfErr, OnOk};
 ghost use Rattle.line_geometry.specs.Directory.{page_count};
 ghost use Rattle.line_geometry.specs.Lines.{line_count};
 ghost use Rattle.store_format.specs.Header.{total};
 ghost use Rattle.store_format.specs.Bank.{record_bytes};
 ghost use Rattle.store_format.specs.Stands.{stands, one_more, HasHeader};
-ghost use Rattle.outside.specs.Causes.{Rose};
-ghost use Rattle.outside.specs.Runs.{CallsDisk, OnlyAsks, Leaves, held_of};
-ghost use Rattle.redo_journal.specs.Held.{HoldsAtLeast, IsNoShorter};
-ghost use Rattle.redo_journal.specs.Kept.{KeptBank, area_end, with_line};
+ghost use Rattle.outside.specs.Causes.{Rose, HasCause};
+ghost use Rattle.outside.specs.Runs.{OnlyAsks, Leaves, held_of};
+ghost use Rattle.redo_journal.specs.Held.{HoldsAtLeast, IsMoreBy, OnlyWrites};
+ghost use Rattle.redo_journal.specs.Kept.{KeptBank, area_end, begun_of, needed_end, with_line};
 ghost use Rattle.redo_journal.specs.Tracks.{IsEither};
 ghost use Rattle.restart.specs.Kept.{KeptStore, number_of};
-ghost use Rattle.restart.specs.Shows.{Shows, Tracks, IsCommitted, page_in};
+ghost use Rattle.checkpoint.specs.Moved.{IsSame, kept_after};
+ghost use Rattle.restart.specs.Shows.{Shows, IsIntact, IsReopened, Tracks, IsCommitted, IsEmptied, page_in};
+ghost use Rattle.restart.specs.Committed.{roomy, number_after, IsKeptAfter, HoldsCommitted};
 ghost use Rattle.restart.specs.Faults.{IsOpenFault, IsReopenFault};
 
+use crate::commit::add_record;
 use crate::page::read_newest;
-use crate::start::{start, sync_and_select};
+use crate::start::{start, synced};
+use checkpoint::{Banks, OpenFault, ReopenFault};
 use outside::{Failed, Outside};
-use redo_journal::{Appended, Bank, Kept, OpenFault, ReopenFault};
+use redo_journal::Kept;
 use std::alloc::Global;
 use std::marker::Model;
 use store_format::Header;
@@ -27,7 +30,7 @@ use store_format::Header;
 #[derive(Drop)]
 pub struct Durable {
     header: Header,
-    bank: Bank,
+    banks: Banks,
 }
 
 impl Model for Durable {
@@ -35,9 +38,9 @@ impl Model for Durable {
 
     ghost Value = { KeptStore };
 
-    ghost view = { λ d. record { header = d.header; bank = d.bank } };
+    ghost view = { λ d. record { header = d.header; bank = d.banks } };
 
-    ghost invariant = { λ d. Fits d.header d.bank };
+    ghost invariant = { λ d. Fits d.header d.banks };
 }
 
 impl Durable {
@@ -54,12 +57,14 @@ impl Durable {
         ensures room { IfOk result (λ store. HoldsAtLeast W.Outside (total store.header) outside.new) }
         ensures shows { IfOk result (λ store. IsSome (W.held outside.old) → Shows (held_of W.Outside outside.old) store) }
         ensures tracks { IfOk result (λ store. IsTrue (W.is_honest outside.old) → IsSome (W.held outside.old) → Tracks W.Outside store outside.new) }
+        ensures begun { IfOk result (λ store. store.bank.begun ≡ None) }
+        ensures no_fault { IfOk result (λ store. W.disk_faults outside.new ≡ W.disk_faults outside.old) }
         ensures fault { IfErr result (IsOpenFault W.Outside outside.old outside.new) }
     {
-        let (header, which) = start(outside)?;
-        match Bank::open(alloc, &header, which, outside) {
+        let header = start(outside)?;
+        match Banks::open(alloc, &header, outside) {
             Err(fault) => Err(fault),
-            Ok(bank) => Ok(Durable { header, bank }),
+            Ok(banks) => Ok(Durable { header, banks }),
         }
     }
 
@@ -74,73 +79,102 @@ impl Durable {
     pub fn number(&self) -> u64
         ensures { result ≡ number_of self.now }
     {
-        self.bank.number()
+        self.banks.number()
     }
 
     /// Reads the disk again, under the header that is kept. A begun record is forgotten.
     ///
     /// # Errors
     ///
-    /// [`ReopenFault::Damaged`] exactly where the chosen bank has a fault, with its offset;
-    /// [`ReopenFault::DiskFault`] only where the disk's count rose. After an error it has to be reopened before it is
+    /// [`ReopenFault::Damaged`] exactly where the chosen bank has a fault, with its offset, and never after this
+    /// value's own calls over an honest outside that tells its bytes; [`ReopenFault::DiskFault`] only where the disk's
+    /// count rose. After an error it has to be reopened before it is
     /// used again.
     pub fn reopen<W: Outside>(&mut self, outside: &mut W) -> Result<(), ReopenFault>
         requires room { HoldsAtLeast W.Outside (total self.old.header) outside.old }
         ensures asks { OnlyAsks W.Outside outside.old outside.new }
         ensures header { self.new.header ≡ self.old.header }
+        ensures begun { OnOk result (self.new.bank.begun ≡ None) }
+        ensures read { OnOk result (IsSome (W.held outside.old) → IsReopened (held_of W.Outside outside.old) self.new) }
         ensures shows { OnOk result (HasHeader (held_of W.Outside outside.old) self.old.header → IsSome (W.held outside.old) → Shows (held_of W.Outside outside.old) self.new) }
         ensures tracks { OnOk result (HasHeader (held_of W.Outside outside.old) self.old.header → IsTrue (W.is_honest outside.old) → IsSome (W.held outside.old) → Tracks W.Outside self.new outside.new) }
+        ensures no_fault { OnOk result (W.disk_faults outside.new ≡ W.disk_faults outside.old) }
         ensures fault { IfErr result (IsReopenFault W.Outside outside.old outside.new self.old.header) }
+        ensures intact { IfErr result (λ fault. IsSome (W.held outside.old) → IsIntact self.old.header (held_of W.Outside outside.old) → fault ≡ ReopenFault.DiskFault) }
     {
-        let which = match sync_and_select(outside) {
-            Err(Failed) => return Err(ReopenFault::DiskFault),
-            Ok(which) => which,
-        };
-        self.bank.reopen(which, outside)
+        match synced(outside) {
+            Err(Failed) => Err(ReopenFault::DiskFault),
+            Ok(()) => self.banks.reopen(outside),
+        }
     }
 
     /// Begins a record, in place of any other that was begun.
     pub fn record_start(&mut self)
-        ensures { self.new ≡ record self.old { bank = record self.old.bank { begun = [] } } }
+        ensures { self.new ≡ record self.old { bank = record self.old.bank { begun = Some [] } } }
     {
-        self.bank.record_start();
+        self.banks.record_start();
     }
 
     /// Adds a line to the record that is begun: a line of the store, above those before it.
     pub fn record_line(&mut self, line: u32, bytes: &[u8])
+        requires begun { IsSome self.old.bank.begun }
         requires whole { length bytes.now ≡ 128 }
         requires below { line < line_count self.old.header.directory }
-        requires ascending { All (λ begun. begun.line < line) self.old.bank.begun }
-        requires room { record_bytes (length self.old.bank.begun + 1) + 1 ≤ self.old.header.bank_bytes }
+        requires ascending { All (λ begun. begun.line < line) (begun_of self.old.bank) }
+        requires room { record_bytes (length (begun_of self.old.bank) + 1) + 1 ≤ self.old.header.bank_bytes }
         ensures { self.new ≡ record self.old { bank = with_line self.old.bank line bytes.now } }
     {
-        self.bank.record_line(line, bytes);
+        self.banks.record_line(line, bytes);
     }
 
-    /// Adds the record that is begun, which fits the rest of the bank, and makes it sure. It takes no memory. After
-    /// [`Kept::Unwritten`] and [`Kept::Doubt`] the store has to be reopened before it is used again
-    /// (docs/FORMATS.md, "Protocols").
+    /// Adds the record that is begun and makes it sure, behind a checkpoint where it doesn't fit the rest of the bank.
+    /// It takes no memory. No record is begun afterwards. After [`Kept::Unwritten`] and [`Kept::Doubt`] the store has
+    /// to be reopened before it is used again (docs/FORMATS.md, "Protocols").
     pub fn commit<W: Outside>(&mut self, outside: &mut W) -> Kept
+        requires begun { IsSome self.old.bank.begun }
         requires room { HoldsAtLeast W.Outside (total self.old.header) outside.old }
-        requires fits { self.old.bank.gate + record_bytes (length self.old.bank.begun) + 1 ≤ area_end self.old.bank }
-        ensures calls { CallsDisk W.Outside outside.old outside.new }
+        ensures only { OnlyWrites W.Outside outside.old outside.new }
         ensures header { self.new.header ≡ self.old.header }
-        ensures longer { IsNoShorter W.Outside outside.old outside.new }
-        ensures writes { result ≡ Kept.Done → W.writes outside.new ≡ option_map (λ count. count + 2) (W.writes outside.old) }
+        ensures kept { IsKeptAfter result (roomy self.old.bank) self.old.bank self.new.bank }
+        ensures number { number_of self.new ≡ number_after result (number_of self.old) }
+        ensures count { self.new.bank.count ≤ self.old.bank.count + 1 }
+        ensures writes { result ≡ Kept.Done → IsMoreBy 2 (W.writes outside.old) (W.writes outside.new) }
+        ensures done_cause { result ≡ Kept.Done → W.disk_faults outside.new ≡ W.disk_faults outside.old }
         ensures unwritten_cause { result ≡ Kept.Unwritten → Rose (W.disk_faults outside.old) (W.disk_faults outside.new) }
         ensures doubt_cause { result ≡ Kept.Doubt → Rose (W.disk_faults outside.old) (W.disk_faults outside.new) }
 
         // Of a store that is tracked: whenever a crash comes, it leaves what stood, or that with the record.
-        ensures crash { Tracks W.Outside self.old outside.old → Leaves W.Outside (IsEither self.old.bank.begun (held_of W.Outside outside.old)) outside.old outside.new }
-        ensures unwritten { result ≡ Kept.Unwritten → Tracks W.Outside self.old outside.old → Leaves W.Outside (λ image seen. stands image ≡ stands (held_of W.Outside outside.old)) outside.new outside.new }
-        ensures doubt { result ≡ Kept.Doubt → Tracks W.Outside self.old outside.old → Leaves W.Outside (λ image seen. stands (slice_set image self.old.bank.gate 0xA5) ≡ one_more self.old.bank.begun (stands (held_of W.Outside outside.old))) outside.new outside.new }
+        ensures crash { Tracks W.Outside self.old outside.old → Leaves W.Outside (IsEither (begun_of self.old.bank) (held_of W.Outside outside.old)) outside.old outside.new }
+        ensures unwritten { result ≡ Kept.Unwritten → Tracks W.Outside self.old outside.old → Leaves W.Outside (λ image seen. stands image ≡ stands (held_of W.Outside outside.old)) outside.old outside.new }
+        ensures doubt { result ≡ Kept.Doubt → Tracks W.Outside self.old outside.old → Leaves W.Outside (λ image seen. stands (slice_set image (roomy self.old.bank).gate 0xA5) ≡ one_more (begun_of self.old.bank) (stands (held_of W.Outside outside.old))) outside.new outside.new }
+        ensures records { (tracks : Tracks W.Outside self.old outside.old) → HoldsCommitted self.old.header self.old.bank tracks.shows.read.records (held_of W.Outside outside.new) }
+        ensures intact { Tracks W.Outside self.old outside.old → IsIntact self.old.header (held_of W.Outside outside.new) }
         ensures done { result ≡ Kept.Done → Tracks W.Outside self.old outside.old → IsCommitted W.Outside self.old self.new outside.old outside.new }
     {
-        match self.bank.append(outside) {
-            Appended::Done => Kept::Done,
-            Appended::Full | Appended::Unwritten => Kept::Unwritten,
-            Appended::Doubt => Kept::Doubt,
-        }
+        add_record(&mut self.banks, outside)
+    }
+
+    /// Writes home what the chosen bank holds, and makes the other bank the chosen one, without records. It takes no
+    /// memory. After an error the store has to be reopened before it is used again (docs/FORMATS.md, "Protocols").
+    ///
+    /// # Errors
+    ///
+    /// Only where the disk's count rose.
+    pub fn checkpoint<W: Outside>(&mut self, outside: &mut W) -> Result<(), Failed>
+        requires room { HoldsAtLeast W.Outside (total self.old.header) outside.old }
+        ensures only { OnlyWrites W.Outside outside.old outside.new }
+        ensures header { self.new.header ≡ self.old.header }
+        ensures kept { self.new.bank ≡ kept_after result self.old.bank }
+        ensures number { number_of self.new ≡ number_of self.old }
+        ensures count { OnOk result (self.new.bank.count ≡ 0) }
+        ensures cause { HasCause (W.disk_faults outside.old) (W.disk_faults outside.new) result }
+
+        // Of a store that is tracked: whenever a crash comes, it leaves what stood.
+        ensures crash { (tracks : Tracks W.Outside self.old outside.old) → Leaves W.Outside (λ image seen. IsSame self.old.header self.old.bank tracks.shows.read.records (held_of W.Outside outside.old) image) outside.old outside.new }
+        ensures intact { Tracks W.Outside self.old outside.old → IsIntact self.old.header (held_of W.Outside outside.new) }
+        ensures done { OnOk result (Tracks W.Outside self.old outside.old → IsEmptied W.Outside self.old self.new outside.old outside.new) }
+    {
+        self.banks.checkpoint(outside)
     }
 
     /// Reads a page of the committed store: its home lines, with the newest lines of the bank over them. It takes one
@@ -160,22 +194,13 @@ impl Durable {
         requires whole { length into.old ≡ 2048 }
         ensures asks { OnlyAsks W.Outside outside.old outside.new }
         ensures read { OnOk result (Tracks W.Outside self.now outside.old → into.new ≡ page_in (stands (held_of W.Outside outside.old)) page) }
-        ensures cause { OnErr result (Rose (W.disk_faults outside.old) (W.disk_faults outside.new)) }
+        ensures cause { HasCause (W.disk_faults outside.old) (W.disk_faults outside.new) result }
     {
         let first = u32::from(page) * 16;
         outside.read_at(self.header.home_at(first), into)?;
         for i in 0..16 {
-            read_newest(&self.bank, outside, first + i, into, i as usize * 128)?;
+            read_newest(&self.banks, outside, first + i, into, i as usize * 128)?;
         }
         Ok(())
-    }
-
-    /// How many lines a record may have to fit the rest of the bank; none where not even an empty one fits.
-    pub fn room(&self) -> Option<u32>
-        ensures none { IsNone result ↔ (area_end self.now.bank < self.now.bank.gate + record_bytes 0 + 1) }
-        ensures fits { IfSome result (λ lines. self.now.bank.gate + record_bytes lines + 1 ≤ area_end self.now.bank) }
-        ensures most { IfSome result (λ lines. area_end self.now.bank < self.now.bank.gate + record_bytes (lines + 1) + 1) }
-    {
-        self.bank.room()
     }
 }

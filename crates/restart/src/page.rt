@@ -1,33 +1,33 @@
 // Pages of the committed store: home lines, with the newest lines of the bank over them.
-ghost use Rattle.std.specs.Prelude.{◌≡◌, ◌+◌, ◌≤◌, ◌<◌, length, slice_index_or, None, IsSome, IfSome, OnOk, OnErr};
+ghost use Rattle.std.specs.Prelude.{◌≡◌, ◌+◌, ◌≤◌, ◌<◌, length, slice_index_or, None, IsSome, IfSome, OnOk};
 ghost use Rattle.owned_list.specs.Overlay.{overlaid};
 ghost use Rattle.outside.specs.Bytes.{bytes_at};
-ghost use Rattle.outside.specs.Causes.{Rose};
+ghost use Rattle.outside.specs.Causes.{HasCause};
 ghost use Rattle.outside.specs.Runs.{OnlyAsks, held_of};
 ghost use Rattle.redo_journal.specs.Held.{HoldsAtLeast};
 ghost use Rattle.redo_journal.specs.Kept.{area_end};
 ghost use Rattle.restart.specs.Page.{newest_over};
 
+use checkpoint::Banks;
 use outside::{Failed, Outside};
-use redo_journal::Bank;
 
 /// Reads the newest bytes of a line, where the bank holds it, over a part of a page.
 pub fn read_newest<W: Outside>(
-    bank: &Bank,
+    banks: &Banks,
     outside: &mut W,
     line: u32,
     page: &mut [u8],
     at: usize,
 ) -> Result<(), Failed>
-    requires room { HoldsAtLeast W.Outside (area_end bank.now) outside.old }
-    requires below { line < length bank.now.newest }
+    requires room { HoldsAtLeast W.Outside (area_end banks.now) outside.old }
+    requires below { line < length banks.now.newest }
     requires within { at + 128 ≤ length page.old }
     ensures asks { OnlyAsks W.Outside outside.old outside.new }
-    ensures placed { IfSome (slice_index_or bank.now.newest line None) (λ place. place + 128 ≤ area_end bank.now) }
-    ensures read { OnOk result (IsSome (W.held outside.old) → page.new ≡ newest_over (held_of W.Outside outside.old) (slice_index_or bank.now.newest line None) page.old at) }
-    ensures cause { OnErr result (Rose (W.disk_faults outside.old) (W.disk_faults outside.new)) }
+    ensures placed { IfSome (slice_index_or banks.now.newest line None) (λ place. place + 128 ≤ area_end banks.now) }
+    ensures read { OnOk result (IsSome (W.held outside.old) → page.new ≡ newest_over (held_of W.Outside outside.old) (slice_index_or banks.now.newest line None) page.old at) }
+    ensures cause { HasCause (W.disk_faults outside.old) (W.disk_faults outside.new) result }
 {
-    match bank.newest(line) {
+    match banks.newest(line) {
         None => Ok(()),
         Some(place) => read_line(outside, place, page, at),
     }
@@ -44,7 +44,7 @@ fn read_line<W: Outside>(
     requires within { at + 128 ≤ length page.old }
     ensures asks { OnlyAsks W.Outside outside.old outside.new }
     ensures read { OnOk result (IsSome (W.held outside.old) → page.new ≡ overlaid page.old at (bytes_at (held_of W.Outside outside.old) place 128)) }
-    ensures cause { OnErr result (Rose (W.disk_faults outside.old) (W.disk_faults outside.new)) }
+    ensures cause { HasCause (W.disk_faults outside.old) (W.disk_faults outside.new) result }
 {
     let (_, rest) = page.split_at_mut(at);
     let (line, _) = rest.split_at_mut(128);

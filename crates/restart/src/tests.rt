@@ -1,5 +1,9 @@
 // What no clause says: a store is opened and committed to where there is memory, and the bytes are those of
 // docs/FORMATS.md, worked out by hand.
+ghost use Rattle.std.specs.Prelude.{◌≡◌, ◌+◌, ◌<◌, ◌≤◌, IsSome};
+ghost use Rattle.line_geometry.specs.Lines.{line_count};
+ghost use Rattle.store_format.specs.Bank.{record_bytes};
+
 use super::*;
 use line_geometry::{Directory, PageSize};
 use outside::{Call, Joint, MemoryDisk, MemoryScreen, Refusal};
@@ -116,8 +120,6 @@ fn a_commit_is_kept_or_not(rt: HostRuntime) -> Result<(), Fail> {
         ]?;
         let mut disk = disk_of(alloc, fresh_store(&rt, alloc)?, refused);
         let mut store = Durable::open(alloc, &mut disk).expect(&rt, "a store");
-        let room = store.room().expect(&rt, "room");
-        assert_eq!(rt; room, 496);
         assert!(rt; store.header().directory().line_count() == 96);
         assert!(rt; store.header().bank_bytes() == 65_536);
         store.record_start();
@@ -135,6 +137,136 @@ fn a_commit_is_kept_or_not(rt: HostRuntime) -> Result<(), Fail> {
             let (disk, _) = disk.into_parts();
             assert_eq!(rt; disk.bytes(), committed(&rt, alloc)?.as_slice());
         }
+    }
+    Ok(())
+}
+
+// A store of 64 lines whose bank has room for one record of 31.
+fn small_store(rt: &impl Abort, alloc: Global) -> Result<Vec<u8>, AllocError> {
+    let directory = Directory::new(PageSize::Two, &[(1, 4)]).expect(rt, "a directory");
+    assert!(rt; directory.page() == PageSize::Two);
+    Header::new(directory, 4104).fresh(alloc)
+}
+
+// Begins a record of so many lines, the first with the word `count` and each other with one less.
+fn begin_lines(store: &mut Durable, count: u32)
+    requires few { count < 256 }
+    requires below { count ≤ line_count store.old.header.directory }
+    requires room { record_bytes count + 1 ≤ store.old.header.bank_bytes }
+    ensures header { store.new.header ≡ store.old.header }
+    ensures begun { IsSome store.new.bank.begun }
+{
+    let mut line = [0; 128];
+    store.record_start();
+    for i in 0..count {
+        line[3] = (count - i) as u8;
+        store.record_line(i, &line);
+    }
+}
+
+// The small store with one record of 31 lines.
+fn filled(rt: &impl Abort, alloc: Global) -> Result<Vec<u8>, AllocError> {
+    let mut disk = disk_of(alloc, small_store(rt, alloc)?, Vec::new(alloc));
+    let mut store = Durable::open(alloc, &mut disk).expect(rt, "a store");
+    assert!(rt; store.header().directory().line_count() == 64);
+    assert!(rt; store.header().bank_bytes() == 4104);
+    begin_lines(&mut store, 31);
+    assert_eq!(rt; store.commit(&mut disk), Kept::Done);
+    let (disk, _) = disk.into_parts();
+    Ok(disk.into_bytes())
+}
+
+// Puts the lines of the record where they follow each other, behind four bytes each with their number or without.
+fn set_lines(image: &mut Vec<u8>, from: usize, width: usize, numbered: bool) {
+    for i in 0..31usize {
+        let at = from.wrapping_add(width.wrapping_mul(i));
+        set(
+            image,
+            at.wrapping_add(width).wrapping_sub(125),
+            31u8.wrapping_sub(i as u8),
+        );
+        if numbered {
+            set(image, at.wrapping_add(3), i as u8);
+        }
+    }
+}
+
+// What a crash may leave of the checkpoint, and the number that it stands for.
+const CRASHES: [(&[Change], u64); 5] = [
+    (&[Change::Byte(8864, 0xff), Change::Byte(8991, 0xff)], 1),
+    (&[Change::Byte(4368, 0xff), Change::Byte(4376, 0xa5)], 1),
+    (&[Change::Byte(128, 7)], 1),
+    (&[Change::Byte(4375, 1), Change::Byte(4376, 9)], 1),
+    (&[Change::Byte(264, 0)], 0),
+];
+
+// Refusals of the calls of a commit that makes room, how it ends, and the number when it is opened again.
+const FAULTS: [(Call, u64, u64, u32, Kept, u64); 10] = [
+    (Call::Read, 279, 407, 0, Kept::Unwritten, 1),
+    (Call::Write, 8480, 8608, 0, Kept::Unwritten, 1),
+    (Call::Write, 12320, 12448, 0, Kept::Unwritten, 1),
+    (Call::Write, 4368, 4377, 0, Kept::Unwritten, 1),
+    (Call::Sync, 0, 0, 1, Kept::Unwritten, 1),
+    (Call::Write, 128, 129, 0, Kept::Unwritten, 1),
+    (Call::Sync, 0, 0, 2, Kept::Unwritten, 1),
+    (Call::Write, 4377, 4388, 0, Kept::Unwritten, 1),
+    (Call::Write, 4376, 4377, 1, Kept::Doubt, 1),
+    (Call::Sync, 0, 0, 4, Kept::Doubt, 2),
+];
+
+#[test]
+fn a_commit_makes_its_own_room(rt: HostRuntime) -> Result<(), Fail> {
+    let alloc = rt.alloc();
+    let mut wanted = small_store(&rt, alloc)?;
+    for (at, byte) in [(264, 0xa5), (266, 31), (274, 1)] {
+        set(&mut wanted, at, byte);
+    }
+    set_lines(&mut wanted, 275, 132, true);
+    assert_eq!(rt; filled(&rt, alloc)?.as_slice(), wanted.as_slice());
+    for (changes, number) in CRASHES {
+        let mut image = filled(&rt, alloc)?;
+        for change in changes {
+            match *change {
+                Change::Byte(at, byte) => set(&mut image, at, byte),
+                Change::Cut(len) => image.truncate(len),
+            }
+        }
+        assert_eq!(rt; number_of(alloc, image), Ok(number));
+    }
+    let mut disk = disk_of(alloc, filled(&rt, alloc)?, Vec::new(alloc));
+    let mut store = Durable::open(alloc, &mut disk).expect(&rt, "a store");
+    store.record_start();
+    assert_eq!(rt; store.commit(&mut disk), Kept::Done);
+    assert_eq!(rt; store.number(), 2);
+    for (at, byte) in [(128, 1), (4375, 1), (4376, 0xa5), (4386, 2)] {
+        set(&mut wanted, at, byte);
+    }
+    set_lines(&mut wanted, 8480, 128, false);
+    let (disk, _) = disk.into_parts();
+    assert_eq!(rt; disk.bytes(), wanted.as_slice());
+    set(&mut wanted, 4376, 0);
+    assert_eq!(rt; number_of(alloc, wanted), Ok(1));
+    Ok(())
+}
+
+#[test]
+fn a_fault_while_room_is_made_is_told(rt: HostRuntime) -> Result<(), Fail> {
+    let alloc = rt.alloc();
+    for (call, from, to, skip, wanted, number) in FAULTS {
+        let refused = vec![in alloc;
+            Refusal {
+                call,
+                from,
+                to,
+                skip
+            },
+        ]?;
+        let mut disk = disk_of(alloc, filled(&rt, alloc)?, refused);
+        let mut store = Durable::open(alloc, &mut disk).expect(&rt, "a store");
+        store.record_start();
+        assert_eq!(rt; store.commit(&mut disk), wanted);
+        store.reopen(&mut disk).expect(&rt, "the store again");
+        assert_eq!(rt; store.number(), number);
     }
     Ok(())
 }

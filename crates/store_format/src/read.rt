@@ -1,6 +1,6 @@
 // Reading the header of a store.
-ghost use Rattle.std.specs.Prelude.{◌≡◌, ℕ, ◌+◌, ◌-◌, ◌*◌, ◌≤◌, List, [], ◌∷◌, ◌++◌, length, take, replicate, None, IfOk, IfErr, OnErr, IsSome};
-ghost use Rattle.outside.specs.Causes.{Rose};
+ghost use Rattle.std.specs.Prelude.{◌≡◌, ℕ, ◌+◌, ◌-◌, ◌*◌, ◌≤◌, List, [], ◌∷◌, ◌++◌, length, take, replicate, None, IfOk, IfErr, IsSome};
+ghost use Rattle.outside.specs.Causes.{HasCause};
 ghost use Rattle.outside.specs.Runs.{OnlyAsks, held_of};
 ghost use Rattle.store_format.specs.Read.{IsHeaderFault};
 ghost use Rattle.store_format.specs.Stands.{HasHeader};
@@ -37,6 +37,7 @@ pub enum HeaderFault {
 pub fn read_header<W: Outside>(outside: &mut W) -> Result<Header, HeaderFault>
     ensures asks { OnlyAsks W.Outside outside.old outside.new }
     ensures header { IfOk result (λ header. IsSome (W.held outside.old) → HasHeader (held_of W.Outside outside.old) header) }
+    ensures no_fault { IfOk result (λ header. W.disk_faults outside.new ≡ W.disk_faults outside.old) }
     ensures fault { IfErr result (IsHeaderFault W.Outside outside.old outside.new) }
 {
     let (length, head) = match read_head(outside) {
@@ -60,7 +61,7 @@ fn read_head<W: Outside>(outside: &mut W) -> Result<(u64, [u8; HEADER_BYTES]), F
     ensures asks { OnlyAsks W.Outside outside.old outside.new }
     ensures number { IfOk result (λ read. IsSome (W.held outside.old) → read.0 ≡ length (held_of W.Outside outside.old)) }
     ensures head { IfOk result (λ read. IsSome (W.held outside.old) → read.1 ≡ take 128 (held_of W.Outside outside.old) ++ replicate (128 - length (held_of W.Outside outside.old)) 0) }
-    ensures cause { OnErr result (Rose (W.disk_faults outside.old) (W.disk_faults outside.new)) }
+    ensures cause { HasCause (W.disk_faults outside.old) (W.disk_faults outside.new) result }
 {
     let mut head = [0; HEADER_BYTES];
     let length = outside.length()?;

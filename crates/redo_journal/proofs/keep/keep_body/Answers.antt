@@ -3,7 +3,8 @@ use Rattle.outside.specs.Bytes.{Torn, written}
 use Rattle.outside.specs.Runs.{held_of, Leaves}
 use Rattle.outside.specs.Durable.{IsWritten}
 use Rattle.outside.proofs.Durable.{told_some}
-use Rattle.outside.proofs.Runs.{leaves_on, calls_on}
+use Rattle.outside.proofs.Runs.{leaves_on}
+use Rattle.redo_journal.proofs.WriteLemmas.{writes_on}
 use Rattle.redo_journal.specs.Gate.{IsSafe, IsShut, is_open}
 use Rattle.redo_journal.proofs.GateLemmas.{safe_behind, safe_at, opened, opened_torn, held_is}
 use Rattle.redo_journal.proofs.keep.keep_body.Given.{Over}
@@ -25,18 +26,18 @@ second : (g : Over) (c : goal.After-write_sure-2 g) (shut : IsShut g.W.Outside c
 second g c shut wrote fits so_far =
     let G = g.W.Outside in
     let held = held_of G c.args.outside.now in
-    leaves_on G g.met.W.Outside.fewer_later c.args.outside.now c.write_sure.new.outside c.write_sure-2.new.outside c.write_sure.ensures.calls.time c.write_sure-2.ensures.calls.time (λ (image seen : List ℕ). IsSafe c.args.gate c.args.body.now held image)
+    leaves_on G g.met.W.Outside.fewer_later c.args.outside.now c.write_sure.new.outside c.write_sure-2.new.outside c.write_sure.ensures.only.calls.time c.write_sure-2.ensures.only.calls.time (λ (image seen : List ℕ). IsSafe c.args.gate c.args.body.now held image)
     so_far
     (λ image seen left. safe_at c.args.gate c.args.body.now held fits image (subst (λ (these : List ℕ). Torn c.args.gate 1 these image) (held_is wrote.held) (c.write_sure-2.ensures.crash wrote.sure image seen left)))
 
 pub returns-in-Err-clause-crash : goal.returns-in-Err-clause-crash
 returns-in-Err-clause-crash g c shut = first g (goal.at.returns-in-Err-clause-crash g c).After-write_sure shut
 
-pub returns-in-Err-write_sure-clause-calls : goal.returns-in-Err-write_sure-clause-calls
-returns-in-Err-write_sure-clause-calls g c = calls_on g.W.Outside g.met.W.Outside.fewer_later _ _ _ c.write_sure.ensures.calls.time c.write_sure-2.ensures.calls.time c.write_sure.ensures.calls c.write_sure-2.ensures.calls
+pub returns-in-Err-write_sure-clause-only : goal.returns-in-Err-write_sure-clause-only
+returns-in-Err-write_sure-clause-only g c = writes_on g.W.Outside g.met.W.Outside.fewer_later c.args.outside.now c.write_sure.new.outside c.write_sure-2.new.outside c.write_sure.ensures.only c.write_sure-2.ensures.only
 
-pub returns-in-Ok-write_sure-clause-calls : goal.returns-in-Ok-write_sure-clause-calls
-returns-in-Ok-write_sure-clause-calls g c = calls_on g.W.Outside g.met.W.Outside.fewer_later _ _ _ c.write_sure.ensures.calls.time c.write_sure-2.ensures.calls.time c.write_sure.ensures.calls c.write_sure-2.ensures.calls
+pub returns-in-Ok-write_sure-clause-only : goal.returns-in-Ok-write_sure-clause-only
+returns-in-Ok-write_sure-clause-only g c = writes_on g.W.Outside g.met.W.Outside.fewer_later c.args.outside.now c.write_sure.new.outside c.write_sure-2.new.outside c.write_sure.ensures.only c.write_sure-2.ensures.only
 
 pub returns-in-Err-write_sure-clause-crash : goal.returns-in-Err-write_sure-clause-crash
 returns-in-Err-write_sure-clause-crash g c shut =

@@ -57,6 +57,7 @@ read_at-requires g c = reads_within (g.W.Outside.held c.args.outside.now) (c.arg
 pub loop-count-init : goal.loop-count-init
 loop-count-init g c = record {
   asks = asks_one g.W.Outside c.args.outside.now c.read_at.new.self c.read_at.ensures.held c.read_at.ensures.writes c.read_at.ensures.honest c.read_at.ensures.time c.read_at.ensures.once c.read_at.ensures.quiet c.read_at.ensures.crash c.read_at.ensures.cause.later c.read_at.ensures.puts;
+  no_fault = c.in_ok-read_at.ensures.cause.done;
   len = refl;
   placed = λ are. are;
   far = omega arith;
@@ -98,6 +99,7 @@ loop-count-preserved g c =
     let next = rw c.in-Sound.is at c.in_ok-read_gate.ensures.next in
     record {
       asks = asks_on g.W.Outside g.met.W.Outside.fewer_later c.args.outside.now c.loop-count.outside c.read_gate.new.outside c.loop-count.invariant.asks c.read_gate.ensures.asks;
+      no_fault = c.in_ok-read_gate.ensures.cause.done ∙ c.loop-count.invariant.no_fault;
       len = c.read_gate.ensures.len ∙ c.loop-count.invariant.len;
       placed = λ are. subst (λ (n : ℕ). AreWithin (c.args.at + 8 + n) c.loop-count.newest → AreWithin (c.args.at + 8 + n) c.read_gate.new.newest) c.from.ensures c.read_gate.ensures.placed (c.loop-count.invariant.placed are);
       far = omega (arith, c.loop-count.invariant.far, next.0);

@@ -7,6 +7,7 @@ use Rattle.redo_journal.proofs.read.read_bank.Given as goal
 abbrev pub invariant-loop-count : goal.invariant-loop-count
 invariant-loop-count g l = record {
   asks : OnlyAsks g.W.Outside l.fn.outside l.outside;
+  no_fault : g.W.Outside.disk_faults l.outside ≡ g.W.Outside.disk_faults l.fn.outside;
   len : length l.newest ≡ length l.fn.newest;
   placed : AreWithin (l.at + 8 + l.bank_bytes) l.fn.newest → AreWithin (l.at + 8 + l.bank_bytes) l.newest;
   far : l.at + 8 + 11 * l.count ≤ l.gate;

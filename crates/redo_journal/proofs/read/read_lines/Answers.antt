@@ -55,6 +55,7 @@ loop-i-preserved g c =
     let place : c.args.at + 132 * c.from.result + 4 ≡ c.args.at + 132 * c.loop-i.i + 4 = omega (arith, c.from.ensures) in
     record {
       asks = asked g at;
+      no_fault = c.in_ok-read_at.ensures.cause.done ∙ c.loop-i.invariant.no_fault;
       placed = λ end few are.
           subst (λ (these : List (Option ℕ)). AreWithin end these) (sym c.write.ensures.value)
           (within-overlaid end line (c.args.at + 132 * c.from.result + 4) c.loop-i.newest (omega (arith, few, c.from.ensures, c.loop-i-test.true)) (c.loop-i.invariant.placed end few are));

@@ -8,6 +8,7 @@ use Rattle.redo_journal.proofs.read.read_lines.Given as goal
 abbrev pub invariant-loop-i : goal.invariant-loop-i
 invariant-loop-i g l = record {
   asks : OnlyAsks g.W.Outside l.initial.outside l.outside;
+  no_fault : g.W.Outside.disk_faults l.outside ≡ g.W.Outside.disk_faults l.initial.outside;
   placed : (end : ℕ) → l.at + 132 * l.count ≤ end → AreWithin end l.initial.newest → AreWithin end l.newest;
   len : length l.newest ≡ length l.initial.newest;
   fault : IsSome (g.W.Outside.held l.initial.outside) → wrong_line (length l.newest) l.least (lines_after l.count l.i l.at (held_of g.W.Outside l.initial.outside)) ≡ wrong_line (length l.initial.newest) 0 (lines_from l.count l.at (drop l.at (held_of g.W.Outside l.initial.outside)));

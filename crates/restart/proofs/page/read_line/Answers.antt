@@ -4,7 +4,8 @@ use Rattle.outside.proofs.Durable.{told_some}
 use Rattle.outside.specs.Bytes.{bytes_at}
 use Rattle.outside.specs.Runs.{held_of}
 use Rattle.store_format.proofs.Padded.{read_is}
-use Rattle.restart.proofs.PageLemmas.{map_ok, spliced}
+use Rattle.checkpoint.proofs.StepLemmas.{map_ok}
+use Rattle.restart.proofs.PageLemmas.{spliced}
 use Rattle.restart.proofs.page.read_line.Goals as goal
 
 pub returns-clause-read : goal.returns-clause-read

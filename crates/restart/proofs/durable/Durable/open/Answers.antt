@@ -2,14 +2,13 @@ use Rattle.std.proofs.Common.{◌≡◌, ℕ, List, [], ap, subst, sym, IsSome, 
 use Rattle.std.specs.Prelude.{Option, unwrap_or}
 use Rattle.outside.specs.Runs.{held_of}
 use Rattle.outside.proofs.Runs.{asks_on}
-use Rattle.redo_journal.specs.Opened.{IsRead}
+use Rattle.checkpoint.specs.Chosen.{IsChosen}
 use Rattle.restart.specs.Shows.{Shows}
 use Rattle.restart.proofs.ShowLemmas.{opening_fault, sure_on, shows_read}
 use Rattle.restart.proofs.durable.Durable.open.Goals as goal
 
 pub returns-in-Err-clause-fault : goal.returns-in-Err-clause-fault
-returns-in-Err-clause-fault g c =
-    opening_fault g.W.Outside c.args.outside.now c.start.new.outside c.open.new.outside c.in_ok-header.header c.in_ok-header.which c.in-Err.fault c.in_ok-header.ensures.asks c.in_ok-header.ensures.header c.in_ok-header.ensures.selected c.in-Err.ensures.fault
+returns-in-Err-clause-fault g c = opening_fault g.W.Outside c.args.outside.now c.start.new.outside c.open.new.outside c.in_ok-header.header c.in-Err.fault c.in_ok-header.ensures.asks c.in_ok-header.ensures.header c.in-Err.ensures.fault
 
 pub returns-in-Err-clause-asks : goal.returns-in-Err-clause-asks
 returns-in-Err-clause-asks g c = asks_on g.W.Outside g.met.W.Outside.fewer_later c.args.outside.now c.start.new.outside c.open.new.outside c.in_ok-header.ensures.asks c.open.ensures.asks
@@ -28,7 +27,7 @@ returns-in-Ok-clause-tracks g c honest told =
     record {
       sure = sure_on G g.met.W.Outside.fewer_later c.start.new.outside c.open.new.outside (begun.sure honest told) c.open.ensures.asks;
       shows =
-          subst (λ (held : List ℕ). Shows held (record { header = c.in_ok-header.header; bank = c.in-Ok.bank })) (sym same)
-          (shows_read (held_of G c.args.outside.now) c.in_ok-header.header c.in_ok-header.which c.in-Ok.bank (begun.header told) (begun.selected told) opened.which_is (record { bank_bytes = opened.bank_bytes; lines = opened.bound })
-          (subst (λ (held : List ℕ). IsRead held c.in-Ok.bank) first (c.in-Ok.ensures.read still)));
+          subst (λ (held : List ℕ). Shows held (record { header = c.in_ok-header.header; bank = c.in-Ok.banks })) (sym same)
+          (shows_read (held_of G c.args.outside.now) c.in_ok-header.header c.in-Ok.banks (begun.header told) (record { bank_bytes = opened.bank_bytes; lines = opened.bound })
+          (subst (λ (held : List ℕ). IsChosen held c.in-Ok.banks) first (c.in-Ok.ensures.read still)));
     }

@@ -23,9 +23,10 @@ loop-i-init g c =
     let header = c.self.inside.header in
     record {
       asks = asks_one g.W.Outside c.args.outside.now c.read_at.new.self c.read_at.ensures.held c.read_at.ensures.writes c.read_at.ensures.honest c.read_at.ensures.time c.read_at.ensures.once c.read_at.ensures.quiet c.read_at.ensures.crash c.read_at.ensures.cause.later c.read_at.ensures.puts;
+      no_fault = c.in_ok-read_at.ensures.cause.done;
       len = c.read_at.auto.into ∙ c.requires.whole;
       composed = λ told.
-          composed_none held header c.self.inside.bank.newest (c.from-first.result * 16) c.read_at.new.into
+          composed_none held header c.self.inside.banks.newest (c.from-first.result * 16) c.read_at.new.into
           (read_is (G.held c.args.outside.now) c.read_at.new.into c.home_at.result (length c.args.into.now) told c.in_ok-read_at.ensures.read
           ∙ ap (λ (n : ℕ). bytes_at held n (length c.args.into.now)) c.home_at.ensures.value
           ∙ ap (bytes_at held (home_at header (c.from-first.result * 16))) c.requires.whole);
@@ -35,13 +36,14 @@ pub loop-i-preserved : goal.loop-i-preserved
 loop-i-preserved g c =
     let G = g.W.Outside in
     let held = held_of G c.args.outside.now in
-    let bank = c.self.inside.bank in
+    let bank = c.self.inside.banks in
     let line = c.from-first.result * 16 + c.loop-i.i in
     let place = get_or bank.newest line None in
     let so_far = c.loop-i.invariant in
     let read = c.in_ok-read_newest.ensures in
     record {
       asks = asks_on G g.met.W.Outside.fewer_later c.args.outside.now c.loop-i.outside c.read_newest.new.outside so_far.asks read.asks;
+      no_fault = read.cause.done ∙ so_far.no_fault;
       len = c.read_newest.auto.page ∙ so_far.len;
       composed = λ told.
           let still : IsSome (G.held c.loop-i.outside) = subst (λ (those : Option (List ℕ)). IsSome those) (sym so_far.asks.held) told in
@@ -58,11 +60,11 @@ loop-i-preserved g c =
 pub returns-clause-read : goal.returns-clause-read
 returns-clause-read g c tracks =
     let held = held_of g.W.Outside c.args.outside.now in
-    let shows : Shows held (record { header = c.self.inside.header; bank = c.self.inside.bank }) = subst (λ (store : KeptStore). Shows held store) (sym c.self.view_is) tracks.shows in
+    let shows : Shows held (record { header = c.self.inside.header; bank = c.self.inside.banks }) = subst (λ (store : KeptStore). Shows held store) (sym c.self.view_is) tracks.shows in
     let first : c.from-first.result * 16 ≡ c.args.page * 16 = omega (arith, c.from-first.ensures) in
     let all : c.loop-i.i ≡ 16 = omega (arith, c.loop-i-test.false, c.loop-i.auto.i-end) in
     let within : c.args.page < page_count c.self.inside.header.directory = subst (λ (store : KeptStore). c.args.page < page_count store.header.directory) (sym c.self.view_is) c.requires.page in
-    let composed : Composed held (home_of held c.self.inside.header) c.self.inside.bank.newest (c.args.page * 16) 16 c.loop-i.into =
-    subst (λ (n : ℕ). Composed held (home_of held c.self.inside.header) c.self.inside.bank.newest n 16 c.loop-i.into) first
-    (subst (λ (n : ℕ). Composed held (home_of held c.self.inside.header) c.self.inside.bank.newest (c.from-first.result * 16) n c.loop-i.into) all (c.loop-i.invariant.composed tracks.sure.told)) in
-    shown_page held (record { header = c.self.inside.header; bank = c.self.inside.bank }) shows c.loop-i.into c.args.page within c.loop-i.invariant.len composed
+    let composed : Composed held (home_of held c.self.inside.header) c.self.inside.banks.newest (c.args.page * 16) 16 c.loop-i.into =
+    subst (λ (n : ℕ). Composed held (home_of held c.self.inside.header) c.self.inside.banks.newest n 16 c.loop-i.into) first
+    (subst (λ (n : ℕ). Composed held (home_of held c.self.inside.header) c.self.inside.banks.newest (c.from-first.result * 16) n c.loop-i.into) all (c.loop-i.invariant.composed tracks.sure.told)) in
+    shown_page held (record { header = c.self.inside.header; bank = c.self.inside.banks }) shows c.loop-i.into c.args.page within c.loop-i.invariant.len composed

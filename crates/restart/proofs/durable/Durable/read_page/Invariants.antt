@@ -7,6 +7,7 @@ use Rattle.restart.proofs.durable.Durable.read_page.Given as goal
 abbrev pub invariant-loop-i : goal.invariant-loop-i
 invariant-loop-i g l = record {
   asks : OnlyAsks g.W.Outside l.fn.outside l.outside;
+  no_fault : g.W.Outside.disk_faults l.outside ≡ g.W.Outside.disk_faults l.fn.outside;
   len : length l.into ≡ 2048;
-  composed : IsSome (g.W.Outside.held l.fn.outside) → Composed (held_of g.W.Outside l.fn.outside) (home_of (held_of g.W.Outside l.fn.outside) l.self-inside.header) l.self-inside.bank.newest l.first l.i l.into;
+  composed : IsSome (g.W.Outside.held l.fn.outside) → Composed (held_of g.W.Outside l.fn.outside) (home_of (held_of g.W.Outside l.fn.outside) l.self-inside.header) l.self-inside.banks.newest l.first l.i l.into;
 }

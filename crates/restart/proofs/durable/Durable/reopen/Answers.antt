@@ -1,29 +1,79 @@
-use Rattle.std.proofs.Common.{◌≡◌, ℕ, List, [], ap, subst, sym, IsSome, ◌∙◌}
+use Rattle.std.proofs.Common.{◌≡◌, ℕ, List, [], ap, subst, sym, IsSome, ◌∙◌, arith}
 use Rattle.std.specs.Prelude.{Option, unwrap_or}
+use Rattle.store_format.specs.Header.{total}
 use Rattle.store_format.specs.Stands.{HasHeader}
 use Rattle.outside.specs.Runs.{held_of}
-use Rattle.redo_journal.specs.Opened.{IsRead}
-use Rattle.restart.specs.Kept.{KeptStore}
-use Rattle.restart.specs.Shows.{Shows}
-use Rattle.restart.proofs.ShowLemmas.{sure_on, shows_read}
-use Rattle.restart.proofs.PageLemmas.{map_both}
+use Rattle.checkpoint.specs.Chosen.{IsChosen}
+use Rattle.checkpoint.specs.Chosen as opened
+use Rattle.checkpoint.proofs.StepLemmas.{map_ok}
+use Rattle.redo_journal.specs.declared.fault.ReopenFault.{ReopenFault}
+use Rattle.redo_journal.specs.declared.fault.ReopenFault.TheVariants as reopening
+use Rattle.restart.specs.Faults.{IsReopenFault}
+use Rattle.restart.specs.Kept.{KeptStore, Fits}
+use Rattle.restart.specs.Shows.{Shows, IsIntact}
+use Rattle.restart.proofs.ShowLemmas.{sure_on, shows_read, reopening_fault, intact_fault, if_err, total_is}
+use Rattle.restart.proofs.durable.Durable.reopen.Given.{Over}
 use Rattle.restart.proofs.durable.Durable.reopen.Goals as goal
+use Rattle.restart.proofs.durable.Durable.reopen.Goals.{After-reopen}
 
-pub returns-clause-tracks : goal.returns-clause-tracks
-returns-clause-tracks g c =
+-- the bytes are those at the start
+first : (g : Over) (c : goal.After-reopen g) → held_of g.W.Outside c.synced.new.outside ≡ held_of g.W.Outside c.args.outside.now
+first g c = ap (λ (those : Option (List ℕ)). unwrap_or those []) c.synced.ensures.asks.held
+
+still : (g : Over) (c : goal.After-reopen g) → IsSome (g.W.Outside.held c.args.outside.now) → IsSome (g.W.Outside.held c.synced.new.outside)
+still g c told = subst (λ (those : Option (List ℕ)). IsSome those) (sym c.synced.ensures.asks.held) told
+
+fits : (g : Over) (c : goal.After-reopen g) → Fits c.self.inside.header c.reopen.new.self
+fits g c = record { bank_bytes = c.self.invariant.bank_bytes ∙ sym c.reopen.ensures.shape.bank_bytes; lines = c.self.invariant.lines ∙ sym c.reopen.ensures.shape.lines }
+
+-- a fault of the banks is one of the store
+fault_is : (g : Over) (c : goal.After-reopen g) (fault : ReopenFault) → opened.IsReopenFault g.W.Outside c.synced.new.outside c.reopen.new.outside c.self.inside.banks fault → IsReopenFault g.W.Outside c.args.outside.now c.reopen.new.outside c.args.self.now.header fault
+fault_is g c fault is =
+    subst (λ (store : KeptStore). IsReopenFault g.W.Outside c.args.outside.now c.reopen.new.outside store.header fault) c.self.view_is
+    (reopening_fault g.W.Outside c.args.outside.now c.synced.new.outside c.reopen.new.outside c.self.inside.header c.self.inside.banks fault c.self.invariant c.synced.ensures.asks is)
+
+pub reopen-requires : goal.reopen-requires
+reopen-requires g c = record {
+  room = λ held is.
+      omega (arith, c.requires.room held (sym c.synced.ensures.asks.held ∙ is), total_is c.self.inside.header c.self.inside.banks c.self.invariant, ap (λ (store : KeptStore). total store.header) c.self.view_is);
+}
+
+pub returns-in-Ok-clause-read : goal.returns-in-Ok-clause-read
+returns-in-Ok-clause-read g c =
+    let at = (goal.at.returns-in-Ok-clause-read g c).After-reopen in
+    map_ok c.reopen.result c.reopen.ensures.read (λ read told.
+    let chosen = subst (λ (held : List ℕ). IsChosen held c.reopen.new.self) (first g at) (read (still g at told)) in
+    record { chosen_is = chosen.chosen_is; read = chosen.read; fits = fits g at })
+
+pub returns-in-Ok-clause-shows : goal.returns-in-Ok-clause-shows
+returns-in-Ok-clause-shows g c =
+    let at = (goal.at.returns-in-Ok-clause-shows g c).After-reopen in
+    let held = held_of g.W.Outside c.args.outside.now in
+    map_ok c.reopen.result c.reopen.ensures.read (λ read has told.
+    shows_read held c.self.inside.header c.reopen.new.self (subst (λ (store : KeptStore). HasHeader held store.header) (sym c.self.view_is) has) (fits g at) (subst (λ (held : List ℕ). IsChosen held c.reopen.new.self) (first g at) (read (still g at told))))
+
+pub returns-in-Ok-clause-tracks : goal.returns-in-Ok-clause-tracks
+returns-in-Ok-clause-tracks g c =
     let G = g.W.Outside in
-    let asked = c.in-Ok.ensures.asks in
-    let first : held_of G c.sync_and_select.new.outside ≡ held_of G c.args.outside.now = ap (λ (those : Option (List ℕ)). unwrap_or those []) asked.held in
-    let same : held_of G c.reopen.new.outside ≡ held_of G c.args.outside.now = ap (λ (those : Option (List ℕ)). unwrap_or those []) c.reopen.ensures.asks.held ∙ first in
-    let shape = c.reopen.ensures.shape in
-    map_both c.reopen.result c.reopen.ensures.turned c.reopen.ensures.read (λ turned read has honest told.
-    let still : IsSome (G.held c.sync_and_select.new.outside) = subst (λ (those : Option (List ℕ)). IsSome those) (sym asked.held) told in
-    let headed : HasHeader (held_of G c.args.outside.now) c.self.inside.header = subst (λ (store : KeptStore). HasHeader (held_of G c.args.outside.now) store.header) (sym c.self.view_is) has in
+    let at = (goal.at.returns-in-Ok-clause-tracks g c).After-reopen in
+    let held = held_of G c.args.outside.now in
+    let same : held_of G c.reopen.new.outside ≡ held = ap (λ (those : Option (List ℕ)). unwrap_or those []) c.reopen.ensures.asks.held ∙ first g at in
+    map_ok c.reopen.result c.reopen.ensures.read (λ read has honest told.
     record {
-      sure = sure_on G g.met.W.Outside.fewer_later c.sync_and_select.new.outside c.reopen.new.outside (c.in-Ok.ensures.sure honest told) c.reopen.ensures.asks;
+      sure = sure_on G g.met.W.Outside.fewer_later c.synced.new.outside c.reopen.new.outside (c.in-Ok.ensures.sure honest told) c.reopen.ensures.asks;
       shows =
-          subst (λ (held : List ℕ). Shows held (record { header = c.self.inside.header; bank = c.reopen.new.self })) (sym same)
-          (shows_read (held_of G c.args.outside.now) c.self.inside.header c.in-Ok.which c.reopen.new.self headed (c.in-Ok.ensures.selected told) turned
-          (record { bank_bytes = c.self.invariant.bank_bytes ∙ sym shape.bank_bytes; lines = c.self.invariant.lines ∙ sym shape.lines })
-          (subst (λ (held : List ℕ). IsRead held c.reopen.new.self) first (read still)));
+          subst (λ (those : List ℕ). Shows those (record { header = c.self.inside.header; bank = c.reopen.new.self })) (sym same)
+          (shows_read held c.self.inside.header c.reopen.new.self (subst (λ (store : KeptStore). HasHeader held store.header) (sym c.self.view_is) has) (fits g at) (subst (λ (held : List ℕ). IsChosen held c.reopen.new.self) (first g at) (read (still g at told))));
     })
+
+pub returns-in-Ok-clause-fault : goal.returns-in-Ok-clause-fault
+returns-in-Ok-clause-fault g c =
+    let at = (goal.at.returns-in-Ok-clause-fault g c).After-reopen in
+    if_err (opened.IsReopenFault g.W.Outside c.synced.new.outside c.reopen.new.outside c.self.inside.banks) (IsReopenFault g.W.Outside c.args.outside.now c.reopen.new.outside c.args.self.now.header) c.reopen.result c.reopen.ensures.fault (fault_is g at)
+
+pub returns-in-Ok-clause-intact : goal.returns-in-Ok-clause-intact
+returns-in-Ok-clause-intact g c =
+    let at = (goal.at.returns-in-Ok-clause-intact g c).After-reopen in
+    if_err (opened.IsReopenFault g.W.Outside c.synced.new.outside c.reopen.new.outside c.self.inside.banks)
+    (λ fault. IsSome (g.W.Outside.held c.args.outside.now) → IsIntact c.args.self.now.header (held_of g.W.Outside c.args.outside.now) → fault ≡ reopening.DiskFault) c.reopen.result c.reopen.ensures.fault
+    (λ fault is told intact. intact_fault g.W.Outside c.args.outside.now c.reopen.new.outside c.args.self.now.header fault told intact (fault_is g at fault is))

@@ -1,0 +1,26 @@
+use Rattle.std.proofs.Common.{◌≡◌, ℕ, List, get_or, sym, subst, ◌∙◌}
+use Rattle.std.specs.Prelude.{Option, None, Some, OnOk, IsSome}
+use Rattle.std.proofs.lemmas.Option.{get_or_from_slice_get}
+use Rattle.outside.specs.Bytes.{Torn, written, bytes_at}
+use Rattle.outside.specs.Moments.{Follows}
+use Rattle.outside.specs.Runs.{held_of}
+use Rattle.checkpoint.specs.Home.{home_place, copied, TornLine}
+use Rattle.checkpoint.proofs.home.copy_newest.Given.{Over}
+use Rattle.checkpoint.proofs.home.copy_newest.Goals as goal
+use Rattle.checkpoint.proofs.home.copy_newest.Goals.{In-Some}
+
+place : (g : Over) (c : goal.In-Some g) → get_or c.args.bank.now.newest c.args.line None ≡ Some c.in-Some.place
+place g c = get_or_from_slice_get c.args.bank.now.newest c.args.line c.newest.result None c.newest.ensures.place ∙ c.in-Some.is
+
+pub returns-in-Some-clause-crash : goal.returns-in-Some-clause-crash
+returns-in-Some-clause-crash g c honest told =
+    let G = g.W.Outside in
+    subst (λ (place : Option ℕ). Follows (TornLine place (home_place c.args.bank.now.bank_bytes c.args.line)) G.moment G.left_since c.args.outside.now c.copy_line.new.outside) (sym (place g (goal.at.returns-in-Some-clause-crash g c).In-Some))
+    (subst (λ (at : ℕ). Follows (Torn at 128) G.moment G.left_since c.args.outside.now c.copy_line.new.outside) c.home_place.ensures (c.copy_line.ensures.crash honest told))
+
+pub returns-in-Some-clause-done : goal.returns-in-Some-clause-done
+returns-in-Some-clause-done g c =
+    let G = g.W.Outside in
+    let held = held_of G c.args.outside.now in
+    subst (λ (place : Option ℕ). OnOk c.copy_line.result (IsSome (G.held c.args.outside.now) → held_of G c.copy_line.new.outside ≡ copied held place (home_place c.args.bank.now.bank_bytes c.args.line))) (sym (place g (goal.at.returns-in-Some-clause-done g c).In-Some))
+    (subst (λ (at : ℕ). OnOk c.copy_line.result (IsSome (G.held c.args.outside.now) → held_of G c.copy_line.new.outside ≡ written held at (bytes_at held c.in-Some.place 128))) c.home_place.ensures c.copy_line.ensures.done)

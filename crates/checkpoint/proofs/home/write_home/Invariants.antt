@@ -1,0 +1,14 @@
+use Rattle.std.proofs.Common.{◌≡◌, List, ℕ}
+use Rattle.outside.specs.Runs.{Leaves, held_of}
+use Rattle.redo_journal.specs.Held.{OnlyWrites}
+use Rattle.redo_journal.specs.Tracks.{Tracks}
+use Rattle.checkpoint.specs.Home.{IsCovered, IsHomed}
+use Rattle.checkpoint.proofs.home.write_home.Given as goal
+
+abbrev pub invariant-loop-line : goal.invariant-loop-line
+invariant-loop-line g l = record {
+  only : OnlyWrites g.W.Outside l.fn.outside l.outside;
+  no_fault : g.W.Outside.disk_faults l.outside ≡ g.W.Outside.disk_faults l.fn.outside;
+  crash : (tracks : Tracks g.W.Outside l.bank l.fn.outside) → Leaves g.W.Outside (λ image seen. IsCovered tracks.header tracks.records (held_of g.W.Outside l.fn.outside) image) l.fn.outside l.outside;
+  homed : (tracks : Tracks g.W.Outside l.bank l.fn.outside) → IsHomed tracks.header tracks.records (held_of g.W.Outside l.fn.outside) l.line (held_of g.W.Outside l.outside);
+}

@@ -1,0 +1,98 @@
+-- Calls that write, one after another.
+use Rattle.std.proofs.Common.{◌≡◌, inl, ℕ, ◌+◌, ◌≤◌, List, ◌++◌, length, take, drop, refl, sym, ◌∙◌, ap, subst, arith, length-append}
+use Rattle.std.specs.Prelude.{Option, None, Some, IsSome, IsTrue, Result, Ok, Err}
+use Rattle.std.specs.Option.{ForSome, option_map}
+use Rattle.std.proofs.lemmas.List.{length-take, length-drop}
+use Rattle.outside.specs.declared.world.Outside.{Ghosts}
+use Rattle.outside.specs.declared.failed.Failed.{Failed}
+use Rattle.outside.specs.Bytes.{Torn, Writes, CountsWrite, written}
+use Rattle.outside.specs.Causes.{HasCause}
+use Rattle.outside.specs.Moments.{IsOneCall, Elapses, PrintsNothing, Follows}
+use Rattle.outside.specs.Runs.{OnlyAsks, FewerLater, held_of}
+use Rattle.outside.proofs.Durable.{told_some}
+use Rattle.outside.proofs.Runs.{calls_on, still_told}
+use Rattle.redo_journal.specs.Held.{IsMoreBy, OnlyWrites, WritesOnce}
+
+pub more_on : (a b : ℕ) (old mid new : Option ℕ) → IsMoreBy a old mid → IsMoreBy b mid new → IsMoreBy (a + b) old new
+more_on a b old mid new first second before is =
+    let one = first before is in
+    let two = second one.0 one.1 in
+    (two.0, two.1, omega (arith, one.2, two.2))
+
+same_fewer : (old new : Option ℕ) → new ≡ old → IsMoreBy 0 old new
+same_fewer old new same before is = (before, same ∙ is, omega arith)
+
+-- the writes that a call counts
+counted_fewer : {T : Type 0} (old new : Option ℕ) (result : Result T Failed) → CountsWrite old new result → IsMoreBy 0 old new
+counted_fewer old new (Ok done) counts before is = (before + 1, counts ∙ ap (option_map (λ count. count + 1)) is, omega arith)
+counted_fewer old new (Err failed) counts before is = same_fewer old new counts before is
+
+-- the bytes that a write leaves are no fewer
+written_longer : {T : Type 0} (old new : Option (List ℕ)) (at : ℕ) (bytes : List ℕ) (result : Result T Failed) (count : ℕ) → Writes old new at bytes result → ForSome old (λ held. count ≤ length held) → ForSome new (λ held. count ≤ length held)
+written_longer None new at bytes result count writes room held is = let no : None ≡ Some held = sym writes ∙ is in cc
+written_longer (Some was) new at bytes (Ok done) count writes room held is =
+    let same : held ≡ written was at bytes = let both : Some (written was at bytes) ≡ Some held = sym writes ∙ is in cc in
+    omega (arith, room was refl, ap length same, length-append (take at was ++ bytes) (drop (at + length bytes) was), length-append (take at was) bytes, length-take at was, length-drop (at + length bytes) was)
+written_longer (Some was) new at bytes (Err failed) count writes room held is =
+    let same : held ≡ writes.0 = let both : Some writes.0 ≡ Some held = sym writes.1 ∙ is in cc in
+    omega (arith, room was refl, ap length same, writes.2.no_shorter)
+
+module _ {W : Type 0} (G : Ghosts W) (fewer_later : FewerLater G) (old mid new : W) where
+  pub writes_on : OnlyWrites G old mid → OnlyWrites G mid new → OnlyWrites G old new
+  writes_on first second = record {
+    calls = calls_on G fewer_later old mid new first.calls.time second.calls.time first.calls second.calls;
+    told = λ told. second.told (first.told told);
+    longer = λ count room. second.longer count (first.longer count room);
+    writes = more_on 0 0 (G.writes old) (G.writes mid) (G.writes new) first.writes second.writes;
+  }
+
+-- calls that only ask
+pub asks_only : {W : Type 0} (G : Ghosts W) (old new : W) → OnlyAsks G old new → OnlyWrites G old new
+asks_only G old new asks = record {
+  calls = asks.calls;
+  told = λ told. subst (λ (those : Option (List ℕ)). IsSome those) (sym asks.held) told;
+  longer = λ count room. subst (λ (those : Option (List ℕ)). ForSome those (λ bytes. count ≤ length bytes)) (sym asks.held) room;
+  writes = same_fewer (G.writes old) (G.writes new) asks.writes;
+}
+
+-- a call that writes
+pub once : {W : Type 0} (G : Ghosts W) {T : Type 0} (at : ℕ) (bytes : List ℕ) (old new : W) (result : Result T Failed) → Writes (G.held old) (G.held new) at bytes result → CountsWrite (G.writes old) (G.writes new) result → G.is_honest new ≡ G.is_honest old
+    → Elapses G.moment G.left_since old new → IsOneCall (G.moment old) (G.moment new) → PrintsNothing G.moment G.left_since G.printed old new → (IsTrue (G.is_honest old) → IsSome (G.held old) → Follows (Torn at (length bytes)) G.moment G.left_since old new)
+    → HasCause (G.disk_faults old) (G.disk_faults new) result → G.put_faults new ≡ G.put_faults old → WritesOnce G at bytes old new result
+once G at bytes old new result written counted honest time one quiet crash cause put = record {
+  only = record {
+    calls = record { quiet = quiet; honest = honest; time = time; disk = cause.later; put = put; puts = one.puts };
+    told = λ told. still_told (G.held old) (G.held new) at bytes result told written;
+    longer = λ count room. written_longer (G.held old) (G.held new) at bytes result count written room;
+    writes = counted_fewer (G.writes old) (G.writes new) result counted;
+  };
+  written = written;
+  counted = counted;
+  crash = crash;
+  cause = cause;
+}
+
+-- the bytes held are what a crash of now may leave
+pub held_left : {W : Type 0} (G : Ghosts W) → ((w : W) (image : List ℕ) → G.held w ≡ Some image → (seen : List ℕ) × G.left_since w (G.moment w) image seen) → (now : W) → IsSome (G.held now)
+    → (seen : List ℕ) × G.left_since now (G.moment now) (held_of G now) seen
+held_left G held_now now told = held_now now (held_of G now) (told_some (G.held now) told)
+
+-- no call at all
+pub wrote_nothing : {W : Type 0} (G : Ghosts W) (now : W) → OnlyWrites G now now
+wrote_nothing G now = record {
+  calls = record {
+    quiet = record { same = refl; crash = λ image seen left. inl left };
+    honest = refl;
+    time = record { later = record { calls = omega arith; puts = omega arith }; nothing_else = λ t image seen earlier left. inl left; keeps = λ t image seen earlier left. left };
+    disk = omega arith;
+    put = refl;
+    puts = refl;
+  };
+  told = λ told. told;
+  longer = λ count room. room;
+  writes = same_fewer (G.writes now) (G.writes now) refl;
+}
+
+-- two writes more
+pub two_more : (old new : Option ℕ) → new ≡ option_map (λ count. count + 2) old → IsMoreBy 2 old new
+two_more old new counts before is = (before + 2, counts ∙ ap (option_map (λ count. count + 2)) is, omega arith)

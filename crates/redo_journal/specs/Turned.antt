@@ -1,0 +1,27 @@
+-- A bank that is turned to: the other one, without records.
+use Rattle.std.specs.Prelude.{ℕ, ◌+◌, List, [], ◌∷◌, ◌++◌, length, replicate, None}
+use Rattle.std.specs.Option.{option_map}
+use Rattle.byteorder.specs.Endian.{big_bytes}
+use Rattle.store_format.specs.declared.header.Which.{Which}
+use Rattle.store_format.specs.Bank.{RecordLine}
+use Rattle.redo_journal.specs.Kept.{KeptBank, place_of, number_of}
+
+-- these lines one behind another, from an offset on
+abbrev pub placed : ℕ → List RecordLine → List RecordLine
+placed at [] = []
+placed at (line ∷ lines) = record line { at = at } ∷ placed (at + 132) lines
+
+-- the bank at this place with the number as its base, no record, and the begun record behind its gate
+abbrev pub turned : Which → KeptBank → KeptBank
+turned which bank = record bank {
+  which = which;
+  base = number_of bank;
+  count = 0;
+  gate = place_of which bank.bank_bytes + 8;
+  newest = replicate (length bank.newest) None;
+  begun = option_map (placed (place_of which bank.bank_bytes + 19)) bank.begun;
+}
+
+-- what a bank without records begins with: its base and a closed gate
+abbrev pub head_bytes : ℕ → List ℕ
+head_bytes base = big_bytes 8 base ++ 0 ∷ []

@@ -1,0 +1,116 @@
+-- What an image stands for where bytes outside its chosen bank have changed.
+use Rattle.std.proofs.Common.{◌≡◌, ℕ, zero, suc, ◌+◌, ◌%◌, ◌^◌, ◌<◌, ◌≤◌, false, List, [], length, take, drop, refl, sym, ◌∙◌, ap, arith, slice_index}
+use Rattle.std.specs.Prelude.{◌==◌, ◌-◌, fold}
+use Rattle.std.proofs.lemmas.List.{drop-drop, get_or-drop}
+use Rattle.line_geometry.specs.FlatStore.{FlatStore}
+use Rattle.store_format.specs.declared.header.Which.{Which}
+use Rattle.store_format.specs.Header.{Header, fields, first_fault, header_of, bank_at, number_at}
+use Rattle.store_format.specs.Bank.{RecordLine, Area, Gate, Closed, Wrong, Sound, preceded, gate_if, gate_at, holds_from, area_at, area_of, base_of, bank_of}
+use Rattle.store_format.specs.Stands.{Stands, stands, IsStore, HasHeader, laid, home_of, chosen}
+use Rattle.store_format.proofs.Fronts.{shorter_front, same_byte}
+use Rattle.store_format.proofs.Walk.{sound_is, closed_gate}
+use Rattle.store_format.proofs.Sound.{sound_header}
+use Rattle.store_format.proofs.Stores.{end_of, store_same, stands_is}
+
+-- with the same bytes from an offset on the gates there are the same
+module _ (image new : List ℕ) (from : ℕ) (same : drop from new ≡ drop from image) where
+  later : (at : ℕ) → from ≤ at → drop at new ≡ drop at image
+  later at behind =
+      let whole : from + (at - from) ≡ at = omega arith in
+      ap (λ (n : ℕ). drop n new) (sym whole)
+      ∙ sym (drop-drop (at - from) from new)
+      ∙ ap (λ (these : List ℕ). drop (at - from) these) same
+      ∙ drop-drop (at - from) from image
+      ∙ ap (λ (n : ℕ). drop n image) whole
+
+  gate_behind : (area : Area) (number gate : ℕ) → from ≤ gate → gate_at new area number gate ≡ gate_at image area number gate
+  gate_behind area number gate behind =
+      let here : gate + 0 ≡ gate = omega arith in
+      let byte : slice_index new gate ≡ slice_index image gate =
+      ap (λ (n : ℕ). slice_index new n) (sym here) ∙ sym (get_or-drop gate new 0 0) ∙ ap (λ (these : List ℕ). slice_index these 0) (later gate behind) ∙ get_or-drop gate image 0 0 ∙ ap (λ (n : ℕ). slice_index image n) here in
+      ap (λ (n : ℕ). gate_if (n == 0xA5) area.bound area.end ((number + 1) % 2 ^ 64) gate (drop gate new)) byte
+      ∙ ap (λ (these : List ℕ). gate_if (slice_index image gate == 0xA5) area.bound area.end ((number + 1) % 2 ^ 64) gate these) (later gate behind)
+
+  holds_behind : (area : Area) (most number gate : ℕ) (at : Gate) → from ≤ gate → gate_at image area number gate ≡ at → holds_from new area most number at ≡ holds_from image area most number at
+  unfolding holds_from
+  holds_behind area most number gate (Closed closed) behind is = refl
+  holds_behind area most number gate (Wrong offset) behind is = refl
+  holds_behind area zero number gate (Sound lines next) behind is = refl
+  holds_behind area (suc most) number gate (Sound lines next) behind is =
+      let sound = sound_is (slice_index image gate == 0xA5) area.bound area.end ((number + 1) % 2 ^ 64) gate (drop gate image) lines next is in
+      let after : from ≤ next = omega (arith, sound.is_next) in
+      ap (λ (g : Gate). preceded lines (holds_from new area most (number + 1) g)) (gate_behind area (number + 1) next after)
+      ∙ ap (preceded lines) (holds_behind area most (number + 1) next (gate_at image area (number + 1) next) after refl)
+
+-- with the same bytes from a bank on, the bank is the same
+module _ (header : Header) (which : Which) (image new : List ℕ) (same : drop (bank_at header which) new ≡ drop (bank_at header which) image) where
+  pub base_behind : base_of new header which ≡ base_of image header which
+  base_behind = ap (λ (these : List ℕ). number_at these 0 8) same
+
+  pub bank_behind : bank_of new header which ≡ bank_of image header which
+  bank_behind =
+      let area = area_of header which in
+      let start = area_at header which in
+      ap (λ (n : ℕ). holds_from new area header.bank_bytes n (gate_at new area n start)) base_behind
+      ∙ ap (holds_from new area header.bank_bytes (base_of image header which)) (gate_behind image new (bank_at header which) same area (base_of image header which) start (omega arith))
+      ∙ holds_behind image new (bank_at header which) same area header.bank_bytes (base_of image header which) start (gate_at image area (base_of image header which) start) (omega arith) refl
+
+-- the same header and length
+pub same_header : (header : Header) (image new : List ℕ) → HasHeader image header → take 128 new ≡ take 128 image → length new ≡ length image → HasHeader new header
+same_header header image new has front long = record {
+  sound = ap (λ (n : ℕ). first_fault n (fields (take 128 new))) long ∙ ap (λ (these : List ℕ). first_fault (length image) (fields these)) front ∙ has.sound;
+  said = ap header_of front ∙ has.said;
+  whole = long ∙ has.whole;
+}
+
+pub header_held : (header : Header) (which : Which) (base gate : ℕ) (records : List (List RecordLine)) (image : List ℕ) → IsStore image header which base gate records → HasHeader image header
+header_held header which base gate records image is = record { sound = is.sound; said = is.said; whole = is.whole }
+
+module _ (header : Header) (which : Which) (base gate : ℕ) (records : List (List RecordLine)) (image : List ℕ) (is : IsStore image header which base gate records) where
+  -- the bytes of the bank and behind it are the same, and the header and the choice
+  pub store_behind : (new : List ℕ) → HasHeader new header → chosen new ≡ which → drop (bank_at header which) new ≡ drop (bank_at header which) image → IsStore new header which base gate records
+  store_behind new has chooses same = record {
+    sound = has.sound;
+    said = has.said;
+    whole = has.whole;
+    chooses = chooses;
+    from = base_behind header which image new same ∙ is.from;
+    holds = bank_behind header which image new same ∙ is.holds;
+  }
+
+  -- the bytes up to the end of the bank are the same
+  pub store_front : (new : List ℕ) (k : ℕ) → 0 < header.bank_bytes → take k new ≡ take k image → (area_of header which).end ≤ k → length new ≡ length image → IsStore new header which base gate records
+  store_front new k big front within long =
+      let ends = end_of image header which base gate records is big in
+      let inside : gate < k = omega (arith, ends.fits, within) in
+      store_same image header which base gate records is big new (shorter_front gate k new image front (omega (arith, inside))) long
+      (ap (λ (n : ℕ). n == 0xA5) (same_byte gate k new image front inside) ∙ ends.closed)
+
+-- the banks of a store have bytes
+pub store_big : (header : Header) (which : Which) (base gate : ℕ) (records : List (List RecordLine)) (image : List ℕ) → IsStore image header which base gate records → 0 < header.bank_bytes
+store_big header which base gate records image is =
+    let head = sound_header (take 128 image) (length image) is.sound in
+    let bytes : number_at (take 128 image) 12 4 ≡ header.bank_bytes = ap (λ (those : Header). those.bank_bytes) is.said in
+    omega (arith, head.least_bank, bytes)
+
+-- a bank that was begun anew: a base, and a closed gate
+pub store_empty : (header : Header) (which : Which) (base : ℕ) (image : List ℕ) → HasHeader image header → chosen image ≡ which → base_of image header which ≡ base → (slice_index image (area_at header which) == 0xA5) ≡ false
+    → IsStore image header which base (area_at header which) []
+unfolding holds_from
+store_empty header which base image has chooses from closed = record {
+  sound = has.sound;
+  said = has.said;
+  whole = has.whole;
+  chooses = chooses;
+  from = from;
+  holds = ap (holds_from image (area_of header which) header.bank_bytes (base_of image header which)) (closed_gate image (area_of header which) (base_of image header which) (area_at header which) closed);
+}
+
+-- two stores of one number and the same bytes stand for the same
+pub stands_alike : (header : Header) (image other : List ℕ) (which those : Which) (base from gate at : ℕ) (records more : List (List RecordLine)) → IsStore image header which base gate records → IsStore other header those from at more
+    → (base + length records) % 2 ^ 64 ≡ (from + length more) % 2 ^ 64 → fold laid (home_of image header) records ≡ fold laid (home_of other header) more → stands image ≡ stands other
+stands_alike header image other which those base from gate at records more first second number bytes =
+    stands_is image header which base gate records first
+    ∙ ap (λ (n : ℕ). Stands n (let store : FlatStore = record { directory = header.directory; bytes = fold laid (home_of image header) records } in store)) number
+    ∙ ap (λ (these : List ℕ). Stands ((from + length more) % 2 ^ 64) (let store : FlatStore = record { directory = header.directory; bytes = these } in store)) bytes
+    ∙ sym (stands_is other header those from at more second)
