@@ -1,6 +1,8 @@
-ghost use Rattle.std.specs.Prelude.{◌≡◌, ◌<◌, ◌+◌, false, true, IfNone, IfSome, OnSome};
+ghost use Rattle.std.specs.Prelude.{◌≡◌, ◌<◌, false, true, length, IfNone, IfSome, OnSome};
+ghost use Rattle.romp_cpu.specs.declared.storage.Probe.{Probe};
 ghost use Rattle.std.specs.Option.{ForSome};
-ghost use Rattle.flat_machine.specs.Access.{IsAccess, IsSoundPlan, FitsFrom};
+ghost use Rattle.flat_machine.specs.Access.{IsAccess, FitsFrom};
+ghost use Rattle.flat_machine.specs.Pending.{planned, IsSoundPending, StaysIfPending};
 ghost use Rattle.flat_machine.specs.Effect.{filled};
 ghost use Rattle.flat_machine.specs.Row.{plan, stored_bytes};
 ghost use Rattle.romp_cpu.specs.Shown.{bytes_from, halfword_of, access_to};
@@ -9,7 +11,7 @@ ghost use Rattle.romp_cpu.specs.Tried.{linked, refused_by, seen_in, tried, tried
 ghost use Rattle.romp_cpu.specs.Attempts.{GivesEveryRow, UndoesUnlessWent, IsOfFewBytes};
 
 use super::storage::{Access, Fault, Probe, Storage};
-use flat_machine::{Act, Cs, Fetch, Plan, fill, gather, plan};
+use flat_machine::{Act, Cs, Fetch, Pending, fill, gather, start_row};
 
 /// A processor: sixteen registers, the condition status, the address of the next instruction, and how many bytes were
 /// printed.
@@ -53,9 +55,12 @@ impl<'a, S: Storage> Fetch for Shown<'a, S> {
 
 impl Cpu {
     /// One attempt of the next instruction, a branch with execute and its subject being one. What it and its subject access
-    /// is asked for once, before anything changes: a fault, a commit and a check leave processor and storage as they were
-    /// (docs/MODEL.md).
+    /// is asked for once, before anything changes: a fault, a commit and a check leave processor and storage as they were.
+    ///
+    /// What comes follows from the instruction's plan and the storage's answer to its access alone: a fault exactly where
+    /// that is the answer, with the access that was asked (docs/MODEL.md).
     pub fn attempt<S: Storage>(&mut self, storage: &mut S) -> Attempt
+        ensures tried { record { attempt = result; cpu = self.new; state = S.state storage.new } ≡ tried (seen_in S.byte_at (answer_in S.registers S.is_in_frame S.refuses) S.stored (S.state storage.old)) self.old (plan (halfword_of (S.byte_at (S.state storage.old))) self.old.regs self.old.cs self.old.iar) }
         ensures row { GivesEveryRow self.old (seen_in S.byte_at (answer_in S.registers S.is_in_frame S.refuses) S.stored (S.state storage.old)) (record { attempt = result; cpu = self.new; state = S.state storage.new }) }
         ensures undone { UndoesUnlessWent result self.old self.new (S.state storage.old) (S.state storage.new) }
         ensures few { IsOfFewBytes result }
@@ -66,64 +71,68 @@ impl Cpu {
     /// Does what the next instruction is to do, as far as the storage permits.
     fn carry_out<S: Storage>(&mut self, storage: &mut S) -> Attempt
         ensures tried { record { attempt = result; cpu = self.new; state = S.state storage.new } ≡ tried (seen_in S.byte_at (answer_in S.registers S.is_in_frame S.refuses) S.stored (S.state storage.old)) self.old (plan (halfword_of (S.byte_at (S.state storage.old))) self.old.regs self.old.cs self.old.iar) }
-        ensures undone { UndoesUnlessWent result self.old self.new (S.state storage.old) (S.state storage.new) }
         ensures few { IsOfFewBytes result }
     {
-        match plan_over(storage, self) {
-            Plan::Fails(code) => Attempt::Check(code),
-            Plan::Does {
-                regs,
-                cs,
-                act,
+        match self.start(storage) {
+            Pending::Fails(code) => Attempt::Check(code),
+            Pending::Does {
+                act: Act::Nothing,
                 next,
                 link,
-            } => self.act(storage, act, regs, cs, next, link),
+            } => self.go_on(next, link),
+            Pending::Does { act, next, link } => self.act(storage, act, next, link),
         }
     }
 
-    /// What is left of an instruction whose plan is known.
+    /// Does to registers and status what the next instruction does, and tells what is left of it.
+    fn start<S: Storage>(&mut self, storage: &S) -> Pending
+        ensures value { plan (halfword_of (S.byte_at (S.state storage.now))) self.old.regs self.old.cs self.old.iar ≡ planned self.new.regs self.new.cs result }
+        ensures others { self.new ≡ record self.old { regs = self.new.regs; cs = self.new.cs } }
+        ensures stays { StaysIfPending result self.old.regs self.new.regs self.old.cs self.new.cs }
+        ensures sound { IsSoundPending result }
+    {
+        start_row(&Shown { storage }, &mut self.regs, &mut self.cs, self.iar)
+    }
+
+    /// What is left of an instruction that has done its registers and status.
+    #[inline(never)]
     fn act<S: Storage>(
         &mut self,
         storage: &mut S,
         act: Act,
-        regs: [u32; 16],
-        cs: Cs,
         next: u32,
         link: Option<(u8, u32)>,
     ) -> Attempt
         requires access { IsAccess act }
         requires link { ForSome link (λ written. written.0 < 16) }
-        ensures tried { record { attempt = result; cpu = self.new; state = S.state storage.new } ≡ tried_act (seen_in S.byte_at (answer_in S.registers S.is_in_frame S.refuses) S.stored (S.state storage.old)) self.old act regs cs next link }
+        ensures tried { record { attempt = result; cpu = self.new; state = S.state storage.new } ≡ tried_act (seen_in S.byte_at (answer_in S.registers S.is_in_frame S.refuses) S.stored (S.state storage.old)) self.old act self.old.regs self.old.cs next link }
         ensures few { IsOfFewBytes result }
     {
         match act {
-            Act::Nothing => self.go_on(regs, cs, next, link),
+            Act::Nothing => self.go_on(next, link),
             Act::Load {
                 address,
                 bytes,
                 to,
                 sign,
-            } => {
-                let mut regs = regs;
-                match load(storage, address, bytes, to, sign, &mut regs) {
-                    Some(refused) => refused,
-                    None => self.go_on(regs, cs, next, link),
-                }
-            }
+            } => match load(storage, address, bytes, to, sign, &mut self.regs) {
+                Some(refused) => refused,
+                None => self.go_on(next, link),
+            },
             Act::Store {
                 address,
                 bytes,
                 from,
-            } => match store(storage, address, bytes, from, &regs) {
+            } => match store(storage, address, bytes, from, &self.regs) {
                 Some(refused) => refused,
-                None => self.go_on(regs, cs, next, link),
+                None => self.go_on(next, link),
             },
             Act::Print(byte) => {
                 if self.printed >= 4096 {
                     return Attempt::Check(5);
                 }
                 self.printed += 1;
-                let _ = self.go_on(regs, cs, next, link);
+                let _ = self.go_on(next, link);
                 Attempt::Print(byte)
             }
             Act::Commit => Attempt::Commit,
@@ -131,28 +140,18 @@ impl Cpu {
         }
     }
 
-    /// The instruction takes effect, and its link is written.
-    fn go_on(&mut self, regs: [u32; 16], cs: Cs, next: u32, link: Option<(u8, u32)>) -> Attempt
+    /// The instruction takes effect: its link is written last.
+    fn go_on(&mut self, next: u32, link: Option<(u8, u32)>) -> Attempt
         requires { ForSome link (λ written. written.0 < 16) }
-        ensures cpu { self.new ≡ record { regs = linked link regs; cs = cs; iar = next; printed = self.old.printed } }
+        ensures cpu { self.new ≡ record self.old { regs = linked link self.old.regs; iar = next } }
         ensures went { result ≡ Attempt.Went }
     {
-        self.regs = regs;
-        self.cs = cs;
         self.iar = next;
         if let Some((register, address)) = link {
             self.regs[usize::from(register)] = address;
         }
         Attempt::Went
     }
-}
-
-/// What the next instruction is to do.
-fn plan_over<S: Storage>(storage: &S, cpu: &Cpu) -> Plan
-    ensures value { result ≡ plan (halfword_of (S.byte_at (S.state storage.now))) cpu.now.regs cpu.now.cs cpu.now.iar }
-    ensures sound { IsSoundPlan result }
-{
-    plan(&Shown { storage }, &cpu.regs, cpu.cs, cpu.iar)
 }
 
 /// Asks for the bytes of a load and fills registers with them, or answers why not.
@@ -168,6 +167,7 @@ fn load<S: Storage>(
     ensures state { S.state storage.new ≡ S.state storage.old }
     ensures refused { result ≡ refused_by (access_to address bytes false) (answer_in S.registers S.is_in_frame S.refuses (S.state storage.old) (access_to address bytes false)) }
     ensures few { IfSome result IsOfFewBytes }
+    ensures stays { OnSome result (regs.new ≡ regs.old) }
     ensures loaded { IfNone result (regs.new ≡ filled to sign (bytes_from (S.byte_at (S.state storage.old)) address bytes) regs.old) }
 {
     let access = Access {
@@ -177,12 +177,42 @@ fn load<S: Storage>(
     };
     let refused = refusal(storage.probe(&access), access);
     if refused.is_none() {
-        let mut room = [0; 64];
-        let part = &mut room[..usize::from(bytes)];
-        storage.load(address, part);
-        fill(to, sign, part, regs);
+        match bytes {
+            1 => fill_by(storage, address, &mut [0; 1], to, sign, regs),
+            2 => fill_by(storage, address, &mut [0; 2], to, sign, regs),
+            4 => fill_by(storage, address, &mut [0; 4], to, sign, regs),
+            _ => {
+                let mut room = [0; 64];
+                fill_by(
+                    storage,
+                    address,
+                    &mut room[..usize::from(bytes)],
+                    to,
+                    sign,
+                    regs,
+                );
+            }
+        }
     }
     refused
+}
+
+/// Fills registers with the bytes of a load that is permitted, as many as a room has.
+#[inline(always)]
+fn fill_by<S: Storage>(
+    storage: &S,
+    address: u32,
+    room: &mut [u8],
+    to: u8,
+    sign: bool,
+    regs: &mut [u32; 16],
+)
+    requires fits { FitsFrom (length room.old) to }
+    requires permitted { answer_in S.registers S.is_in_frame S.refuses (S.state storage.now) (access_to address (length room.old) false) ≡ Probe.Permitted }
+    ensures { regs.new ≡ filled to sign (bytes_from (S.byte_at (S.state storage.now)) address (length room.old)) regs.old }
+{
+    storage.load(address, room);
+    fill(to, sign, room, regs);
 }
 
 /// Asks for the range of a store and stores the bytes of registers there, or answers why not.
@@ -206,12 +236,34 @@ fn store<S: Storage>(
     };
     let refused = refusal(storage.probe(&access), access);
     if refused.is_none() {
-        let mut room = [0; 64];
-        let part = &mut room[..usize::from(bytes)];
-        gather(from, regs, part);
-        storage.store(address, part);
+        match bytes {
+            1 => store_by(storage, address, &mut [0; 1], from, regs),
+            2 => store_by(storage, address, &mut [0; 2], from, regs),
+            4 => store_by(storage, address, &mut [0; 4], from, regs),
+            _ => {
+                let mut room = [0; 64];
+                store_by(
+                    storage,
+                    address,
+                    &mut room[..usize::from(bytes)],
+                    from,
+                    regs,
+                );
+            }
+        }
     }
     refused
+}
+
+/// Stores the bytes of registers at a range that is permitted, as many as a room has.
+#[inline(always)]
+fn store_by<S: Storage>(storage: &mut S, address: u32, room: &mut [u8], from: u8, regs: &[u32; 16])
+    requires fits { FitsFrom (length room.old) from }
+    requires permitted { answer_in S.registers S.is_in_frame S.refuses (S.state storage.old) (access_to address (length room.old) true) ≡ Probe.Permitted }
+    ensures { S.state storage.new ≡ S.stored (S.state storage.old) address (stored_bytes regs.now (length room.old) from) }
+{
+    gather(from, regs, room);
+    storage.store(address, room);
 }
 
 /// What an attempt answers to an access that isn't permitted.
