@@ -1,6 +1,8 @@
 -- What an attempt of one instruction leaves.
 use Rattle.std.specs.Prelude.{◌≡◌, ℕ, ◌+◌, ◌*◌, ◌<◌, ◌≤◌, ◌^◌, Option, Some, None}
+use Rattle.desk.specs.Instruction.{room, limit_passed}
 use Rattle.desk.specs.declared.answers.TurnEnd.{TurnEnd}
+use Rattle.private_desk.specs.PrivateDesk.{desk_of}
 use Rattle.desk.specs.declared.answers.TurnEnd.TheVariants as end
 use Rattle.private_desk.specs.declared.single.Active.{Active}
 use Rattle.private_desk.specs.declared.single.Attempt.{Attempt}
@@ -51,6 +53,17 @@ abbrev pub HasAttempted : Attempt → Active → PrivateDesk → Type 0
 HasAttempted attempt.On active new = new.active ≡ Some (record active { rows = active.rows + 1 })
 HasAttempted attempt.Commit active new = (new.active ≡ Some active) × (new.used + (132 * new.storage.flat.marks.written + 12) ≤ new.header.bank_bytes)
 HasAttempted (attempt.Over end) active new = IsPlain end
+
+-- a record of the lines that are written so far fits the bank
+pub record FitsRecord (d : PrivateDesk) : Type 0 where
+  pub limit : limit_passed (room (desk_of d)) d.storage.flat.marks.written ≡ None
+  pub bytes : d.used + (132 * d.storage.flat.marks.written + 12) ≤ d.header.bank_bytes
+  pub few : d.storage.flat.marks.written ≤ 992
+
+-- the same after an attempt that goes on
+abbrev pub FitsIfOn : Attempt → PrivateDesk → Type 0
+FitsIfOn attempt.On new = FitsRecord new
+FitsIfOn _ new = Unit {0}
 
 -- the one that is active has done at most so many rows
 abbrev pub HaveRowsWithin : Option Active → ℕ → Type 0

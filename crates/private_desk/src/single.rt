@@ -100,7 +100,7 @@ impl PrivateDesk {
     ghost use Rattle.private_desk.specs.Executed.{IsExecuted};
     ghost use Rattle.private_desk.specs.Follows.{Follows};
     ghost use Rattle.private_desk.specs.Answered.{counts_of, commit_call, IsInstruction, IsTurn, IsCommitted, IsOfActivation};
-    ghost use Rattle.private_desk.specs.Attempts.{KeepsParts, KeepsBytes, IsPlain, IsTurned, HasAttempted, HasStopped, HaveRowsWithin, TalliesMore};
+    ghost use Rattle.private_desk.specs.Attempts.{KeepsParts, KeepsBytes, IsPlain, IsTurned, HasAttempted, HasStopped, HaveRowsWithin, TalliesMore, FitsRecord, FitsIfOn};
 
     /// A desk over a store with these bytes and no record in its bank, for so many begins of these programs.
     ///
@@ -210,13 +210,14 @@ impl PrivateDesk {
         ensures step { Follows self.old → (word : Word) → ReadsAll word → IsTurn word result activation limit self.old self.new tally.new }
         ensures active { IsOfActivation result activation }
     {
+        let mut fits = false;
         for _ in 0..limit {
             let active = match self.active {
                 Some(active) if active.number == activation => active,
                 _ => return Stop::Over(TurnEnd::Idle),
             };
-            match self.attempt(active, tally) {
-                Attempt::On => {}
+            match self.attempt(active, fits, tally) {
+                Attempt::On => fits = true,
                 Attempt::Commit => return Stop::Commit(active),
                 Attempt::Over(end) => return Stop::Over(end),
             }
@@ -256,16 +257,19 @@ impl PrivateDesk {
     }
 
     /// One instruction of the active activation, but for the commit's record: the processor attempts it, and where the
-    /// storage doesn't permit its access, that is served first.
-    fn attempt(&mut self, active: Active, tally: &mut Tally) -> Attempt
+    /// storage doesn't permit its access, that is served first. Where it is known that the written lines fit a record, the
+    /// limit on them is looked at only where lines are added.
+    fn attempt(&mut self, active: Active, fits: bool, tally: &mut Tally) -> Attempt
         requires sound { IsSound self.old }
         requires active { self.old.active ≡ Some active }
         requires rows { active.rows < self.old.turns * 1000000 }
         requires tally { (tally.old.ran < 1000000) × (tally.old.pages < 4000000) × (tally.old.locks < 2000000) }
+        requires fits { fits ≡ true → FitsRecord self.old }
         ensures sound { IsSound self.new }
         ensures parts { KeepsParts self.old self.new }
         ensures tally { TalliesMore tally.old tally.new }
         ensures attempted { HasAttempted result active self.new }
+        ensures fits { FitsIfOn result self.new }
         ensures bytes { KeepsBytes self.old self.new }
         ensures follows { Follows self.old → Follows self.new }
         ensures step { Follows self.old → (word : Word) → ReadsAll word → IsInstruction word result active self.old self.new tally.old tally.new }
@@ -280,7 +284,7 @@ impl PrivateDesk {
             return self.serve(active, access, tally);
         }
         let lines = self.storage.marks().written;
-        if let Some(most) = self.limit_passed(lines) {
+        if let Some(most) = self.limit_unless(fits, lines) {
             self.roll_back(active.number);
             return Attempt::Over(TurnEnd::Journal(lines, most));
         }
@@ -321,6 +325,7 @@ impl PrivateDesk {
         ensures parts { KeepsParts self.old self.new }
         ensures tally { TalliesMore tally.old tally.new }
         ensures attempted { HasAttempted result active self.new }
+        ensures fits { FitsIfOn result self.new }
         ensures bytes { KeepsBytes self.old self.new }
         ensures follows { Follows self.old → Follows self.new }
         ensures step { Follows self.old → (word : Word) → ReadsAll word → IsInstruction word result active self.old self.new tally.old tally.new }
@@ -343,16 +348,26 @@ impl PrivateDesk {
 
     /// The active activation has done one row more.
     fn count_row(&mut self, active: Active, tally: &mut Tally)
+        requires active { self.old.active ≡ Some active }
         requires rows { active.rows < 2 ^ 63 }
         requires tally { tally.old.ran < 1000000 }
         ensures desk { self.new ≡ record self.old { active = Some (record active { rows = active.rows + 1 }) } }
         ensures tally { tally.new ≡ record tally.old { ran = tally.old.ran + 1 } }
     {
-        self.active = Some(Active {
-            rows: active.rows + 1,
-            ..active
-        });
+        if let Some(runs) = &mut self.active {
+            runs.rows += 1;
+        }
         tally.ran += 1;
+    }
+
+    /// The same, where it may be known that they fit a record.
+    fn limit_unless(&self, fits: bool, lines: u32) -> Option<u32>
+        requires used { self.now.used ≤ self.now.header.bank_bytes }
+        requires fits { fits ≡ true → (limit_passed (room (desk_of self.now)) lines ≡ None) × (self.now.used + (132 * lines + 12) ≤ self.now.header.bank_bytes) × (lines ≤ 992) }
+        ensures none { IfNone result ((self.now.used + (132 * lines + 12) ≤ self.now.header.bank_bytes) × (lines ≤ 992)) }
+        ensures limit { result ≡ limit_passed (room (desk_of self.now)) lines }
+    {
+        if fits { None } else { self.limit_passed(lines) }
     }
 
     /// The limit that so many written lines pass, if they do.

@@ -1,10 +1,10 @@
-use Rattle.std.proofs.Common.{◌≡◌, ◌≤◌, ◌*◌, ◌+◌, ◌-◌}
+use Rattle.std.proofs.Common.{◌≡◌, ◌≤◌, ◌*◌, ◌+◌, ◌-◌, true}
 use Rattle.desk.specs.Instruction.{Word, Going, turns, no_counts}
 use Rattle.private_desk.specs.PrivateDesk.{desk_of, IsSound}
 use Rattle.flat_storage.specs.Words.{ReadsAll}
 use Rattle.private_desk.specs.Follows.{Follows}
 use Rattle.private_desk.specs.Answered.{counts_of}
-use Rattle.private_desk.specs.Attempts.{KeepsParts, KeepsBytes, HaveRowsWithin}
+use Rattle.private_desk.specs.Attempts.{KeepsParts, KeepsBytes, HaveRowsWithin, FitsRecord}
 use Rattle.private_desk.proofs.single.PrivateDesk.run_to_commit.Given as goal
 
 -- the desk is sound, each instruction counted no more than it may, and what is left of the turn leads where the whole does
@@ -16,6 +16,7 @@ invariant-loop l = record {
   ran : l.tally.ran ≤ l.counter;
   pages : l.tally.pages ≤ 4 * l.counter;
   locks : l.tally.locks ≤ 2 * l.counter;
+  fits : l.fits ≡ true → FitsRecord l.self;
   bytes : KeepsBytes l.fn.self l.self;
   follows : Follows l.fn.self → Follows l.self;
   step : Follows l.fn.self → (word : Word) → ReadsAll word
