@@ -1,4 +1,4 @@
-ghost use Rattle.std.specs.Prelude.{◌≡◌, ◌<◌, false, true, length, IfNone, IfSome, OnSome};
+ghost use Rattle.std.specs.Prelude.{◌≡◌, ◌<◌, false, true, length};
 ghost use Rattle.romp_cpu.specs.declared.storage.Probe.{Probe};
 ghost use Rattle.std.specs.Option.{ForSome};
 ghost use Rattle.flat_machine.specs.Access.{IsAccess, FitsFrom};
@@ -7,7 +7,7 @@ ghost use Rattle.flat_machine.specs.Effect.{filled};
 ghost use Rattle.flat_machine.specs.Row.{plan, stored_bytes};
 ghost use Rattle.romp_cpu.specs.Shown.{bytes_from, halfword_of, access_to};
 ghost use Rattle.romp_cpu.specs.Answers.{answer_in};
-ghost use Rattle.romp_cpu.specs.Tried.{linked, refused_by, seen_in, tried, tried_act};
+ghost use Rattle.romp_cpu.specs.Tried.{linked, seen_in, tried, tried_act};
 ghost use Rattle.romp_cpu.specs.Attempts.{GivesEveryRow, UndoesUnlessWent, IsOfFewBytes};
 
 use super::storage::{Access, Fault, Probe, Storage};
@@ -75,11 +75,6 @@ impl Cpu {
     {
         match self.start(storage) {
             Pending::Fails(code) => Attempt::Check(code),
-            Pending::Does {
-                act: Act::Nothing,
-                next,
-                link,
-            } => self.go_on(next, link),
             Pending::Does { act, next, link } => self.act(storage, act, next, link),
         }
     }
@@ -95,7 +90,6 @@ impl Cpu {
     }
 
     /// What is left of an instruction that has done its registers and status.
-    #[inline(never)]
     fn act<S: Storage>(
         &mut self,
         storage: &mut S,
@@ -115,18 +109,40 @@ impl Cpu {
                 bytes,
                 to,
                 sign,
-            } => match load(storage, address, bytes, to, sign, &mut self.regs) {
-                Some(refused) => refused,
-                None => self.go_on(next, link),
-            },
+            } => {
+                let access = Access {
+                    address,
+                    bytes,
+                    store: false,
+                };
+                match storage.probe(&access) {
+                    Probe::Permitted => {
+                        load(storage, address, bytes, to, sign, &mut self.regs);
+                        self.go_on(next, link)
+                    }
+                    Probe::Check(code) => Attempt::Check(code),
+                    Probe::Fault(fault) => Attempt::Fault(fault, access),
+                }
+            }
             Act::Store {
                 address,
                 bytes,
                 from,
-            } => match store(storage, address, bytes, from, &self.regs) {
-                Some(refused) => refused,
-                None => self.go_on(next, link),
-            },
+            } => {
+                let access = Access {
+                    address,
+                    bytes,
+                    store: true,
+                };
+                match storage.probe(&access) {
+                    Probe::Permitted => {
+                        store(storage, address, bytes, from, &self.regs);
+                        self.go_on(next, link)
+                    }
+                    Probe::Check(number) => Attempt::Check(number),
+                    Probe::Fault(why) => Attempt::Fault(why, access),
+                }
+            }
             Act::Print(byte) => {
                 if self.printed >= 4096 {
                     return Attempt::Check(5);
@@ -154,50 +170,25 @@ impl Cpu {
     }
 }
 
-/// Asks for the bytes of a load and fills registers with them, or answers why not.
-fn load<S: Storage>(
-    storage: &mut S,
-    address: u32,
-    bytes: u8,
-    to: u8,
-    sign: bool,
-    regs: &mut [u32; 16],
-) -> Option<Attempt>
-    requires { FitsFrom bytes to }
-    ensures state { S.state storage.new ≡ S.state storage.old }
-    ensures refused { result ≡ refused_by (access_to address bytes false) (answer_in S.registers S.is_in_frame S.refuses (S.state storage.old) (access_to address bytes false)) }
-    ensures few { IfSome result IsOfFewBytes }
-    ensures stays { OnSome result (regs.new ≡ regs.old) }
-    ensures loaded { IfNone result (regs.new ≡ filled to sign (bytes_from (S.byte_at (S.state storage.old)) address bytes) regs.old) }
+/// Fills registers with the bytes of a load that is permitted.
+fn load<S: Storage>(storage: &S, address: u32, bytes: u8, to: u8, sign: bool, regs: &mut [u32; 16])
+    requires fits { FitsFrom bytes to }
+    requires permitted { answer_in S.registers S.is_in_frame S.refuses (S.state storage.now) (access_to address bytes false) ≡ Probe.Permitted }
+    ensures { regs.new ≡ filled to sign (bytes_from (S.byte_at (S.state storage.now)) address bytes) regs.old }
 {
-    let access = Access {
-        address,
-        bytes,
-        store: false,
-    };
-    let refused = refusal(storage.probe(&access), access);
-    if refused.is_none() {
-        match bytes {
-            1 => fill_by(storage, address, &mut [0; 1], to, sign, regs),
-            2 => fill_by(storage, address, &mut [0; 2], to, sign, regs),
-            4 => fill_by(storage, address, &mut [0; 4], to, sign, regs),
-            _ => {
-                let mut room = [0; 64];
-                fill_by(
-                    storage,
-                    address,
-                    &mut room[..usize::from(bytes)],
-                    to,
-                    sign,
-                    regs,
-                );
-            }
+    match bytes {
+        1 => fill_by(storage, address, &mut [0; 1], to, sign, regs),
+        2 => fill_by(storage, address, &mut [0; 2], to, sign, regs),
+        4 => fill_by(storage, address, &mut [0; 4], to, sign, regs),
+        _ => {
+            let mut room = [0; 64];
+            let part = &mut room[..usize::from(bytes)];
+            fill_by(storage, address, part, to, sign, regs);
         }
     }
-    refused
 }
 
-/// Fills registers with the bytes of a load that is permitted, as many as a room has.
+/// The same, by a room for as many bytes.
 #[inline(always)]
 fn fill_by<S: Storage>(
     storage: &S,
@@ -215,47 +206,25 @@ fn fill_by<S: Storage>(
     fill(to, sign, room, regs);
 }
 
-/// Asks for the range of a store and stores the bytes of registers there, or answers why not.
-fn store<S: Storage>(
-    storage: &mut S,
-    address: u32,
-    bytes: u8,
-    from: u8,
-    regs: &[u32; 16],
-) -> Option<Attempt>
-    requires { FitsFrom bytes from }
-    ensures refused { result ≡ refused_by (access_to address bytes true) (answer_in S.registers S.is_in_frame S.refuses (S.state storage.old) (access_to address bytes true)) }
-    ensures few { IfSome result IsOfFewBytes }
-    ensures stays { OnSome result (S.state storage.new ≡ S.state storage.old) }
-    ensures stored { IfNone result (S.state storage.new ≡ S.stored (S.state storage.old) address (stored_bytes regs.now bytes from)) }
+/// Stores the bytes of registers at a range that is permitted.
+fn store<S: Storage>(storage: &mut S, address: u32, bytes: u8, from: u8, regs: &[u32; 16])
+    requires fits { FitsFrom bytes from }
+    requires permitted { answer_in S.registers S.is_in_frame S.refuses (S.state storage.old) (access_to address bytes true) ≡ Probe.Permitted }
+    ensures { S.state storage.new ≡ S.stored (S.state storage.old) address (stored_bytes regs.now bytes from) }
 {
-    let access = Access {
-        address,
-        bytes,
-        store: true,
-    };
-    let refused = refusal(storage.probe(&access), access);
-    if refused.is_none() {
-        match bytes {
-            1 => store_by(storage, address, &mut [0; 1], from, regs),
-            2 => store_by(storage, address, &mut [0; 2], from, regs),
-            4 => store_by(storage, address, &mut [0; 4], from, regs),
-            _ => {
-                let mut room = [0; 64];
-                store_by(
-                    storage,
-                    address,
-                    &mut room[..usize::from(bytes)],
-                    from,
-                    regs,
-                );
-            }
+    match bytes {
+        1 => store_by(storage, address, &mut [0; 1], from, regs),
+        2 => store_by(storage, address, &mut [0; 2], from, regs),
+        4 => store_by(storage, address, &mut [0; 4], from, regs),
+        _ => {
+            let mut room = [0; 64];
+            let part = &mut room[..usize::from(bytes)];
+            store_by(storage, address, part, from, regs);
         }
     }
-    refused
 }
 
-/// Stores the bytes of registers at a range that is permitted, as many as a room has.
+/// The same, by a room for as many bytes.
 #[inline(always)]
 fn store_by<S: Storage>(storage: &mut S, address: u32, room: &mut [u8], from: u8, regs: &[u32; 16])
     requires fits { FitsFrom (length room.old) from }
@@ -264,15 +233,4 @@ fn store_by<S: Storage>(storage: &mut S, address: u32, room: &mut [u8], from: u8
 {
     gather(from, regs, room);
     storage.store(address, room);
-}
-
-/// What an attempt answers to an access that isn't permitted.
-fn refusal(probe: Probe, access: Access) -> Option<Attempt>
-    ensures { result ≡ refused_by access probe }
-{
-    match probe {
-        Probe::Permitted => None,
-        Probe::Check(code) => Some(Attempt::Check(code)),
-        Probe::Fault(fault) => Some(Attempt::Fault(fault, access)),
-    }
 }
