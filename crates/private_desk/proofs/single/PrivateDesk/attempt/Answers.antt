@@ -111,8 +111,8 @@ returns-in-Commit c =
     let mid = c.execute-went.new.self in
     let others = c.execute-went.ensures.others in
     let ran : OnlyRan d mid = record { others = others; kept = c.execute-went.ensures.kept } in
-    let none = none-of c.limit_unless.result c.in_default-limit_unless.not-Some in
-    let within = subst (λ (limit : Option ℕ). IfNone limit ((mid.used + (132 * c.marks.result.now.written + 12) ≤ mid.header.bank_bytes) × (c.marks.result.now.written ≤ 992))) none c.limit_unless.ensures.none in
+    let none = none-of c.limit_passed.result c.in_default-limit_passed.not-Some in
+    let within = subst (λ (limit : Option ℕ). IfNone limit ((mid.used + (132 * c.marks.result.now.written + 12) ≤ mid.header.bank_bytes) × (c.marks.result.now.written ≤ 992))) none c.limit_passed.ensures.none in
     let written : c.marks.result.now.written ≡ mid.storage.flat.marks.written = ap (λ (m : LineMarks). m.written) c.marks.ensures in
     let same : Follows d → live_of mid ≡ live_of d =
     λ follows.
@@ -134,7 +134,7 @@ returns-in-Commit c =
           at_commit word d c.args.active program on c.args.tally.now c.marks.result.now.written
           (written ∙ ap (λ (f : Flat). f.marks.written) ran.kept ∙ counted)
           (row-at d program Commit c.requires.sound is)
-          (sym none ∙ c.limit_unless.ensures.limit ∙ ap (λ (desk : Desk). limit_passed (room desk) c.marks.result.now.written) (desk-from d mid ran))
+          (sym none ∙ c.limit_passed.ensures.limit ∙ ap (λ (desk : Desk). limit_passed (room desk) c.marks.result.now.written) (desk-from d mid ran))
           ∙ ap (λ (live : Plain). commits word (commit_call c.args.active program live) (desk_of d) (counts_of c.args.tally.now)) (sym kept)
           ∙ ap (λ (desk : Desk). commits word (commit_call c.args.active program (live_of mid)) desk (counts_of c.args.tally.now)) (sym (desk-from d mid ran));
     }
@@ -157,7 +157,7 @@ returns c =
     let ran : OnlyRan d mid = record { others = others; kept = c.execute-went.ensures.kept } in
     let on-mid : mid.active ≡ Some c.args.active = ap (λ (e : PrivateDesk). e.active) others ∙ c.requires.active in
     let counted-on : CountedOn d mid new c.args.active = record { others = others; counted = c.count_row.ensures.desk } in
-    let none = none-of c.limit_unless.result c.in_default-limit_unless.not-Some in
+    let none = none-of c.limit_passed.result c.in_default-limit_passed.not-Some in
     let goes : (program : Program) → Runs d c.args.active program → GoesOpen program d.storage.flat (live_of d) (live_of mid) mid.cpu =
     λ program on.
     took-effect c.execute-went.result program d mid c.in_default.not-Check c.in_default-went.not-Fault c.in_default-went-2.not-Commit
@@ -177,11 +177,11 @@ returns c =
       };
       attempted = ap (λ (e : PrivateDesk). e.active) c.count_row.ensures.desk;
       fits =
-          let within = subst (λ (limit : Option ℕ). IfNone limit ((mid.used + (132 * c.marks.result.now.written + 12) ≤ mid.header.bank_bytes) × (c.marks.result.now.written ≤ 992))) none c.limit_unless.ensures.none in
+          let within = subst (λ (limit : Option ℕ). IfNone limit ((mid.used + (132 * c.marks.result.now.written + 12) ≤ mid.header.bank_bytes) × (c.marks.result.now.written ≤ 992))) none c.limit_passed.ensures.none in
           let written : c.marks.result.now.written ≡ mid.storage.flat.marks.written = ap (λ (m : LineMarks). m.written) c.marks.ensures in
           subst FitsRecord (sym c.count_row.ensures.desk)
           (record {
-            limit = ap (limit_passed (room (desk_of mid))) (sym written) ∙ sym c.limit_unless.ensures.limit ∙ none;
+            limit = ap (limit_passed (room (desk_of mid))) (sym written) ∙ sym c.limit_passed.ensures.limit ∙ none;
             bytes = omega (arith, within.0, written);
             few = omega (arith, within.1, written);
           });
@@ -198,5 +198,5 @@ returns c =
           (ap (λ (m : LineMarks). m.written) c.marks.ensures ∙ ap (λ (f : Flat). f.marks.written) ran.kept ∙ counted)
           (live_of mid) new c.count_row.new.tally (reached follows program on) reads
           (row-at d program (On (live_of mid)) c.requires.sound (goes program on).goes)
-          (sym none ∙ c.limit_unless.ensures.limit ∙ ap (λ (desk : Desk). limit_passed (room desk) c.marks.result.now.written) (desk-from d mid ran));
+          (sym none ∙ c.limit_passed.ensures.limit ∙ ap (λ (desk : Desk). limit_passed (room desk) c.marks.result.now.written) (desk-from d mid ran));
     }
