@@ -273,6 +273,7 @@ impl Storage for FlatStorage {
 
 impl FlatStorage {
     /// One attempt of the next instruction of a processor over this storage (docs/MODEL.md).
+    #[inline(always)]
     pub fn attempt(&mut self, cpu: &mut Cpu) -> Attempt
         ensures kept { (program : Program) → HasWindows self.old.flat program → self.new.flat ≡ record self.old.flat { private = self.new.flat.private; store = self.new.flat.store } }
         ensures row { (program : Program) (out : List ℕ) → HasWindows self.old.flat program → length out ≡ cpu.old.printed → length out ≤ 4096 → IsRow program out result cpu.old cpu.new self.old.flat self.new.flat }

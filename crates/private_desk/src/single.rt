@@ -326,6 +326,7 @@ impl PrivateDesk {
     }
 
     /// The same, without counting the rows.
+    #[inline(never)]
     fn stride(&mut self, limit: u32) -> (u32, Option<Access>)
         requires sound { IsSound self.old }
         requires active { IsSome self.old.active }
@@ -350,6 +351,7 @@ impl PrivateDesk {
 
     /// One instruction of the active activation, but for the commit's record: the processor attempts it, and where the
     /// storage doesn't permit its access, that is served first.
+    #[inline(never)]
     fn attempt(&mut self, active: Active, tally: &mut Tally) -> Attempt
         requires sound { IsSound self.old }
         requires active { self.old.active ≡ Some active }
@@ -386,6 +388,7 @@ impl PrivateDesk {
     }
 
     /// The processor attempts the next instruction over the storage; a byte that it prints is kept.
+    #[inline(always)]
     fn execute(&mut self) -> Tried
         requires sound { IsSound self.old }
         requires active { IsSome self.old.active }
@@ -403,6 +406,7 @@ impl PrivateDesk {
     }
 
     /// Serves the access of the next instruction of the active activation, and attempts the instruction again.
+    #[inline(never)]
     fn serve(&mut self, active: Active, access: Access, tally: &mut Tally) -> Attempt
         requires sound { IsSound self.old }
         requires active { self.old.active ≡ Some active }

@@ -59,6 +59,7 @@ impl Cpu {
     ///
     /// What comes follows from the instruction's plan and the storage's answer to its access alone: a fault exactly where
     /// that is the answer, with the access that was asked (docs/MODEL.md).
+    #[inline(always)]
     pub fn attempt<S: Storage>(&mut self, storage: &mut S) -> Attempt
         ensures tried { record { attempt = result; cpu = self.new; state = S.state storage.new } ≡ tried (seen_in S.byte_at (answer_in S.registers S.is_in_frame S.refuses) S.stored (S.state storage.old)) self.old (plan (halfword_of (S.byte_at (S.state storage.old))) self.old.regs self.old.cs self.old.iar) }
         ensures row { GivesEveryRow self.old (seen_in S.byte_at (answer_in S.registers S.is_in_frame S.refuses) S.stored (S.state storage.old)) (record { attempt = result; cpu = self.new; state = S.state storage.new }) }
@@ -69,6 +70,7 @@ impl Cpu {
     }
 
     /// Does what the next instruction is to do, as far as the storage permits.
+    #[inline(always)]
     fn carry_out<S: Storage>(&mut self, storage: &mut S) -> Attempt
         ensures tried { record { attempt = result; cpu = self.new; state = S.state storage.new } ≡ tried (seen_in S.byte_at (answer_in S.registers S.is_in_frame S.refuses) S.stored (S.state storage.old)) self.old (plan (halfword_of (S.byte_at (S.state storage.old))) self.old.regs self.old.cs self.old.iar) }
         ensures few { IsOfFewBytes result }
@@ -80,6 +82,7 @@ impl Cpu {
     }
 
     /// Does to registers and status what the next instruction does, and tells what is left of it.
+    #[inline(always)]
     fn start<S: Storage>(&mut self, storage: &S) -> Pending
         ensures value { plan (halfword_of (S.byte_at (S.state storage.now))) self.old.regs self.old.cs self.old.iar ≡ planned self.new.regs self.new.cs result }
         ensures others { self.new ≡ record self.old { regs = self.new.regs; cs = self.new.cs } }
@@ -90,6 +93,7 @@ impl Cpu {
     }
 
     /// What is left of an instruction that has done its registers and status.
+    #[inline(always)]
     fn act<S: Storage>(
         &mut self,
         storage: &mut S,
@@ -157,6 +161,7 @@ impl Cpu {
     }
 
     /// The instruction takes effect: its link is written last.
+    #[inline(always)]
     fn go_on(&mut self, next: u32, link: Option<(u8, u32)>) -> Attempt
         requires { ForSome link (λ written. written.0 < 16) }
         ensures cpu { self.new ≡ record self.old { regs = linked link self.old.regs; iar = next } }
