@@ -108,7 +108,7 @@ module _ (old d mid : PrivateDesk) (active : Active) (n : ℕ) (ran : OnlyRan d 
             ∙ ap (turns word active.number rest)
             (went_on word at more program on (record tally { ran = tally.ran + n }) d.storage.flat.marks.written
             (counted-goes at more program on sound_at (counted mid active n) goes).1
-            (live_of mid) (counted mid active (n + 1)) (record tally { ran = tally.ran + (n + 1) }) (reached tally) reads goes_row (sym fits.limit));
+            (live_of mid) (counted mid active (n + 1)) (record tally { ran = tally.ran + (n + 1) }) (reached tally) reads goes_row (sym fits));
       }
 
 -- what is done after something was done
@@ -122,11 +122,7 @@ ran-after old d mid first then = record {
 pub fits-ran : (d mid : PrivateDesk) → OnlyRan d mid → FitsRecord d → FitsRecord mid
 fits-ran d mid ran fits =
     let written : mid.storage.flat.marks.written ≡ d.storage.flat.marks.written = ap (λ (f : Flat). f.marks.written) ran.kept in
-    let as_ran : FitsRecord (record d { cpu = mid.cpu; storage = mid.storage; out = mid.out }) = record {
-      limit = ap (limit_passed (room (desk_of d))) written ∙ fits.limit;
-      bytes = omega (arith, fits.bytes, written);
-      few = omega (arith, fits.few, written);
-    } in
+    let as_ran : FitsRecord (record d { cpu = mid.cpu; storage = mid.storage; out = mid.out }) = ap (limit_passed (room (desk_of d))) written ∙ fits in
     subst FitsRecord (sym ran.others) as_ran
 
 -- an attempt that took effect

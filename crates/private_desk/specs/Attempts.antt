@@ -61,10 +61,8 @@ HasAttempted attempt.Commit active new = (new.active ≡ Some active) × (new.us
 HasAttempted (attempt.Over end) active new = IsPlain end
 
 -- a record of the lines that are written so far fits the bank
-pub record FitsRecord (d : PrivateDesk) : Type 0 where
-  pub limit : limit_passed (room (desk_of d)) d.storage.flat.marks.written ≡ None
-  pub bytes : d.used + (132 * d.storage.flat.marks.written + 12) ≤ d.header.bank_bytes
-  pub few : d.storage.flat.marks.written ≤ 992
+abbrev pub FitsRecord : PrivateDesk → Type 0
+FitsRecord d = limit_passed (room (desk_of d)) d.storage.flat.marks.written ≡ None
 
 -- the same after an attempt that goes on
 abbrev pub FitsIfOn : Attempt → PrivateDesk → Type 0

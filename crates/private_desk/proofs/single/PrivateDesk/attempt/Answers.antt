@@ -177,14 +177,8 @@ returns c =
       };
       attempted = ap (λ (e : PrivateDesk). e.active) c.count_row.ensures.desk;
       fits =
-          let within = subst (λ (limit : Option ℕ). IfNone limit ((mid.used + (132 * c.marks.result.now.written + 12) ≤ mid.header.bank_bytes) × (c.marks.result.now.written ≤ 992))) none c.limit_passed.ensures.none in
           let written : c.marks.result.now.written ≡ mid.storage.flat.marks.written = ap (λ (m : LineMarks). m.written) c.marks.ensures in
-          subst FitsRecord (sym c.count_row.ensures.desk)
-          (record {
-            limit = ap (limit_passed (room (desk_of mid))) (sym written) ∙ sym c.limit_passed.ensures.limit ∙ none;
-            bytes = omega (arith, within.0, written);
-            few = omega (arith, within.1, written);
-          });
+          subst FitsRecord (sym c.count_row.ensures.desk) (ap (limit_passed (room (desk_of mid))) (sym written) ∙ sym c.limit_passed.ensures.limit ∙ none);
       bytes = counted-bytes d mid new c.args.active counted-on;
       follows = λ follows.
           let (program, on) = runs d c.args.active follows c.requires.active in
