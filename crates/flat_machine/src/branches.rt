@@ -6,6 +6,7 @@ use super::machine::{Branch, Cs};
 use romp_table::{Inst, Op};
 
 /// What a branch or jump at an address does (docs/FORMATS.md).
+#[inline(always)]
 pub fn branch(inst: &Inst, regs: &[u32; 16], cs: &Cs, iar: u32) -> Branch
     requires widths { HasWidths inst.now }
     requires branches { IsTrue (is_branch inst.now) }
@@ -27,6 +28,7 @@ pub fn branch(inst: &Inst, regs: &[u32; 16], cs: &Cs, iar: u32) -> Branch
 }
 
 /// Whether an instruction branches or jumps.
+#[inline(always)]
 pub fn branches(inst: &Inst) -> bool
     ensures { result ≡ is_branch inst.now }
 {
@@ -38,6 +40,7 @@ pub fn branches(inst: &Inst) -> bool
 }
 
 /// Whether a row of format R branches.
+#[inline(always)]
 fn branches_by_register(op: Op) -> bool
     ensures { result ≡ is_register_branch op }
 {
@@ -65,6 +68,7 @@ pub fn is_subject(inst: &Inst) -> bool
 }
 
 /// A branch with this operation and field B, to an address if it is taken.
+#[inline(always)]
 fn branches_to(op: Op, b: u8, cs: &Cs, to: u32) -> Branch
     requires { b < 16 }
     ensures value { result ≡ branch_to op b cs.now to }
@@ -78,6 +82,7 @@ fn branches_to(op: Op, b: u8, cs: &Cs, to: u32) -> Branch
 }
 
 /// Whether a branch is taken.
+#[inline(always)]
 fn takes(op: Op, cs: &Cs, field: u8) -> bool
     ensures { result ≡ is_taken op cs.now field }
 {
@@ -89,6 +94,7 @@ fn takes(op: Op, cs: &Cs, field: u8) -> bool
 }
 
 /// The register that gets the link, if the row has one.
+#[inline(always)]
 fn link_register(op: Op, b: u8) -> Option<u8>
     requires { b < 16 }
     ensures value { result ≡ link_of op b }
@@ -102,6 +108,7 @@ fn link_register(op: Op, b: u8) -> Option<u8>
 }
 
 /// Whether the instruction after a branch is its subject.
+#[inline(always)]
 fn has_subject(op: Op) -> bool
     ensures { result ≡ executes op }
 {
@@ -112,6 +119,7 @@ fn has_subject(op: Op) -> bool
 }
 
 /// The value of a condition field.
+#[inline(always)]
 fn holds(cs: &Cs, field: u8) -> bool
     ensures { result ≡ condition cs.now field }
 {

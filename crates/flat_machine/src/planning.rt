@@ -1,14 +1,15 @@
-ghost use Rattle.std.specs.Prelude.{ℕ, Option, ◌≡◌, ◌<◌, ◌≤◌, ◌+◌, IfOk, OnOk, IfSome, OnSome, IsTrue};
+ghost use Rattle.std.specs.Prelude.{ℕ, List, Option, ◌≡◌, ◌<◌, ◌≤◌, ◌+◌, IfOk, OnOk, IfSome, OnSome, IsTrue};
 ghost use Rattle.std.specs.Option.{ForSome};
 ghost use Rattle.std.specs.Result.{ForOk};
 ghost use Rattle.romp_table.specs.Legal.{HasWidths};
-ghost use Rattle.flat_machine.specs.Access.{IsAccess, IsSoundPlan};
-ghost use Rattle.flat_machine.specs.Effect.{effect_of};
-ghost use Rattle.flat_machine.specs.Row.{plan, plan_of, plan_of_branch, plan_of_pair, plan_alone, goes_by, fetched};
+ghost use Rattle.flat_machine.specs.Access.{IsAccess};
+ghost use Rattle.flat_machine.specs.Pending.{planned, IsSoundPending, StaysIfPending, StaysIfWanting};
+ghost use Rattle.flat_machine.specs.declared.machine.Cs.{Cs};
+ghost use Rattle.flat_machine.specs.Row.{plan, plan_of, plan_of_pair, goes_by, fetched};
 
 use super::branches::{branch, branches, is_subject};
 use super::effects::effect;
-use super::machine::{Act, Branch, Cs, Plan};
+use super::machine::{Act, Branch, Cs, Pending};
 use romp_table::{Inst, decode, length_of};
 
 /// What instructions are fetched from: 16,384 bytes.
@@ -26,102 +27,94 @@ pub trait Fetch {
         ensures within { OnSome result (address + 2 ≤ 16384) };
 }
 
-/// What the row at an address is to do. It looks at no byte of the store, and changes nothing (docs/MODEL.md).
-pub fn plan<F: Fetch>(code: &F, regs: &[u32; 16], cs: Cs, iar: u32) -> Plan
+/// Does to registers and status what the row at an address does, and tells what is left of it. Where it wants something
+/// beside them, and where its fetch fails, they stay. It looks at no byte of the store (docs/MODEL.md).
+#[inline(always)]
+pub fn start_row<F: Fetch>(code: &F, regs: &mut [u32; 16], cs: &mut Cs, iar: u32) -> Pending
     requires { F.is_whole code.now }
-    ensures value { result ≡ plan (F.halfword_at code.now) regs.now cs iar }
-    ensures sound { IsSoundPlan result }
+    ensures value { plan (F.halfword_at code.now) regs.old cs.old iar ≡ planned regs.new cs.new result }
+    ensures stays { StaysIfPending result regs.old regs.new cs.old cs.new }
+    ensures sound { IsSoundPending result }
 {
     match fetch_instruction(code, iar) {
-        Err(code) => Plan::Fails(code),
-        Ok((inst, bytes)) => plan_instruction(code, &inst, bytes, regs, cs, iar),
+        Err(code) => Pending::Fails(code),
+        Ok((inst, bytes)) => start_instruction(code, &inst, bytes, regs, cs, iar),
     }
 }
 
-/// What an instruction of so many bytes is to do.
-fn plan_instruction<F: Fetch>(
+/// The same of an instruction of so many bytes.
+#[inline(always)]
+fn start_instruction<F: Fetch>(
     code: &F,
     inst: &Inst,
     bytes: u8,
-    regs: &[u32; 16],
-    cs: Cs,
+    regs: &mut [u32; 16],
+    cs: &mut Cs,
     iar: u32,
-) -> Plan
+) -> Pending
     requires whole { F.is_whole code.now }
     requires widths { HasWidths inst.now }
     requires within { iar < 16384 }
     requires bytes { bytes ≤ 4 }
-    ensures value { result ≡ plan_of (F.halfword_at code.now) inst.now bytes regs.now cs iar }
-    ensures sound { IsSoundPlan result }
+    ensures value { plan_of (F.halfword_at code.now) inst.now bytes regs.old cs.old iar ≡ planned regs.new cs.new result }
+    ensures stays { StaysIfPending result regs.old regs.new cs.old cs.new }
+    ensures sound { IsSoundPending result }
 {
     let after = iar + u32::from(bytes);
     if !branches(inst) {
-        return plan_effect(inst, regs, cs, after);
+        let act = effect(inst, regs, cs);
+        return Pending::Does {
+            act,
+            next: after,
+            link: None,
+        };
     }
-    let way = branch(inst, regs, &cs, iar);
+    let way = branch(inst, regs, cs, iar);
     if way.execute {
-        plan_pair(way, fetch_instruction(code, after), regs, cs, after)
+        start_pair(code, way, regs, cs, after)
     } else {
-        go_by(way, *regs, cs, Act::Nothing, after)
+        go_by(way, Act::Nothing, after)
     }
 }
 
-/// What an instruction that neither branches nor jumps is to do.
-fn plan_effect(inst: &Inst, regs: &[u32; 16], cs: Cs, after: u32) -> Plan
-    requires { HasWidths inst.now }
-    ensures value { result ≡ plan_alone (effect_of inst.now regs.now cs) after }
-    ensures sound { IsSoundPlan result }
-{
-    let mut regs = *regs;
-    let mut cs = cs;
-    let act = effect(inst, &mut regs, &mut cs);
-    Plan::Does {
-        regs,
-        cs,
-        act,
-        next: after,
-        link: None,
-    }
-}
-
-/// What a branch with execute is to do, by its subject, which stands at an address.
-fn plan_pair(
+/// The same of a branch with execute, by its subject, which stands at an address. The branch is the one that registers and
+/// status before the subject make.
+#[inline(never)]
+fn start_pair<F: Fetch>(
+    code: &F,
     way: Branch,
-    subject: Result<(Inst, u8), u8>,
-    regs: &[u32; 16],
-    cs: Cs,
+    regs: &mut [u32; 16],
+    cs: &mut Cs,
     address: u32,
-) -> Plan
+) -> Pending
+    requires whole { F.is_whole code.now }
     requires link { ForSome way.link (λ register. register < 16) }
-    requires widths { ForOk subject (λ fetch. HasWidths fetch.0) }
-    requires bytes { ForOk subject (λ fetch. fetch.1 ≤ 4) }
     requires within { address ≤ 16388 }
-    ensures value { result ≡ plan_of_pair way subject regs.now cs address }
-    ensures sound { IsSoundPlan result }
+    ensures value { plan_of_pair way (fetched (F.halfword_at code.now) address) regs.old cs.old address ≡ planned regs.new cs.new result }
+    ensures stays { StaysIfPending result regs.old regs.new cs.old cs.new }
+    ensures sound { IsSoundPending result }
 {
-    let (inst, bytes) = match subject {
-        Err(code) => return Plan::Fails(code),
+    let (inst, bytes) = match fetch_instruction(code, address) {
+        Err(code) => return Pending::Fails(code),
         Ok(fetch) => fetch,
     };
     if !is_subject(&inst) {
-        return Plan::Fails(4);
+        return Pending::Fails(4);
     }
-    let mut regs = *regs;
-    let mut cs = cs;
-    let act = effect(&inst, &mut regs, &mut cs);
-    go_by(way, regs, cs, act, address + u32::from(bytes))
+    let act = effect(&inst, regs, cs);
+    go_by(way, act, address + u32::from(bytes))
 }
 
 /// Control goes to a branch's target, or else to the address after the row, which is the link.
-fn go_by(way: Branch, regs: [u32; 16], cs: Cs, act: Act, after: u32) -> Plan
+#[inline(always)]
+fn go_by(way: Branch, act: Act, after: u32) -> Pending
     requires link { ForSome way.link (λ register. register < 16) }
     requires access { IsAccess act }
-    ensures value { result ≡ goes_by way (record { registers = regs; status = cs; act = act }) after }
-    ensures sound { IsSoundPlan result }
+    ensures value { (registers : List ℕ) (status : Cs) → goes_by way (record { registers = registers; status = status; act = act }) after ≡ planned registers status result }
+    ensures stays { (old new : List ℕ) (before now : Cs) → StaysIfWanting act old new before now → StaysIfPending result old new before now }
+    ensures sound { IsSoundPending result }
 {
-    Plan::Does {
-        regs,
-        cs,
+    Pending::Does {
         act,
         next: way.to.unwrap_or(after),
         link: way.link.map(|register| (register, after)),
@@ -129,6 +122,7 @@ fn go_by(way: Branch, regs: [u32; 16], cs: Cs, act: Act, after: u32) -> Plan
 }
 
 /// The instruction at an address and its bytes, or the code of a check.
+#[inline(always)]
 fn fetch_instruction<F: Fetch>(code: &F, address: u32) -> Result<(Inst, u8), u8>
     requires { F.is_whole code.now }
     ensures value { result ≡ fetched (F.halfword_at code.now) address }

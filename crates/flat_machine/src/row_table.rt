@@ -13,6 +13,7 @@ use super::work::Work;
 use romp_table::{Inst, Op};
 
 /// What a row that neither branches nor jumps computes.
+#[inline(always)]
 pub fn work(inst: &Inst, regs: &[u32; 16], cs: Cs) -> Work
     requires { HasWidths inst.now }
     ensures value { result ≡ work_of inst.now regs.now cs }
@@ -31,6 +32,7 @@ pub fn work(inst: &Inst, regs: &[u32; 16], cs: Cs) -> Work
 }
 
 /// Format S.
+#[inline(always)]
 fn work_s(op: Op, k: u8, b: u8, z: u32) -> Work
     requires k { k < 16 }
     requires b { b < 16 }
@@ -50,6 +52,7 @@ fn work_s(op: Op, k: u8, b: u8, z: u32) -> Work
 }
 
 /// Format X.
+#[inline(always)]
 fn work_x(op: Op, a: u8, x: u32, z: u32) -> Work
     requires { a < 16 }
     ensures value { result ≡ work_of_x op a x z }
@@ -62,6 +65,7 @@ fn work_x(op: Op, a: u8, x: u32, z: u32) -> Work
 }
 
 /// Format R.
+#[inline(always)]
 fn work_r(op: Op, b: u8, c: u8, x: u32, y: u32, cs: Cs) -> Work
     requires b { b < 16 }
     requires c { c < 16 }
@@ -94,6 +98,7 @@ fn work_r(op: Op, b: u8, c: u8, x: u32, y: u32, cs: Cs) -> Work
 }
 
 /// Format R with a number in field C.
+#[inline(always)]
 fn work_count(op: Op, b: u8, k: u8, x: u32) -> Work
     requires b { b < 16 }
     requires k { k < 16 }
@@ -123,6 +128,7 @@ fn work_count(op: Op, b: u8, k: u8, x: u32) -> Work
 }
 
 /// Format D.
+#[inline(always)]
 fn work_d(op: Op, regs: &[u32; 16], cs: Cs, b: u8, y: u32, z: u32, i: u16) -> Work
     requires b { b < 16 }
     ensures value { result ≡ work_of_d op regs.now cs b y z i }
@@ -143,6 +149,7 @@ fn work_d(op: Op, regs: &[u32; 16], cs: Cs, b: u8, y: u32, z: u32, i: u16) -> Wo
 }
 
 /// The logical rows of format D, and those that load and store.
+#[inline(always)]
 fn logic_d(op: Op, b: u8, y: u32, z: u32, i: u16) -> Work
     requires b { b < 16 }
     ensures value { result ≡ logic_of_d op b y z i }
@@ -164,6 +171,7 @@ fn logic_d(op: Op, b: u8, y: u32, z: u32, i: u16) -> Work
 }
 
 /// The rows of format D that load and store, at an effective address.
+#[inline(always)]
 fn access_d(op: Op, b: u8, address: u32) -> Work
     requires b { b < 16 }
     ensures value { result ≡ access_of_d op b address }

@@ -14,3 +14,4 @@ pub mod GrantLemmas
 pub mod SizedLemmas
 pub mod TouchLemmas
 pub mod OpenedLemmas
+mod LineWalk

@@ -1,6 +1,6 @@
 // The entry of each page: who owns it, its write bit, and the lines that it permits.
-ghost use Rattle.std.specs.Prelude.{◌≡◌, ◌*◌, ◌+◌, ◌<◌, ◌≤◌, ◌^◌, ◌==◌, ◌%◌, ℕ, false, map, replicate, slice_set, slice_range, slice_index_or, length, vec_len, filter, if◌then◌else◌, IfOk, All};
-ghost use Rattle.std.specs.List.{list_any};
+ghost use Rattle.std.specs.Prelude.{◌≡◌, ◌*◌, ◌+◌, ◌-◌, ◌<◌, ◌≤◌, ◌^◌, ◌==◌, ◌%◌, ℕ, false, map, replicate, slice_set, slice_range, slice_index_or, length, vec_len, filter, if◌then◌else◌, IfOk, All};
+ghost use Rattle.std.specs.List.{list_any, range_with_len};
 ghost use Rattle.lock_rules.specs.Access.{permits};
 ghost use Rattle.lock_rules.specs.Lines.{Lines, lines_of_page, page_of_line, within_page};
 ghost use Rattle.flat_storage.specs.Touch.{touch_lines};
@@ -33,12 +33,35 @@ impl Entry {
         lines: [false; 16],
     };
 
-    /// Whether it refuses an activation one of the touched lines that lie in its page.
+    /// Whether it refuses an activation one of the touched lines that lie in its page. Only these are looked at.
     fn refuses(&self, page: u32, number: u32, touch: Touch) -> bool
         ensures { result ≡ list_any (λ line. refuses_line self.now number line touch) (lines_of_page page) }
     {
-        let first = page as usize * 16;
-        (first..first + 16).any(|line| self.refuses_line(number, line, touch))
+        let from = page as usize * 16;
+        match touch {
+            Touch::Nothing => false,
+            Touch::Reads { first, last } | Touch::Writes { first, last } => {
+                let low = if from < first as usize {
+                    first as usize
+                } else {
+                    from
+                };
+                let high = if (last as usize) < from + 16 {
+                    last as usize + 1
+                } else {
+                    from + 16
+                };
+                self.refuses_among(low, high, number, touch)
+            }
+        }
+    }
+
+    /// Whether it refuses an activation a touched line from one up to another.
+    #[inline(always)]
+    fn refuses_among(&self, low: usize, high: usize, number: u32, touch: Touch) -> bool
+        ensures { result ≡ list_any (λ line. refuses_line self.now number line touch) (range_with_len low (high - low)) }
+    {
+        (low..high).any(|line| self.refuses_line(number, line, touch))
     }
 
     /// Whether it refuses an activation a line of its page, if that is touched.

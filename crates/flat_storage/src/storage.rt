@@ -1,5 +1,5 @@
 // The storage: flat bytes under the segment registers of the program that runs.
-ghost use Rattle.std.specs.Prelude.{◌≡◌, ◌+◌, ◌*◌, ◌<◌, ◌≤◌, ◌^◌, ◌&&◌, not, ℕ, List, Bool, find, length, slice_range, Result, Ok};
+ghost use Rattle.std.specs.Prelude.{◌≡◌, ◌+◌, ◌*◌, ◌<◌, ◌≤◌, ◌^◌, ◌&&◌, not, true, false, ℕ, List, Bool, find, length, slice_range, Result, Ok};
 ghost use Rattle.std.specs.List.{range_with_len};
 ghost use Rattle.line_geometry.specs.Lines.{line_of};
 ghost use Rattle.segment_regs.specs.declared.registers.Virtual.{Virtual};
@@ -46,6 +46,7 @@ pub struct FlatStorage {
 
 impl Flat {
     /// Where a byte lies.
+    #[inline(always)]
     pub fn place(&self, at: Virtual) -> Located
         requires { Lies self.now at 0 }
         ensures { result ≡ place_of self.now.directory at }
@@ -59,6 +60,7 @@ impl Flat {
     }
 
     /// The answer to an access of so many bytes that begins at a byte.
+    #[inline(always)]
     fn answer(&self, first: Virtual, bytes: u8, store: bool) -> Probe
         requires { Lies self.now first bytes }
         ensures { (access : Access) → access.bytes ≡ bytes → access.store ≡ store → result ≡ answered_at (is_in_frame self.now) (refuses self.now) access (Ok first) }
@@ -70,7 +72,45 @@ impl Flat {
     }
 
     /// The same where they lie at a place of the store.
+    #[inline(always)]
     fn answer_shared(&self, first: Virtual, at: u32, bytes: u8, store: bool) -> Probe
+        requires lies { Lies self.now first bytes }
+        requires few { at ≤ 2 ^ 23 }
+        requires shared { place_of self.now.directory first ≡ Located.Shared at }
+        ensures { (access : Access) → access.bytes ≡ bytes → access.store ≡ store → result ≡ answered_at (is_in_frame self.now) (refuses self.now) access (Ok first) }
+    {
+        if self.is_open(at, bytes, store) {
+            Probe::Permitted
+        } else {
+            self.answer_by_bytes(first, at, bytes, store)
+        }
+    }
+
+    /// Whether so many bytes from a place on, at most 64, lie on lines that are open. They lie on two lines at most, so the
+    /// first line and the last are looked at.
+    fn is_open(&self, at: u32, bytes: u8, store: bool) -> bool
+        requires { at ≤ 2 ^ 23 }
+        ensures { result ≡ true → (past : ℕ) → past < bytes → (is_resident self.now (line_of self.now.directory (at + past)) ≡ true) × (is_refused self.now (line_of self.now.directory (at + past)) store ≡ false) }
+    {
+        if bytes == 0 || bytes > 64 {
+            return false;
+        }
+        let first = self.directory.line_of(at);
+        let last = self.directory.line_of(at + u32::from(bytes) - 1);
+        self.opens(first, store) && (last == first || self.opens(last, store))
+    }
+
+    /// Whether a line's page is resident and its entry permits the line to the activation that runs.
+    #[inline(always)]
+    fn opens(&self, line: u32, store: bool) -> bool
+        ensures { result ≡ (is_resident self.now line && not (is_refused self.now line store)) }
+    {
+        self.resident.has(line / 16) && !self.entries.refuses_line(line, self.runner, store)
+    }
+
+    /// The same, byte by byte.
+    #[inline(never)]
+    fn answer_by_bytes(&self, first: Virtual, at: u32, bytes: u8, store: bool) -> Probe
         requires lies { Lies self.now first bytes }
         requires few { at ≤ 2 ^ 23 }
         requires shared { place_of self.now.directory first ≡ Located.Shared at }
@@ -151,6 +191,7 @@ impl FlatStorage {
     }
 
     /// Where a range that is permitted begins.
+    #[inline(always)]
     fn begins(&self, address: u32) -> Located
         ensures { (bytes : ℕ) (store : Bool) (at : Virtual) → located_by self.now.flat.registers address bytes store ≡ Ok at → result ≡ place_of self.now.flat.directory at }
     {
@@ -162,6 +203,7 @@ impl FlatStorage {
 }
 
 /// Copies a part of a list.
+#[inline(always)]
 fn copy(list: &OwnedList<u8>, at: u32, into: &mut [u8])
     requires { at + length into.old ≤ length list.now }
     ensures { into.new ≡ slice_range list.now at (at + length into.old) }
@@ -190,13 +232,14 @@ impl Storage for FlatStorage {
 
     fn fetch(&self, address: u32) -> Option<u16> {
         let at = address as usize;
-        if at + 2 <= 16384 {
+        if at + 2 <= self.flat.private.as_slice().len() {
             Some(u16::from(self.private_byte(at)) * 0x100 + u16::from(self.private_byte(at + 1)))
         } else {
             None
         }
     }
 
+    #[inline(always)]
     fn probe(&mut self, wants: &Access) -> Probe {
         let bytes = u32::from(wants.bytes);
         match self
@@ -209,6 +252,7 @@ impl Storage for FlatStorage {
         }
     }
 
+    #[inline(always)]
     fn load(&self, address: u32, into: &mut [u8]) {
         match self.begins(address) {
             Located::Private(at) => copy(&self.flat.private, at, into),
@@ -217,6 +261,7 @@ impl Storage for FlatStorage {
         }
     }
 
+    #[inline(always)]
     fn store(&mut self, address: u32, from: &[u8]) {
         match self.begins(address) {
             Located::Private(at) => self.flat.private.write(at as usize, from),
@@ -228,6 +273,7 @@ impl Storage for FlatStorage {
 
 impl FlatStorage {
     /// One attempt of the next instruction of a processor over this storage (docs/MODEL.md).
+    #[inline(always)]
     pub fn attempt(&mut self, cpu: &mut Cpu) -> Attempt
         ensures kept { (program : Program) → HasWindows self.old.flat program → self.new.flat ≡ record self.old.flat { private = self.new.flat.private; store = self.new.flat.store } }
         ensures row { (program : Program) (out : List ℕ) → HasWindows self.old.flat program → length out ≡ cpu.old.printed → length out ≤ 4096 → IsRow program out result cpu.old cpu.new self.old.flat self.new.flat }

@@ -3,6 +3,7 @@ pub mod InstructionLemmas
 pub mod ExecuteLemmas
 pub mod ReachLemmas
 pub mod AloneLemmas
+mod StrideLemmas
 pub mod SizeLemmas
 pub mod RecordLemmas
 pub mod BodyLemmas

@@ -361,7 +361,7 @@ module _ (d : PrivateDesk) (active : Active) (program : Program) (on : Runs d ac
   pub open-next : (mid : PrivateDesk) → GoesOpen program d.storage.flat (live_of d) (live_of mid) mid.cpu → IsOpen d.storage.flat (touched program d.header.directory (live_of d))
   open-next mid goes = subst (λ (l : Layout). IsOpen d.storage.flat (touched program l (live_of d))) sound.directory goes.open_lines
 
-  counted-goes : (mid : PrivateDesk) → GoesOpen program d.storage.flat (live_of d) (live_of mid) mid.cpu
+  pub counted-goes : (mid : PrivateDesk) → GoesOpen program d.storage.flat (live_of d) (live_of mid) mid.cpu
       → GoesOn (row program d.header.directory (live_of d)) × (d.storage.flat.marks.written ≡ size (both lines_so_far next_lines).writes)
   counted-goes mid goes = (
     subst GoesOn (sym (row-at d program (On (live_of mid)) sound goes.goes)) tt,

@@ -1,6 +1,14 @@
 -- What an attempt of one instruction leaves.
-use Rattle.std.specs.Prelude.{◌≡◌, ℕ, ◌+◌, ◌*◌, ◌<◌, ◌≤◌, ◌^◌, Option, Some, None}
+use Rattle.std.specs.Prelude.{◌≡◌, ℕ, ◌+◌, ◌*◌, ◌<◌, ◌≤◌, ◌^◌, slice_get, Option, Some, None}
+use Rattle.desk.specs.Instruction.{Word, room, limit_passed, turns, Going}
+use Rattle.flat_machine.specs.declared.machine.Program.{Program}
+use Rattle.romp_cpu.specs.declared.storage.Access.{Access}
+use Rattle.flat_storage.specs.Reach.{IsShutOut}
+use Rattle.flat_storage.specs.Words.{ReadsAll}
+use Rattle.private_desk.specs.Follows.{Follows}
+use Rattle.private_desk.specs.Answered.{counts_of}
 use Rattle.desk.specs.declared.answers.TurnEnd.{TurnEnd}
+use Rattle.private_desk.specs.PrivateDesk.{desk_of, live_of}
 use Rattle.desk.specs.declared.answers.TurnEnd.TheVariants as end
 use Rattle.private_desk.specs.declared.single.Active.{Active}
 use Rattle.private_desk.specs.declared.single.Attempt.{Attempt}
@@ -52,6 +60,15 @@ HasAttempted attempt.On active new = new.active ≡ Some (record active { rows =
 HasAttempted attempt.Commit active new = (new.active ≡ Some active) × (new.used + (132 * new.storage.flat.marks.written + 12) ≤ new.header.bank_bytes)
 HasAttempted (attempt.Over end) active new = IsPlain end
 
+-- a record of the lines that are written so far fits the bank
+abbrev pub FitsRecord : PrivateDesk → Type 0
+FitsRecord d = limit_passed (room (desk_of d)) d.storage.flat.marks.written ≡ None
+
+-- the same after an attempt that goes on
+abbrev pub FitsIfOn : Attempt → PrivateDesk → Type 0
+FitsIfOn attempt.On new = FitsRecord new
+FitsIfOn _ new = Unit {0}
+
 -- the one that is active has done at most so many rows
 abbrev pub HaveRowsWithin : Option Active → ℕ → Type 0
 HaveRowsWithin None rows = Unit {0}
@@ -65,3 +82,24 @@ HasStopped (stop.Commit active) new tally =
     × (new.used + (132 * new.storage.flat.marks.written + 12) ≤ new.header.bank_bytes)
     × (active.rows < 2 ^ 63)
     × (tally.ran ≤ 1000000)
+
+-- an access is of 1 to 64 bytes
+abbrev pub IsOfBytes : Access → Type 0
+IsOfBytes access = (0 < access.bytes) × (access.bytes ≤ 64)
+
+-- the next row of the one that is active goes on, but its access isn't permitted
+abbrev pub IsShutFrom : PrivateDesk → Access → Type 0
+IsShutFrom d access =
+    (active : Active) (program : Program) → d.active ≡ Some active → slice_get d.programs.items active.program ≡ Some program
+    → IsShutOut program d.storage.flat (live_of d) access
+
+-- the desk, its active one having done so many rows more than it counts
+abbrev pub counted : PrivateDesk → Active → ℕ → PrivateDesk
+counted d active ran = record d { active = Some (record active { rows = active.rows + ran }) }
+
+-- so many rows of an activation that aren't counted yet lead from one desk to another
+pub record HasStridden (old new : PrivateDesk) (active : Active) (ran : ℕ) : Type 0 where
+  pub follows : Follows (counted new active ran)
+  pub step : (word : Word) (tally : Tally) (rest : ℕ) → ReadsAll word
+      → turns word active.number (ran + rest) (Going (desk_of old) (counts_of tally))
+      ≡ turns word active.number rest (Going (desk_of (counted new active ran)) (counts_of (record tally { ran = tally.ran + ran })))

@@ -87,7 +87,7 @@ impl PrivateDesk {
     ghost use Rattle.private_desk.specs.PrivateDesk.{desk_of, live_of, header_told, programs_told, begins_told, turns_told, opened_told, IsSound};
     ghost use Rattle.desk.specs.Desk.{opened, nobody};
     ghost use Rattle.desk.specs.Instruction as turn;
-    ghost use Rattle.desk.specs.Instruction.{Word, Fine, room, limit_passed, commits, Over};
+    ghost use Rattle.desk.specs.Instruction.{Word, Fine, room, limit_passed, commits, turns, Going, Over};
     ghost use Rattle.desk.specs.Answers.{order_told, ending_told, HasNumbers};
     ghost use Rattle.desk.specs.Report.{number_after};
     ghost use Rattle.private_desk.specs.Kept.{Keeps};
@@ -100,7 +100,7 @@ impl PrivateDesk {
     ghost use Rattle.private_desk.specs.Executed.{IsExecuted};
     ghost use Rattle.private_desk.specs.Follows.{Follows};
     ghost use Rattle.private_desk.specs.Answered.{counts_of, commit_call, IsInstruction, IsTurn, IsCommitted, IsOfActivation};
-    ghost use Rattle.private_desk.specs.Attempts.{KeepsParts, KeepsBytes, IsPlain, IsTurned, HasAttempted, HasStopped, HaveRowsWithin, TalliesMore};
+    ghost use Rattle.private_desk.specs.Attempts.{KeepsParts, KeepsBytes, IsPlain, IsTurned, HasAttempted, HasStopped, HaveRowsWithin, TalliesMore, FitsRecord, FitsIfOn, IsOfBytes, IsShutFrom, HasStridden, counted};
 
     /// A desk over a store with these bytes and no record in its bank, for so many begins of these programs.
     ///
@@ -210,13 +210,19 @@ impl PrivateDesk {
         ensures step { Follows self.old → (word : Word) → ReadsAll word → IsTurn word result activation limit self.old self.new tally.new }
         ensures active { IsOfActivation result activation }
     {
-        for _ in 0..limit {
+        let mut left = limit;
+        let mut shut = None;
+        while left > 0 {
             let active = match self.active {
                 Some(active) if active.number == activation => active,
                 _ => return Stop::Over(TurnEnd::Idle),
             };
-            match self.attempt(active, tally) {
-                Attempt::On => {}
+            match self.attempt_or_serve(active, shut, tally) {
+                Attempt::On => {
+                    let (ran, access) = self.go_on(left - 1, tally);
+                    left -= 1 + ran;
+                    shut = access;
+                }
                 Attempt::Commit => return Stop::Commit(active),
                 Attempt::Over(end) => return Stop::Over(end),
             }
@@ -255,8 +261,97 @@ impl PrivateDesk {
         self.storage.take_out_written();
     }
 
+    /// The same as `attempt`, where it may be known already that the access of the instruction isn't permitted.
+    fn attempt_or_serve(
+        &mut self,
+        active: Active,
+        shut: Option<Access>,
+        tally: &mut Tally,
+    ) -> Attempt
+        requires sound { IsSound self.old }
+        requires active { self.old.active ≡ Some active }
+        requires rows { active.rows < self.old.turns * 1000000 }
+        requires tally { (tally.old.ran < 1000000) × (tally.old.pages < 4000000) × (tally.old.locks < 2000000) }
+        requires some { ForSome shut IsOfBytes }
+        requires shut { ForSome shut (λ access. IsShutFrom self.old access) }
+        ensures sound { IsSound self.new }
+        ensures parts { KeepsParts self.old self.new }
+        ensures tally { TalliesMore tally.old tally.new }
+        ensures attempted { HasAttempted result active self.new }
+        ensures fits { FitsIfOn result self.new }
+        ensures bytes { KeepsBytes self.old self.new }
+        ensures follows { Follows self.old → Follows self.new }
+        ensures step { Follows self.old → (word : Word) → ReadsAll word → IsInstruction word result active self.old self.new tally.old tally.new }
+    {
+        match shut {
+            None => self.attempt(active, tally),
+            Some(access) => self.serve(active, access, tally),
+        }
+    }
+
+    /// The rows after one that went on, at most so many, up to one that doesn't go on by itself, and the access of that one
+    /// where it isn't permitted. They add no line, so the limit on lines isn't looked at.
+    fn go_on(&mut self, limit: u32, tally: &mut Tally) -> (u32, Option<Access>)
+        requires sound { IsSound self.old }
+        requires active { IsSome self.old.active }
+        requires fits { FitsRecord self.old }
+        requires rows { HaveRowsWithin self.old.active (self.old.turns * 1000000 - limit) }
+        requires some { limit ≤ self.old.turns * 1000000 }
+        requires tally { tally.old.ran + limit ≤ 1000000 }
+        ensures sound { IsSound self.new }
+        ensures parts { KeepsParts self.old self.new }
+        ensures bytes { KeepsBytes self.old self.new }
+        ensures few { result.0 ≤ limit }
+        ensures active { (active : Active) → self.old.active ≡ Some active → self.new.active ≡ Some (record active { rows = active.rows + result.0 }) }
+        ensures tally { tally.new ≡ record tally.old { ran = tally.old.ran + result.0 } }
+        ensures follows { Follows self.old → Follows self.new }
+        ensures step { Follows self.old → (active : Active) → self.old.active ≡ Some active → (word : Word) (rest : ℕ) → ReadsAll word → turns word active.number (result.0 + rest) (Going (desk_of self.old) (counts_of tally.old)) ≡ turns word active.number rest (Going (desk_of self.new) (counts_of tally.new)) }
+        ensures bytes_of { IfSome result.1 IsOfBytes }
+        ensures shut { IfSome result.1 (λ access. IsShutFrom self.new access) }
+    {
+        let (ran, shut) = self.stride(limit);
+        tally.ran += ran;
+        self.count_rows(ran);
+        (ran, shut)
+    }
+
+    /// The active activation has done so many rows more.
+    fn count_rows(&mut self, ran: u32)
+        requires { ForSome self.old.active (λ active. active.rows < 2 ^ 63) }
+        ensures { (active : Active) → self.old.active ≡ Some active → self.new ≡ counted self.old active ran }
+    {
+        if let Some(runs) = &mut self.active {
+            runs.rows += u64::from(ran);
+        }
+    }
+
+    /// The same, without counting the rows.
+    #[inline(never)]
+    fn stride(&mut self, limit: u32) -> (u32, Option<Access>)
+        requires sound { IsSound self.old }
+        requires active { IsSome self.old.active }
+        requires fits { FitsRecord self.old }
+        ensures sound { IsSound self.new }
+        ensures others { self.new ≡ record self.old { cpu = self.new.cpu; storage = self.new.storage; out = self.new.out } }
+        ensures few { result.0 ≤ limit }
+        ensures stridden { (active : Active) → self.old.active ≡ Some active → Follows self.old → active.rows + limit ≤ self.old.turns * 1000000 → HasStridden self.old self.new active result.0 }
+        ensures bytes_of { IfSome result.1 IsOfBytes }
+        ensures shut { IfSome result.1 (λ access. IsShutFrom self.new access) }
+    {
+        let mut ran = 0;
+        while ran < limit {
+            match self.execute() {
+                Tried::Went | Tried::Print(_) => ran += 1,
+                Tried::Fault(_, access) => return (ran, Some(access)),
+                Tried::Commit | Tried::Check(_) => return (ran, None),
+            }
+        }
+        (ran, None)
+    }
+
     /// One instruction of the active activation, but for the commit's record: the processor attempts it, and where the
     /// storage doesn't permit its access, that is served first.
+    #[inline(never)]
     fn attempt(&mut self, active: Active, tally: &mut Tally) -> Attempt
         requires sound { IsSound self.old }
         requires active { self.old.active ≡ Some active }
@@ -266,6 +361,7 @@ impl PrivateDesk {
         ensures parts { KeepsParts self.old self.new }
         ensures tally { TalliesMore tally.old tally.new }
         ensures attempted { HasAttempted result active self.new }
+        ensures fits { FitsIfOn result self.new }
         ensures bytes { KeepsBytes self.old self.new }
         ensures follows { Follows self.old → Follows self.new }
         ensures step { Follows self.old → (word : Word) → ReadsAll word → IsInstruction word result active self.old self.new tally.old tally.new }
@@ -292,6 +388,7 @@ impl PrivateDesk {
     }
 
     /// The processor attempts the next instruction over the storage; a byte that it prints is kept.
+    #[inline(always)]
     fn execute(&mut self) -> Tried
         requires sound { IsSound self.old }
         requires active { IsSome self.old.active }
@@ -309,6 +406,7 @@ impl PrivateDesk {
     }
 
     /// Serves the access of the next instruction of the active activation, and attempts the instruction again.
+    #[inline(never)]
     fn serve(&mut self, active: Active, access: Access, tally: &mut Tally) -> Attempt
         requires sound { IsSound self.old }
         requires active { self.old.active ≡ Some active }
@@ -321,6 +419,7 @@ impl PrivateDesk {
         ensures parts { KeepsParts self.old self.new }
         ensures tally { TalliesMore tally.old tally.new }
         ensures attempted { HasAttempted result active self.new }
+        ensures fits { FitsIfOn result self.new }
         ensures bytes { KeepsBytes self.old self.new }
         ensures follows { Follows self.old → Follows self.new }
         ensures step { Follows self.old → (word : Word) → ReadsAll word → IsInstruction word result active self.old self.new tally.old tally.new }
@@ -343,15 +442,15 @@ impl PrivateDesk {
 
     /// The active activation has done one row more.
     fn count_row(&mut self, active: Active, tally: &mut Tally)
+        requires active { self.old.active ≡ Some active }
         requires rows { active.rows < 2 ^ 63 }
         requires tally { tally.old.ran < 1000000 }
         ensures desk { self.new ≡ record self.old { active = Some (record active { rows = active.rows + 1 }) } }
         ensures tally { tally.new ≡ record tally.old { ran = tally.old.ran + 1 } }
     {
-        self.active = Some(Active {
-            rows: active.rows + 1,
-            ..active
-        });
+        if let Some(runs) = &mut self.active {
+            runs.rows += 1;
+        }
         tally.ran += 1;
     }
 

@@ -1,3 +1,4 @@
+mod UndoneLemmas
 pub mod AttemptLemmas
 pub mod MemoryLemmas
 pub mod SegmentLemmas

@@ -1,15 +1,17 @@
-ghost use Rattle.std.specs.Prelude.{◌≡◌, ◌<◌, ◌+◌, false, true, IfNone, IfSome, OnSome};
+ghost use Rattle.std.specs.Prelude.{◌≡◌, ◌<◌, false, true, length};
+ghost use Rattle.romp_cpu.specs.declared.storage.Probe.{Probe};
 ghost use Rattle.std.specs.Option.{ForSome};
-ghost use Rattle.flat_machine.specs.Access.{IsAccess, IsSoundPlan, FitsFrom};
+ghost use Rattle.flat_machine.specs.Access.{IsAccess, FitsFrom};
+ghost use Rattle.flat_machine.specs.Pending.{planned, IsSoundPending, StaysIfPending};
 ghost use Rattle.flat_machine.specs.Effect.{filled};
 ghost use Rattle.flat_machine.specs.Row.{plan, stored_bytes};
 ghost use Rattle.romp_cpu.specs.Shown.{bytes_from, halfword_of, access_to};
 ghost use Rattle.romp_cpu.specs.Answers.{answer_in};
-ghost use Rattle.romp_cpu.specs.Tried.{linked, refused_by, seen_in, tried, tried_act};
+ghost use Rattle.romp_cpu.specs.Tried.{linked, seen_in, tried, tried_act};
 ghost use Rattle.romp_cpu.specs.Attempts.{GivesEveryRow, UndoesUnlessWent, IsOfFewBytes};
 
 use super::storage::{Access, Fault, Probe, Storage};
-use flat_machine::{Act, Cs, Fetch, Plan, fill, gather, plan};
+use flat_machine::{Act, Cs, Fetch, Pending, fill, gather, start_row};
 
 /// A processor: sixteen registers, the condition status, the address of the next instruction, and how many bytes were
 /// printed.
@@ -53,9 +55,13 @@ impl<'a, S: Storage> Fetch for Shown<'a, S> {
 
 impl Cpu {
     /// One attempt of the next instruction, a branch with execute and its subject being one. What it and its subject access
-    /// is asked for once, before anything changes: a fault, a commit and a check leave processor and storage as they were
-    /// (docs/MODEL.md).
+    /// is asked for once, before anything changes: a fault, a commit and a check leave processor and storage as they were.
+    ///
+    /// What comes follows from the instruction's plan and the storage's answer to its access alone: a fault exactly where
+    /// that is the answer, with the access that was asked (docs/MODEL.md).
+    #[inline(always)]
     pub fn attempt<S: Storage>(&mut self, storage: &mut S) -> Attempt
+        ensures tried { record { attempt = result; cpu = self.new; state = S.state storage.new } ≡ tried (seen_in S.byte_at (answer_in S.registers S.is_in_frame S.refuses) S.stored (S.state storage.old)) self.old (plan (halfword_of (S.byte_at (S.state storage.old))) self.old.regs self.old.cs self.old.iar) }
         ensures row { GivesEveryRow self.old (seen_in S.byte_at (answer_in S.registers S.is_in_frame S.refuses) S.stored (S.state storage.old)) (record { attempt = result; cpu = self.new; state = S.state storage.new }) }
         ensures undone { UndoesUnlessWent result self.old self.new (S.state storage.old) (S.state storage.new) }
         ensures few { IsOfFewBytes result }
@@ -64,66 +70,89 @@ impl Cpu {
     }
 
     /// Does what the next instruction is to do, as far as the storage permits.
+    #[inline(always)]
     fn carry_out<S: Storage>(&mut self, storage: &mut S) -> Attempt
         ensures tried { record { attempt = result; cpu = self.new; state = S.state storage.new } ≡ tried (seen_in S.byte_at (answer_in S.registers S.is_in_frame S.refuses) S.stored (S.state storage.old)) self.old (plan (halfword_of (S.byte_at (S.state storage.old))) self.old.regs self.old.cs self.old.iar) }
-        ensures undone { UndoesUnlessWent result self.old self.new (S.state storage.old) (S.state storage.new) }
         ensures few { IsOfFewBytes result }
     {
-        match plan_over(storage, self) {
-            Plan::Fails(code) => Attempt::Check(code),
-            Plan::Does {
-                regs,
-                cs,
-                act,
-                next,
-                link,
-            } => self.act(storage, act, regs, cs, next, link),
+        match self.start(storage) {
+            Pending::Fails(code) => Attempt::Check(code),
+            Pending::Does { act, next, link } => self.act(storage, act, next, link),
         }
     }
 
-    /// What is left of an instruction whose plan is known.
+    /// Does to registers and status what the next instruction does, and tells what is left of it.
+    #[inline(always)]
+    fn start<S: Storage>(&mut self, storage: &S) -> Pending
+        ensures value { plan (halfword_of (S.byte_at (S.state storage.now))) self.old.regs self.old.cs self.old.iar ≡ planned self.new.regs self.new.cs result }
+        ensures others { self.new ≡ record self.old { regs = self.new.regs; cs = self.new.cs } }
+        ensures stays { StaysIfPending result self.old.regs self.new.regs self.old.cs self.new.cs }
+        ensures sound { IsSoundPending result }
+    {
+        start_row(&Shown { storage }, &mut self.regs, &mut self.cs, self.iar)
+    }
+
+    /// What is left of an instruction that has done its registers and status.
+    #[inline(always)]
     fn act<S: Storage>(
         &mut self,
         storage: &mut S,
         act: Act,
-        regs: [u32; 16],
-        cs: Cs,
         next: u32,
         link: Option<(u8, u32)>,
     ) -> Attempt
         requires access { IsAccess act }
         requires link { ForSome link (λ written. written.0 < 16) }
-        ensures tried { record { attempt = result; cpu = self.new; state = S.state storage.new } ≡ tried_act (seen_in S.byte_at (answer_in S.registers S.is_in_frame S.refuses) S.stored (S.state storage.old)) self.old act regs cs next link }
+        ensures tried { record { attempt = result; cpu = self.new; state = S.state storage.new } ≡ tried_act (seen_in S.byte_at (answer_in S.registers S.is_in_frame S.refuses) S.stored (S.state storage.old)) self.old act self.old.regs self.old.cs next link }
         ensures few { IsOfFewBytes result }
     {
         match act {
-            Act::Nothing => self.go_on(regs, cs, next, link),
+            Act::Nothing => self.go_on(next, link),
             Act::Load {
                 address,
                 bytes,
                 to,
                 sign,
             } => {
-                let mut regs = regs;
-                match load(storage, address, bytes, to, sign, &mut regs) {
-                    Some(refused) => refused,
-                    None => self.go_on(regs, cs, next, link),
+                let access = Access {
+                    address,
+                    bytes,
+                    store: false,
+                };
+                match storage.probe(&access) {
+                    Probe::Permitted => {
+                        load(storage, address, bytes, to, sign, &mut self.regs);
+                        self.go_on(next, link)
+                    }
+                    Probe::Check(code) => Attempt::Check(code),
+                    Probe::Fault(fault) => Attempt::Fault(fault, access),
                 }
             }
             Act::Store {
                 address,
                 bytes,
                 from,
-            } => match store(storage, address, bytes, from, &regs) {
-                Some(refused) => refused,
-                None => self.go_on(regs, cs, next, link),
-            },
+            } => {
+                let access = Access {
+                    address,
+                    bytes,
+                    store: true,
+                };
+                match storage.probe(&access) {
+                    Probe::Permitted => {
+                        store(storage, address, bytes, from, &self.regs);
+                        self.go_on(next, link)
+                    }
+                    Probe::Check(number) => Attempt::Check(number),
+                    Probe::Fault(why) => Attempt::Fault(why, access),
+                }
+            }
             Act::Print(byte) => {
                 if self.printed >= 4096 {
                     return Attempt::Check(5);
                 }
                 self.printed += 1;
-                let _ = self.go_on(regs, cs, next, link);
+                let _ = self.go_on(next, link);
                 Attempt::Print(byte)
             }
             Act::Commit => Attempt::Commit,
@@ -131,14 +160,13 @@ impl Cpu {
         }
     }
 
-    /// The instruction takes effect, and its link is written.
-    fn go_on(&mut self, regs: [u32; 16], cs: Cs, next: u32, link: Option<(u8, u32)>) -> Attempt
+    /// The instruction takes effect: its link is written last.
+    #[inline(always)]
+    fn go_on(&mut self, next: u32, link: Option<(u8, u32)>) -> Attempt
         requires { ForSome link (λ written. written.0 < 16) }
-        ensures cpu { self.new ≡ record { regs = linked link regs; cs = cs; iar = next; printed = self.old.printed } }
+        ensures cpu { self.new ≡ record self.old { regs = linked link self.old.regs; iar = next } }
         ensures went { result ≡ Attempt.Went }
     {
-        self.regs = regs;
-        self.cs = cs;
         self.iar = next;
         if let Some((register, address)) = link {
             self.regs[usize::from(register)] = address;
@@ -147,80 +175,67 @@ impl Cpu {
     }
 }
 
-/// What the next instruction is to do.
-fn plan_over<S: Storage>(storage: &S, cpu: &Cpu) -> Plan
-    ensures value { result ≡ plan (halfword_of (S.byte_at (S.state storage.now))) cpu.now.regs cpu.now.cs cpu.now.iar }
-    ensures sound { IsSoundPlan result }
+/// Fills registers with the bytes of a load that is permitted.
+fn load<S: Storage>(storage: &S, address: u32, bytes: u8, to: u8, sign: bool, regs: &mut [u32; 16])
+    requires fits { FitsFrom bytes to }
+    requires permitted { answer_in S.registers S.is_in_frame S.refuses (S.state storage.now) (access_to address bytes false) ≡ Probe.Permitted }
+    ensures { regs.new ≡ filled to sign (bytes_from (S.byte_at (S.state storage.now)) address bytes) regs.old }
 {
-    plan(&Shown { storage }, &cpu.regs, cpu.cs, cpu.iar)
+    match bytes {
+        1 => fill_by(storage, address, &mut [0; 1], to, sign, regs),
+        2 => fill_by(storage, address, &mut [0; 2], to, sign, regs),
+        4 => fill_by(storage, address, &mut [0; 4], to, sign, regs),
+        _ => {
+            let mut room = [0; 64];
+            let part = &mut room[..usize::from(bytes)];
+            fill_by(storage, address, part, to, sign, regs);
+        }
+    }
 }
 
-/// Asks for the bytes of a load and fills registers with them, or answers why not.
-fn load<S: Storage>(
-    storage: &mut S,
+/// The same, by a room for as many bytes.
+#[inline(always)]
+fn fill_by<S: Storage>(
+    storage: &S,
     address: u32,
-    bytes: u8,
+    room: &mut [u8],
     to: u8,
     sign: bool,
     regs: &mut [u32; 16],
-) -> Option<Attempt>
-    requires { FitsFrom bytes to }
-    ensures state { S.state storage.new ≡ S.state storage.old }
-    ensures refused { result ≡ refused_by (access_to address bytes false) (answer_in S.registers S.is_in_frame S.refuses (S.state storage.old) (access_to address bytes false)) }
-    ensures few { IfSome result IsOfFewBytes }
-    ensures loaded { IfNone result (regs.new ≡ filled to sign (bytes_from (S.byte_at (S.state storage.old)) address bytes) regs.old) }
+)
+    requires fits { FitsFrom (length room.old) to }
+    requires permitted { answer_in S.registers S.is_in_frame S.refuses (S.state storage.now) (access_to address (length room.old) false) ≡ Probe.Permitted }
+    ensures { regs.new ≡ filled to sign (bytes_from (S.byte_at (S.state storage.now)) address (length room.old)) regs.old }
 {
-    let access = Access {
-        address,
-        bytes,
-        store: false,
-    };
-    let refused = refusal(storage.probe(&access), access);
-    if refused.is_none() {
-        let mut room = [0; 64];
-        let part = &mut room[..usize::from(bytes)];
-        storage.load(address, part);
-        fill(to, sign, part, regs);
-    }
-    refused
+    storage.load(address, room);
+    fill(to, sign, room, regs);
 }
 
-/// Asks for the range of a store and stores the bytes of registers there, or answers why not.
-fn store<S: Storage>(
-    storage: &mut S,
-    address: u32,
-    bytes: u8,
-    from: u8,
-    regs: &[u32; 16],
-) -> Option<Attempt>
-    requires { FitsFrom bytes from }
-    ensures refused { result ≡ refused_by (access_to address bytes true) (answer_in S.registers S.is_in_frame S.refuses (S.state storage.old) (access_to address bytes true)) }
-    ensures few { IfSome result IsOfFewBytes }
-    ensures stays { OnSome result (S.state storage.new ≡ S.state storage.old) }
-    ensures stored { IfNone result (S.state storage.new ≡ S.stored (S.state storage.old) address (stored_bytes regs.now bytes from)) }
+/// Stores the bytes of registers at a range that is permitted.
+fn store<S: Storage>(storage: &mut S, address: u32, bytes: u8, from: u8, regs: &[u32; 16])
+    requires fits { FitsFrom bytes from }
+    requires permitted { answer_in S.registers S.is_in_frame S.refuses (S.state storage.old) (access_to address bytes true) ≡ Probe.Permitted }
+    ensures { S.state storage.new ≡ S.stored (S.state storage.old) address (stored_bytes regs.now bytes from) }
 {
-    let access = Access {
-        address,
-        bytes,
-        store: true,
-    };
-    let refused = refusal(storage.probe(&access), access);
-    if refused.is_none() {
-        let mut room = [0; 64];
-        let part = &mut room[..usize::from(bytes)];
-        gather(from, regs, part);
-        storage.store(address, part);
+    match bytes {
+        1 => store_by(storage, address, &mut [0; 1], from, regs),
+        2 => store_by(storage, address, &mut [0; 2], from, regs),
+        4 => store_by(storage, address, &mut [0; 4], from, regs),
+        _ => {
+            let mut room = [0; 64];
+            let part = &mut room[..usize::from(bytes)];
+            store_by(storage, address, part, from, regs);
+        }
     }
-    refused
 }
 
-/// What an attempt answers to an access that isn't permitted.
-fn refusal(probe: Probe, access: Access) -> Option<Attempt>
-    ensures { result ≡ refused_by access probe }
+/// The same, by a room for as many bytes.
+#[inline(always)]
+fn store_by<S: Storage>(storage: &mut S, address: u32, room: &mut [u8], from: u8, regs: &[u32; 16])
+    requires fits { FitsFrom (length room.old) from }
+    requires permitted { answer_in S.registers S.is_in_frame S.refuses (S.state storage.old) (access_to address (length room.old) true) ≡ Probe.Permitted }
+    ensures { S.state storage.new ≡ S.stored (S.state storage.old) address (stored_bytes regs.now (length room.old) from) }
 {
-    match probe {
-        Probe::Permitted => None,
-        Probe::Check(code) => Some(Attempt::Check(code)),
-        Probe::Fault(fault) => Some(Attempt::Fault(fault, access)),
-    }
+    gather(from, regs, room);
+    storage.store(address, room);
 }

@@ -14,6 +14,7 @@ use Rattle.flat_storage.specs.declared.line_marks.LineMarks.{LineMarks}
 use Rattle.flat_storage.specs.declared.storage.Flat.{Flat}
 use Rattle.flat_storage.specs.Reach.{GoesOpen}
 use Rattle.private_desk.specs.Answered.{counts_of, commit_call}
+use Rattle.private_desk.specs.Attempts.{FitsRecord}
 use Rattle.private_desk.specs.Executed.{IsExecuted}
 use Rattle.private_desk.specs.Follows.{Follows, store_of}
 use Rattle.private_desk.specs.PrivateDesk.{desk_of, live_of}
@@ -71,6 +72,7 @@ returns-in-Fault c =
       parts = parts-from d mid ran c.serve.new.self served.parts;
       tally = served.tally;
       attempted = served.attempted;
+      fits = served.fits;
       bytes = bytes-from d mid ran c.serve.new.self served.bytes;
       follows = λ follows. served.follows (follows-from d mid ran (same follows) follows);
       step = λ follows word reads. is-instruction-from d mid ran word c.serve.result c.args.active c.serve.new.self c.args.tally.now c.serve.new.tally (served.step (follows-from d mid ran (same follows) follows) word reads);
@@ -92,6 +94,7 @@ returns-in-Some c =
       parts = rolled.parts;
       tally = search rules;
       attempted = tt;
+      fits = tt;
       bytes = rolled.bytes;
       follows = λ follows. rolled-follows d c.args.active c.args.active.number new c.requires.active rolled follows;
       step = λ follows word reads printed.
@@ -120,6 +123,7 @@ returns-in-Commit c =
       parts = parts-from d mid ran mid (record { header = refl; programs = refl; opened = refl; begins = refl; turns = refl; next = refl });
       tally = search rules;
       attempted = (ap (λ (e : PrivateDesk). e.active) others ∙ c.requires.active, omega (arith, within.0, written));
+      fits = tt;
       bytes = bytes-from d mid ran mid (record { committed = refl; used = refl; number = refl; order = refl; closed = refl });
       follows = λ follows. follows-from d mid ran (same follows) follows;
       step = λ follows word reads program named.
@@ -172,6 +176,9 @@ returns c =
         locks = omega (arith, ap (λ (t : Tally). t.locks) c.count_row.ensures.tally);
       };
       attempted = ap (λ (e : PrivateDesk). e.active) c.count_row.ensures.desk;
+      fits =
+          let written : c.marks.result.now.written ≡ mid.storage.flat.marks.written = ap (λ (m : LineMarks). m.written) c.marks.ensures in
+          subst FitsRecord (sym c.count_row.ensures.desk) (ap (limit_passed (room (desk_of mid))) (sym written) ∙ sym c.limit_passed.ensures.limit ∙ none);
       bytes = counted-bytes d mid new c.args.active counted-on;
       follows = λ follows.
           let (program, on) = runs d c.args.active follows c.requires.active in

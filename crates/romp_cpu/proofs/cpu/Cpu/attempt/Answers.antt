@@ -1,8 +1,11 @@
 use Rattle.std.proofs.Common.{subst, sym}
+use Rattle.flat_machine.specs.Row.{plan}
+use Rattle.romp_cpu.specs.Shown.{halfword_of}
 use Rattle.romp_cpu.specs.Answers.{answer_in}
 use Rattle.romp_cpu.specs.Tried.{Tried, seen_in}
-use Rattle.romp_cpu.specs.Attempts.{GivesEveryRow}
+use Rattle.romp_cpu.specs.Attempts.{GivesEveryRow, UndoesUnlessWent}
 use Rattle.romp_cpu.proofs.AttemptLemmas.{attempt-row}
+use Rattle.romp_cpu.proofs.UndoneLemmas.{tried_undoes}
 use Rattle.romp_cpu.proofs.cpu.Cpu.attempt.Goals as goal
 
 pub returns-clause-row : goal.returns-clause-row
@@ -13,3 +16,14 @@ returns-clause-row g c =
     (λ (result : Tried g.row.S-State.Denot). GivesEveryRow c.args.self.now (seen_in s.byte_at (answer_in s.registers s.is_in_frame s.refuses) s.stored before) result)
     (sym c.carry_out.ensures.tried)
     (attempt-row s.byte_at (answer_in s.registers s.is_in_frame s.refuses) s.stored before c.args.self.now)
+
+pub returns-clause-undone : goal.returns-clause-undone
+returns-clause-undone g c =
+    let s = g.S.Storage in
+    let before = s.state c.args.storage.now in
+    let cpu = c.args.self.now in
+    subst
+    (λ (result : Tried g.row.S-State.Denot). UndoesUnlessWent result.attempt cpu result.cpu before result.state)
+    (sym c.carry_out.ensures.tried)
+    (tried_undoes (seen_in s.byte_at (answer_in s.registers s.is_in_frame s.refuses) s.stored before) cpu
+    (plan (halfword_of (s.byte_at before)) cpu.regs cpu.cs cpu.iar))

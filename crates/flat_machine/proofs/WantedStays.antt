@@ -1,0 +1,13 @@
+-- What is wanted changes neither registers nor status.
+use Rattle.std.specs.Prelude.{ℕ, List, refl}
+use Rattle.flat_machine.specs.declared.machine.Act.{Act}
+use Rattle.flat_machine.specs.declared.machine.Cs.{Cs}
+use Rattle.flat_machine.specs.Pending.{StaysIfWanting}
+
+pub wanted_stays : (act : Act) (registers : List ℕ) (status : Cs) → StaysIfWanting act registers registers status status
+wanted_stays Act.Nothing registers status = tt
+wanted_stays (Act.Load address bytes to sign) registers status = (refl, refl)
+wanted_stays (Act.Store address bytes from) registers status = (refl, refl)
+wanted_stays (Act.Print byte) registers status = (refl, refl)
+wanted_stays Act.Commit registers status = (refl, refl)
+wanted_stays (Act.Check code) registers status = (refl, refl)
