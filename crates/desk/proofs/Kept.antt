@@ -8,11 +8,10 @@ use Rattle.flat_machine.specs.Row.{Outcome, On, Commit, Check, row}
 use Rattle.flat_machine.specs.After.{after}
 use Rattle.flat_machine.specs.Serial.{Activation, numbered, committing, if_commit, before_commit}
 use Rattle.lock_rules.specs.Waits.{shown_cycle, victim_of}
-use Rattle.store_format.specs.Bank.{record_bytes}
 use Rattle.desk.specs.Desk.{Desk, Entry, with_entry, ended, rolled_back}
 use Rattle.desk.specs.Holdings.{wanted, numbers, waits_for, conflicts_of}
 use Rattle.desk.specs.Run.{is_fine}
-use Rattle.desk.specs.Instruction.{Word, Fine, ReadFailed, Unwritten, Doubt, Failed, Counts, Ending, Committed, CommitUnwritten, CommitDoubted, Turning, Going, Over, Attempt, Fetching, Fetched, Broken, Contest, Contested, Settled, Lost, attempts, attempts_at, instruction, turns, limited, limit_passed, room, lines_written, fetched_first, fetches_touched, asks, gets, goes_on, takes_effect, commits, breaks, breaks_cycle, breaks_cycles, contest_ends, ordered, waits_or_gets, with_grants, refused_pages}
+use Rattle.desk.specs.Instruction.{Word, Fine, ReadFailed, Unwritten, Doubt, Failed, Counts, Ending, Committed, CommitUnwritten, CommitDoubted, Turning, Going, Over, Attempt, Fetching, Fetched, Broken, Contest, Contested, Settled, Lost, attempts, attempts_at, instruction, turns, limited, is_over_limit, lines_written, turn, turn_of, no_counts, fetched_first, fetches_touched, asks, gets, goes_on, takes_effect, commits, breaks, breaks_cycle, breaks_cycles, contest_ends, ordered, waits_or_gets, with_grants, refused_pages}
 
 -- each active entry runs the activation of its number
 abbrev pub AreNumbered : List Activation → List Entry → Type 0
@@ -162,10 +161,7 @@ module _ (all : List Activation) (activation : ℕ) (word : Word) (attempt : Att
 
   done : (desk : Desk) → attempt.outcome ≡ Commit → Moves all old desk
       → Commits all activation (attempt.entry.rows + 1) attempt.now.out old
-      (record (ended (ordered desk attempt) attempt.entry.number) {
-        committed = record desk.committed { bytes = attempt.now.store };
-        used = desk.used + record_bytes (lines_written attempt desk);
-      })
+      (record (ended (ordered desk attempt) attempt.entry.number) { committed = record desk.committed { bytes = attempt.now.store } })
   done desk is moves = record {
     state = attempt.now;
     commits_at = commits_here is;
@@ -256,14 +252,14 @@ module _ (all : List Activation) (activation : ℕ) (word : Word) (attempt : Att
       (record { committed = moves.committed; order = moves.order; next = moves.next; closed = moves.closed; numbered_all = moves.numbered_all })
   does-fetch desk counts (Broken counted) moves = does-break desk counts counted moves
 
-  does-limit : (limit : Option ℕ) (desk : Desk) (counts : Counts) → Moves all old desk → Does all word activation old (limited limit word attempt desk counts)
-  does-limit (Some most) desk counts moves = moves-on all old desk _ moves (moves-rolled all desk attempt.entry)
-  does-limit None desk counts moves = does-fetch desk counts (fetches_touched word attempt desk counts) moves
+  does-limit : (over : Bool) (desk : Desk) (counts : Counts) → Moves all old desk → Does all word activation old (limited over word attempt desk counts)
+  does-limit true desk counts moves = moves-on all old desk _ moves (moves-rolled all desk attempt.entry)
+  does-limit false desk counts moves = does-fetch desk counts (fetches_touched word attempt desk counts) moves
 
   does-attempt : (outcome : Outcome) (desk : Desk) (counts : Counts) → Moves all old desk → Does all word activation old (attempts word attempt outcome desk counts)
   does-attempt (Check code) desk counts moves = moves-on all old desk _ moves (moves-rolled all desk attempt.entry)
-  does-attempt (On next) desk counts moves = does-limit (limit_passed (room desk) (lines_written attempt desk)) desk counts moves
-  does-attempt Commit desk counts moves = does-limit (limit_passed (room desk) (lines_written attempt desk)) desk counts moves
+  does-attempt (On next) desk counts moves = does-limit (is_over_limit attempt desk) desk counts moves
+  does-attempt Commit desk counts moves = does-limit (is_over_limit attempt desk) desk counts moves
 
 -- an instruction of the entry with a number
 pub does-instruction : (all : List Activation) (word : Word) (number : ℕ) (desk : Desk) (counts : Counts) → AreNumbered all desk.active
@@ -314,7 +310,7 @@ does-after all word number old mid (Going desk counts) moves did = moves-on all 
 does-after all word number old mid (Over desk counts ending) moves did = ends-after all word number old mid desk ending moves did
 
 -- so many instructions more
-pub does-turns : (all : List Activation) (word : Word) (number left : ℕ) (old : Desk) (turning : Turning) → AreNumbered all old.active → Does all word number old turning
+does-turns : (all : List Activation) (word : Word) (number left : ℕ) (old : Desk) (turning : Turning) → AreNumbered all old.active → Does all word number old turning
     → Does all word number old (turns word number left turning)
 unfolding turns
 does-turns all word number zero old (Going desk counts) are did = did
@@ -322,3 +318,11 @@ does-turns all word number (suc left) old (Going desk counts) are did =
     does-turns all word number left old _ are
     (does-after all word number old desk _ did (does-instruction all word number desk counts (did.numbered_all are)))
 does-turns all word number left old (Over desk counts ending) are did = did
+
+-- a turn
+pub does-turn : (all : List Activation) (word : Word) (number limit : ℕ) (desk : Desk) → AreNumbered all desk.active → Does all word number desk (turn word number limit desk)
+does-turn all word number limit desk are = by_entry (find (λ (entry : Entry). entry.number == number) desk.active)
+  where
+    by_entry : (one : Option Entry) → Does all word number desk (turn_of one word number limit desk)
+    by_entry None = moves-none all desk
+    by_entry (Some entry) = does-turns all word number limit desk (Going desk no_counts) are (moves-none all desk)

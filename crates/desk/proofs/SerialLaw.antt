@@ -19,7 +19,7 @@ use Rattle.desk.specs.Lines as line
 use Rattle.desk.specs.Lines.{Line}
 use Rattle.desk.specs.Report.{number_after, happening_lines, cycle_lines, event_lines}
 use Rattle.desk.specs.Commits.{begun, begun_before, is_commit, commit_lines, serial_lines, line_before, RunsAreSerial}
-use Rattle.desk.proofs.Kept.{AreNumbered, Moves, Commits, Does, Ends, moves-none, does-turns}
+use Rattle.desk.proofs.Kept.{AreNumbered, Moves, Commits, Does, Ends, moves-none, does-turn}
 
 -- one entry more is numbered too
 numbered-more : (all : List Activation) (entry : Entry) (entries : List Entry) → AreNumbered all entries → numbered all entry.number ≡ Some entry.runs → AreNumbered all (entries ++ entry ∷ [])
@@ -221,7 +221,7 @@ module _ (all : List Activation) (names : List (List ℕ)) (programs : List Prog
     event-did (Begin program args) word rest is = inl (begin-did program args (slice_get programs program) front rest old is next are)
     event-did (Turn activation limit) word rest is =
         subst (λ (these : List Activation). EventDid all names these word old (turned activation (turn word activation limit old))) (sym (append-nil front))
-        (turning-did front old next are word activation (turn word activation limit old) (does-turns all word activation limit old (Going old no_counts) are (moves-none all old)))
+        (turning-did front old next are word activation (turn word activation limit old) (does-turn all word activation limit old are))
     event-did Checkpoint word rest is =
         subst (λ (these : List Activation). EventDid all names these word old (event_of programs Checkpoint word old)) (sym (append-nil front)) (checkpoint-did word)
     event-did Crash word rest is =
@@ -413,8 +413,8 @@ module _ (all : List Activation) (names : List (List ℕ)) (programs : List Prog
 
 -- the law of serial runs
 pub run-serial : RunsAreSerial
-run-serial names programs number frames most bank_bytes used store events taken rest is =
-    let start = opened frames most bank_bytes used store in
+run-serial names programs number frames most most_lines store events taken rest is =
+    let start = opened frames most most_lines store in
     let all : begun programs events ≡ begun programs (map (λ (each : Event × Word). each.0) taken) ++ begun programs rest =
     ap (begun programs) (sym is.prefix) ∙ begun-append programs (map (λ (each : Event × Word). each.0) taken) rest in
     let from = serial-from (begun programs events) names programs number taken [] (begun programs rest) start all refl tt is.each_open in
@@ -431,11 +431,11 @@ run-serial names programs number frames most bank_bytes used store events taken 
     }
 
 -- a run that ends with the desk closed has a word that isn't fine
-pub run-closed : (programs : List Program) (frames most bank_bytes used : ℕ) (store : FlatStore) (events : List Event) (taken : List (Event × Word)) (rest : List Event)
-    → IsRunOf programs events (opened frames most bank_bytes used store) taken rest
-    → (run programs taken (opened frames most bank_bytes used store)).closed ≡ true → 1 ≤ faulted taken
-run-closed programs frames most bank_bytes used store events taken rest is shut =
-    let start = opened frames most bank_bytes used store in
+pub run-closed : (programs : List Program) (frames most most_lines : ℕ) (store : FlatStore) (events : List Event) (taken : List (Event × Word)) (rest : List Event)
+    → IsRunOf programs events (opened frames most most_lines store) taken rest
+    → (run programs taken (opened frames most most_lines store)).closed ≡ true → 1 ≤ faulted taken
+run-closed programs frames most most_lines store events taken rest is shut =
+    let start = opened frames most most_lines store in
     let all : begun programs events ≡ begun programs (map (λ (each : Event × Word). each.0) taken) ++ begun programs rest =
     ap (begun programs) (sym is.prefix) ∙ begun-append programs (map (λ (each : Event × Word). each.0) taken) rest in
     elim ((serial-from (begun programs events) [] programs 0 taken [] (begun programs rest) start all refl tt is.each_open).closed_by) [

@@ -1,11 +1,15 @@
 -- What the answers to events tell of.
-use Rattle.std.specs.Prelude.{◌≡◌, ℕ, List, map, Some, None}
+use Rattle.std.specs.Prelude.{◌≡◌, ℕ, ◌+◌, ◌%◌, ◌^◌, Bool, true, false, List, map, Some, None}
 use Rattle.desk.specs.declared.answers.Begun.{Begun}
 use Rattle.desk.specs.declared.answers.Begun.TheVariants as begun
 use Rattle.desk.specs.declared.answers.Turn.{Turn}
 use Rattle.desk.specs.declared.answers.TurnEnd.{TurnEnd}
 use Rattle.desk.specs.declared.answers.TurnEnd.TheVariants as end
 use Rattle.desk.specs.declared.answers.Committed.{Committed}
+use Rattle.desk.specs.declared.answers.Stored.{Stored}
+use Rattle.desk.specs.declared.answers.Stored.TheVariants as stored
+use Rattle.desk.specs.declared.answers.Reopened.{Reopened}
+use Rattle.desk.specs.declared.answers.Reopened.TheVariants as reopened
 use Rattle.desk.specs.Instruction.{Counts, Ending}
 use Rattle.desk.specs.Instruction as turn
 use Rattle.desk.specs.Run.{Happening}
@@ -50,11 +54,51 @@ turn_told activation answer printed = turned_by answer.end
     turned_by end.Shut = run.Nothing
     turned_by _ = run.Turned activation (counts_told answer) (ending_told answer.end printed)
 
--- the numbers in a turn's end are those of the activation and of the store after it
+-- the happening that the answer to a checkpoint tells of
+abbrev pub stored_told : Stored → Happening
+stored_told (stored.Number number) = run.CheckpointMade
+stored_told stored.Closed = run.CheckpointFailed
+stored_told stored.Shut = run.Nothing
+
+-- the happening that the answer to a crash tells of, beside those that were active
+abbrev pub reopened_told : (lost : List ℕ) → Reopened → Happening
+reopened_told lost (reopened.Number number) = run.Crashed lost
+reopened_told lost (reopened.Damaged offset) = run.CrashFailed lost
+reopened_told lost reopened.DiskFault = run.CrashFailed lost
+reopened_told lost reopened.Shut = run.Nothing
+
+-- whether an answer says that the desk is closed
+abbrev pub turn_closes : TurnEnd → Bool
+turn_closes (end.Closed doubt number) = true
+turn_closes end.Shut = true
+turn_closes _ = false
+
+abbrev pub stored_closes : Stored → Bool
+stored_closes (stored.Number number) = false
+stored_closes _ = true
+
+abbrev pub reopened_closes : Reopened → Bool
+reopened_closes (reopened.Number number) = false
+reopened_closes _ = true
+
+-- the number in a checkpoint's answer is the store's
+abbrev pub StoredNumber : Stored → (number : ℕ) → Type 0
+StoredNumber (stored.Number told) number = told ≡ number
+StoredNumber _ number = Unit {0}
+
+-- and so that in the answer to a crash, which isn't that the bytes are damaged
+abbrev pub IsReopened : Reopened → (number : ℕ) → Type 0
+IsReopened (reopened.Number told) number = told ≡ number
+IsReopened (reopened.Damaged offset) number = ⊥
+IsReopened _ number = Unit {0}
+
+-- The numbers in a turn's end are those of the activation and of the store after it; where a commit was not written, the number
+-- that the store would have had.
 abbrev pub HasNumbers : TurnEnd → (activation number : ℕ) → Type 0
 HasNumbers (end.Committed told steps) activation number = told ≡ number
 HasNumbers (end.Waits told holders) activation number = told ≡ activation
 HasNumbers (end.Closed (Some told) after) activation number = (told ≡ activation) × (after ≡ number)
+HasNumbers (end.Closed None after) activation number = after ≡ (number + 1) % 2 ^ 64
 HasNumbers _ activation number = Unit {0}
 
 -- the order that a list of commits tells

@@ -61,9 +61,9 @@ pub record IsSerial (activations : List Activation) (number : ℕ) (store : Flat
 -- The law: the commits of every run of a desk that has just opened are those of the activations of its events, one after another.
 abbrev pub RunsAreSerial : Type 0
 RunsAreSerial =
-    (names : List (List ℕ)) (programs : List Program) (number frames most bank_bytes used : ℕ) (store : FlatStore)
+    (names : List (List ℕ)) (programs : List Program) (number frames most most_lines : ℕ) (store : FlatStore)
     (events : List Event) (taken : List (Event × Word)) (rest : List Event)
-    → IsRunOf programs events (opened frames most bank_bytes used store) taken rest
-    → IsSerial (begun programs events) number store (run programs taken (opened frames most bank_bytes used store)).order
-    (event_lines names programs number taken (opened frames most bank_bytes used store))
-    (run programs taken (opened frames most bank_bytes used store)).committed (run programs taken (opened frames most bank_bytes used store)).closed
+    → IsRunOf programs events (opened frames most most_lines store) taken rest
+    → IsSerial (begun programs events) number store (run programs taken (opened frames most most_lines store)).order
+    (event_lines names programs number taken (opened frames most most_lines store))
+    (run programs taken (opened frames most most_lines store)).committed (run programs taken (opened frames most most_lines store)).closed

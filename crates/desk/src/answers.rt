@@ -61,3 +61,27 @@ pub struct Committed {
     pub activation: u32,
     pub steps: u64,
 }
+
+/// What a checkpoint came to.
+#[derive(Debug, Clone, Copy, PartialEq, Eq)]
+pub enum Stored {
+    /// The store is home: its number.
+    Number(u64),
+    /// It failed, and the desk is closed.
+    Closed,
+    /// The desk was closed before.
+    Shut,
+}
+
+/// What starting again after a crash came to.
+#[derive(Debug, Clone, Copy, PartialEq, Eq)]
+pub enum Reopened {
+    /// The store is open: its number.
+    Number(u64),
+    /// Its bytes have a fault at this offset, and the desk is closed.
+    Damaged(u64),
+    /// The disk failed, and the desk is closed.
+    DiskFault,
+    /// The desk was closed before.
+    Shut,
+}

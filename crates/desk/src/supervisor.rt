@@ -1,31 +1,35 @@
-ghost use Rattle.std.specs.Prelude.{◌≡◌, ◌+◌, ◌≤◌, ◌<◌, ◌^◌, ◌⊎◌, List, ℕ, length, not, IsTrue, IsSome};
-ghost use Rattle.std.specs.Option.{ForSome};
+ghost use Rattle.std.specs.Prelude.{◌≡◌, ◌↔◌, ◌+◌, ◌≤◌, ◌<◌, ◌^◌, Bool, true, false, List, ℕ, length, map};
 ghost use Rattle.outside.specs.Causes.{Rose};
-ghost use Rattle.outside.specs.Runs.{CallsDisk, held_of};
+ghost use Rattle.outside.specs.Durable.{IsSure};
+ghost use Rattle.outside.specs.Runs.{CallsDisk, OnlyAsks, held_of};
 ghost use Rattle.flat_machine.specs.declared.machine.Program.{Program};
-ghost use Rattle.store_format.specs.Stands.{stands, Stands};
+ghost use Rattle.store_format.specs.Header.{Header, total};
+ghost use Rattle.store_format.specs.Stands.{stands};
 ghost use Rattle.desk.specs.declared.event.Event.TheVariants as event;
 ghost use Rattle.desk.specs.Desk.{Desk};
 ghost use Rattle.desk.specs.Holdings.{numbers};
-ghost use Rattle.desk.specs.Instruction.{Word, Fine};
+ghost use Rattle.desk.specs.Instruction.{Fine};
 ghost use Rattle.desk.specs.Run.{step};
 ghost use Rattle.desk.specs.Report.{number_after};
-ghost use Rattle.desk.specs.Answers.{begun_told, turn_told, HasNumbers};
+ghost use Rattle.desk.specs.Answers.{begun_told, turn_told, stored_told, reopened_told, turn_closes, stored_closes, reopened_closes, HasNumbers, StoredNumber, IsReopened};
+ghost use Rattle.desk.specs.Crash.{Did, standing_of};
+ghost use Rattle.desk.specs.Kept.{HoldsStore, StillTold, IsDamage, WritesMore, writes_due};
 
-use super::answers::{Begun, Turn};
+use super::answers::{Begun, Committed, Reopened, Stored, Turn, TurnEnd};
 use arrayvec::ArrayVec;
 use outside::Outside;
 
-/// What answers the events of a schedule as the desk does (docs/MODEL.md, "The desk").
+/// What answers the events of a schedule as the desk does (docs/MODEL.md, "The desk"). Committed bytes are on the disk, so it
+/// shows a desk only over the bytes that the disk holds.
 pub trait Supervisor {
-    /// The desk that it shows.
-    ghost desk: { Self → Desk };
+    /// It is open, and over a disk that holds these bytes it is this desk.
+    ghost shows: { Self → List ℕ → Desk → Type 0 };
 
     /// What holds of it at every moment.
     ghost sound: { Self → Type 0 };
 
-    /// Whether it is shown that its answers are those of the desk.
-    ghost answers: { Self → Type 0 };
+    /// Whether it is closed.
+    ghost closed: { Self → Bool };
 
     /// The programs that may begin, by their places.
     ghost programs: { Self → List Program };
@@ -33,77 +37,135 @@ pub trait Supervisor {
     /// The number of the store when it was opened.
     ghost opened: { Self → ℕ };
 
+    /// The header of the store.
+    ghost header: { Self → Header };
+
     /// How many begins it has room for, in all.
     ghost begins: { Self → ℕ };
+
+    /// How many activation numbers were given.
+    ghost given: { Self → ℕ };
 
     /// How many turns were made.
     ghost turns: { Self → ℕ };
 
-    /// The bytes of the store, as its header says.
-    ghost store_bytes: { Self → ℕ };
-
     /// What the activation of the last turn that ended by a commit had printed.
     ghost printed: { Self → List ℕ };
 
-    /// Whether a disk that holds these bytes is the desk's.
-    ghost keeps: { Self → List ℕ → Type 0 };
+    /// The commits, in order: a number and how many rows. It is told of a closed one too.
+    ghost order: { Self → List (ℕ × ℕ) };
 
     /// The program with this place begins with four values.
     fn begin(&mut self, program: u16, args: [u32; 4]) -> Begun
         requires sound { sound self.old }
         requires program { program < length (programs self.old) }
-        requires room { (desk self.old).next ≤ begins self.old }
-        ensures step { answers self.old → step (programs self.old) (event.Begin program args) Fine (desk self.old) ≡ record { desk = desk self.new; happening = begun_told program result } }
+        requires room { given self.old < begins self.old }
+        ensures did { (held : List ℕ) (desk : Desk) → shows self.old held desk → (next : Desk) × (step (programs self.old) (event.Begin program args) Fine desk ≡ record { desk = next; happening = begun_told program result }) × shows self.new held next }
+        ensures shut { (result ≡ Begun.Shut) ↔ (closed self.old ≡ true) }
+        ensures unchanged { closed self.old ≡ true → self.new ≡ self.old }
+        ensures closed { closed self.new ≡ closed self.old }
+        ensures order { order self.new ≡ order self.old }
         ensures sound { sound self.new }
         ensures programs { programs self.new ≡ programs self.old }
         ensures opened { opened self.new ≡ opened self.old }
+        ensures header { header self.new ≡ header self.old }
         ensures begins { begins self.new ≡ begins self.old }
-        ensures turns { turns self.new ≡ turns self.old }
-        ensures next { (desk self.new).next ≤ (desk self.old).next + 1 }
-        ensures store_bytes { store_bytes self.new ≡ store_bytes self.old }
-        ensures answers { answers self.old → answers self.new }
-        ensures kept { answers self.old → (held : List ℕ) → keeps self.old held → keeps self.new held };
+        ensures given { given self.new ≤ given self.old + 1 }
+        ensures turns { turns self.new ≡ turns self.old };
 
     /// A turn of an activation with at most so many rows, a million at most.
     fn turn<W: Outside>(&mut self, outside: &mut W, activation: u32, limit: u32) -> Turn
         requires sound { sound self.old }
         requires limit { limit ≤ 1000000 }
         requires turns { turns self.old < 2 ^ 32 }
-        requires bytes { ForSome (W.held outside.old) (λ bytes. store_bytes self.old ≤ length bytes) }
-
-        // The word of the event isn't fine only where the disk failed.
-        ensures step { answers self.old → (word : Word) × (step (programs self.old) (event.Turn activation limit) word (desk self.old) ≡ record { desk = desk self.new; happening = turn_told activation result (printed self.new) }) × ((word ≡ Fine) ⊎ Rose (W.disk_faults outside.old) (W.disk_faults outside.new)) }
-        ensures numbers { answers self.old → HasNumbers result.end activation (number_after (opened self.old) (desk self.new)) }
+        requires bytes { HoldsStore W.Outside (header self.old) outside.old }
+        ensures did { (desk : Desk) → IsSure W.Outside outside.old → shows self.old (held_of W.Outside outside.old) desk → (did : Did W.Outside (programs self.old) (opened self.old) (event.Turn activation limit) (turn_told activation result (printed self.new)) (closed self.new) (order self.new) (shows self.new) desk outside.old outside.new) × HasNumbers result.end activation (number_after (opened self.old) did.next) }
+        ensures writes { WritesMore (W.writes outside.old) (W.writes outside.new) (writes_due result.end) }
+        ensures shut { (result.end ≡ TurnEnd.Shut) ↔ (closed self.old ≡ true) }
+        ensures unchanged { closed self.old ≡ true → (self.new ≡ self.old) × (outside.new ≡ outside.old) }
+        ensures closed { closed self.new ≡ turn_closes result.end }
+        ensures cause { closed self.old ≡ false → closed self.new ≡ true → Rose (W.disk_faults outside.old) (W.disk_faults outside.new) }
+        ensures disk { result.end ≡ TurnEnd.Disk → Rose (W.disk_faults outside.old) (W.disk_faults outside.new) }
         ensures calls { CallsDisk W.Outside outside.old outside.new }
+        ensures told { StillTold W.Outside outside.old outside.new }
+        ensures bytes { HoldsStore W.Outside (header self.new) outside.new }
         ensures sound { sound self.new }
         ensures programs { programs self.new ≡ programs self.old }
         ensures opened { opened self.new ≡ opened self.old }
+        ensures header { header self.new ≡ header self.old }
         ensures begins { begins self.new ≡ begins self.old }
-        ensures next { (desk self.new).next ≡ (desk self.old).next }
-        ensures turns { turns self.new ≡ turns self.old + 1 }
-        ensures store_bytes { store_bytes self.new ≡ store_bytes self.old }
-        ensures bytes { ForSome (W.held outside.new) (λ bytes. store_bytes self.new ≤ length bytes) }
-        ensures answers { answers self.old → answers self.new }
+        ensures given { given self.new ≡ given self.old }
+        ensures turns { turns self.new ≤ turns self.old + 1 };
 
-        // While the desk is open, the bytes that are told are its.
-        ensures told { answers self.old → IsSome (W.held outside.old) → IsSome (W.held outside.new) }
-        ensures kept { answers self.old → IsSome (W.held outside.old) → keeps self.old (held_of W.Outside outside.old) → IsTrue (not (desk self.new).closed) → keeps self.new (held_of W.Outside outside.new) };
+    /// Brings the store home, so that its journal begins again.
+    fn checkpoint<W: Outside>(&mut self, outside: &mut W) -> Stored
+        requires sound { sound self.old }
+        requires bytes { HoldsStore W.Outside (header self.old) outside.old }
+        ensures did { (desk : Desk) → IsSure W.Outside outside.old → shows self.old (held_of W.Outside outside.old) desk → (did : Did W.Outside (programs self.old) (opened self.old) event.Checkpoint (stored_told result) (closed self.new) (order self.new) (shows self.new) desk outside.old outside.new) × StoredNumber result (number_after (opened self.old) did.next) }
+        ensures writes { WritesMore (W.writes outside.old) (W.writes outside.new) 0 }
+        ensures shut { (result ≡ Stored.Shut) ↔ (closed self.old ≡ true) }
+        ensures unchanged { closed self.old ≡ true → (self.new ≡ self.old) × (outside.new ≡ outside.old) }
+        ensures closed { closed self.new ≡ stored_closes result }
+        ensures cause { closed self.old ≡ false → closed self.new ≡ true → Rose (W.disk_faults outside.old) (W.disk_faults outside.new) }
+        ensures calls { CallsDisk W.Outside outside.old outside.new }
+        ensures told { StillTold W.Outside outside.old outside.new }
+        ensures bytes { HoldsStore W.Outside (header self.new) outside.new }
+        ensures sound { sound self.new }
+        ensures programs { programs self.new ≡ programs self.old }
+        ensures opened { opened self.new ≡ opened self.old }
+        ensures header { header self.new ≡ header self.old }
+        ensures begins { begins self.new ≡ begins self.old }
+        ensures given { given self.new ≡ given self.old }
+        ensures turns { turns self.new ≡ turns self.old };
+
+    /// A crash: it forgets all that isn't on the disk, and reads the store again. It only asks the disk.
+    fn forget<W: Outside>(&mut self, outside: &mut W) -> Reopened
+        requires sound { sound self.old }
+        requires bytes { HoldsStore W.Outside (header self.old) outside.old }
+        ensures did { (desk : Desk) → IsSure W.Outside outside.old → shows self.old (held_of W.Outside outside.old) desk → (did : Did W.Outside (programs self.old) (opened self.old) event.Crash (reopened_told (numbers desk) result) (closed self.new) (order self.new) (shows self.new) desk outside.old outside.new) × IsReopened result (number_after (opened self.old) did.next) }
+        ensures shut { (result ≡ Reopened.Shut) ↔ (closed self.old ≡ true) }
+        ensures unchanged { closed self.old ≡ true → (self.new ≡ self.old) × (outside.new ≡ outside.old) }
+        ensures closed { closed self.new ≡ reopened_closes result }
+        ensures cause { result ≡ Reopened.DiskFault → Rose (W.disk_faults outside.old) (W.disk_faults outside.new) }
+        ensures damage { IsDamage W.Outside (header self.old) outside.old result }
+        ensures asks { OnlyAsks W.Outside outside.old outside.new }
+        ensures sound { sound self.new }
+        ensures programs { programs self.new ≡ programs self.old }
+        ensures opened { opened self.new ≡ opened self.old }
+        ensures header { header self.new ≡ header self.old }
+        ensures begins { begins self.new ≡ begins self.old }
+        ensures given { given self.new ≡ given self.old }
+        ensures turns { turns self.new ≡ turns self.old };
 
     /// The store's number.
     fn number(&self) -> u64
         requires { sound self.now }
-        ensures { answers self.now → result ≡ number_after (opened self.now) (desk self.now) };
+        ensures { (held : List ℕ) (desk : Desk) → shows self.now held desk → result ≡ number_after (opened self.now) desk };
 
     /// The numbers of those that are active, ascending.
     fn active(&self) -> ArrayVec<u32, 16>
         requires { sound self.now }
-        ensures { answers self.now → result.items ≡ numbers (desk self.now) };
+        ensures { (held : List ℕ) (desk : Desk) → shows self.now held desk → result.items ≡ numbers desk };
 
     /// What the activation of the last turn that ended by a commit had printed.
     fn printed(&self) -> &[u8]
         ensures bytes { result.now ≡ printed self.now }
         ensures few { length result.now ≤ 4096 };
 
-    /// Bytes that the desk keeps stand for its number and its committed bytes.
-    ghost keeps_what_stands: { (self_now : Self) (held : List ℕ) → keeps self_now held → stands held ≡ Stands (number_after (opened self_now) (desk self_now)) (desk self_now).committed };
+    /// The commits, in order, with one in doubt at most at the end.
+    fn order(&self) -> &[Committed]
+        requires { sound self.now }
+        ensures { map (λ commit. (commit.activation, commit.steps)) result.now ≡ order self.now };
+
+    /// It shows open desks alone.
+    ghost shown_open: { (self_now : Self) (held : List ℕ) (desk : Desk) → shows self_now held desk → desk.closed ≡ false };
+
+    /// Its order is the desk's.
+    ghost order_shown: { (self_now : Self) (held : List ℕ) (desk : Desk) → shows self_now held desk → order self_now ≡ desk.order };
+
+    /// It is open itself then.
+    ghost open_shown: { (self_now : Self) (held : List ℕ) (desk : Desk) → shows self_now held desk → closed self_now ≡ false };
+
+    /// The bytes stand for the desk's number and its committed bytes.
+    ghost shown_stands: { (self_now : Self) (held : List ℕ) (desk : Desk) → shows self_now held desk → stands held ≡ standing_of (opened self_now) desk };
 }

@@ -1,0 +1,41 @@
+-- What an event did: its step, why its word isn't fine, and what the disk held at each moment of it.
+use Rattle.std.specs.Prelude.{◌≡◌, ℕ, ◌⊎◌, Bool, true, false, List, slice_set}
+use Rattle.outside.specs.declared.world.Outside.{Ghosts}
+use Rattle.outside.specs.Causes.{Rose}
+use Rattle.outside.specs.Durable.{IsSure}
+use Rattle.outside.specs.Runs.{Leaves, held_of}
+use Rattle.flat_machine.specs.declared.machine.Program.{Program}
+use Rattle.store_format.specs.Stands.{Standing, Stands, stands}
+use Rattle.desk.specs.declared.event.Event.{Event}
+use Rattle.desk.specs.Desk.{Desk}
+use Rattle.desk.specs.Instruction.{Word, Fine, Doubt}
+use Rattle.desk.specs.Run.{Happening, step}
+use Rattle.desk.specs.Report.{number_after}
+
+-- what a disk of a desk that opened with a number stands for
+abbrev pub standing_of : ℕ → Desk → Standing
+standing_of number desk = Stands (number_after number desk) desk.committed
+
+-- the desk after an event that went well
+abbrev pub fine_step : List Program → Event → Desk → Desk
+fine_step programs event desk = (step programs event Fine desk).desk
+
+-- An image stands for what stood before the event, or, where the order is that of the event gone well, for what stands then.
+abbrev pub IsEitherOf : List Program → ℕ → Event → Desk → Desk → List ℕ → Type 0
+IsEitherOf programs number event old new image =
+    (stands image ≡ standing_of number old)
+    ⊎ ((fine_step programs event old).order ≡ new.order) × (stands image ≡ standing_of number (fine_step programs event old))
+
+-- An event was a step of the desk with a word, which isn't fine only where the disk's faults rose. While the desk is open, its bytes are
+-- sure and shown. A crash in it leaves what stood before it or after it; where a commit in doubt closed the desk there is one place
+-- with whose byte the commit stands.
+pub record Did {W : Type 0} (G : Ghosts W) (programs : List Program) (number : ℕ) (event : Event) (told : Happening) (closed : Bool) (order : List (ℕ × ℕ)) (shows : List ℕ → Desk → Type 0) (desk : Desk) (before after : W) : Type 0 where
+  pub word : Word
+  pub next : Desk
+  pub stepped : step programs event word desk ≡ record { desk = next; happening = told }
+  pub why : (word ≡ Fine) ⊎ Rose (G.disk_faults before) (G.disk_faults after)
+  pub closes : closed ≡ next.closed
+  pub ordered : order ≡ next.order
+  pub still : next.closed ≡ false → IsSure G after × shows (held_of G after) next
+  pub crash : Leaves G (λ image seen. IsEitherOf programs number event desk next image) before after
+  pub doubt : word ≡ Doubt → next.closed ≡ true → ((fine_step programs event desk).order ≡ next.order) × ((gate : ℕ) × Leaves G (λ image seen. stands (slice_set image gate 165) ≡ standing_of number (fine_step programs event desk)) after after)
