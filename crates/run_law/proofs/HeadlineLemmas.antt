@@ -1,0 +1,88 @@
+-- What a crash leaves of a run from an opening.
+use Rattle.std.proofs.Common.{◌≡◌, ℕ, ◌+◌, ◌≤◌, List, [], ◌∷◌, ◌++◌, length, map, take, refl, sym, ap, ◌∙◌, subst, arith, length-append, append-nil, append_assoc, Option, Some, IsTrue}
+use Rattle.std.specs.Prelude.{false, true, not, Bool, ◌%◌, ◌^◌}
+use Rattle.std.proofs.lemmas.List.{take_at, map-append}
+use Rattle.line_geometry.specs.FlatStore.{FlatStore}
+use Rattle.flat_machine.specs.declared.machine.Program.{Program}
+use Rattle.flat_machine.specs.Serial.{Activation, serial}
+use Rattle.store_format.specs.Stands.{Standing, Stands}
+use Rattle.desk.specs.declared.event.Event.{Event}
+use Rattle.desk.specs.Commits.{begun, IsSerial}
+use Rattle.desk.specs.Crash.{standing_of, fine_step}
+use Rattle.desk.specs.Desk.{Desk, opened}
+use Rattle.desk.specs.Instruction.{Word, Fine, Doubt}
+use Rattle.desk.specs.Report.{event_lines}
+use Rattle.desk.specs.Run.{run, step, IsRunOf, OpenBeforeEach}
+use Rattle.desk.specs.Seen.{commits_seen}
+use Rattle.desk.proofs.SerialLaw.{run-serial}
+use Rattle.run_law.specs.Headline.{IsPrefix, LeftIsPrefix, DoubtIsWhole}
+use Rattle.run_law.specs.Left.{IsLeft}
+use Rattle.run_law.proofs.RunLemmas.{run_on}
+use Rattle.run_law.proofs.StepLemmas.{Stepped, step_by}
+
+-- a run whose last desk is open leaves what its order leaves, one after another
+open_serial : (programs : List Program) (number frames most most_lines : ℕ) (store : FlatStore) (events : List Event) (taken : List (Event × Word)) (rest : List Event)
+    → IsRunOf programs events (opened frames most most_lines store) taken rest → (run programs taken (opened frames most most_lines store)).closed ≡ false
+    → serial (begun programs events) (run programs taken (opened frames most most_lines store)).order store ≡ Some (run programs taken (opened frames most most_lines store)).committed
+open_serial programs number frames most most_lines store events taken rest is_run still =
+    let start = opened frames most most_lines store in
+    let desk = run programs taken start in
+    let it : IsSerial (begun programs events) number store desk.order (event_lines [] programs number taken start) desk.committed desk.closed = run-serial [] programs number frames most most_lines store events taken rest is_run in
+    ap (λ (order : List (ℕ × ℕ)). serial (begun programs events) order store) (it.order_is ∙ ap (λ (back : List (ℕ × ℕ)). it.done ++ back) (it.none_open still) ∙ append-nil it.done) ∙ it.leaves
+
+pub left_is_prefix : LeftIsPrefix
+left_is_prefix programs number frames most most_lines store events taken rest text printed image seen is_run left =
+    let start = opened frames most most_lines store in
+    let stage = run programs left.stage start in
+    let order = (run programs taken start).order in
+    let stage_run : IsRunOf programs events start left.stage (left.after ++ rest) = record {
+      prefix = sym (append_assoc (map (λ (each : Event × Word). each.0) left.stage) left.after rest) ∙ ap (λ (front : List Event). front ++ rest) left.is_run.prefix ∙ is_run.prefix;
+      each_open = left.is_run.each_open;
+    } in
+    let cut : take (length stage.order) order ≡ stage.order = ap (λ (these : List (ℕ × ℕ)). take (length stage.order) these) (sym left.order_is) ∙ take_at stage.order left.later (length stage.order) refl in
+    let longer = ap (λ (these : List (ℕ × ℕ)). length these) left.order_is in
+    record {
+      j = length stage.order;
+      few = omega (arith, longer, length-append stage.order left.later);
+      since = take left.count text;
+      seen_is = left.seen_is;
+      told = omega (arith, left.told);
+      left = stage.committed;
+      leaves = ap (λ (these : List (ℕ × ℕ)). serial (begun programs events) these store) cut ∙ open_serial programs number frames most most_lines store events left.stage (left.after ++ rest) stage_run left.still_open;
+      stood = left.stood;
+    }
+
+-- a run is open before each event whatever the last word is
+other_word : (programs : List Program) (front : List (Event × Word)) (event : Event) (one two : Word) (desk : Desk) → OpenBeforeEach programs (front ++ (event, one) ∷ []) desk → OpenBeforeEach programs (front ++ (event, two) ∷ []) desk
+other_word programs [] event one two desk each = (each.0, tt)
+other_word programs (first ∷ front) event one two desk each = (each.0, other_word programs front event one two (step programs first.0 first.1 desk).desk each.1)
+
+last_open : (programs : List Program) (front : List (Event × Word)) (event : Event) (word : Word) (desk : Desk) → OpenBeforeEach programs (front ++ (event, word) ∷ []) desk → IsTrue (not (run programs front desk).closed)
+last_open programs [] event word desk each = each.0
+last_open programs (first ∷ front) event word desk each = last_open programs front event word (step programs first.0 first.1 desk).desk each.1
+
+open_is : (shut : Bool) → IsTrue (not shut) → shut ≡ false
+open_is true is = cc
+open_is false is = refl
+
+pub doubt_is_whole : DoubtIsWhole
+doubt_is_whole programs number frames most most_lines store events front event rest is_run same =
+    let start = opened frames most most_lines store in
+    let before = run programs front start in
+    let fine = run programs (front ++ (event, Fine) ∷ []) start in
+    let well = fine_step programs event before in
+    let is_well : fine ≡ well = run_on programs front ((event, Fine) ∷ []) start in
+    let fine_run : IsRunOf programs events start (front ++ (event, Fine) ∷ []) rest = record {
+      prefix =
+          ap (λ (these : List Event). these ++ rest) (map-append (λ (each : Event × Word). each.0) front ((event, Fine) ∷ []) ∙ sym (map-append (λ (each : Event × Word). each.0) front ((event, Doubt) ∷ [])))
+          ∙ is_run.prefix;
+      each_open = other_word programs front event Doubt Fine start is_run.each_open;
+    } in
+    let steps : Stepped Fine before.order [] (step programs event Fine before) = step_by programs event Fine [] before (open_is before.closed (last_open programs front event Doubt start is_run.each_open)) in
+    let still : fine.closed ≡ false = ap (λ (desk : Desk). desk.closed) is_well ∙ steps.stays refl in
+    let made = open_serial programs number frames most most_lines store events (front ++ (event, Fine) ∷ []) rest fine_run still in
+    let order : fine.order ≡ (run programs (front ++ (event, Doubt) ∷ []) start).order = ap (λ (desk : Desk). desk.order) is_well ∙ same in (
+      fine.committed,
+      ap (λ (these : List (ℕ × ℕ)). serial (begun programs events) these store) (sym order) ∙ made,
+      ap (standing_of number) (sym is_well) ∙ ap (λ (these : List (ℕ × ℕ)). Stands ((number + length these) % 2 ^ 64) fine.committed) order,
+    )

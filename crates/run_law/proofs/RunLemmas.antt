@@ -1,0 +1,55 @@
+-- Runs, one after another.
+use Rattle.std.proofs.Common.{◌≡◌, ℕ, ◌+◌, List, [], ◌∷◌, ◌++◌, map, refl, sym, ap, ◌∙◌, append_assoc, cond}
+use Rattle.std.specs.Prelude.{not, Bool, false, if◌then◌else◌}
+use Rattle.std.specs.List.{flat_map}
+use Rattle.std.proofs.lemmas.List.Sums.{sum_by-append}
+use Rattle.std.proofs.lemmas.Grind.{flat_map-append}
+use Rattle.flat_machine.specs.declared.machine.Program.{Program}
+use Rattle.desk.specs.declared.event.Event.{Event}
+use Rattle.desk.specs.Desk.{Desk}
+use Rattle.desk.specs.Holdings.{numbers}
+use Rattle.desk.specs.Instruction.{Word}
+use Rattle.desk.specs.Run.{run, step, is_fine, faulted, OpenBeforeEach}
+use Rattle.desk.specs.Lines.{Line, Open, Left, End, line_text}
+use Rattle.desk.specs.Report.{number_after, happening_lines, closing_lines, lines_from, report, event_lines}
+
+module _ (programs : List Program) where
+  pub run_on : (xs ys : List (Event × Word)) (desk : Desk) → run programs (xs ++ ys) desk ≡ run programs ys (run programs xs desk)
+  run_on [] ys desk = refl
+  run_on (x ∷ xs) ys desk = run_on xs ys (step programs x.0 x.1 desk).desk
+
+  pub open_on : (xs ys : List (Event × Word)) (desk : Desk) → OpenBeforeEach programs xs desk → OpenBeforeEach programs ys (run programs xs desk) → OpenBeforeEach programs (xs ++ ys) desk
+  open_on [] ys desk one two = two
+  open_on (x ∷ xs) ys desk one two = (one.0, open_on xs ys (step programs x.0 x.1 desk).desk one.1 two)
+
+  module _ (names : List (List ℕ)) (number : ℕ) where
+    pub lines_on : (xs ys : List (Event × Word)) (desk : Desk) → event_lines names programs number (xs ++ ys) desk ≡ event_lines names programs number xs desk ++ event_lines names programs number ys (run programs xs desk)
+    lines_on [] ys desk = refl
+    lines_on (x ∷ xs) ys desk =
+        let after = step programs x.0 x.1 desk in
+        let here = happening_lines names (number_after number after.desk) after.happening in
+        ap (λ (rest : List Line). here ++ rest) (lines_on xs ys after.desk) ∙ sym (append_assoc here (event_lines names programs number xs after.desk) (event_lines names programs number ys (run programs xs after.desk)))
+
+    lines_end : (xs : List (Event × Word)) (left : List Event) (desk : Desk) → lines_from names programs number xs left desk ≡ event_lines names programs number xs desk ++ closing_lines number left (run programs xs desk)
+    lines_end [] left desk = refl
+    lines_end (x ∷ xs) left desk =
+        let after = step programs x.0 x.1 desk in
+        let here = happening_lines names (number_after number after.desk) after.happening in
+        ap (λ (rest : List Line). here ++ rest) (lines_end xs left after.desk) ∙ sym (append_assoc here (event_lines names programs number xs after.desk) (closing_lines number left (run programs xs after.desk)))
+
+    -- a report is the open line, the lines of the events and those of the end
+    pub report_parts : (xs : List (Event × Word)) (left : List Event) (desk : Desk) → report names programs number xs left desk ≡ line_text (Open number) ++ (flat_map line_text (event_lines names programs number xs desk) ++ flat_map line_text (closing_lines number left (run programs xs desk)))
+    report_parts xs left desk =
+        ap (λ (lines : List Line). line_text (Open number) ++ flat_map line_text lines) (lines_end xs left desk)
+        ∙ ap (λ (bytes : List ℕ). line_text (Open number) ++ bytes) (flat_map-append line_text (event_lines names programs number xs desk) (closing_lines number left (run programs xs desk)))
+
+pub faulted_on : (xs ys : List (Event × Word)) → faulted (xs ++ ys) ≡ faulted xs + faulted ys
+faulted_on xs ys = sum_by-append (λ (event : Event × Word). cond (not (is_fine event.1)) 1 0) xs ys
+
+-- the lines of the end, where the desk is open and no event is left
+pub closing_bytes : (number : ℕ) (desk : Desk) → desk.closed ≡ false → flat_map line_text (map Left (numbers desk)) ++ flat_map line_text (End (number_after number desk) ∷ []) ≡ flat_map line_text (closing_lines number [] desk)
+closing_bytes number desk was_open =
+    let lines : List Line = map Left (numbers desk) ++ End (number_after number desk) ∷ [] in
+    let none : List Line = [] in
+    sym (flat_map-append line_text (map Left (numbers desk)) (End (number_after number desk) ∷ []))
+    ∙ ap (λ (shut : Bool). flat_map line_text (if shut then none else lines)) (sym was_open)

@@ -1,0 +1,105 @@
+-- The commits that the bytes of a report tell of, also where it is cut.
+use Rattle.std.proofs.Common.{◌≡◌, ℕ, ◌+◌, ◌≤◌, Bool, true, false, List, [], ◌∷◌, ◌++◌, length, take, drop, map, refl, sym, ap, ◌∙◌, subst, append_assoc, append-nil, cond, codes, arith}
+use Rattle.std.specs.Prelude.{◌==◌, if◌then◌else◌, count_by, nat_eq}
+use Rattle.std.specs.List.{flat_map, starts_with}
+use Rattle.std.proofs.lemmas.List.{take-append-drop}
+use Rattle.std.proofs.lemmas.List.Sums.{sum_by-append}
+use Rattle.desk.specs.Lines.{Line, line_text}
+use Rattle.desk.specs.Lines as line
+use Rattle.desk.specs.Commits.{is_commit}
+use Rattle.desk.specs.Seen.{whole_lines, commits_seen, IsUnbroken}
+use Rattle.run_law.proofs.Unbroken.{unbroken_first, unbroken_rest, body_of, text_is, IsPlain, body-unbroken}
+
+-- whether a line without its line feed is a commit's
+abbrev tells : List ℕ → Bool
+tells line = starts_with nat_eq line (codes "commit ")
+
+counted_on : (xs ys : List (List ℕ)) → count_by tells (xs ++ ys) ≡ count_by tells xs + count_by tells ys
+counted_on xs ys = sum_by-append (λ (line : List ℕ). cond (tells line) 1 0) xs ys
+
+-- the whole lines of bytes, and more with more bytes
+more_lines : (line xs ys : List ℕ) → (more : List (List ℕ)) × (whole_lines line (xs ++ ys) ≡ whole_lines line xs ++ more)
+more_lines line [] ys = (whole_lines line ys, refl)
+more_lines line (x ∷ xs) ys = by_feed (x == 10) (more_lines [] xs ys) (more_lines (line ++ x ∷ []) xs ys)
+  where
+    by_feed : (feed : Bool) → (more : List (List ℕ)) × (whole_lines [] (xs ++ ys) ≡ whole_lines [] xs ++ more) → (more : List (List ℕ)) × (whole_lines (line ++ x ∷ []) (xs ++ ys) ≡ whole_lines (line ++ x ∷ []) xs ++ more)
+        → (more : List (List ℕ)) × ((if feed then line ∷ whole_lines [] (xs ++ ys) else whole_lines (line ++ x ∷ []) (xs ++ ys)) ≡ (if feed then line ∷ whole_lines [] xs else whole_lines (line ++ x ∷ []) xs) ++ more)
+    by_feed true one two = (one.0, ap (λ (rest : List (List ℕ)). line ∷ rest) one.1)
+    by_feed false one two = two
+
+-- no more commits are seen in fewer bytes
+pub seen_cut : (count : ℕ) (bytes : List ℕ) → commits_seen (take count bytes) ≤ commits_seen bytes
+seen_cut count bytes =
+    let more = more_lines [] (take count bytes) (drop count bytes) in
+    let whole : commits_seen (take count bytes ++ drop count bytes) ≡ commits_seen bytes = ap commits_seen (take-append-drop count bytes) in
+    let split : commits_seen (take count bytes ++ drop count bytes) ≡ commits_seen (take count bytes) + count_by tells more.0 = ap (count_by tells) more.1 ∙ counted_on (whole_lines [] (take count bytes)) more.0 in
+    omega (arith, whole, split)
+
+-- a line and its line feed are a whole line
+whole_first : (line body rest : List ℕ) → IsUnbroken body → whole_lines line (body ++ 10 ∷ rest) ≡ (line ++ body) ∷ whole_lines [] rest
+whole_first line [] rest is = ap (λ (first : List ℕ). first ∷ whole_lines [] rest) (sym (append-nil line))
+whole_first line (x ∷ body) rest is =
+    let lines : List (List ℕ) = whole_lines [] (body ++ 10 ∷ rest) in
+    let later : List (List ℕ) = whole_lines (line ++ x ∷ []) (body ++ 10 ∷ rest) in
+    ap (λ (feed : Bool). if feed then line ∷ lines else later) (unbroken_first x body is)
+    ∙ whole_first (line ++ x ∷ []) body rest (unbroken_rest x body is)
+    ∙ ap (λ (first : List ℕ). first ∷ whole_lines [] rest) (append_assoc line (x ∷ []) body)
+
+-- a line begins so exactly where it is a commit's
+tells_commit : (one : Line) → tells (body_of one) ≡ is_commit one
+tells_commit (line.Open number) = refl
+tells_commit (line.Begin activation name) = refl
+tells_commit (line.Busy activation name) = refl
+tells_commit (line.NoSegment activation name segment) = refl
+tells_commit (line.Idle activation) = refl
+tells_commit (line.Turn activation ran pages locks) = refl
+tells_commit (line.Cycle []) = refl
+tells_commit (line.Cycle (member ∷ members)) = refl
+tells_commit (line.Victim activation) = refl
+tells_commit (line.Commit activation number steps out) = refl
+tells_commit (line.Check activation code address) = refl
+tells_commit (line.Wait activation holders) = refl
+tells_commit (line.Journal activation lines limit) = refl
+tells_commit (line.Disk activation) = refl
+tells_commit (line.Doubt activation number) = refl
+tells_commit line.Closed = refl
+tells_commit (line.Stored number) = refl
+tells_commit (line.Lost activation) = refl
+tells_commit (line.Left activation) = refl
+tells_commit (line.End number) = refl
+
+-- lines whose names have no line feed
+abbrev pub ArePlain : List Line → Type 0
+ArePlain [] = Unit {0}
+ArePlain (line ∷ lines) = IsPlain line × ArePlain lines
+
+-- how many of these lines are commits'
+abbrev pub commits_in : List Line → ℕ
+commits_in lines = count_by is_commit lines
+
+pub commits_on : (xs ys : List Line) → commits_in (xs ++ ys) ≡ commits_in xs + commits_in ys
+commits_on xs ys = sum_by-append (λ (line : Line). cond (is_commit line) 1 0) xs ys
+
+pub plain_on : (xs ys : List Line) → ArePlain xs → ArePlain ys → ArePlain (xs ++ ys)
+plain_on [] ys one two = two
+plain_on (x ∷ xs) ys one two = (one.0, plain_on xs ys one.1 two)
+
+-- the commits seen in lines, and in bytes behind them
+pub seen_lines : (lines : List Line) (rest : List ℕ) → ArePlain lines → commits_seen (flat_map line_text lines ++ rest) ≡ commits_in lines + commits_seen rest
+seen_lines [] rest are = omega arith
+seen_lines (first ∷ lines) rest are =
+    let tail : List ℕ = flat_map line_text lines ++ rest in
+    let bytes : line_text first ++ flat_map line_text lines ++ rest ≡ body_of first ++ 10 ∷ tail =
+    append_assoc (line_text first) (flat_map line_text lines) rest ∙ ap (λ (front : List ℕ). front ++ tail) (text_is first) ∙ append_assoc (body_of first) (10 ∷ []) tail in
+    let whole : commits_seen (line_text first ++ flat_map line_text lines ++ rest) ≡ count_by tells (body_of first ∷ []) + commits_seen tail =
+    ap commits_seen bytes ∙ ap (count_by tells) (whole_first [] (body_of first) tail (body-unbroken first are.0)) ∙ counted_on (body_of first ∷ []) (whole_lines [] tail) in
+    let head : count_by tells (body_of first ∷ []) ≡ commits_in (first ∷ []) = ap (λ (is : Bool). 0 + cond is 1 0) (tells_commit first) in
+    let later = seen_lines lines rest are.1 in
+    let split : commits_in (first ∷ lines) ≡ commits_in (first ∷ []) + commits_in lines = commits_on (first ∷ []) lines in
+    omega (arith, whole, head, later, split)
+
+pub seen_all : (lines : List Line) → ArePlain lines → commits_seen (flat_map line_text lines) ≡ commits_in lines
+seen_all lines are =
+    let all = seen_lines lines [] are in
+    let same : commits_seen (flat_map line_text lines ++ []) ≡ commits_seen (flat_map line_text lines) = ap commits_seen (append-nil (flat_map line_text lines)) in
+    omega (arith, all, same)

@@ -1,0 +1,222 @@
+-- What a step of an open desk does to its order, and the lines that it has.
+use Rattle.std.proofs.Common.{◌≡◌, ℕ, ◌+◌, ◌≤◌, List, [], ◌∷◌, ◌++◌, length, map, get_or, refl, sym, ap, ◌∙◌, subst, arith, append-nil, append_assoc, length-append, zero, suc, cond}
+use Rattle.std.specs.Prelude.{Bool, true, false, not, if◌then◌else◌, Some, None, Option, IsTrue, slice_get, slice_index_or, nat_lt}
+use Rattle.std.specs.List.{flat_map}
+use Rattle.flat_machine.specs.declared.machine.Program.{Program}
+use Rattle.flat_machine.specs.Serial.{Activation}
+use Rattle.desk.specs.declared.event.Event.{Event}
+use Rattle.desk.specs.declared.event.Event.TheVariants as event
+use Rattle.desk.specs.Desk.{Desk}
+use Rattle.desk.specs.Holdings.{numbers}
+use Rattle.desk.specs.Instruction.{Word, Fine, ReadFailed, Unwritten, Doubt, Failed, Counts, Ending, Idle, Limit, Checked, Journal, Disk, Victim, Waits, Committed, CommitUnwritten, CommitDoubted, Turning, Going, Over, turn}
+use Rattle.desk.specs.Run.{Happening, Nothing, Begun, Busy, NoSegment, Turned, CheckpointMade, CheckpointFailed, Crashed, CrashFailed, Step, event_of, step, turned, run, begins, begin, begin_if, absent_segment, OpenBeforeEach}
+use Rattle.desk.specs.Lines.{Line}
+use Rattle.desk.specs.Lines as line
+use Rattle.desk.specs.Report.{number_after, happening_lines, turn_lines, ending_lines, cycle_lines, event_lines}
+use Rattle.desk.specs.Seen.{IsUnbroken}
+use Rattle.run_law.proofs.SeenLemmas.{ArePlain, plain_on, commits_in, commits_on}
+use Rattle.run_law.proofs.TurnLemmas.{StaysOpen, Ended, Ends, turn_ends}
+
+-- an open desk takes the event
+pub stepped : (programs : List Program) (event : Event) (word : Word) (desk : Desk) → desk.closed ≡ false → step programs event word desk ≡ event_of programs event word desk
+stepped programs event word desk was_open =
+    let stays : Step = record { desk = desk; happening = Nothing } in
+    ap (λ (shut : Bool). if shut then stays else event_of programs event word desk) was_open
+
+-- the lines of rollbacks have no commit
+cycles_quiet : (cycles : List (List ℕ)) → commits_in (flat_map cycle_lines cycles) ≡ 0
+cycles_quiet [] = refl
+cycles_quiet (cycle ∷ cycles) = let split = commits_on (cycle_lines cycle) (flat_map cycle_lines cycles) in let rest = cycles_quiet cycles in omega (arith, split, rest)
+
+pub counted_quiet : (activation : ℕ) (counts : Counts) (ends : List Line) → commits_in (line.Turn activation counts.ran counts.pages counts.locks ∷ (flat_map cycle_lines counts.cycles ++ ends)) ≡ commits_in ends
+counted_quiet activation counts ends =
+    let one = commits_on (line.Turn activation counts.ran counts.pages counts.locks ∷ []) (flat_map cycle_lines counts.cycles ++ ends) in
+    let two = commits_on (flat_map cycle_lines counts.cycles) ends in
+    let three = cycles_quiet counts.cycles in
+    omega (arith, one, two, three)
+
+-- what a step of an open desk did: its order grew, it has no more commit lines than it made commits and none where it closed the desk,
+-- and it leaves the desk open where its word is fine
+pub record Stepped (word : Word) (order : List (ℕ × ℕ)) (names : List (List ℕ)) (after : Step) : Type 0 where
+  pub more : List (ℕ × ℕ)
+  pub order_is : after.desk.order ≡ order ++ more
+  pub few : (number : ℕ) → commits_in (happening_lines names number after.happening) ≤ length more
+  pub quiet : after.desk.closed ≡ true → (number : ℕ) → commits_in (happening_lines names number after.happening) ≡ 0
+  pub stays : word ≡ Fine → after.desk.closed ≡ false
+
+module _ (word : Word) (order : List (ℕ × ℕ)) (names : List (List ℕ)) where
+  -- it stays open, with no commit line
+  stayed : (after : Step) → StaysOpen order after.desk → ((number : ℕ) → commits_in (happening_lines names number after.happening) ≡ 0) → Stepped word order names after
+  stayed after is none = record {
+    more = [];
+    order_is = is.1 ∙ sym (append-nil order);
+    few = λ number. let no = none number in omega (arith, no);
+    quiet = λ shut number. none number;
+    stays = λ fine. is.0;
+  }
+
+  -- it closed, with no commit line
+  shut_by : (after : Step) (more : List (ℕ × ℕ)) → after.desk.order ≡ order ++ more → (word ≡ Fine → ⊥) → ((number : ℕ) → commits_in (happening_lines names number after.happening) ≡ 0) → Stepped word order names after
+  shut_by after more is broken none = record {
+    more = more;
+    order_is = is;
+    few = λ number. let no = none number in omega (arith, no);
+    quiet = λ shut number. none number;
+    stays = λ fine. absurd (broken fine);
+  }
+
+  ended_by : (activation : ℕ) (desk : Desk) (counts : Counts) (ending : Ending) → Ended word order desk ending → Stepped word order names (record { desk = desk; happening = Turned activation counts ending })
+  ended_by activation desk counts Idle ended = stayed (record { desk = desk; happening = Turned activation counts Idle }) ended (λ number. refl)
+  ended_by activation desk counts Limit ended = stayed (record { desk = desk; happening = Turned activation counts Limit }) ended (λ number. counted_quiet activation counts [])
+  ended_by activation desk counts (Checked code address) ended = stayed (record { desk = desk; happening = Turned activation counts (Checked code address) }) ended (λ number. counted_quiet activation counts (line.Check activation code address ∷ []))
+  ended_by activation desk counts (Journal lines limit) ended = stayed (record { desk = desk; happening = Turned activation counts (Journal lines limit) }) ended (λ number. counted_quiet activation counts (line.Journal activation lines limit ∷ []))
+  ended_by activation desk counts Disk ended = stayed (record { desk = desk; happening = Turned activation counts Disk }) ended (λ number. counted_quiet activation counts (line.Disk activation ∷ []))
+  ended_by activation desk counts Victim ended = stayed (record { desk = desk; happening = Turned activation counts Victim }) ended (λ number. counted_quiet activation counts [])
+  ended_by activation desk counts (Waits holders) ended = stayed (record { desk = desk; happening = Turned activation counts (Waits holders) }) ended (λ number. counted_quiet activation counts (line.Wait activation holders ∷ []))
+  ended_by activation desk counts (Committed steps printed) ended = record {
+    more = ended.1.0 ∷ [];
+    order_is = ended.1.1;
+    few = λ number. let one = counted_quiet activation counts (line.Commit activation number steps printed ∷ []) in omega (arith, one);
+    quiet = λ shut. let no = sym ended.0 ∙ shut in cc;
+    stays = λ fine. ended.0;
+  }
+  ended_by activation desk counts CommitUnwritten ended = shut_by (record { desk = desk; happening = Turned activation counts CommitUnwritten }) [] (ended.1 ∙ sym (append-nil order)) ended.2 (λ number. counted_quiet activation counts (line.Closed ∷ []))
+  ended_by activation desk counts CommitDoubted ended = shut_by (record { desk = desk; happening = Turned activation counts CommitDoubted }) (ended.1.0 ∷ []) ended.1.1 ended.2 (λ number. counted_quiet activation counts (line.Doubt activation number ∷ line.Closed ∷ []))
+
+  turned_by : (activation : ℕ) (turning : Turning) → Ends word order turning → Stepped word order names (turned activation turning)
+  turned_by activation (Going desk counts) ends = absurd ends
+  turned_by activation (Over desk counts ending) ends = ended_by activation desk counts ending ends
+
+  -- a begin
+  begun_by : (segment : Option ℕ) (program : ℕ) (runs : Activation) (desk : Desk) → StaysOpen order desk → Stepped word order names (begins segment program runs desk)
+  begun_by (Some segment) program runs desk is = stayed (begins (Some segment) program runs desk) is (λ number. refl)
+  begun_by None program runs desk is = stayed (begins None program runs desk) is (λ number. refl)
+
+  room_by : (room : Bool) (program : ℕ) (runs : Activation) (desk : Desk) → StaysOpen order desk
+      → Stepped word order names (if room then begins (absent_segment desk.committed.directory runs.program.windows) program runs desk else record { desk = record desk { next = desk.next + 1 }; happening = Busy desk.next program })
+  room_by true program runs desk is = begun_by (absent_segment desk.committed.directory runs.program.windows) program runs desk is
+  room_by false program runs desk is = stayed (record { desk = record desk { next = desk.next + 1 }; happening = Busy desk.next program }) is (λ number. refl)
+
+  code_by : (program : ℕ) (args : List ℕ) (code : Option Program) (desk : Desk) → StaysOpen order desk → Stepped word order names (begin_if program args code desk)
+  code_by program args None desk is = stayed (record { desk = desk; happening = Nothing }) is (λ number. refl)
+  code_by program args (Some code) desk is = room_by (nat_lt (length desk.active) desk.most_active) program (record { program = code; args = args }) desk is
+
+-- the lines of lost activations have no commit
+lost_quiet : (lost : List ℕ) → commits_in (map line.Lost lost) ≡ 0
+lost_quiet [] = refl
+lost_quiet (activation ∷ lost) = let split = commits_on (line.Lost activation ∷ []) (map line.Lost lost) in let rest = lost_quiet lost in omega (arith, split, rest)
+
+pub lost_behind : (lost : List ℕ) (last : Line) → commits_in (last ∷ []) ≡ 0 → commits_in (map line.Lost lost ++ last ∷ []) ≡ 0
+lost_behind lost last none = let split = commits_on (map line.Lost lost) (last ∷ []) in let rest = lost_quiet lost in omega (arith, split, rest, none)
+
+checkpoint_by : (programs : List Program) (word : Word) (names : List (List ℕ)) (desk : Desk) → desk.closed ≡ false → Stepped word desk.order names (event_of programs event.Checkpoint word desk)
+checkpoint_by programs Fine names desk is = stayed Fine desk.order names (event_of programs event.Checkpoint Fine desk) (is, refl) (λ number. refl)
+checkpoint_by programs (ReadFailed page) names desk is = stayed (ReadFailed page) desk.order names (event_of programs event.Checkpoint (ReadFailed page) desk) (is, refl) (λ number. refl)
+checkpoint_by programs Unwritten names desk is = stayed Unwritten desk.order names (event_of programs event.Checkpoint Unwritten desk) (is, refl) (λ number. refl)
+checkpoint_by programs Doubt names desk is = stayed Doubt desk.order names (event_of programs event.Checkpoint Doubt desk) (is, refl) (λ number. refl)
+checkpoint_by programs Failed names desk is = shut_by Failed desk.order names (event_of programs event.Checkpoint Failed desk) [] (sym (append-nil desk.order)) (λ fine. cc) (λ number. refl)
+
+crash_by : (programs : List Program) (word : Word) (names : List (List ℕ)) (desk : Desk) → desk.closed ≡ false → Stepped word desk.order names (event_of programs event.Crash word desk)
+crash_by programs Fine names desk is = stayed Fine desk.order names (event_of programs event.Crash Fine desk) (is, refl) (λ number. lost_behind (numbers desk) (line.Open number) refl)
+crash_by programs (ReadFailed page) names desk is = stayed (ReadFailed page) desk.order names (event_of programs event.Crash (ReadFailed page) desk) (is, refl) (λ number. lost_behind (numbers desk) (line.Open number) refl)
+crash_by programs Unwritten names desk is = stayed Unwritten desk.order names (event_of programs event.Crash Unwritten desk) (is, refl) (λ number. lost_behind (numbers desk) (line.Open number) refl)
+crash_by programs Doubt names desk is = stayed Doubt desk.order names (event_of programs event.Crash Doubt desk) (is, refl) (λ number. lost_behind (numbers desk) (line.Open number) refl)
+crash_by programs Failed names desk is = shut_by Failed desk.order names (event_of programs event.Crash Failed desk) [] (sym (append-nil desk.order)) (λ fine. cc) (λ number. lost_behind (numbers desk) line.Closed refl)
+
+event_by : (programs : List Program) (one : Event) (word : Word) (names : List (List ℕ)) (desk : Desk) → desk.closed ≡ false → Stepped word desk.order names (event_of programs one word desk)
+event_by programs (event.Begin program args) word names desk is = code_by word desk.order names program args (slice_get programs program) desk (is, refl)
+event_by programs (event.Turn activation limit) word names desk is = turned_by word desk.order names activation (turn word activation limit desk) (turn_ends desk.order word activation limit desk (is, refl))
+event_by programs event.Checkpoint word names desk is = checkpoint_by programs word names desk is
+event_by programs event.Crash word names desk is = crash_by programs word names desk is
+
+pub step_by : (programs : List Program) (one : Event) (word : Word) (names : List (List ℕ)) (desk : Desk) → desk.closed ≡ false → Stepped word desk.order names (step programs one word desk)
+step_by programs one word names desk is =
+    subst (λ (after : Step). Stepped word desk.order names after) (sym (stepped programs one word desk is)) (event_by programs one word names desk is)
+
+-- the lines of what happened have no line feed in a name
+abbrev pub AreNames : List (List ℕ) → Type 0
+AreNames names = (program : ℕ) → IsUnbroken (slice_index_or names program [])
+
+cycles_plain : (cycles : List (List ℕ)) → ArePlain (flat_map cycle_lines cycles)
+cycles_plain [] = tt
+cycles_plain (cycle ∷ cycles) = (tt, (tt, cycles_plain cycles))
+
+endings_plain : (number activation : ℕ) (ending : Ending) → ArePlain (ending_lines number activation ending)
+endings_plain number activation Idle = tt
+endings_plain number activation Limit = tt
+endings_plain number activation (Checked code address) = (tt, tt)
+endings_plain number activation (Journal lines limit) = (tt, tt)
+endings_plain number activation Disk = (tt, tt)
+endings_plain number activation Victim = tt
+endings_plain number activation (Waits holders) = (tt, tt)
+endings_plain number activation (Committed steps printed) = (tt, tt)
+endings_plain number activation CommitUnwritten = (tt, tt)
+endings_plain number activation CommitDoubted = (tt, (tt, tt))
+
+counted_plain : (number activation : ℕ) (counts : Counts) (ending : Ending) → ArePlain (line.Turn activation counts.ran counts.pages counts.locks ∷ (flat_map cycle_lines counts.cycles ++ ending_lines number activation ending))
+counted_plain number activation counts ending =
+    (tt, plain_on (flat_map cycle_lines counts.cycles) (ending_lines number activation ending) (cycles_plain counts.cycles) (endings_plain number activation ending))
+
+turn_plain : (number activation : ℕ) (counts : Counts) (ending : Ending) → ArePlain (turn_lines number activation counts ending)
+turn_plain number activation counts Idle = (tt, tt)
+turn_plain number activation counts Limit = counted_plain number activation counts Limit
+turn_plain number activation counts (Checked code address) = counted_plain number activation counts (Checked code address)
+turn_plain number activation counts (Journal lines limit) = counted_plain number activation counts (Journal lines limit)
+turn_plain number activation counts Disk = counted_plain number activation counts Disk
+turn_plain number activation counts Victim = counted_plain number activation counts Victim
+turn_plain number activation counts (Waits holders) = counted_plain number activation counts (Waits holders)
+turn_plain number activation counts (Committed steps printed) = counted_plain number activation counts (Committed steps printed)
+turn_plain number activation counts CommitUnwritten = counted_plain number activation counts CommitUnwritten
+turn_plain number activation counts CommitDoubted = counted_plain number activation counts CommitDoubted
+
+lost_plain : (lost : List ℕ) → ArePlain (map line.Lost lost)
+lost_plain [] = tt
+lost_plain (activation ∷ lost) = (tt, lost_plain lost)
+
+pub happening_plain : (names : List (List ℕ)) → AreNames names → (number : ℕ) (happening : Happening) → ArePlain (happening_lines names number happening)
+happening_plain names are number Nothing = tt
+happening_plain names are number (Begun activation program) = (are program, tt)
+happening_plain names are number (Busy activation program) = (are program, tt)
+happening_plain names are number (NoSegment activation program segment) = (are program, tt)
+happening_plain names are number (Turned activation counts ending) = turn_plain number activation counts ending
+happening_plain names are number CheckpointMade = (tt, tt)
+happening_plain names are number CheckpointFailed = (tt, tt)
+happening_plain names are number (Crashed lost) = plain_on (map line.Lost lost) (line.Open number ∷ []) (lost_plain lost) (tt, tt)
+happening_plain names are number (CrashFailed lost) = plain_on (map line.Lost lost) (line.Closed ∷ []) (lost_plain lost) (tt, tt)
+
+module _ (programs : List Program) (names : List (List ℕ)) (number : ℕ) where
+  -- the lines of a run have no line feed in a name
+  pub run_plain : AreNames names → (taken : List (Event × Word)) (desk : Desk) → ArePlain (event_lines names programs number taken desk)
+  run_plain are [] desk = tt
+  run_plain are (one ∷ taken) desk =
+      let after = step programs one.0 one.1 desk in
+      plain_on (happening_lines names (number_after number after.desk) after.happening) (event_lines names programs number taken after.desk) (happening_plain names are (number_after number after.desk) after.happening) (run_plain are taken after.desk)
+
+  open_is : (desk : Desk) → IsTrue (not desk.closed) → desk.closed ≡ false
+  open_is desk is = by_test desk.closed is
+    where
+      by_test : (shut : Bool) → IsTrue (not shut) → shut ≡ false
+      by_test true is = cc
+      by_test false is = refl
+
+  -- a run's order is longer, by no fewer commits than its lines have
+  pub record Grew (taken : List (Event × Word)) (desk : Desk) : Type 0 where
+    pub more : List (ℕ × ℕ)
+    pub order_is : (run programs taken desk).order ≡ desk.order ++ more
+    pub few : commits_in (event_lines names programs number taken desk) ≤ length more
+
+  pub run_grew : (taken : List (Event × Word)) (desk : Desk) → OpenBeforeEach programs taken desk → Grew taken desk
+  run_grew [] desk each_open = record { more = []; order_is = sym (append-nil desk.order); few = omega arith }
+  run_grew (one ∷ taken) desk each_open =
+      let after = step programs one.0 one.1 desk in
+      let first : Stepped one.1 desk.order names after = step_by programs one.0 one.1 names desk (open_is desk each_open.0) in
+      let rest : Grew taken after.desk = run_grew taken after.desk each_open.1 in
+      record {
+        more = first.more ++ rest.more;
+        order_is = rest.order_is ∙ ap (λ (front : List (ℕ × ℕ)). front ++ rest.more) first.order_is ∙ append_assoc desk.order first.more rest.more;
+        few =
+            let split = commits_on (happening_lines names (number_after number after.desk) after.happening) (event_lines names programs number taken after.desk) in
+            let here = first.few (number_after number after.desk) in
+            let later = rest.few in
+            omega (arith, split, here, later, length-append first.more rest.more);
+      }

@@ -1,0 +1,25 @@
+-- What a crash leaves of a run.
+use Rattle.std.specs.Prelude.{◌≡◌, ℕ, ◌+◌, ◌≤◌, false, List, ◌++◌, length, map, take}
+use Rattle.flat_machine.specs.declared.machine.Program.{Program}
+use Rattle.store_format.specs.Stands.{stands}
+use Rattle.desk.specs.declared.event.Event.{Event}
+use Rattle.desk.specs.Desk.{Desk}
+use Rattle.desk.specs.Instruction.{Word}
+use Rattle.desk.specs.Run.{run, IsRunOf}
+use Rattle.desk.specs.Seen.{commits_seen}
+use Rattle.desk.specs.Crash.{standing_of}
+
+-- A crash in a run left this image and these printed bytes, of which some stood before it. There is a run of the first of its events, all
+-- of whose desks are open, and whose order is the first part of the run's. The image stands for where that run ends. What was printed
+-- since is the first part of the run's text, and has no more commit lines than that run made commits.
+pub record IsLeft (programs : List Program) (number : ℕ) (start : Desk) (taken : List (Event × Word)) (text printed image seen : List ℕ) : Type 0 where
+  pub stage : List (Event × Word)
+  pub after : List Event
+  pub is_run : IsRunOf programs (map (λ event. event.0) taken) start stage after
+  pub still_open : (run programs stage start).closed ≡ false
+  pub later : List (ℕ × ℕ)
+  pub order_is : (run programs stage start).order ++ later ≡ (run programs taken start).order
+  pub stood : stands image ≡ standing_of number (run programs stage start)
+  pub count : ℕ
+  pub seen_is : seen ≡ printed ++ take count text
+  pub told : length start.order + commits_seen (take count text) ≤ length (run programs stage start).order
