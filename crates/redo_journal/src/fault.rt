@@ -1,3 +1,7 @@
+ghost use Rattle.std.specs.Prelude.{◌≡◌};
+ghost use Rattle.redo_journal.specs.declared.fault.OpenFault.TheVariants.{Memory as memory_fault};
+
+use std::alloc::AllocError;
 use thiserror::Error;
 
 /// Why a store, or a bank of it, wasn't opened (docs/FORMATS.md, "What an image stands for").
@@ -15,6 +19,14 @@ pub enum OpenFault {
     /// There was no memory.
     #[error("out of memory")]
     Memory,
+}
+
+impl From<AllocError> for OpenFault {
+    ghost from_gives = { λ _ fault. fault ≡ memory_fault };
+
+    fn from(_error: AllocError) -> Self {
+        OpenFault::Memory
+    }
 }
 
 /// Why a bank wasn't read again.

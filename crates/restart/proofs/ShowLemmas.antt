@@ -25,8 +25,8 @@ use Rattle.redo_journal.specs.Tracks as journal
 use Rattle.redo_journal.specs.Tracks.{HoldsRecords}
 use Rattle.checkpoint.specs.Home.{store_bytes}
 use Rattle.restart.specs.Faults.{IsOpenFault, IsReopenFault}
-use Rattle.restart.specs.Kept.{KeptStore, Fits}
-use Rattle.restart.specs.Shows.{Shows, IsIntact, Tracks, ShownStands}
+use Rattle.restart.specs.Kept.{KeptStore, Fits, number_of}
+use Rattle.restart.specs.Shows.{Shows, IsIntact, IsReopened, Tracks, ShownStands}
 
 -- the bank of a header is the one that such a bank's size says
 pub bank_is : (held : List ℕ) (header : Header) (which : Which) (bytes bound : ℕ) → header.bank_bytes ≡ bytes → line_count header.directory ≡ bound → bank_of held header which ≡ bank_in held which bytes bound
@@ -166,3 +166,17 @@ records_intact header which base records held is = record { which = which; base 
 pub end_inside : (header : Header) (which : Which) (bytes : ℕ) → header.bank_bytes ≡ bytes → end_of which bytes ≤ total header
 end_inside header A bytes same = omega (arith, same)
 end_inside header B bytes same = omega (arith, same)
+
+-- what a store that was reopened says of the bytes, whatever their header is
+pub reopened_holds : (held : List ℕ) (header : Header) (store : KeptStore) → store.header ≡ header → IsReopened held store
+    → (gate : ℕ) × (records : List (List RecordLine)) × (bank_of held header (chosen held) ≡ Holds gate records) × (number_of store ≡ (base_of held header (chosen held) + length records) % 2 ^ 64)
+reopened_holds held header store same is =
+    let bank = store.bank in
+    let bytes : header.bank_bytes ≡ bank.bank_bytes = ap (λ (that : Header). that.bank_bytes) (sym same) ∙ is.fits.bank_bytes in
+    let lines : line_count header.directory ≡ length bank.newest = ap (λ (that : Header). line_count that.directory) (sym same) ∙ is.fits.lines in
+    let base : base_of held header (chosen held) ≡ bank.base = ap (base_of held header) is.chosen_is ∙ ap (λ (n : ℕ). number_at held n 8) (place_is header bank.which bank.bank_bytes bytes) ∙ is.read.base in (
+      bank.gate,
+      is.read.records,
+      ap (bank_of held header) is.chosen_is ∙ bank_is held header bank.which bank.bank_bytes (length bank.newest) bytes lines ∙ is.read.holds,
+      ap (λ (n : ℕ). (bank.base + n) % 2 ^ 64) (sym is.read.count) ∙ ap (λ (n : ℕ). (n + length is.read.records) % 2 ^ 64) (sym base),
+    )
