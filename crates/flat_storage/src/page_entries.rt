@@ -196,6 +196,14 @@ impl PageEntries {
         }
     }
 
+    /// Each page becomes nobody's.
+    pub fn clear(&mut self)
+        ensures pages { vec_len self.new.entries ≡ vec_len self.old.entries }
+        ensures nobody { authority_told self.new.entries.items ≡ replicate (vec_len self.old.entries) nobody }
+    {
+        self.entries.fill(Entry::NOBODY);
+    }
+
     /// Each page of an activation becomes nobody's.
     pub fn release(&mut self, number: u32)
         ensures pages { vec_len self.new.entries ≡ vec_len self.old.entries }

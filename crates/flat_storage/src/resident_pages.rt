@@ -61,6 +61,14 @@ impl ResidentPages {
         fetch_all(&mut self.pages, self.frames, touched)
     }
 
+    /// Takes out all pages.
+    pub fn clear(&mut self)
+        ensures none { self.new.pages.items ≡ [] }
+        ensures frames { self.new.frames ≡ self.old.frames }
+    {
+        self.pages.clear();
+    }
+
     /// Takes out the pages of the lines that are locked to write.
     pub fn take_out(&mut self, marks: &LineMarks)
         ensures value { (locks : Lines) → Show marks.now locks → self.new.pages.items ≡ taken_out (pages_of locks.writes) self.old.pages.items }

@@ -174,6 +174,17 @@ impl FlatStorage {
         self.flat.entries.release(number);
     }
 
+    /// Nothing is resident, and each page is nobody's.
+    pub fn forget(&mut self)
+        ensures kept { self.new.flat ≡ record self.old.flat { resident = self.new.flat.resident; entries = self.new.flat.entries } }
+        ensures frames { self.new.flat.resident.frames ≡ self.old.flat.resident.frames }
+        ensures resident { self.new.flat.resident.pages.items ≡ [] }
+        ensures nobody { authority_told self.new.flat.entries.entries.items ≡ replicate (page_count self.old.flat.directory) nobody }
+    {
+        self.flat.resident.clear();
+        self.flat.entries.clear();
+    }
+
     /// The pages that the activation that runs wrote into leave their frames.
     pub fn take_out_written(&mut self)
         ensures kept { self.new.flat ≡ record self.old.flat { resident = self.new.flat.resident } }

@@ -7,7 +7,7 @@ use Rattle.flat_machine.specs.Row.{Outcome, On, Commit, Check, row}
 use Rattle.flat_machine.specs.After.{after}
 use Rattle.desk.specs.Desk.{Desk, Entry, with_entry, ended, rolled_back}
 use Rattle.desk.specs.Holdings.{wanted, request, held, conflicts_of, conflicts_with}
-use Rattle.desk.specs.Instruction.{Word, Counts, Ending, Going, Over, Idle, Limit, Checked, Journal, Attempt, Fetched, instruction, turns, attempts, attempts_at, limited, limit_passed, room, lines_written, fetches, fetched_first, asks, goes_on, takes_effect, touched_pages, refused_pages, granted, locks_with, with_grants, commits, Fine, ReadFailed, Unwritten, Doubt, Failed}
+use Rattle.desk.specs.Instruction.{Word, Counts, Ending, Going, Over, Idle, Limit, Checked, Journal, Attempt, Fetched, instruction, turns, attempts, attempts_at, limited, is_over_limit, lines_written, fetches, fetched_first, asks, goes_on, takes_effect, touched_pages, refused_pages, granted, locks_with, with_grants, commits, Fine, ReadFailed, Unwritten, Doubt, Failed}
 
 -- a row that goes on, or to the commit call
 abbrev pub GoesOn : Outcome → Type 0
@@ -66,27 +66,27 @@ module _ (word : Word) (attempt : Attempt) (desk : Desk) (counts : Counts) where
   attempts-check code outcome is = ap (λ (this : Outcome). attempts word attempt this desk counts) is
 
   -- one that doesn't
-  pub attempts-limited : (outcome : Outcome) → GoesOn outcome → attempts word attempt outcome desk counts ≡ limited (limit_passed (room desk) (lines_written attempt desk)) word attempt desk counts
+  pub attempts-limited : (outcome : Outcome) → GoesOn outcome → attempts word attempt outcome desk counts ≡ limited (is_over_limit attempt desk) word attempt desk counts
   attempts-limited (On next) goes = refl
   attempts-limited Commit goes = refl
   attempts-limited (Check code) goes = absurd goes
 
   -- one past the limit on written lines
-  pub limited-by : (most : ℕ) → limit_passed (room desk) (lines_written attempt desk) ≡ Some most
-      → limited (limit_passed (room desk) (lines_written attempt desk)) word attempt desk counts ≡ Over (rolled_back desk attempt.entry) counts (Journal (lines_written attempt desk) most)
-  limited-by most is = ap (λ (limit : Option ℕ). limited limit word attempt desk counts) is
+  pub limited-by : is_over_limit attempt desk ≡ true
+      → limited (is_over_limit attempt desk) word attempt desk counts ≡ Over (rolled_back desk attempt.entry) counts (Journal (lines_written attempt desk) desk.most_lines)
+  limited-by is = ap (λ (over : Bool). limited over word attempt desk counts) is
 
   -- one within it, of an entry that conflicts with nobody, whose pages are fetched before and after its grants
-  module _ (between resident : List ℕ) (first counted : ℕ) (within : limit_passed (room desk) (lines_written attempt desk) ≡ None)
+  module _ (between resident : List ℕ) (first counted : ℕ) (within : is_over_limit attempt desk ≡ false)
       (fetched : fetches word desk.frames (touched_pages attempt) (touched_pages attempt) desk.resident counts.pages ≡ Fetched between first)
       (again : fetches word desk.frames (touched_pages attempt) (touched_pages attempt) between first ≡ Fetched resident counted)
       (alone : conflicts_of desk attempt.entry ≡ []) where
-    pub effect-of : limited (limit_passed (room desk) (lines_written attempt desk)) word attempt desk counts
+    pub effect-of : limited (is_over_limit attempt desk) word attempt desk counts
         ≡ takes_effect word attempt attempt.outcome
         (record desk { resident = resident; authority = granted attempt (locks_with attempt desk) (refused_pages attempt desk) desk.authority })
         (record counts { pages = counted; locks = counts.locks + length (refused_pages attempt desk) })
     effect-of =
-        ap (λ (limit : Option ℕ). limited limit word attempt desk counts) within
+        ap (λ (over : Bool). limited over word attempt desk counts) within
         ∙ ap (fetched_first word attempt desk counts) fetched
         ∙ ap
         (λ (holders : List ℕ). asks word attempt (refused_pages attempt desk) holders (record desk { resident = between })

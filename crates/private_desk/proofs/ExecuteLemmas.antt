@@ -9,6 +9,7 @@ use Rattle.flat_storage.specs.declared.storage.Flat.{Flat}
 use Rattle.flat_storage.specs.declared.storage.FlatStorage.{FlatStorage}
 use Rattle.flat_storage.specs.Marks.{Show}
 use Rattle.flat_storage.specs.Reach.{plain_of, HasWindows, IsRow}
+use Rattle.store_format.specs.Header.{most_lines}
 use Rattle.private_desk.specs.Executed.{IsExecuted}
 use Rattle.private_desk.specs.PrivateDesk.{IsSound, IsSetUp, IsSetUpIf, IsRunningIf}
 use Rattle.private_desk.specs.declared.single.Active.{Active}
@@ -42,10 +43,9 @@ executed-sound d active sound is cpu storage out kept printed few =
       ranges = sound.ranges;
       directory = ap (λ (f : Flat). f.directory) kept ∙ sound.directory;
       committed_bytes = sound.committed_bytes;
-      running = subst (λ (f : Flat). IsRunningIf (length d.programs.items) d.turns f.marks.written d.active) (sym kept) sound.running;
+      running = subst (λ (f : Flat). IsRunningIf (length d.programs.items) d.turns (most_lines d.store.header) f.marks.written d.active) (sym kept) sound.running;
       set_up = subst (λ (one : Option Active). IsSetUpIf d.programs.items one cpu storage.flat out) (sym is) new;
       room = sound.room;
-      body = sound.body;
     }
 
 -- the same plain state of the same parts

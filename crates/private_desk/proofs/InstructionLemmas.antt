@@ -1,6 +1,6 @@
 -- One instruction of a private desk is one of the desk.
-use Rattle.std.proofs.Common.{◌≡◌, ℕ, suc, ◌+◌, ◌<◌, List, [], ◌∷◌, length, refl, sym, ◌∙◌, ap, subst, arith, Option, Some, None, inl, inr}
-use Rattle.std.specs.Prelude.{false, ◌==◌, find, slice_get, option_and_then, vec_len, vec_capacity}
+use Rattle.std.proofs.Common.{◌≡◌, ℕ, suc, ◌+◌, ◌<◌, ◌≤◌, List, [], ◌∷◌, length, refl, sym, ◌∙◌, ap, subst, arith, Option, Some, None, inl, inr}
+use Rattle.std.specs.Prelude.{true, false, nat_lt, ◌==◌, find, slice_get, option_and_then, vec_len, vec_capacity}
 use Rattle.std.specs.Option.{option_map_or}
 use Rattle.line_geometry.specs.Directory.{Layout}
 use Rattle.line_geometry.specs.FlatStore.{FlatStore}
@@ -16,8 +16,12 @@ use Rattle.flat_machine.specs.Due.{touched_within, touched_next, due_locks}
 use Rattle.std.proofs.lemmas.Option.{slice_get_cases}
 use Rattle.desk.specs.Desk.{Desk, Entry, with_entry, rolled_back}
 use Rattle.desk.specs.Holdings.{wanted}
-use Rattle.desk.specs.Instruction.{Word, Counts, Turning, Going, Over, Checked, Journal, instruction, attempts, limited, limit_passed, room, lines_written, takes_effect, commits, granted}
+use Rattle.desk.specs.Instruction.{Word, Counts, Turning, Going, Over, Checked, Journal, instruction, attempts, limited, is_over_limit, lines_written, takes_effect, commits, granted}
 use Rattle.desk.specs.Instruction as desk
+use Rattle.std.proofs.lemmas.Bool.Decides.{nat_tests}
+use Rattle.store_format.specs.Header.{most_lines}
+use Rattle.restart.specs.Kept.{KeptStore, number_of}
+use Rattle.desk.specs.Report.{number_after}
 use Rattle.private_desk.specs.PrivateDesk.{desk_of, live_of, entry_of, entries_told, IsSound, IsRunning, IsRunningIf, IsSetUp, IsSetUpIf}
 use Rattle.flat_storage.specs.Entries.{authority_told}
 use Rattle.flat_storage.specs.Words.{ReadsAll}
@@ -48,13 +52,17 @@ runs_as d active program follows is named =
 pub set_up : (d : PrivateDesk) (active : Active) → IsSound d → d.active ≡ Some active → IsSetUp d.programs.items active d.cpu d.storage.flat d.out
 set_up d active sound is = subst (λ (one : Option Active). IsSetUpIf d.programs.items one d.cpu d.storage.flat d.out) is sound.set_up
 
+-- and what holds of its numbers
+pub running : (d : PrivateDesk) (active : Active) → IsSound d → d.active ≡ Some active → IsRunning (length d.programs.items) d.turns (most_lines d.store.header) d.storage.flat.marks.written active
+running d active sound is = subst (IsRunningIf (length d.programs.items) d.turns (most_lines d.store.header) d.storage.flat.marks.written) is sound.running
+
 -- the program that it runs
 pub program_of : (d : PrivateDesk) (active : Active) → IsSound d → d.active ≡ Some active → (program : Program) × (slice_get d.programs.items active.program ≡ Some program)
 program_of d active sound is =
-    let running : IsRunning (length d.programs.items) d.turns d.storage.flat.marks.written active = subst (IsRunningIf (length d.programs.items) d.turns d.storage.flat.marks.written) is sound.running in
+    let numbers = running d active sound is in
     elim (slice_get_cases d.programs.items active.program).1 [
       | inl (program, within, is, same) ↦ (program, is)
-      | inr (past, is) ↦ absurd (omega (arith, past, running.program))
+      | inr (past, is) ↦ absurd (omega (arith, past, numbers.program))
     ]
 
 -- an activation with another number, or none, is not active
@@ -78,15 +86,14 @@ pub entries-alone : (d : PrivateDesk) (active : Active) (program : Program) → 
 entries-alone d active program on = ap (entries_told d.programs.items) on.active_is ∙ ap (λ (these : Option Program). option_map_or (λ (p : Program). entry_of active p ∷ []) these []) on.named
 
 -- desks whose parts are equal
-pub same_desk : (one other : Desk) → one.frames ≡ other.frames → one.most_active ≡ other.most_active → one.bank_bytes ≡ other.bank_bytes → one.used ≡ other.used
+pub same_desk : (one other : Desk) → one.frames ≡ other.frames → one.most_active ≡ other.most_active → one.most_lines ≡ other.most_lines
     → one.committed ≡ other.committed → one.order ≡ other.order → one.active ≡ other.active → one.authority ≡ other.authority → one.resident ≡ other.resident
     → one.next ≡ other.next → one.closed ≡ other.closed → one ≡ other
-same_desk one other a b c d e f g h j k l =
+same_desk one other a b c e f g h j k l =
     λ i. record {
       frames = a i;
       most_active = b i;
-      bank_bytes = c i;
-      used = d i;
+      most_lines = c i;
       committed = e i;
       order = f i;
       active = g i;
@@ -106,20 +113,20 @@ module _ (word : Word) (d : PrivateDesk) (active : Active) (program : Program) (
 
   -- the lines that the next row touches, and those touched so far
   abbrev pub lines : Lines
-  lines = touched program d.header.directory (live_of d)
+  lines = touched program d.store.header.directory (live_of d)
 
   abbrev pub so_far : Lines
   so_far = touched_within program active.args (store_of d) active.rows
 
   -- the instruction under way, with the lines of its row
   abbrev pub attempt : desk.Attempt
-  attempt = record { entry = entry; now = live_of d; outcome = row program d.header.directory (live_of d); lines = touched program d.header.directory (live_of d) }
+  attempt = record { entry = entry; now = live_of d; outcome = row program d.store.header.directory (live_of d); lines = touched program d.store.header.directory (live_of d) }
 
   alone : (desk_of d).active ≡ entry ∷ []
   alone = entries-alone d active program on
 
   lines-are : wanted (desk_of d) entry ≡ lines
-  lines-are = ap (λ (state : Option Plain). option_map_or (touched program d.header.directory) state no_lines) on.state
+  lines-are = ap (λ (state : Option Plain). option_map_or (touched program d.store.header.directory) state no_lines) on.state
 
   first : instruction_of word active.number d tally ≡ attempts word attempt attempt.outcome (desk_of d) (counts_of tally)
   first =
@@ -129,49 +136,56 @@ module _ (word : Word) (d : PrivateDesk) (active : Active) (program : Program) (
 
   rolled : (new : PrivateDesk) → IsRolledBack d active.number new → desk_of new ≡ rolled_back (desk_of d) entry
   rolled new back =
-      same_desk (desk_of new) (rolled_back (desk_of d) entry) back.frames refl (cc) (cc) (cc) (cc)
+      same_desk (desk_of new) (rolled_back (desk_of d) entry) back.frames refl (ap (λ (kept : KeptStore). most_lines kept.header) back.bytes.store) (cc) (cc)
       (ap (entries_told new.programs.items) back.active ∙ sym (ended-alone (desk_of d) entry active.number alone refl))
       back.released
       (back.resident (due_locks program active.args (store_of d) active.rows) on.marked)
       (cc) (cc)
 
   -- a program check
-  pub checked : (code : ℕ) (new : PrivateDesk) → row program d.header.directory (live_of d) ≡ Check code → IsRolledBack d active.number new
+  pub checked : (code : ℕ) (new : PrivateDesk) → row program d.store.header.directory (live_of d) ≡ Check code → IsRolledBack d active.number new
       → instruction_of word active.number d tally ≡ Over (desk_of new) (counts_of tally) (Checked code d.cpu.iar)
   checked code new is back =
       first
       ∙ attempts-check word attempt (desk_of d) (counts_of tally) code attempt.outcome is
       ∙ ap (λ (left : Desk). Over left (counts_of tally) (Checked code d.cpu.iar)) (sym (rolled new back))
 
+  -- whether so many lines are more than a record may have
+  over : (n : ℕ) → most_lines d.store.header < n → nat_lt (most_lines d.store.header) n ≡ true
+  over n more = grind (arith, nat_tests)
+
+  fits : (n : ℕ) → n ≤ most_lines d.store.header → nat_lt (most_lines d.store.header) n ≡ false
+  fits n few = grind (arith, nat_tests)
+
   module _ (count : ℕ) (counted : count ≡ size (both so_far lines).writes) where
-    limited-first : GoesOn (row program d.header.directory (live_of d))
-        → instruction_of word active.number d tally ≡ limited (limit_passed (room (desk_of d)) (lines_written attempt (desk_of d))) word attempt (desk_of d) (counts_of tally)
+    limited-first : GoesOn (row program d.store.header.directory (live_of d))
+        → instruction_of word active.number d tally ≡ limited (is_over_limit attempt (desk_of d)) word attempt (desk_of d) (counts_of tally)
     limited-first goes = first ∙ attempts-limited word attempt (desk_of d) (counts_of tally) attempt.outcome goes
 
     -- more lines than a record may have
-    pub journalled : (most : ℕ) (new : PrivateDesk) → GoesOn (row program d.header.directory (live_of d)) → Some most ≡ limit_passed (room (desk_of d)) count → IsRolledBack d active.number new
+    pub journalled : (most : ℕ) (new : PrivateDesk) → GoesOn (row program d.store.header.directory (live_of d)) → most ≡ most_lines d.store.header → most < count → IsRolledBack d active.number new
         → instruction_of word active.number d tally ≡ Over (desk_of new) (counts_of tally) (Journal count most)
-    journalled most new goes past back =
+    journalled most new goes is past back =
         limited-first goes
-        ∙ limited-by word attempt (desk_of d) (counts_of tally) most (ap (limit_passed (room (desk_of d))) (sym counted) ∙ sym past)
-        ∙ ap (λ (left : Desk). Over left (counts_of tally) (Journal (lines_written attempt (desk_of d)) most)) (sym (rolled new back))
-        ∙ ap (λ (n : ℕ). Over (desk_of new) (counts_of tally) (Journal n most)) (sym counted)
+        ∙ limited-by word attempt (desk_of d) (counts_of tally) (over (lines_written attempt (desk_of d)) (omega (arith, is, past, counted)))
+        ∙ ap (λ (left : Desk). Over left (counts_of tally) (Journal (lines_written attempt (desk_of d)) (most_lines d.store.header))) (sym (rolled new back))
+        ∙ ap (λ (n : ℕ). Over (desk_of new) (counts_of tally) (Journal n (most_lines d.store.header))) (sym counted)
+        ∙ ap (λ (n : ℕ). Over (desk_of new) (counts_of tally) (Journal count n)) (sym is)
 
     abbrev limited_at : desk.Attempt → Turning
-    limited_at this = limited (limit_passed (room (desk_of d)) (lines_written this (desk_of d))) word this (desk_of d) (counts_of tally)
+    limited_at this = limited (is_over_limit this (desk_of d)) word this (desk_of d) (counts_of tally)
 
     -- the commit call
-    pub at_commit : row program d.header.directory (live_of d) ≡ Commit → None ≡ limit_passed (room (desk_of d)) count
+    pub at_commit : row program d.store.header.directory (live_of d) ≡ Commit → count ≤ most_lines d.store.header
         → instruction_of word active.number d tally ≡ commits word (commit_call active program (live_of d)) (desk_of d) (counts_of tally)
     at_commit is within =
-        let nothing : lines ≡ no_lines = touched-commit program d.header.directory (row program d.header.directory (live_of d)) (plan_at (live_of d)) is in
+        let nothing : lines ≡ no_lines = touched-commit program d.store.header.directory (row program d.store.header.directory (live_of d)) (plan_at (live_of d)) is in
         let call = commit_call active program (live_of d) in
         limited-first (subst GoesOn (sym is) tt)
         ∙ ap (λ (outcome : Outcome). limited_at (record { entry = entry; now = live_of d; outcome = outcome; lines = lines })) is
         ∙ ap (λ (these : Lines). limited_at (record { entry = entry; now = live_of d; outcome = Commit; lines = these })) nothing
         ∙ effect-of word call (desk_of d) (counts_of tally) d.storage.flat.resident.pages.items d.storage.flat.resident.pages.items tally.pages tally.pages
-        (ap (λ (these : Lines). limit_passed (room (desk_of d)) (size (both so_far these).writes)) (sym nothing)
-        ∙ ap (limit_passed (room (desk_of d))) (sym counted) ∙ sym within)
+        (fits (lines_written call (desk_of d)) (omega (arith, within, counted, ap (λ (these : Lines). size (both so_far these).writes) (sym nothing))))
         refl refl (conflicts-alone (desk_of d) entry alone)
         ∙ ap (λ (n : ℕ). commits word call (desk_of d) (record { ran = tally.ran; pages = tally.pages; locks = n; cycles = [] })) (omega arith)
 
@@ -200,7 +214,7 @@ module _ (word : Word) (d : PrivateDesk) (active : Active) (program : Program) (
 
       left-is : with_entry left (entry_of more program) ≡ desk_of new
       left-is =
-          same_desk (with_entry left (entry_of more program)) (desk_of new) (sym reached.frames) refl (cc) (sym reached.bytes.used) (cc) (cc)
+          same_desk (with_entry left (entry_of more program)) (desk_of new) (sym reached.frames) refl (ap (λ (kept : KeptStore). most_lines kept.header) (sym reached.bytes.store)) (cc) (cc)
           (with_entry-alone left entry (entry_of more program) alone refl ∙ sym active-is)
           (sym (reached.granted_to attempt refl))
           refl
@@ -210,13 +224,13 @@ module _ (word : Word) (d : PrivateDesk) (active : Active) (program : Program) (
       counts-are = λ i. record { ran = sym reached.ran i; pages = now.pages; locks = sym reached.locks i; cycles = [] }
 
       -- a row that goes on
-      pub went_on : ReadsAll word → row program d.header.directory (live_of d) ≡ On next → None ≡ limit_passed (room (desk_of d)) count
+      pub went_on : ReadsAll word → row program d.store.header.directory (live_of d) ≡ On next → count ≤ most_lines d.store.header
           → instruction_of word active.number d tally ≡ Going (desk_of new) (counts_of now)
       went_on reads is within =
           let (between, first_counted, fetched, again) = reached.fetched word reads in
           limited-first (subst GoesOn (sym is) tt)
           ∙ effect-of word attempt (desk_of d) (counts_of tally) between new.storage.flat.resident.pages.items first_counted now.pages
-          (ap (limit_passed (room (desk_of d))) (sym counted) ∙ sym within) fetched again (conflicts-alone (desk_of d) entry alone)
+          (fits (lines_written attempt (desk_of d)) (omega (arith, within, counted))) fetched again (conflicts-alone (desk_of d) entry alone)
           ∙ ap (λ (outcome : Outcome). takes_effect word attempt outcome left counts_left) is
           ∙ ap (λ (after_row : Desk). Going after_row (record counts_left { ran = tally.ran + 1 })) left-is
           ∙ ap (Going (desk_of new)) counts-are
@@ -225,8 +239,8 @@ module _ (word : Word) (d : PrivateDesk) (active : Active) (program : Program) (
 pub follows_more :
     (d : PrivateDesk) (active : Active) (program : Program) → Runs d active program
     → (next : Plain) (new : PrivateDesk) (tally now : Tally)
-    → HasReached d active (touched_within program active.args (store_of d) active.rows) (touched program d.header.directory (live_of d)) next new tally now
-    → Follows d → row program d.header.directory (live_of d) ≡ On next → Follows new
+    → HasReached d active (touched_within program active.args (store_of d) active.rows) (touched program d.store.header.directory (live_of d)) next new tally now
+    → Follows d → row program d.store.header.directory (live_of d) ≡ On next → Follows new
 follows_more d active program on next new tally now reached follows is =
     let store = store_of d in
     let args = active.args in
@@ -235,12 +249,12 @@ follows_more d active program on next new tally now reached follows is =
     let store-is : store_of new ≡ store = cc in
     let state-is : after program args store (active.rows + 1) ≡ Some (live_of new) =
     ap (after program args store) suc-rows
-    ∙ ap (λ (state : Option Plain). option_and_then (λ (s : Plain). next_state (row program d.header.directory s)) state) on.state
+    ∙ ap (λ (state : Option Plain). option_and_then (λ (s : Plain). next_state (row program d.store.header.directory s)) state) on.state
     ∙ ap next_state is
     ∙ ap Some (sym reached.live) in
-    let lines-are : touched_next program args store active.rows ≡ touched program d.header.directory (live_of d) =
-    ap (λ (state : Option Plain). option_map_or (touched program d.header.directory) state no_lines) on.state in
-    let locks-are : due_locks program args store (active.rows + 1) ≡ with_whole_pages (both (touched_within program args store active.rows) (touched program d.header.directory (live_of d))) =
+    let lines-are : touched_next program args store active.rows ≡ touched program d.store.header.directory (live_of d) =
+    ap (λ (state : Option Plain). option_map_or (touched program d.store.header.directory) state no_lines) on.state in
+    let locks-are : due_locks program args store (active.rows + 1) ≡ with_whole_pages (both (touched_within program args store active.rows) (touched program d.store.header.directory (live_of d))) =
     ap (due_locks program args store) suc-rows ∙ ap (λ (these : Lines). with_whole_pages (both (touched_within program args store active.rows) these)) lines-are in
     let live : IsAfter new.programs.items (store_of new) more (live_of new) new.storage.flat = record {
       program = program;
@@ -253,7 +267,7 @@ follows_more d active program on next new tally now reached follows is =
       live = subst (λ (one : Option Active). IsAfterIf new.programs.items (store_of new) one (live_of new) new.storage.flat) (sym reached.active) live;
       numbered = numbered-more;
       owned = reached.owned;
-      number = cc;
+      number = λ still. numbered-on still;
       places = λ still. places-more still;
       room = omega (arith, ap vec_capacity reached.bytes.order, reached.parts.begins, follows.room);
     }
@@ -262,6 +276,11 @@ follows_more d active program on next new tally now reached follows is =
     numbered-more =
         let before : active.number < d.next = subst (λ (one : Option Active). IsNumberedIf one d.next) on.active_is follows.numbered in
         subst (λ (one : Option Active). IsNumberedIf one new.next) (sym reached.active) (omega (arith, before, reached.parts.next))
+
+    numbered-on : new.closed ≡ false → number_of new.store ≡ number_after new.opened (desk_of new)
+    numbered-on still =
+        let before : number_of d.store ≡ number_after d.opened (desk_of d) = follows.number (sym reached.bytes.closed ∙ still) in
+        cc
 
     places-more : new.closed ≡ false → HasPlaces new.active (vec_len new.order) new.next
     places-more still =

@@ -1,9 +1,9 @@
 -- The changed lines of a store, laid over the bytes from before they changed.
-use Rattle.std.proofs.Common.{◌≡◌, ℕ, zero, suc, ◌+◌, ◌*◌, ◌-◌, ◌^◌, ◌≤◌, Bool, true, false, List, ◌∷◌, ◌++◌, length, length-append, take, drop, refl, sym, ◌∙◌, ap, subst, arith}
+use Rattle.std.proofs.Common.{◌≡◌, ℕ, zero, suc, ◌+◌, ◌*◌, ◌-◌, ◌≤◌, Bool, true, false, List, ◌∷◌, ◌++◌, length, length-append, take, drop, refl, sym, ◌∙◌, ap, subst, arith}
 use Rattle.std.specs.Prelude.{◌/◌, cond, filter, slice_range, slice_index_or}
 use Rattle.std.specs.List.{range_with_len}
 use Rattle.std.proofs.Math.Seq.{take-add}
-use Rattle.std.proofs.lemmas.List.{take_all, take_at, length-drop, length-take-le}
+use Rattle.std.proofs.lemmas.List.{take_all, take_at, drop_at, drop-drop, length-drop, length-take-le}
 use Rattle.owned_list.specs.Overlay.{overlaid}
 use Rattle.line_geometry.specs.Directory.{Layout}
 use Rattle.line_geometry.specs.Lines.{line_bytes}
@@ -11,12 +11,24 @@ use Rattle.line_geometry.specs.Segments.{page_bytes}
 use Rattle.line_geometry.specs.declared.directory.PageSize.{PageSize}
 use Rattle.line_geometry.specs.declared.directory.PageSize.TheVariants.{Two}
 use Rattle.flat_machine.specs.Agreement.{AgreeBut}
-use Rattle.store_format.specs.Bank.{RecordLine, lines_from}
 use Rattle.store_format.specs.Stands.{laid}
 use Rattle.flat_storage.specs.ShowSet.{ShowSet}
-use Rattle.private_desk.specs.Record.{lines_marked, body_of, recorded}
-use Rattle.private_desk.proofs.RecordLemmas.{length-written, drop-behind}
-use Rattle.private_desk.proofs.BodyLemmas.{body-lines}
+use Rattle.private_desk.specs.Record.{lines_marked, recorded}
+
+-- bytes laid over others: the length stays, and what lies behind
+module _ (held : List ℕ) (at : ℕ) (bytes : List ℕ) (room : at + length bytes ≤ length held) where
+  length-front : length (take at held) ≡ at
+  length-front = length-take-le at held (omega (arith, room))
+
+  length-laid : length (overlaid held at bytes) ≡ length held
+  length-laid = omega (arith, room, length-front, length-append (take at held ++ bytes) (drop (at + length bytes) held), length-append (take at held) bytes, length-drop (at + length bytes) held)
+
+  drop-behind : (more : ℕ) → drop (at + length bytes + more) (overlaid held at bytes) ≡ drop (at + length bytes + more) held
+  drop-behind more =
+      let front : length (take at held ++ bytes) ≡ at + length bytes = omega (arith, length-front, length-append (take at held) bytes) in
+      sym (drop-drop more (at + length bytes) (overlaid held at bytes))
+      ∙ ap (λ (these : List ℕ). drop more these) (drop_at (take at held ++ bytes) (drop (at + length bytes) held) (at + length bytes) front)
+      ∙ drop-drop more (at + length bytes) held
 
 -- the bytes of a line
 abbrev line_in : List ℕ → ℕ → List ℕ
@@ -54,7 +66,7 @@ module _ (p : ℕ → Bool) (store : List ℕ) where
   -- a line that is laid over
   behind-laid : (low : ℕ) (bytes : List ℕ) → low * 128 + 128 ≤ length store → IsBehind p store low bytes → IsBehind p store (low + 1) (overlaid bytes (low * 128) (line_in store low))
   behind-laid low bytes within is = record {
-    long = length-written bytes (low * 128) (line_in store low) fits ∙ is.long;
+    long = length-laid bytes (low * 128) (line_in store low) fits ∙ is.long;
     front =
         ap (λ (these : List ℕ). take ((low + 1) * 128) (these ++ line_in store low ++ drop (low * 128 + length (line_in store low)) bytes)) is.front
         ∙ take_at (take (low * 128) store ++ line_in store low) (drop (low * 128 + length (line_in store low)) bytes) ((low + 1) * 128) (omega (arith, length-append (take (low * 128) store) (line_in store low), length-take-le (low * 128) store (omega (arith, within)), long))
@@ -101,13 +113,12 @@ laid-marked marks store committed n at long same_length same =
     laid-from (λ line. slice_index_or marks line false) store 0 n at committed (omega (arith, long))
     (record { long = same_length; front = refl; same = λ line from unchanged. same line unchanged })
 
--- the lines of a body of marked lines, laid over bytes that agree with the store but for the lines of the set that is shown
-pub laid-body : (directory : Layout) (marks : List Bool) (set store committed : List ℕ) (n number gate : ℕ) → directory.page ≡ Two → n ≤ 2 ^ 32 → length store ≡ n * 128 → length committed ≡ length store
+-- the marked lines laid over bytes that agree with the store but for the lines of the set that is shown
+pub laid-agreed : (directory : Layout) (marks : List Bool) (set store committed : List ℕ) (n at : ℕ) → directory.page ≡ Two → length store ≡ n * 128 → length committed ≡ length store
     → ShowSet marks set → AgreeBut directory set committed store
-    → laid committed (lines_from (length (lines_marked marks n)) (gate + 11) (drop 10 (body_of number store (lines_marked marks n)))) ≡ store
-laid-body directory marks set store committed n number gate page small long same_length shown agree =
-    ap (λ (these : List RecordLine). laid committed these) (body-lines marks store n number (omega (arith, long)) gate small)
-    ∙ laid-marked marks store committed n (gate + 11) long same_length (λ line unmarked. by_page line (agree line (sym (shown line) ∙ unmarked)))
+    → laid committed (recorded store at (lines_marked marks n)) ≡ store
+laid-agreed directory marks set store committed n at page long same_length shown agree =
+    laid-marked marks store committed n at long same_length (λ line unmarked. by_page line (agree line (sym (shown line) ∙ unmarked)))
   where
     bytes : line_bytes directory ≡ 128
     bytes = ap (λ (size : PageSize). page_bytes size / 16) page

@@ -6,6 +6,8 @@ pub mod AloneLemmas
 mod StrideLemmas
 pub mod SizeLemmas
 pub mod RecordLemmas
-pub mod BodyLemmas
 pub mod LaidLemmas
-pub mod StandsLemmas
+pub mod WentLemmas
+pub mod DidLemmas
+pub mod ReadLemmas
+pub mod OpenLemmas

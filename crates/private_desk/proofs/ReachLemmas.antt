@@ -34,6 +34,9 @@ use Rattle.private_desk.specs.Answered.{counts_of, instruction_of, IsInstruction
 use Rattle.private_desk.specs.declared.single.Attempt.{Attempt as Step}
 use Rattle.private_desk.specs.declared.single.Attempt.TheVariants as step
 use Rattle.private_desk.specs.Follows.{Follows, IsAfterIf, IsNumberedIf, HasPlaces, store_of}
+use Rattle.restart.specs.Kept.{number_of}
+use Rattle.desk.specs.Report.{number_after}
+use Rattle.store_format.specs.Header.{most_lines}
 use Rattle.private_desk.specs.PrivateDesk.{desk_of, live_of, IsSound, IsSetUp, IsSetUpIf, IsRunning, IsRunningIf}
 use Rattle.private_desk.specs.Running.{Runs, IsRolledBack, HasReached}
 use Rattle.private_desk.specs.declared.single.Active.{Active}
@@ -49,14 +52,14 @@ pub record OnlyRan (old new : PrivateDesk) : Type 0 where
   pub kept : BytesAlone old.storage.flat new.storage.flat
 
 -- the lines of the next row, by the directory of the storage
-pub row-at : (d : PrivateDesk) (program : Program) (outcome : Outcome) → IsSound d → row program d.storage.flat.directory (live_of d) ≡ outcome → row program d.header.directory (live_of d) ≡ outcome
+pub row-at : (d : PrivateDesk) (program : Program) (outcome : Outcome) → IsSound d → row program d.storage.flat.directory (live_of d) ≡ outcome → row program d.store.header.directory (live_of d) ≡ outcome
 row-at d program outcome sound is = ap (λ (l : Layout). row program l (live_of d)) (sym sound.directory) ∙ is
 
 module _ (d mid : PrivateDesk) (ran : OnlyRan d mid) where
   -- what is kept from then on is kept
   pub parts-from : (new : PrivateDesk) → KeepsParts mid new → KeepsParts d new
   parts-from new parts = record {
-    header = parts.header ∙ ap (λ (e : PrivateDesk). e.header) ran.others;
+    header = parts.header ∙ ap (λ (e : PrivateDesk). e.store.header) ran.others;
     programs = parts.programs ∙ ap (λ (e : PrivateDesk). e.programs.items) ran.others;
     opened = parts.opened ∙ ap (λ (e : PrivateDesk). e.opened) ran.others;
     begins = parts.begins ∙ ap (λ (e : PrivateDesk). e.begins) ran.others;
@@ -67,8 +70,7 @@ module _ (d mid : PrivateDesk) (ran : OnlyRan d mid) where
   pub bytes-from : (new : PrivateDesk) → KeepsBytes mid new → KeepsBytes d new
   bytes-from new bytes = record {
     committed = bytes.committed ∙ ap (λ (e : PrivateDesk). e.committed) ran.others;
-    used = bytes.used ∙ ap (λ (e : PrivateDesk). e.used) ran.others;
-    number = bytes.number ∙ ap (λ (e : PrivateDesk). e.number) ran.others;
+    store = bytes.store ∙ ap (λ (e : PrivateDesk). e.store) ran.others;
     order = bytes.order ∙ ap (λ (e : PrivateDesk). e.order) ran.others;
     closed = bytes.closed ∙ ap (λ (e : PrivateDesk). e.closed) ran.others;
   }
@@ -140,7 +142,7 @@ pub record CountedOn (d mid new : PrivateDesk) (active : Active) : Type 0 where
 
 pub counted-parts : (d mid new : PrivateDesk) (active : Active) → CountedOn d mid new active → KeepsParts d new
 counted-parts d mid new active on = record {
-  header = ap (λ (e : PrivateDesk). e.header) on.counted ∙ ap (λ (e : PrivateDesk). e.header) on.others;
+  header = ap (λ (e : PrivateDesk). e.store.header) on.counted ∙ ap (λ (e : PrivateDesk). e.store.header) on.others;
   programs = ap (λ (e : PrivateDesk). e.programs.items) on.counted ∙ ap (λ (e : PrivateDesk). e.programs.items) on.others;
   opened = ap (λ (e : PrivateDesk). e.opened) on.counted ∙ ap (λ (e : PrivateDesk). e.opened) on.others;
   begins = ap (λ (e : PrivateDesk). e.begins) on.counted ∙ ap (λ (e : PrivateDesk). e.begins) on.others;
@@ -151,8 +153,7 @@ counted-parts d mid new active on = record {
 pub counted-bytes : (d mid new : PrivateDesk) (active : Active) → CountedOn d mid new active → KeepsBytes d new
 counted-bytes d mid new active on = record {
   committed = ap (λ (e : PrivateDesk). e.committed) on.counted ∙ ap (λ (e : PrivateDesk). e.committed) on.others;
-  used = ap (λ (e : PrivateDesk). e.used) on.counted ∙ ap (λ (e : PrivateDesk). e.used) on.others;
-  number = ap (λ (e : PrivateDesk). e.number) on.counted ∙ ap (λ (e : PrivateDesk). e.number) on.others;
+  store = ap (λ (e : PrivateDesk). e.store) on.counted ∙ ap (λ (e : PrivateDesk). e.store) on.others;
   order = ap (λ (e : PrivateDesk). e.order) on.counted ∙ ap (λ (e : PrivateDesk). e.order) on.others;
   closed = ap (λ (e : PrivateDesk). e.closed) on.counted ∙ ap (λ (e : PrivateDesk). e.closed) on.others;
 }
@@ -173,7 +174,7 @@ module _ (d : PrivateDesk) (active : Active) (program : Program) (on : Runs d ac
   set = touched_within program active.args (store_of d) active.rows
 
   abbrev lines : Lines
-  lines = touched program d.header.directory (live_of d)
+  lines = touched program d.store.header.directory (live_of d)
 
   abbrev authority : List Authority
   authority = authority_told d.storage.flat.entries.entries.items
@@ -225,7 +226,7 @@ module _ (d : PrivateDesk) (active : Active) (program : Program) (on : Runs d ac
       let sum : tally.pages + pages ≡ now.pages = sym (ap (λ (t : Tally). t.pages) counted) in
       record {
         parts = record { header = parts.header; programs = parts.programs; opened = parts.opened; begins = parts.begins; turns = parts.turns; next = parts.next };
-        bytes = record { committed = bytes.committed; used = bytes.used; number = bytes.number; order = bytes.order; closed = bytes.closed };
+        bytes = record { committed = bytes.committed; store = bytes.store; order = bytes.order; closed = bytes.closed };
         active = ap (λ (e : PrivateDesk). e.active) ran.counted;
         live = ap live_of ran.counted;
         frames = ap (λ (f : Flat). f.resident.frames) kept ∙ served.frames;
@@ -283,7 +284,7 @@ module _ (d : PrivateDesk) (storage : FlatStorage) (program : Program) (access :
 
 -- the lines of an access that was shut out are those of the row
 pub touch-is : (d : PrivateDesk) (program : Program) (access : Access) (these : Lines) → IsSound d → IsShutOut program d.storage.flat (live_of d) access
-    → these ≡ lines_of_access program d.storage.flat.directory access → these ≡ touched program d.header.directory (live_of d)
+    → these ≡ lines_of_access program d.storage.flat.directory access → these ≡ touched program d.store.header.directory (live_of d)
 touch-is d program access these sound shut is = is ∙ sym shut.touches ∙ ap (λ (l : Layout). touched program l (live_of d)) sound.directory
 
 -- the marks of a desk, looked at by a reference
@@ -310,10 +311,10 @@ any-number d program = refl
 -- a desk is sound once lines were served
 pub served-sound : (d : PrivateDesk) (active : Active) → IsSound d → d.active ≡ Some active → (storage : FlatStorage) (locked : Lines)
     → storage.flat ≡ record d.storage.flat { resident = storage.flat.resident; entries = storage.flat.entries; marks = storage.flat.marks }
-    → storage.flat.marks.written ≤ 992 → Show storage.flat.marks (with_whole_pages locked) → IsSound (record d { storage = storage })
+    → storage.flat.marks.written ≤ most_lines d.store.header → Show storage.flat.marks (with_whole_pages locked) → IsSound (record d { storage = storage })
 served-sound d active sound is storage locked kept few shown =
     let set = set_up d active sound is in
-    let running : IsRunning (length d.programs.items) d.turns d.storage.flat.marks.written active = subst (IsRunningIf (length d.programs.items) d.turns d.storage.flat.marks.written) is sound.running in
+    let running : IsRunning (length d.programs.items) d.turns (most_lines d.store.header) d.storage.flat.marks.written active = subst (IsRunningIf (length d.programs.items) d.turns (most_lines d.store.header) d.storage.flat.marks.written) is sound.running in
     let new : IsSetUp d.programs.items active d.cpu storage.flat d.out = record {
       runner = ap (λ (f : Flat). f.runner) kept ∙ set.runner;
       windows = λ program named. subst (λ (f : Flat). HasWindows f program) (sym kept) (set.windows program named);
@@ -322,15 +323,14 @@ served-sound d active sound is storage locked kept few shown =
       printed = set.printed;
       few = set.few;
     } in
-    let runs : IsRunning (length d.programs.items) d.turns storage.flat.marks.written active = record { program = running.program; few_rows = running.few_rows; few_lines = few } in
+    let runs : IsRunning (length d.programs.items) d.turns (most_lines d.store.header) storage.flat.marks.written active = record { program = running.program; few_rows = running.few_rows; few_lines = few } in
     record {
       ranges = sound.ranges;
       directory = ap (λ (f : Flat). f.directory) kept ∙ sound.directory;
       committed_bytes = sound.committed_bytes;
-      running = subst (IsRunningIf (length d.programs.items) d.turns storage.flat.marks.written) (sym is) runs;
+      running = subst (IsRunningIf (length d.programs.items) d.turns (most_lines d.store.header) storage.flat.marks.written) (sym is) runs;
       set_up = subst (λ (one : Option Active). IsSetUpIf d.programs.items one d.cpu storage.flat d.out) (sym is) new;
       room = sound.room;
-      body = sound.body;
     }
 
 -- and once a row was counted
@@ -338,7 +338,7 @@ pub counted-sound : (d new : PrivateDesk) (active : Active) → IsSound d → d.
     → new ≡ record d { active = Some (record active { rows = active.rows + 1 }) } → IsSound new
 counted-sound d new active sound is few counted =
     let set = set_up d active sound is in
-    let running : IsRunning (length d.programs.items) d.turns d.storage.flat.marks.written active = subst (IsRunningIf (length d.programs.items) d.turns d.storage.flat.marks.written) is sound.running in
+    let running : IsRunning (length d.programs.items) d.turns (most_lines d.store.header) d.storage.flat.marks.written active = subst (IsRunningIf (length d.programs.items) d.turns (most_lines d.store.header) d.storage.flat.marks.written) is sound.running in
     let of_counted : IsSound (record d { active = Some (record active { rows = active.rows + 1 }) }) = record {
       ranges = sound.ranges;
       directory = sound.directory;
@@ -346,35 +346,34 @@ counted-sound d new active sound is few counted =
       running = record { program = running.program; few_rows = omega (arith, few); few_lines = running.few_lines };
       set_up = record { runner = set.runner; windows = set.windows; locked = set.locked; shown = set.shown; printed = set.printed; few = set.few };
       room = sound.room;
-      body = sound.body;
     } in
     subst IsSound (sym counted) of_counted
 
 -- an attempt that took effect, or is the commit call: the row goes on, and no line more is written
 module _ (d : PrivateDesk) (active : Active) (program : Program) (on : Runs d active program) (sound : IsSound d) where
   abbrev next_lines : Lines
-  next_lines = touched program d.header.directory (live_of d)
+  next_lines = touched program d.store.header.directory (live_of d)
 
   abbrev lines_so_far : Lines
   lines_so_far = touched_within program active.args (store_of d) active.rows
 
-  pub open-next : (mid : PrivateDesk) → GoesOpen program d.storage.flat (live_of d) (live_of mid) mid.cpu → IsOpen d.storage.flat (touched program d.header.directory (live_of d))
+  pub open-next : (mid : PrivateDesk) → GoesOpen program d.storage.flat (live_of d) (live_of mid) mid.cpu → IsOpen d.storage.flat (touched program d.store.header.directory (live_of d))
   open-next mid goes = subst (λ (l : Layout). IsOpen d.storage.flat (touched program l (live_of d))) sound.directory goes.open_lines
 
   pub counted-goes : (mid : PrivateDesk) → GoesOpen program d.storage.flat (live_of d) (live_of mid) mid.cpu
-      → GoesOn (row program d.header.directory (live_of d)) × (d.storage.flat.marks.written ≡ size (both lines_so_far next_lines).writes)
+      → GoesOn (row program d.store.header.directory (live_of d)) × (d.storage.flat.marks.written ≡ size (both lines_so_far next_lines).writes)
   counted-goes mid goes = (
     subst GoesOn (sym (row-at d program (On (live_of mid)) sound goes.goes)) tt,
     (open-marked d.storage.flat next_lines (open-next mid goes) on.held lines_so_far on.marked).written,
   )
 
   pub counted-next : (mid : PrivateDesk) (result : Attempt) → ((code : ℕ) → result ≡ Attempt.Check code → ⊥) → ((fault : Fault) (access : Access) → result ≡ Attempt.Fault fault access → ⊥)
-      → IsExecuted program result d mid → GoesOn (row program d.header.directory (live_of d)) × (d.storage.flat.marks.written ≡ size (both lines_so_far next_lines).writes)
+      → IsExecuted program result d mid → GoesOn (row program d.store.header.directory (live_of d)) × (d.storage.flat.marks.written ≡ size (both lines_so_far next_lines).writes)
   counted-next mid Attempt.Went check fault is = counted-goes mid is
   counted-next mid (Attempt.Print byte) check fault is = counted-goes mid is
   counted-next mid Attempt.Commit check fault (is, same) =
-      let at : row program d.header.directory (live_of d) ≡ Commit = row-at d program Commit sound is in
-      let nothing : next_lines ≡ no_lines = touched-commit program d.header.directory (row program d.header.directory (live_of d)) (plan_at (live_of d)) at in (
+      let at : row program d.store.header.directory (live_of d) ≡ Commit = row-at d program Commit sound is in
+      let nothing : next_lines ≡ no_lines = touched-commit program d.store.header.directory (row program d.store.header.directory (live_of d)) (plan_at (live_of d)) at in (
         subst GoesOn (sym at) tt,
         on.marked.written ∙ ap size (sym (append-nil lines_so_far.writes)) ∙ ap (λ (l : Lines). size (both lines_so_far l).writes) (sym nothing),
       )
@@ -388,11 +387,16 @@ rolled-follows d active number new is back follows =
       live = subst (λ (one : Option Active). IsAfterIf new.programs.items (store_of new) one (live_of new) new.storage.flat) (sym back.active) tt;
       numbered = subst (λ (one : Option Active). IsNumberedIf one new.next) (sym back.active) tt;
       owned = back.owned follows.owned;
-      number = cc;
+      number = λ still. number_on still;
       places = λ still. places still;
       room = omega (arith, ap vec_capacity back.bytes.order, back.parts.begins, follows.room);
     }
   where
+    number_on : new.closed ≡ false → number_of new.store ≡ number_after new.opened (desk_of new)
+    number_on still =
+        let before : number_of d.store ≡ number_after d.opened (desk_of d) = follows.number (sym back.bytes.closed ∙ still) in
+        cc
+
     places : new.closed ≡ false → HasPlaces new.active (vec_len new.order) new.next
     places still =
         let before : vec_len d.order + 1 < d.next = subst (λ (one : Option Active). HasPlaces one (vec_len d.order) d.next) is (follows.places (sym back.bytes.closed ∙ still)) in

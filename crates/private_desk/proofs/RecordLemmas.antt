@@ -1,120 +1,141 @@
--- A body written behind a closed gate, and the gate then opened: a store with one record more.
-use Rattle.std.proofs.Common.{◌≡◌, ℕ, ◌+◌, ◌-◌, ◌%◌, ◌^◌, ◌<◌, ◌≤◌, true, List, [], ◌∷◌, ◌++◌, length, take, drop, refl, sym, ◌∙◌, ap, arith, slice_index, append_assoc, length-append}
-use Rattle.std.specs.Prelude.{◌==◌}
-use Rattle.std.proofs.lemmas.List.{take_at, drop_at, drop-drop, take-take, take-append-le, length-drop, length-take-le, get_or-append_right}
-use Rattle.line_geometry.specs.Lines.{line_count}
-use Rattle.outside.specs.Bytes.{written}
-use Rattle.store_format.specs.declared.header.Which.{Which}
-use Rattle.store_format.specs.Header.{Header, HasRanges, home_at}
-use Rattle.store_format.specs.Bank.{RecordLine, area_of}
-use Rattle.store_format.specs.Stands.{IsStore, stands, one_more}
-use Rattle.store_format.specs.Body.{IsBody}
-use Rattle.store_format.proofs.Stores.{Around, area_within, store_more, stands_more}
+-- The record of the marked lines.
+use Rattle.std.proofs.Common.{◌≡◌, ℕ, zero, suc, ◌+◌, ◌*◌, ◌-◌, ◌<◌, ◌≤◌, Bool, true, false, List, [], ◌∷◌, ◌++◌, length, refl, sym, ◌∙◌, ap, arith, length-append, append-nil}
+use Rattle.std.specs.Prelude.{cond, filter, slice_range, slice_index_or, nat_lt, All, Some, vec_len}
+use Rattle.std.specs.List.{range_with_len}
+use Rattle.std.proofs.lemmas.Bool.Decides.{nat_tests}
+use Rattle.std.proofs.lemmas.List.{get_or_past}
+use Rattle.std.proofs.lemmas.List.Elements.{filter-append}
+use Rattle.lock_rules.specs.Sets.{has, size}
+use Rattle.lock_rules.proofs.Sizes.{size-counted}
+use Rattle.lock_rules.specs.Lines.{Lines}
+use Rattle.store_format.specs.Bank.{RecordLine, record_bytes}
+use Rattle.redo_journal.specs.Kept.{KeptBank, with_line}
+use Rattle.flat_storage.specs.Marks.{Show}
+use Rattle.flat_storage.specs.declared.line_marks.LineMarks.{LineMarks}
+use Rattle.flat_storage.specs.ShowSet.{ShowSet}
+use Rattle.flat_storage.proofs.MarkLemmas.{range-more}
+use Rattle.private_desk.specs.Record.{lines_marked, recorded}
 
--- a write in an image: what stands in front of it, and from its start on
-module _ (held : List ℕ) (at : ℕ) (bytes : List ℕ) (room : at + length bytes ≤ length held) where
-  length-front : length (take at held) ≡ at
-  length-front = length-take-le at held (omega (arith, room))
+filter-same : (p q : ℕ → Bool) (xs : List ℕ) → ((x : ℕ) → p x ≡ q x) → filter p xs ≡ filter q xs
+filter-same p q [] same = refl
+filter-same p q (x ∷ xs) same =
+    ap (λ (b : Bool). cond b (x ∷ filter p xs) (filter p xs)) (same x)
+    ∙ ap (λ (rest : List ℕ). cond (q x) (x ∷ rest) rest) (filter-same p q xs same)
 
-  pub length-written : length (written held at bytes) ≡ length held
-  length-written = omega (arith, room, length-front, length-append (take at held ++ bytes) (drop (at + length bytes) held), length-append (take at held) bytes, length-drop (at + length bytes) held)
+-- the marks show as many lines as are marked
+pub size-marked : (marks : List Bool) (set : List ℕ) → ShowSet marks set → size set ≡ length (lines_marked marks (length marks))
+size-marked marks set shown =
+    size-counted set (length marks) below
+    ∙ ap length (filter-same (has set) (λ line. slice_index_or marks line false) (range_with_len 0 (length marks)) (λ line. sym (shown line)))
+  where
+    below : (line : ℕ) → has set line ≡ true → line < length marks
+    below line inside = by_test (nat_lt line (length marks)) refl
+      where
+        by_test : (b : Bool) → nat_lt line (length marks) ≡ b → line < length marks
+        by_test true is = grind (arith, nat_tests)
+        by_test false is =
+            let far : length marks ≤ line = grind (arith, nat_tests) in
+            let none : slice_index_or marks line false ≡ false = get_or_past marks line false far in
+            let marked : slice_index_or marks line false ≡ true = shown line ∙ inside in
+            absurd (cc)
 
-  pub take-written : (few : ℕ) → few ≤ at → take few (written held at bytes) ≡ take few held
-  take-written few within =
-      ap (λ (these : List ℕ). take few these) (append_assoc (take at held) bytes (drop (at + length bytes) held))
-      ∙ take-append-le few (take at held) (bytes ++ drop (at + length bytes) held) (omega (arith, length-front, within))
-      ∙ take-take few at held within
+-- one line more that is tried
+pub marked-yes : (marks : List Bool) (n : ℕ) → slice_index_or marks n false ≡ true → lines_marked marks (n + 1) ≡ lines_marked marks n ++ n ∷ []
+marked-yes marks n is =
+    let one : n + 1 ≡ suc n = omega arith in
+    let place : 0 + n ≡ n = omega arith in
+    ap (λ (m : ℕ). lines_marked marks m) one
+    ∙ ap (λ (these : List ℕ). filter (λ line. slice_index_or marks line false) these) (range-more 0 n)
+    ∙ ap (λ (m : ℕ). filter (λ line. slice_index_or marks line false) (range_with_len 0 n ++ m ∷ [])) place
+    ∙ filter-append (λ line. slice_index_or marks line false) (range_with_len 0 n) (n ∷ [])
+    ∙ ap (λ (b : Bool). lines_marked marks n ++ cond b (n ∷ []) []) is
 
-  pub drop-written : drop at (written held at bytes) ≡ bytes ++ drop (at + length bytes) held
-  drop-written =
-      ap (λ (these : List ℕ). drop at these) (append_assoc (take at held) bytes (drop (at + length bytes) held))
-      ∙ drop_at (take at held) (bytes ++ drop (at + length bytes) held) at length-front
+pub marked-no : (marks : List Bool) (n : ℕ) → slice_index_or marks n false ≡ false → lines_marked marks (n + 1) ≡ lines_marked marks n
+marked-no marks n is =
+    let one : n + 1 ≡ suc n = omega arith in
+    let place : 0 + n ≡ n = omega arith in
+    ap (λ (m : ℕ). lines_marked marks m) one
+    ∙ ap (λ (these : List ℕ). filter (λ line. slice_index_or marks line false) these) (range-more 0 n)
+    ∙ ap (λ (m : ℕ). filter (λ line. slice_index_or marks line false) (range_with_len 0 n ++ m ∷ [])) place
+    ∙ filter-append (λ line. slice_index_or marks line false) (range_with_len 0 n) (n ∷ [])
+    ∙ ap (λ (b : Bool). lines_marked marks n ++ cond b (n ∷ []) []) is
+    ∙ append-nil (lines_marked marks n)
 
-  pub drop-behind : (more : ℕ) → drop (at + length bytes + more) (written held at bytes) ≡ drop (at + length bytes + more) held
-  drop-behind more =
-      let front : length (take at held ++ bytes) ≡ at + length bytes = omega (arith, length-front, length-append (take at held) bytes) in
-      sym (drop-drop more (at + length bytes) (written held at bytes))
-      ∙ ap (λ (these : List ℕ). drop more these) (drop_at (take at held ++ bytes) (drop (at + length bytes) held) (at + length bytes) front)
-      ∙ drop-drop more (at + length bytes) held
+-- there are no fewer in more lines
+marked-fewer : (marks : List Bool) (n more : ℕ) → length (lines_marked marks n) ≤ length (lines_marked marks (n + more))
+marked-fewer marks n zero =
+    let same : n + 0 ≡ n = omega arith in
+    omega (arith, ap (λ (m : ℕ). length (lines_marked marks m)) same)
+marked-fewer marks n (suc more) =
+    let next : n + suc more ≡ n + more + 1 = omega arith in
+    let moved : length (lines_marked marks (n + suc more)) ≡ length (lines_marked marks (n + more + 1)) = ap (λ (m : ℕ). length (lines_marked marks m)) next in
+    by_test (slice_index_or marks (n + more) false) refl moved (marked-fewer marks n more)
+  where
+    by_test : (b : Bool) → slice_index_or marks (n + more) false ≡ b → length (lines_marked marks (n + suc more)) ≡ length (lines_marked marks (n + more + 1)) → length (lines_marked marks n) ≤ length (lines_marked marks (n + more)) → length (lines_marked marks n) ≤ length (lines_marked marks (n + suc more))
+    by_test true is moved so_far = omega (arith, moved, so_far, ap length (marked-yes marks (n + more) is), length-append (lines_marked marks (n + more)) ((n + more) ∷ []))
+    by_test false is moved so_far = omega (arith, moved, so_far, ap length (marked-no marks (n + more) is))
 
-module _ (old body : List ℕ) (gate : ℕ) (room : gate + 1 + length body ≤ length old) where
-  abbrev mid : List ℕ
-  mid = written old (gate + 1) body
+-- a marked line is one more than those in front of it
+pub marked-room : (marks : List Bool) (line n : ℕ) → line < n → slice_index_or marks line false ≡ true → length (lines_marked marks line) + 1 ≤ length (lines_marked marks n)
+marked-room marks line n within is =
+    let rest : line + 1 + (n - (line + 1)) ≡ n = omega arith in
+    omega (arith, marked-fewer marks (line + 1) (n - (line + 1)), ap (λ (m : ℕ). length (lines_marked marks m)) rest, ap length (marked-yes marks line is), length-append (lines_marked marks line) (line ∷ []))
 
-  abbrev opened : List ℕ
-  opened = written mid gate (0xA5 ∷ [])
+-- a record has as many lines as are named
+pub length-recorded : (store : List ℕ) (at : ℕ) (lines : List ℕ) → length (recorded store at lines) ≡ length lines
+length-recorded store at [] = refl
+length-recorded store at (line ∷ lines) = let rest = length-recorded store (at + 132) lines in omega (arith, rest)
 
-  length-mid : length mid ≡ length old
-  length-mid = length-written old (gate + 1) body room
+-- one line more at its end
+pub recorded-more : (store : List ℕ) (at : ℕ) (lines : List ℕ) (line : ℕ)
+    → recorded store at (lines ++ line ∷ []) ≡ recorded store at lines ++ record { line = line; at = at + 132 * length lines; bytes = slice_range store (line * 128) (line * 128 + 128) } ∷ []
+recorded-more store at [] line =
+    let here : at ≡ at + 132 * 0 = omega arith in
+    ap (λ (n : ℕ). let one : RecordLine = record { line = line; at = n; bytes = slice_range store (line * 128) (line * 128 + 128) } in one ∷ []) here
+recorded-more store at (first ∷ lines) line =
+    let there : at + 132 + 132 * length lines ≡ at + 132 * length (first ∷ lines) = omega arith in
+    ap (λ (rest : List RecordLine). record { line = first; at = at; bytes = slice_range store (first * 128) (first * 128 + 128) } ∷ rest)
+    (recorded-more store (at + 132) lines line
+    ∙ ap (λ (n : ℕ). recorded store (at + 132) lines ++ record { line = line; at = n; bytes = slice_range store (line * 128) (line * 128 + 128) } ∷ []) there)
 
-  gate_within : gate + 1 ≤ length mid
-  gate_within = omega (arith, room, length-mid)
+-- the lines of a record of lines below a bound are below it
+pub recorded-below : (store : List ℕ) (bound at : ℕ) (lines : List ℕ) → All (λ line. line < bound) lines → All (λ begun. begun.line < bound) (recorded store at lines)
+recorded-below store bound at [] below k d within = absurd (omega arith)
+recorded-below store bound at (line ∷ lines) below zero d within = below 0 0 (omega arith)
+recorded-below store bound at (line ∷ lines) below (suc k) d within =
+    recorded-below store bound (at + 132) lines (λ i e inside. below (suc i) e (omega (arith, inside))) k d (omega (arith, within))
 
-  pub length-opened : length opened ≡ length old
-  length-opened = length-written mid gate (0xA5 ∷ []) gate_within ∙ length-mid
+-- numbers of a range that pass a test are below its end
+passing-below : (p : ℕ → Bool) (low count : ℕ) → All (λ line. line < low + count) (filter p (range_with_len low count))
+passing-below p low zero k d within = absurd (omega arith)
+passing-below p low (suc count) k d within = by_test (p low) (passing-below p (low + 1) count) k d within
+  where
+    by_test : (b : Bool) → All (λ line. line < low + 1 + count) (filter p (range_with_len (low + 1) count)) → All (λ line. line < low + suc count) (cond b (low ∷ filter p (range_with_len (low + 1) count)) (filter p (range_with_len (low + 1) count)))
+    by_test true later zero d within = omega arith
+    by_test true later (suc k) d within = let below = later k d (omega (arith, within)) in omega (arith, below)
+    by_test false later k d within = let below = later k d within in omega (arith, below)
 
-  pub front : take gate opened ≡ take gate old
-  front = take-written mid gate (0xA5 ∷ []) gate_within gate (omega arith) ∙ take-written old (gate + 1) body room gate (omega arith)
+-- the lines that are marked among the first are below their number
+pub marked-below : (marks : List Bool) (n : ℕ) → All (λ line. line < n) (lines_marked marks n)
+marked-below marks n k d within = let below = passing-below (λ line. slice_index_or marks line false) 0 n k d within in omega (arith, below)
 
-  pub open_gate : slice_index opened gate ≡ 0xA5
-  open_gate =
-      ap (λ (these : List ℕ). slice_index these gate) (append_assoc (take gate mid) (0xA5 ∷ []) (drop (gate + 1) mid))
-      ∙ get_or-append_right (take gate mid) (0xA5 ∷ drop (gate + 1) mid) gate gate 0 (length-take-le gate mid (omega (arith, gate_within))) (omega arith)
-      ∙ ap (λ (n : ℕ). slice_index (0xA5 ∷ drop (gate + 1) mid) n) (let none : gate - gate ≡ 0 = omega arith in none)
+-- as many lines are marked as are counted
+pub marked-long : (marks : LineMarks) (locks : Lines) → Show marks locks → length (lines_marked marks.writes.items (vec_len marks.writes)) ≡ marks.written
+marked-long marks locks shown =
+    ap (λ (n : ℕ). length (lines_marked marks.writes.items n)) marks.writes.ok.0
+    ∙ sym (size-marked marks.writes.items locks.writes shown.writes)
+    ∙ sym shown.written
 
-  behind_gate : (more : ℕ) → drop (gate + 1 + more) opened ≡ drop (gate + 1 + more) mid
-  behind_gate more = drop-behind mid gate (0xA5 ∷ []) gate_within more
-
-  pub there : take (length body) (drop (gate + 1) opened) ≡ body
-  there =
-      let none : gate + 1 ≡ gate + 1 + 0 = omega arith in
-      ap (λ (n : ℕ). take (length body) (drop n opened)) none
-      ∙ ap (λ (these : List ℕ). take (length body) these) (behind_gate 0)
-      ∙ ap (λ (n : ℕ). take (length body) (drop n mid)) (sym none)
-      ∙ ap (λ (these : List ℕ). take (length body) these) (drop-written old (gate + 1) body room)
-      ∙ take_at body (drop (gate + 1 + length body) old) (length body) refl
-
-  pub behind : (at : ℕ) → gate + 1 + length body ≤ at → drop at opened ≡ drop at old
-  behind at after =
-      let more = at - (gate + 1 + length body) in
-      let near : at ≡ gate + 1 + (length body + more) = omega (arith, after) in
-      let far : gate + 1 + (length body + more) ≡ gate + 1 + length body + more = omega (arith, after) in
-      ap (λ (n : ℕ). drop n opened) near
-      ∙ behind_gate (length body + more)
-      ∙ ap (λ (n : ℕ). drop n mid) far
-      ∙ drop-behind old (gate + 1) body room more
-      ∙ ap (λ (n : ℕ). drop n old) (sym (near ∙ far))
-
--- a store, and a body that adds these lines to it
-pub record IsReady (old : List ℕ) (header : Header) (which : Which) (base gate : ℕ) (records : List (List RecordLine)) (count : ℕ) (lines : List RecordLine) (body : List ℕ) : Type 0 where
-  pub store : IsStore old header which base gate records
-  pub ranges : HasRanges header
-  pub good : IsBody (line_count header.directory) ((base + length records + 1) % 2 ^ 64) gate count lines body
-  pub fits : gate + length body < (area_of header which).end
-
-module _ (old : List ℕ) (header : Header) (which : Which) (base gate : ℕ) (records : List (List RecordLine)) (count : ℕ) (lines : List RecordLine) (body : List ℕ)
-    (ready : IsReady old header which base gate records count lines body) where
-  abbrev new : List ℕ
-  new = written (written old (gate + 1) body) gate (0xA5 ∷ [])
-
-  room_for : gate + 1 + length body ≤ length old
-  room_for = omega (arith, ready.fits, (area_within header which).0, ready.store.whole)
-
-  big : 0 < header.bank_bytes
-  big = omega (arith, ready.ranges.least_bank)
-
-  shown : (slice_index new gate == 0xA5) ≡ true
-  shown = ap (λ (n : ℕ). n == 0xA5) (open_gate old body gate room_for)
-
-  around : Around header gate old new
-  around = record {
-    front = front old body gate room_for;
-    long = length-opened old body gate room_for;
-    home = behind old body gate room_for (home_at header 0) (omega (arith, ready.fits, (area_within header which).0));
-  }
-
-  pub written_store : IsStore new header which base (gate + length body) (records ++ lines ∷ [])
-  written_store = store_more old header which base gate records ready.store big new around count lines body ready.good ready.fits shown (there old body gate room_for)
-
-  pub written_stands : stands new ≡ one_more lines (stands old)
-  written_stands = stands_more old header which base gate records ready.store big new around count lines body ready.good ready.fits shown (there old body gate room_for)
+-- one marked line more in the record that is begun
+pub with_line-recorded : (bank : KeptBank) (store : List ℕ) (marks : List Bool) (line : ℕ) → slice_index_or marks line false ≡ true
+    → with_line (record bank { begun = Some (recorded store (bank.gate + 11) (lines_marked marks line)) }) line (slice_range store (line * 128) (line * 128 + 128))
+    ≡ record bank { begun = Some (recorded store (bank.gate + 11) (lines_marked marks (line + 1))) }
+with_line-recorded bank store marks line is =
+    let place : bank.gate + record_bytes (length (recorded store (bank.gate + 11) (lines_marked marks line))) ≡ bank.gate + 11 + 132 * length (lines_marked marks line) =
+    omega (arith, length-recorded store (bank.gate + 11) (lines_marked marks line)) in
+    let more : recorded store (bank.gate + 11) (lines_marked marks line) ++ record { line = line; at = bank.gate + record_bytes (length (recorded store (bank.gate + 11) (lines_marked marks line))); bytes = slice_range store (line * 128) (line * 128 + 128) } ∷ []
+    ≡ recorded store (bank.gate + 11) (lines_marked marks (line + 1)) =
+    ap (λ (at : ℕ). recorded store (bank.gate + 11) (lines_marked marks line) ++ record { line = line; at = at; bytes = slice_range store (line * 128) (line * 128 + 128) } ∷ []) place
+    ∙ sym (recorded-more store (bank.gate + 11) (lines_marked marks line) line)
+    ∙ ap (recorded store (bank.gate + 11)) (sym (marked-yes marks line is)) in
+    λ i. record bank { begun = Some (more i) }

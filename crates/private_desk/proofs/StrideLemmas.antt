@@ -1,6 +1,6 @@
 -- Rows that go on and aren't counted yet.
 use Rattle.std.proofs.Common.{◌≡◌, ℕ, suc, ◌+◌, ◌*◌, ◌<◌, ◌≤◌, length, refl, sym, ◌∙◌, ap, subst, arith, Option, Some, None, inl, inr}
-use Rattle.std.specs.Prelude.{slice_get, ◌⊎◌, IsSome, IfSome}
+use Rattle.std.specs.Prelude.{slice_get, ◌⊎◌, IfSome}
 use Rattle.std.specs.Option.{option_map_or, ForSome}
 use Rattle.romp_cpu.specs.declared.storage.Access.{Access}
 use Rattle.flat_machine.specs.declared.machine.Program.{Program}
@@ -8,21 +8,22 @@ use Rattle.flat_machine.specs.Row.{On}
 use Rattle.flat_machine.specs.Touched.{touched}
 use Rattle.flat_machine.specs.Due.{touched_within}
 use Rattle.desk.specs.Desk.{Desk}
-use Rattle.desk.specs.Instruction.{Going, turns, room, limit_passed}
+use Rattle.store_format.specs.Header.{most_lines}
+use Rattle.desk.specs.Instruction.{Going, turns}
 use Rattle.romp_cpu.specs.declared.cpu.Attempt.{Attempt}
 use Rattle.flat_storage.specs.declared.storage.Flat.{Flat}
 use Rattle.flat_storage.specs.Reach.{GoesOpen}
 use Rattle.private_desk.specs.Answered.{counts_of}
-use Rattle.private_desk.specs.Attempts.{FitsRecord, HasStridden, IsShutFrom, counted}
+use Rattle.private_desk.specs.Attempts.{HasStridden, IsShutFrom, counted}
 use Rattle.private_desk.specs.Executed.{IsExecuted}
 use Rattle.private_desk.specs.Follows.{Follows, store_of}
-use Rattle.private_desk.specs.PrivateDesk.{desk_of, live_of, IsSound, IsRunning, IsRunningIf}
+use Rattle.private_desk.specs.PrivateDesk.{desk_of, live_of, IsSound, IsRunning}
 use Rattle.private_desk.specs.Running.{HasReached}
 use Rattle.private_desk.specs.declared.single.Active.{Active}
 use Rattle.private_desk.specs.declared.single.PrivateDesk.{PrivateDesk}
 use Rattle.private_desk.specs.declared.single.Tally.{Tally}
 use Rattle.private_desk.proofs.AloneLemmas.{turns-more}
-use Rattle.private_desk.proofs.InstructionLemmas.{runs, set_up, went_on, follows_more}
+use Rattle.private_desk.proofs.InstructionLemmas.{runs, running, set_up, went_on, follows_more}
 use Rattle.private_desk.proofs.ReachLemmas.{OnlyRan, CountedOn, row-at, desk-from, follows-from, reached-open, open-next, counted-goes}
 
 -- with no row more the count stays
@@ -49,15 +50,14 @@ none-stridden d active is follows =
 pub counted-many : (d : PrivateDesk) (active : Active) (ran : ℕ) → IsSound d → d.active ≡ Some active → active.rows + ran ≤ d.turns * 1000000 → IsSound (counted d active ran)
 counted-many d active ran sound is few =
     let set = set_up d active sound is in
-    let running : IsRunning (length d.programs.items) d.turns d.storage.flat.marks.written active = subst (IsRunningIf (length d.programs.items) d.turns d.storage.flat.marks.written) is sound.running in
+    let numbers : IsRunning (length d.programs.items) d.turns (most_lines d.store.header) d.storage.flat.marks.written active = running d active sound is in
     record {
       ranges = sound.ranges;
       directory = sound.directory;
       committed_bytes = sound.committed_bytes;
-      running = record { program = running.program; few_rows = few; few_lines = running.few_lines };
+      running = record { program = numbers.program; few_rows = few; few_lines = numbers.few_lines };
       set_up = record { runner = set.runner; windows = set.windows; locked = set.locked; shown = set.shown; printed = set.printed; few = set.few };
       room = sound.room;
-      body = sound.body;
     }
 
 module _ (old d mid : PrivateDesk) (active : Active) (n : ℕ) (ran : OnlyRan d mid) (before : HasStridden old d active n) where
@@ -77,10 +77,10 @@ module _ (old d mid : PrivateDesk) (active : Active) (n : ℕ) (ran : OnlyRan d 
   }
 
   -- one row more
-  pub more-stridden : IsSound d → d.active ≡ Some active → active.rows + n < d.turns * 1000000 → FitsRecord d
+  pub more-stridden : IsSound d → d.active ≡ Some active → active.rows + n < d.turns * 1000000
       → ((program : Program) → slice_get d.programs.items active.program ≡ Some program → GoesOpen program d.storage.flat (live_of d) (live_of mid) mid.cpu)
       → HasStridden old mid active (n + 1)
-  more-stridden sound is few fits exec =
+  more-stridden sound is few exec =
       let at : PrivateDesk = counted d active n in
       let sound_at : IsSound at = counted-many d active n sound is (omega (arith, few)) in
       let assoc : active.rows + (n + 1) ≡ active.rows + n + 1 = omega arith in
@@ -90,7 +90,7 @@ module _ (old d mid : PrivateDesk) (active : Active) (n : ℕ) (ran : OnlyRan d 
       let goes = exec program on.named in
       let goes_row = row-at at program (On (live_of mid)) sound_at goes.goes in
       let reached : (tally : Tally)
-      → HasReached at more (touched_within program more.args (store_of at) more.rows) (touched program at.header.directory (live_of at)) (live_of mid) (counted mid active (n + 1))
+      → HasReached at more (touched_within program more.args (store_of at) more.rows) (touched program at.store.header.directory (live_of at)) (live_of mid) (counted mid active (n + 1))
       (record tally { ran = tally.ran + n }) (record tally { ran = tally.ran + (n + 1) }) =
       λ tally.
       let one : tally.ran + (n + 1) ≡ tally.ran + n + 1 = omega arith in
@@ -108,7 +108,7 @@ module _ (old d mid : PrivateDesk) (active : Active) (n : ℕ) (ran : OnlyRan d 
             ∙ ap (turns word active.number rest)
             (went_on word at more program on (record tally { ran = tally.ran + n }) d.storage.flat.marks.written
             (counted-goes at more program on sound_at (counted mid active n) goes).1
-            (live_of mid) (counted mid active (n + 1)) (record tally { ran = tally.ran + (n + 1) }) (reached tally) reads goes_row (sym fits));
+            (live_of mid) (counted mid active (n + 1)) (record tally { ran = tally.ran + (n + 1) }) (reached tally) reads goes_row (running d active sound is).few_lines);
       }
 
 -- what is done after something was done
@@ -117,13 +117,6 @@ ran-after old d mid first then = record {
   others = then.others ∙ ap (λ (e : PrivateDesk). record e { cpu = mid.cpu; storage = mid.storage; out = mid.out }) first.others;
   kept = then.kept ∙ ap (λ (f : Flat). record f { private = mid.storage.flat.private; store = mid.storage.flat.store }) first.kept;
 }
-
--- a record fits as before
-pub fits-ran : (d mid : PrivateDesk) → OnlyRan d mid → FitsRecord d → FitsRecord mid
-fits-ran d mid ran fits =
-    let written : mid.storage.flat.marks.written ≡ d.storage.flat.marks.written = ap (λ (f : Flat). f.marks.written) ran.kept in
-    let as_ran : FitsRecord (record d { cpu = mid.cpu; storage = mid.storage; out = mid.out }) = ap (limit_passed (room (desk_of d))) written ∙ fits in
-    subst FitsRecord (sym ran.others) as_ran
 
 -- an attempt that took effect
 pub went-goes : (program : Program) (result : Attempt) (d mid : PrivateDesk) → (result ≡ Attempt.Went) ⊎ ((byte : ℕ) × (result ≡ Attempt.Print byte))
@@ -136,11 +129,6 @@ pub ended-same : (program : Program) (result : Attempt) (d mid : PrivateDesk) �
     → IsExecuted program result d mid → live_of mid ≡ live_of d
 ended-same program result d mid (inl is) ended = (subst (λ (r : Attempt). IsExecuted program r d mid) is ended).1
 ended-same program result d mid (inr (code, is)) ended = (subst (λ (r : Attempt). IsExecuted program r d mid) is ended).1
-
--- the one that is active
-pub some-of : (one : Option Active) → IsSome one → (active : Active) × (one ≡ Some active)
-some-of None some = absurd (cc)
-some-of (Some active) some = (active, refl)
 
 -- an access that isn't permitted is none with more rows counted
 pub shut-counted : (d new : PrivateDesk) (active : Active) (ran : ℕ) → d.active ≡ Some active → new ≡ counted d active ran

@@ -4,10 +4,9 @@ use Rattle.flat_machine.specs.declared.machine.Plain.{Plain}
 use Rattle.flat_machine.specs.declared.machine.Program.{Program}
 use Rattle.flat_machine.specs.Row as row
 use Rattle.lock_rules.specs.Lines.{no_lines}
-use Rattle.desk.specs.declared.answers.TurnEnd.{TurnEnd}
 use Rattle.desk.specs.Desk.{Entry}
 use Rattle.desk.specs.Instruction as desk
-use Rattle.desk.specs.Instruction.{Word, Counts, Turning, Going, Over, instruction, commits, turn}
+use Rattle.desk.specs.Instruction.{Word, Counts, Turning, Going, Over, instruction, commits, turns, no_counts}
 use Rattle.desk.specs.Answers.{ending_told}
 use Rattle.private_desk.specs.PrivateDesk.{desk_of, entry_of, live_of}
 use Rattle.private_desk.specs.declared.single.Active.{Active}
@@ -43,19 +42,12 @@ IsInstruction word attempt.Commit active old new before now = IsAtCommit word (i
 IsInstruction word (attempt.Over end) active old new before now =
     (printed : List ℕ) → instruction_of word active.number old before ≡ Over (desk_of new) (counts_of now) (ending_told end printed)
 
--- where instructions stopped is where the turn of the desk is
-abbrev pub IsTurn : Word → Stop → (activation limit : ℕ) → (old new : PrivateDesk) → Tally → Type 0
-IsTurn word (stop.Over end) activation limit old new now =
-    (printed : List ℕ) → turn word activation limit (desk_of old) ≡ Over (desk_of new) (counts_of now) (ending_told end printed)
-IsTurn word (stop.Commit active) activation limit old new now =
-    IsAtCommit word (turn word activation limit (desk_of old)) active new now
-
--- what a commit came to is what becomes of the commit call
-abbrev pub IsCommitted : Word → TurnEnd → Active → (old new : PrivateDesk) → (before now : Tally) → Type 0
-IsCommitted word end active old new before now =
-    (program : Program) → slice_get old.programs.items active.program ≡ Some program
-    → commits word (commit_call active program (live_of old)) (desk_of old) (counts_of before)
-    ≡ Over (desk_of new) (counts_of now) (ending_told end new.out)
+-- where instructions stopped is where those of the desk do
+abbrev pub AreTurns : Word → Stop → (activation limit : ℕ) → (old new : PrivateDesk) → Tally → Type 0
+AreTurns word (stop.Over end) activation limit old new now =
+    (printed : List ℕ) → turns word activation limit (Going (desk_of old) no_counts) ≡ Over (desk_of new) (counts_of now) (ending_told end printed)
+AreTurns word (stop.Commit active) activation limit old new now =
+    IsAtCommit word (turns word activation limit (Going (desk_of old) no_counts)) active new now
 
 -- the activation at its commit call has this number
 abbrev pub IsOfActivation : Stop → ℕ → Type 0

@@ -1,6 +1,6 @@
 -- What an attempt of one instruction leaves.
-use Rattle.std.specs.Prelude.{◌≡◌, ℕ, ◌+◌, ◌*◌, ◌<◌, ◌≤◌, ◌^◌, slice_get, Option, Some, None}
-use Rattle.desk.specs.Instruction.{Word, room, limit_passed, turns, Going}
+use Rattle.std.specs.Prelude.{◌≡◌, ℕ, ◌+◌, ◌<◌, ◌≤◌, ◌^◌, slice_get, Option, Some, None}
+use Rattle.desk.specs.Instruction.{Word, turns, Going}
 use Rattle.flat_machine.specs.declared.machine.Program.{Program}
 use Rattle.romp_cpu.specs.declared.storage.Access.{Access}
 use Rattle.flat_storage.specs.Reach.{IsShutOut}
@@ -20,18 +20,17 @@ use Rattle.private_desk.specs.declared.single.PrivateDesk.{PrivateDesk}
 
 -- the parts that only an opening or a begin sets are as before
 pub record KeepsParts (old new : PrivateDesk) : Type 0 where
-  pub header : new.header ≡ old.header
+  pub header : new.store.header ≡ old.store.header
   pub programs : new.programs.items ≡ old.programs.items
   pub opened : new.opened ≡ old.opened
   pub begins : new.begins ≡ old.begins
   pub turns : new.turns ≡ old.turns
   pub next : new.next ≡ old.next
 
--- the committed bytes, the order and what says where the next record goes are as before
+-- the store, its bytes in memory and the order are as before
 pub record KeepsBytes (old new : PrivateDesk) : Type 0 where
   pub committed : new.committed ≡ old.committed
-  pub used : new.used ≡ old.used
-  pub number : new.number ≡ old.number
+  pub store : new.store ≡ old.store
   pub order : new.order ≡ old.order
   pub closed : new.closed ≡ old.closed
 
@@ -43,9 +42,10 @@ IsPlain (end.Checked code address) = Unit {0}
 IsPlain (end.Journal lines limit) = Unit {0}
 IsPlain _ = ⊥
 
--- an end of a turn of an open desk
+-- an end of a turn of an open desk whose pages are all read
 abbrev pub IsTurned : TurnEnd → Type 0
 IsTurned end.Shut = ⊥
+IsTurned end.Disk = ⊥
 IsTurned _ = Unit {0}
 
 -- one instruction more was counted at most, with four pages, two each before and after its grants, and two refusals
@@ -54,32 +54,22 @@ pub record TalliesMore (old new : Tally) : Type 0 where
   pub pages : new.pages ≤ old.pages + 4
   pub locks : new.locks ≤ old.locks + 2
 
--- an attempt that goes on leaves the activation with one row more; one at the commit call leaves it, and its record fits
+-- an attempt that goes on leaves the activation with one row more; one at the commit call leaves it
 abbrev pub HasAttempted : Attempt → Active → PrivateDesk → Type 0
 HasAttempted attempt.On active new = new.active ≡ Some (record active { rows = active.rows + 1 })
-HasAttempted attempt.Commit active new = (new.active ≡ Some active) × (new.used + (132 * new.storage.flat.marks.written + 12) ≤ new.header.bank_bytes)
+HasAttempted attempt.Commit active new = new.active ≡ Some active
 HasAttempted (attempt.Over end) active new = IsPlain end
-
--- a record of the lines that are written so far fits the bank
-abbrev pub FitsRecord : PrivateDesk → Type 0
-FitsRecord d = limit_passed (room (desk_of d)) d.storage.flat.marks.written ≡ None
-
--- the same after an attempt that goes on
-abbrev pub FitsIfOn : Attempt → PrivateDesk → Type 0
-FitsIfOn attempt.On new = FitsRecord new
-FitsIfOn _ new = Unit {0}
 
 -- the one that is active has done at most so many rows
 abbrev pub HaveRowsWithin : Option Active → ℕ → Type 0
 HaveRowsWithin None rows = Unit {0}
 HaveRowsWithin (Some active) rows = active.rows ≤ rows
 
--- the instructions stopped at the commit call of the active one, whose record fits, or the turn is over
+-- the instructions stopped at the commit call of the active one, or the turn is over
 abbrev pub HasStopped : Stop → PrivateDesk → Tally → Type 0
 HasStopped (stop.Over end) new tally = IsPlain end
 HasStopped (stop.Commit active) new tally =
     (new.active ≡ Some active)
-    × (new.used + (132 * new.storage.flat.marks.written + 12) ≤ new.header.bank_bytes)
     × (active.rows < 2 ^ 63)
     × (tally.ran ≤ 1000000)
 

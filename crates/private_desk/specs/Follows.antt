@@ -5,6 +5,7 @@ use Rattle.flat_machine.specs.declared.machine.Program.{Program}
 use Rattle.flat_machine.specs.declared.machine.Plain.{Plain}
 use Rattle.flat_machine.specs.After.{after}
 use Rattle.flat_machine.specs.Due.{due_locks}
+use Rattle.restart.specs.Kept.{number_of}
 use Rattle.desk.specs.Report.{number_after}
 use Rattle.flat_storage.specs.Marks.{Show}
 use Rattle.flat_storage.specs.Entries.{authority_told}
@@ -16,7 +17,7 @@ use Rattle.private_desk.specs.declared.single.PrivateDesk.{PrivateDesk}
 
 -- the store that is committed
 abbrev pub store_of : PrivateDesk → FlatStore
-store_of d = record { directory = d.header.directory; bytes = d.committed }
+store_of d = record { directory = d.store.header.directory; bytes = d.committed }
 
 -- the state is the one after the rows of an activation on a store, the marks are those of the locks that are due to it, and
 -- the entries permit it nothing else
@@ -47,6 +48,6 @@ pub record Follows (d : PrivateDesk) : Type 0 where
   pub live : IsAfterIf d.programs.items (store_of d) d.active (live_of d) d.storage.flat
   pub numbered : IsNumberedIf d.active d.next
   pub owned : IsOwnedBelow (authority_told d.storage.flat.entries.entries.items) d.next
-  pub number : d.number ≡ number_after d.opened (desk_of d)
+  pub number : d.closed ≡ false → number_of d.store ≡ number_after d.opened (desk_of d)
   pub places : d.closed ≡ false → HasPlaces d.active (vec_len d.order) d.next
   pub room : d.begins ≤ vec_capacity d.order

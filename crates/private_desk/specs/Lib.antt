@@ -3,7 +3,10 @@ pub mod Attempts
 pub mod Record
 pub mod Follows
 pub mod Answered
-pub mod Kept
+pub mod Shown
+pub mod ShownLaws
+pub mod Went
+pub mod Opened
 pub mod Running
 pub mod Settled
 pub mod Executed

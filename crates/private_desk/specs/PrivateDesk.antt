@@ -1,10 +1,10 @@
 -- The desk that a private desk shows, and what holds of it at every moment.
-use Rattle.std.specs.Prelude.{◌≡◌, ℕ, ◌+◌, ◌*◌, ◌<◌, ◌≤◌, ◌^◌, false, List, [], ◌∷◌, length, slice_get, Option, Some, None, vec_capacity}
+use Rattle.std.specs.Prelude.{◌≡◌, ℕ, ◌+◌, ◌*◌, ◌<◌, ◌≤◌, ◌^◌, false, List, [], ◌∷◌, length, slice_get, Option, Some, None}
 use Rattle.std.specs.Option.{option_map_or}
 use Rattle.line_geometry.specs.Directory.{byte_count}
 use Rattle.flat_machine.specs.declared.machine.Program.{Program}
 use Rattle.flat_machine.specs.declared.machine.Plain.{Plain}
-use Rattle.store_format.specs.Header.{Header, HasRanges}
+use Rattle.store_format.specs.Header.{HasRanges, most_lines}
 use Rattle.desk.specs.Desk.{Desk, Entry}
 use Rattle.desk.specs.Answers.{order_told}
 use Rattle.flat_storage.specs.Entries.{authority_told}
@@ -36,9 +36,8 @@ desk_of d =
     record {
       frames = d.storage.flat.resident.frames;
       most_active = 1;
-      bank_bytes = d.header.bank_bytes;
-      used = d.used;
-      committed = record { directory = d.header.directory; bytes = d.committed };
+      most_lines = most_lines d.store.header;
+      committed = record { directory = d.store.header.directory; bytes = d.committed };
       order = order_told d.order.items;
       active = entries_told d.programs.items d.active;
       authority = authority_told d.storage.flat.entries.entries.items;
@@ -48,19 +47,19 @@ desk_of d =
     }
 
 -- an activation runs one of so many programs, its rows came in so many turns, and its written lines fit a record
-pub record IsRunning (programs turns written : ℕ) (active : Active) : Type 0 where
+pub record IsRunning (programs turns most written : ℕ) (active : Active) : Type 0 where
   pub program : active.program < programs
   pub few_rows : active.rows ≤ turns * 1000000
-  pub few_lines : written ≤ 992
+  pub few_lines : written ≤ most
 
 -- the one that is active runs
-abbrev pub IsRunningIf : (programs turns written : ℕ) → Option Active → Type 0
-IsRunningIf programs turns written None = Unit {0}
-IsRunningIf programs turns written (Some active) = IsRunning programs turns written active
+abbrev pub IsRunningIf : (programs turns most written : ℕ) → Option Active → Type 0
+IsRunningIf programs turns most written None = Unit {0}
+IsRunningIf programs turns most written (Some active) = IsRunning programs turns most written active
 
--- the numbers fit: of bytes used, begins and turns
-pub record HaveRoom (bank_bytes used next begins turns : ℕ) : Type 0 where
-  pub bytes : used ≤ bank_bytes
+-- the numbers of begins and turns fit
+pub record HaveRoom (next begins turns : ℕ) : Type 0 where
+  pub some : 0 < next
   pub begun : next ≤ begins + 1
   pub begin_numbers : begins + 1 < 2 ^ 32
   pub turned : turns ≤ 2 ^ 32
@@ -82,27 +81,9 @@ IsSetUpIf programs (Some active) cpu f out = IsSetUp programs active cpu f out
 
 -- what holds of a private desk at every moment
 pub record IsSound (d : PrivateDesk) : Type 0 where
-  pub ranges : HasRanges d.header
-  pub directory : d.storage.flat.directory ≡ d.header.directory
-  pub committed_bytes : length d.committed ≡ byte_count d.header.directory
-  pub running : IsRunningIf (length d.programs.items) d.turns d.storage.flat.marks.written d.active
+  pub ranges : HasRanges d.store.header
+  pub directory : d.storage.flat.directory ≡ d.store.header.directory
+  pub committed_bytes : length d.committed ≡ byte_count d.store.header.directory
+  pub running : IsRunningIf (length d.programs.items) d.turns (most_lines d.store.header) d.storage.flat.marks.written d.active
   pub set_up : IsSetUpIf d.programs.items d.active d.cpu d.storage.flat d.out
-  pub room : HaveRoom d.header.bank_bytes d.used d.next d.begins d.turns
-  pub body : d.header.bank_bytes ≤ vec_capacity d.body
-
--- the header of its store, the programs that may begin, how many begins it has room for, and how many turns were made
-abbrev pub header_told : PrivateDesk → Header
-header_told d = d.header
-
-abbrev pub programs_told : PrivateDesk → List Program
-programs_told d = d.programs.items
-
-abbrev pub begins_told : PrivateDesk → ℕ
-begins_told d = d.begins
-
-abbrev pub turns_told : PrivateDesk → ℕ
-turns_told d = d.turns
-
--- the number with which its store was opened
-abbrev pub opened_told : PrivateDesk → ℕ
-opened_told d = d.opened
+  pub room : HaveRoom d.next d.begins d.turns

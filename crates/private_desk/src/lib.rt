@@ -1,7 +1,7 @@
-//! The desk of `try`: at most one activation at a time, over a store that is whole in memory (docs/MODEL.md, "The desk").
+//! The desk of `try`: at most one activation at a time, over a store on a disk whose bytes are in memory too (docs/MODEL.md, "The desk").
 #![tactic(auto)]
 
-mod append;
+mod read;
 mod record;
 mod single;
 

@@ -1,53 +1,24 @@
-// The bytes of a record of the lines that are marked.
-ghost use Rattle.std.specs.Prelude.{◌≡◌, ◌+◌, ◌*◌, ◌<◌, ◌≤◌, ◌^◌, ◌++◌, List, ℕ, length, vec_len, vec_capacity, drop};
-ghost use Rattle.byteorder.specs.Endian.{big_bytes};
-ghost use Rattle.lock_rules.specs.Sets.{size};
-ghost use Rattle.store_format.specs.Bank.{lines_from};
-ghost use Rattle.store_format.specs.Body.{IsBody};
-ghost use Rattle.flat_storage.specs.ShowSet.{ShowSet};
-ghost use Rattle.private_desk.specs.Record.{lines_marked, body_of, head_of};
+// The record of the lines that are marked.
+ghost use Rattle.std.specs.Prelude.{◌≡◌, ◌+◌, ◌*◌, ◌^◌, ◌≤◌, Some, length, vec_len};
+ghost use Rattle.line_geometry.specs.Lines.{line_count};
+ghost use Rattle.store_format.specs.Bank.{record_bytes};
+ghost use Rattle.private_desk.specs.Record.{lines_marked, recorded};
 
-use byteorder::{BigEndian, ByteOrder};
 use flat_storage::LineMarks;
+use restart::Durable;
 
-/// The body of the record with this number: count, number, the written lines, and a closed gate.
-pub fn fill_body(body: &mut Vec<u8>, number: u64, marks: &LineMarks, store: &[u8])
-    requires few { marks.now.written < 2 ^ 16 }
-    requires store { vec_len marks.now.writes * 128 ≤ length store.now }
-    requires room { 12 + 132 * marks.now.written ≤ vec_capacity body.old }
-    ensures room { vec_capacity body.old ≤ vec_capacity body.new }
-    ensures bytes { (set : List ℕ) → ShowSet marks.now.writes.items set → marks.now.written ≡ size set → body.new.items ≡ body_of number store.now (lines_marked marks.now.writes.items (vec_len marks.now.writes)) }
-    ensures len { (set : List ℕ) → ShowSet marks.now.writes.items set → marks.now.written ≡ size set → vec_len body.new ≡ 11 + 132 * marks.now.written }
-    ensures body { (set : List ℕ) → ShowSet marks.now.writes.items set → marks.now.written ≡ size set → (gate : ℕ) → IsBody (vec_len marks.now.writes) number gate marks.now.written (lines_from marks.now.written (gate + 11) (drop 10 body.new.items)) body.new.items }
+/// Begins a record of the marked lines, with their bytes in the store.
+pub fn record_marked(store: &mut Durable, marks: &LineMarks, bytes: &[u8])
+    requires lines { vec_len marks.now.writes ≡ line_count store.old.header.directory }
+    requires bytes { vec_len marks.now.writes * 128 ≤ length bytes.now }
+    requires small { vec_len marks.now.writes ≤ 2 ^ 14 }
+    requires few { record_bytes (length (lines_marked marks.now.writes.items (vec_len marks.now.writes))) + 1 ≤ store.old.header.bank_bytes }
+    ensures { store.new ≡ record store.old { bank = record store.old.bank { begun = Some (recorded bytes.now (store.old.bank.gate + 11) (lines_marked marks.now.writes.items (vec_len marks.now.writes))) } } }
 {
-    body.clear();
-    let _ = body.extend_from_slice(&head(marks.written as u16, number));
+    store.record_start();
     for line in 0..marks.writes.len() {
         if marks.writes[line] {
-            add_line(body, line, &store[line * 128..line * 128 + 128]);
+            store.record_line(line as u32, &bytes[line * 128..line * 128 + 128]);
         }
     }
-    let _ = body.push(0);
-}
-
-/// The count and the number of a record.
-fn head(count: u16, number: u64) -> [u8; 10]
-    ensures { result ≡ head_of count number }
-{
-    let mut head = [0; 10];
-    BigEndian::write_u16(&mut head, count);
-    BigEndian::write_u64(&mut head[2..], number);
-    head
-}
-
-/// Adds a line to a body: its number, and its bytes.
-fn add_line(body: &mut Vec<u8>, line: usize, bytes: &[u8])
-    requires { line < 2 ^ 14 }
-    ensures room { vec_capacity body.old ≤ vec_capacity body.new }
-    ensures items { vec_len body.old + (4 + length bytes.now) ≤ vec_capacity body.old → body.new.items ≡ body.old.items ++ (big_bytes 4 line ++ bytes.now) }
-{
-    let mut number = [0; 4];
-    BigEndian::write_u32(&mut number, line as u32);
-    let _ = body.extend_from_slice(&number);
-    let _ = body.extend_from_slice(bytes);
 }

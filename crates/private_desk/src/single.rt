@@ -1,8 +1,9 @@
-// The desk of `try`: at most one activation at a time, over a store that is whole in memory.
-ghost use Rattle.std.specs.Prelude.{◌≡◌, ◌+◌, ◌*◌, ◌<◌, ◌≤◌, ◌^◌, ◌-◌, ◌%◌, ◌==◌, ◌⊎◌, ℕ, List, [], ◌∷◌, ◌++◌, true, false, length, vec_len, vec_capacity, map, slice_get, slice_index_or, filter, if◌then◌else◌, IfOk, IfNone, IfSome, IsSome, Some, None, Option};
+// The desk of `try`: at most one activation at a time, over a store whose bytes are in memory too.
+ghost use Rattle.std.specs.Prelude.{◌≡◌, ◌+◌, ◌*◌, ◌<◌, ◌≤◌, ◌^◌, ◌-◌, ◌%◌, ◌==◌, ◌≢◌, ℕ, List, [], ◌∷◌, ◌++◌, Bool, true, false, length, vec_len, vec_capacity, map, find, is_some, slice_get, slice_index_or, filter, if◌then◌else◌, IfOk, IfErr, IfNone, IfSome, IsSome, IsTrue, Some, None, Option};
 ghost use Rattle.std.specs.Option.{ForSome};
 ghost use Rattle.outside.specs.Causes.{Rose};
-ghost use Rattle.outside.specs.Runs.{CallsDisk, held_of};
+ghost use Rattle.outside.specs.Durable.{IsSure};
+ghost use Rattle.outside.specs.Runs.{CallsDisk, OnlyAsks, held_of};
 ghost use Rattle.line_geometry.specs.Directory.{byte_count};
 ghost use Rattle.line_geometry.specs.Lines.{line_count};
 ghost use Rattle.lock_rules.specs.Sets.{size};
@@ -11,21 +12,27 @@ ghost use Rattle.lock_rules.specs.Resident.{taken_out};
 ghost use Rattle.flat_machine.specs.declared.machine.Program.{Program};
 ghost use Rattle.flat_machine.specs.After.{first_registers, clear};
 ghost use Rattle.private_desk.specs.declared.single.Active.{Active};
-ghost use Rattle.store_format.specs.Header.{total};
+ghost use Rattle.store_format.specs.Header.{total, most_lines};
+ghost use Rattle.redo_journal.specs.Held.{OnlyWrites};
+ghost use Rattle.restart.specs.Faults.{IsOpenFault};
+ghost use Rattle.desk.specs.Kept.{HoldsStore, WritesMore, writes_due};
 ghost use Rattle.desk.specs.Run.{absent_segment};
+ghost use Rattle.desk.specs.Answers.{counts_told};
+ghost use Rattle.private_desk.specs.Answered.{counts_of};
 
-use super::append::{Appended, append};
-use super::record::fill_body;
+use super::read::store_bytes;
+use super::record::record_marked;
 use arrayvec::ArrayVec;
-use desk::{Begun, Committed, Supervisor, Turn, TurnEnd};
+use desk::{Begun, Committed, Reopened, Stored, Supervisor, Turn, TurnEnd};
 use flat_machine::{Cs, Printed, Program, Window, first_registers};
 use flat_storage::FlatStorage;
 use line_geometry::Directory;
-use outside::Outside;
+use outside::{Failed, Outside};
 use owned_list::OwnedList;
+use redo_journal::{Kept, OpenFault, ReopenFault};
+use restart::Durable;
 use romp_cpu::{Access, Attempt as Tried, Cpu};
-use std::alloc::{AllocError, Global};
-use store_format::{Header, Which};
+use std::alloc::Global;
 
 /// The one activation that is active.
 #[derive(Debug, Clone, Copy, PartialEq, Eq)]
@@ -65,17 +72,14 @@ enum Stop {
 /// A desk with at most one activation. It takes all its memory when it is made.
 #[derive(Drop)]
 pub struct PrivateDesk {
-    header: Header,
+    store: Durable,
     programs: Vec<Program>,
     committed: OwnedList<u8>,
-    number: u64,
-    used: u32,
     order: Vec<Committed>,
     active: Option<Active>,
     cpu: Cpu,
     storage: FlatStorage,
     out: Printed,
-    body: Vec<u8>,
     next: u32,
     opened: u64,
     begins: u32,
@@ -84,13 +88,17 @@ pub struct PrivateDesk {
 }
 
 impl PrivateDesk {
-    ghost use Rattle.private_desk.specs.PrivateDesk.{desk_of, live_of, header_told, programs_told, begins_told, turns_told, opened_told, IsSound};
-    ghost use Rattle.desk.specs.Desk.{opened, nobody};
+    ghost use Rattle.private_desk.specs.PrivateDesk.{desk_of, live_of, IsSound};
+    ghost use Rattle.desk.specs.Desk.{Entry, nobody};
     ghost use Rattle.desk.specs.Instruction as turn;
-    ghost use Rattle.desk.specs.Instruction.{Word, Fine, room, limit_passed, commits, turns, Going, Over};
-    ghost use Rattle.desk.specs.Answers.{order_told, ending_told, HasNumbers};
-    ghost use Rattle.desk.specs.Report.{number_after};
-    ghost use Rattle.private_desk.specs.Kept.{Keeps};
+    ghost use Rattle.desk.specs.Instruction.{Word, Fine, Going, turns};
+    ghost use Rattle.desk.specs.Run.{step};
+    ghost use Rattle.desk.specs.Answers.{begun_told};
+    ghost use Rattle.desk.specs.declared.event.Event.TheVariants as event;
+    ghost use Rattle.desk.specs.Answers.{order_told, turn_closes};
+    ghost use Rattle.private_desk.specs.Opened.{IsNew, IsOpened, HasStood, header_told};
+    ghost use Rattle.private_desk.specs.Shown.{IsOver};
+    ghost use Rattle.private_desk.specs.Went.{HasCommitted, HasRun};
     ghost use Rattle.flat_storage.specs.Marks.{Show};
     ghost use Rattle.flat_storage.specs.Entries.{authority_told};
     ghost use Rattle.flat_storage.specs.Words.{ReadsAll};
@@ -99,54 +107,48 @@ impl PrivateDesk {
     ghost use Rattle.romp_cpu.specs.Attempts.{IsOfFewBytes};
     ghost use Rattle.private_desk.specs.Executed.{IsExecuted};
     ghost use Rattle.private_desk.specs.Follows.{Follows};
-    ghost use Rattle.private_desk.specs.Answered.{counts_of, commit_call, IsInstruction, IsTurn, IsCommitted, IsOfActivation};
-    ghost use Rattle.private_desk.specs.Attempts.{KeepsParts, KeepsBytes, IsPlain, IsTurned, HasAttempted, HasStopped, HaveRowsWithin, TalliesMore, FitsRecord, FitsIfOn, IsOfBytes, IsShutFrom, HasStridden, counted};
+    ghost use Rattle.private_desk.specs.Answered.{IsInstruction, AreTurns, IsOfActivation};
+    ghost use Rattle.private_desk.specs.Attempts.{KeepsParts, KeepsBytes, IsTurned, HasAttempted, HasStopped, HaveRowsWithin, TalliesMore, IsOfBytes, IsShutFrom, HasStridden, counted};
 
-    /// A desk over a store with these bytes and no record in its bank, for so many begins of these programs.
+    /// A desk over the store that the disk holds, for so many begins of these programs. It takes all the memory that it will
+    /// need, and only asks the disk.
     ///
     /// # Errors
     ///
-    /// Only where there is no memory.
-    pub fn open(
+    /// As [`Durable::open`]; [`OpenFault::DiskFault`] also where a page of the store couldn't be read.
+    pub fn open<W: Outside>(
         alloc: Global,
-        header: Header,
-        store: &[u8],
+        outside: &mut W,
         programs: Vec<Program>,
         frames: u16,
         begins: u32,
-    ) -> Result<Self, AllocError>
-        requires store { length store.now ≡ byte_count header.directory }
+    ) -> Result<Self, OpenFault>
         requires frames { 1 < frames }
         requires begins { begins < 2 ^ 32 - 1 }
-        ensures sound { IfOk result IsSound }
-        ensures desk { IfOk result (λ desk. desk_of desk ≡ opened frames 1 header.bank_bytes 0 (record { directory = header.directory; bytes = store.now })) }
-        ensures header { IfOk result (λ desk. header_told desk ≡ header) }
-        ensures programs { IfOk result (λ desk. programs_told desk ≡ programs.items) }
-        ensures begins { IfOk result (λ desk. begins_told desk ≡ begins) }
-        ensures turns { IfOk result (λ desk. turns_told desk ≡ 0) }
-        ensures number { IfOk result (λ desk. opened_told desk ≡ 0) }
-        ensures follows { IfOk result Follows }
+        ensures asks { OnlyAsks W.Outside outside.old outside.new }
+        ensures fault { IfErr result (IsOpenFault W.Outside outside.old outside.new) }
+        ensures new { IfOk result (IsNew programs.items begins) }
+        ensures room { IfOk result (λ desk. HoldsStore W.Outside (header_told desk) outside.new) }
+        ensures opened { IfOk result (λ desk. IsTrue (W.is_honest outside.old) → IsSome (W.held outside.old) → IsOpened W.Outside frames outside.old outside.new desk) }
+        ensures told { IfOk result (λ desk. IsSome (W.held outside.old) → HasStood (header_told desk) (held_of W.Outside outside.old)) }
     {
-        let directory = header.directory();
-        let committed = OwnedList::from_vec(Vec::from_slice(alloc, store)?);
-        let storage = FlatStorage::new(alloc, directory, store, frames)?;
+        let store = Durable::open(alloc, outside)?;
+        let bytes = store_bytes(alloc, &store, outside)?;
+        let opened = store.number();
+        let storage = FlatStorage::new(alloc, store.header().directory(), &bytes, frames)?;
         let out = Printed::new(alloc)?;
-        let body = Vec::with_capacity(alloc, header.bank_bytes() as usize)?;
         let order = Vec::with_capacity(alloc, begins as usize)?;
         Ok(PrivateDesk {
-            header,
+            store,
             programs,
-            committed,
-            number: 0,
-            used: 0,
+            committed: OwnedList::from_vec(bytes),
             order,
             active: None,
             cpu: first_cpu(0, [0; 4]),
             storage,
             out,
-            body,
             next: 1,
-            opened: 0,
+            opened,
             begins,
             turns: 0,
             closed: false,
@@ -158,6 +160,45 @@ impl PrivateDesk {
         ensures { order_told result.items ≡ (desk_of self).order }
     {
         self.order
+    }
+
+    /// A begin at an open desk.
+    fn start(&mut self, program: u16, args: [u32; 4]) -> Begun
+        requires sound { IsSound self.old }
+        requires program { program < length self.old.programs.items }
+        requires room { self.old.next ≤ self.old.begins }
+        requires open { self.old.closed ≡ false }
+        ensures step { Follows self.old → step self.old.programs.items (event.Begin program args) Fine (desk_of self.old) ≡ record { desk = desk_of self.new; happening = begun_told program result } }
+        ensures follows { Follows self.old → Follows self.new }
+        ensures sound { IsSound self.new }
+        ensures bytes { KeepsBytes self.old self.new }
+        ensures programs { self.new.programs.items ≡ self.old.programs.items }
+        ensures opened { self.new.opened ≡ self.old.opened }
+        ensures begins { self.new.begins ≡ self.old.begins }
+        ensures turns { self.new.turns ≡ self.old.turns }
+        ensures next { self.new.next ≡ self.old.next + 1 }
+        ensures open { result ≢ Begun.Shut }
+    {
+        let number = self.next;
+        self.next += 1;
+        if self.active.is_some() {
+            return Begun::Busy(number);
+        }
+        let code = &self.programs[usize::from(program)];
+        let directory = self.store.header().directory();
+        if let Some(segment) = absent_segment(directory, &code.windows) {
+            return Begun::NoSegment(number, segment);
+        }
+        self.storage.begin(number, code, self.committed.as_slice());
+        self.cpu = first_cpu(code.entry, args);
+        self.out.clear();
+        self.active = Some(Active {
+            number,
+            program,
+            args,
+            rows: 0,
+        });
+        Begun::Started(number)
     }
 
     /// A turn of an activation, in which nothing is counted yet.
@@ -172,26 +213,35 @@ impl PrivateDesk {
         requires limit { limit ≤ 1000000 }
         requires rows { HaveRowsWithin self.old.active ((self.old.turns - 1) * 1000000) }
         requires turns { 0 < self.old.turns }
-        requires bytes { ForSome (W.held outside.old) (λ bytes. total self.old.header ≤ length bytes) }
+        requires open { self.old.closed ≡ false }
+        requires bytes { HoldsStore W.Outside self.old.store.header outside.old }
         requires tally { tally.old.ran + tally.old.pages + tally.old.locks ≡ 0 }
         ensures sound { IsSound self.new }
         ensures parts { KeepsParts self.old self.new }
-        ensures calls { CallsDisk W.Outside outside.old outside.new }
-        ensures bytes { ForSome (W.held outside.new) (λ bytes. total self.new.header ≤ length bytes) }
-        ensures told { IsSome (W.held outside.old) → IsSome (W.held outside.new) }
-        ensures shut { self.old.closed ≡ true → (result ≡ TurnEnd.Shut) × (self.new ≡ self.old) }
-        ensures turned { self.old.closed ≡ false → IsTurned result }
-        ensures follows { Follows self.old → Follows self.new }
-        ensures step { Follows self.old → self.old.closed ≡ false → (word : Word) × (turn.turn word activation limit (desk_of self.old) ≡ Over (desk_of self.new) (counts_of tally.new) (ending_told result self.new.out)) × ((word ≡ Fine) ⊎ Rose (W.disk_faults outside.old) (W.disk_faults outside.new)) }
-        ensures numbers { Follows self.old → HasNumbers result activation (number_after self.new.opened (desk_of self.new)) }
-        ensures kept { Follows self.old → IsSome (W.held outside.old) → Keeps self.old.header self.old.used self.old.number self.old.committed (held_of W.Outside outside.old) → self.new.closed ≡ false → Keeps self.new.header self.new.used self.new.number self.new.committed (held_of W.Outside outside.new) }
+        ensures only { OnlyWrites W.Outside outside.old outside.new }
+        ensures writes { WritesMore (W.writes outside.old) (W.writes outside.new) (writes_due result) }
+        ensures turned { IsTurned result }
+        ensures closed { self.new.closed ≡ turn_closes result }
+        ensures cause { turn_closes result ≡ true → Rose (W.disk_faults outside.old) (W.disk_faults outside.new) }
+        ensures went { IsSure W.Outside outside.old → IsOver self.old (held_of W.Outside outside.old) → HasRun W.Outside activation limit result self.old self.new tally.new outside.old outside.new }
     {
-        if self.closed {
-            return TurnEnd::Shut;
+        if !self.is_active(activation) {
+            return TurnEnd::Idle;
         }
         match self.run_to_commit(activation, limit, tally) {
             Stop::Over(end) => end,
             Stop::Commit(active) => self.commit(outside, active, tally),
+        }
+    }
+
+    /// Whether the activation with this number is active.
+    fn is_active(&self, number: u32) -> bool
+        requires { IsSound self.now }
+        ensures { result ≡ is_some (find (λ (entry : Entry). entry.number == number) (desk_of self.now).active) }
+    {
+        match self.active {
+            Some(active) => active.number == number,
+            None => false,
         }
     }
 
@@ -207,7 +257,8 @@ impl PrivateDesk {
         ensures stopped { HasStopped result self.new tally.new }
         ensures bytes { KeepsBytes self.old self.new }
         ensures follows { Follows self.old → Follows self.new }
-        ensures step { Follows self.old → (word : Word) → ReadsAll word → IsTurn word result activation limit self.old self.new tally.new }
+        ensures closed { self.new.closed ≡ self.old.closed }
+        ensures step { Follows self.old → (word : Word) → ReadsAll word → AreTurns word result activation limit self.old self.new tally.new }
         ensures active { IsOfActivation result activation }
     {
         let mut left = limit;
@@ -228,20 +279,6 @@ impl PrivateDesk {
             }
         }
         Stop::Over(TurnEnd::Limit)
-    }
-
-    /// The most lines that a record may have now, if one fits the bank.
-    fn room(&self) -> Option<u32>
-        requires { self.now.used ≤ self.now.header.bank_bytes }
-        ensures fits { ForSome result (λ most. (self.now.used + (132 * most + 12) ≤ self.now.header.bank_bytes) × (most ≤ 992)) }
-        ensures room { result ≡ room (desk_of self.now) }
-    {
-        let rest = self.header.bank_bytes() - self.used;
-        if rest < 12 {
-            None
-        } else {
-            Some((rest - 12) / 132)
-        }
     }
 
     /// The activation ends, and the pages that it wrote into go out.
@@ -278,7 +315,6 @@ impl PrivateDesk {
         ensures parts { KeepsParts self.old self.new }
         ensures tally { TalliesMore tally.old tally.new }
         ensures attempted { HasAttempted result active self.new }
-        ensures fits { FitsIfOn result self.new }
         ensures bytes { KeepsBytes self.old self.new }
         ensures follows { Follows self.old → Follows self.new }
         ensures step { Follows self.old → (word : Word) → ReadsAll word → IsInstruction word result active self.old self.new tally.old tally.new }
@@ -294,7 +330,6 @@ impl PrivateDesk {
     fn go_on(&mut self, limit: u32, tally: &mut Tally) -> (u32, Option<Access>)
         requires sound { IsSound self.old }
         requires active { IsSome self.old.active }
-        requires fits { FitsRecord self.old }
         requires rows { HaveRowsWithin self.old.active (self.old.turns * 1000000 - limit) }
         requires some { limit ≤ self.old.turns * 1000000 }
         requires tally { tally.old.ran + limit ≤ 1000000 }
@@ -330,7 +365,6 @@ impl PrivateDesk {
     fn stride(&mut self, limit: u32) -> (u32, Option<Access>)
         requires sound { IsSound self.old }
         requires active { IsSome self.old.active }
-        requires fits { FitsRecord self.old }
         ensures sound { IsSound self.new }
         ensures others { self.new ≡ record self.old { cpu = self.new.cpu; storage = self.new.storage; out = self.new.out } }
         ensures few { result.0 ≤ limit }
@@ -361,7 +395,6 @@ impl PrivateDesk {
         ensures parts { KeepsParts self.old self.new }
         ensures tally { TalliesMore tally.old tally.new }
         ensures attempted { HasAttempted result active self.new }
-        ensures fits { FitsIfOn result self.new }
         ensures bytes { KeepsBytes self.old self.new }
         ensures follows { Follows self.old → Follows self.new }
         ensures step { Follows self.old → (word : Word) → ReadsAll word → IsInstruction word result active self.old self.new tally.old tally.new }
@@ -374,11 +407,6 @@ impl PrivateDesk {
         }
         if let Tried::Fault(_, access) = went {
             return self.serve(active, access, tally);
-        }
-        let lines = self.storage.marks().written;
-        if let Some(most) = self.limit_passed(lines) {
-            self.roll_back(active.number);
-            return Attempt::Over(TurnEnd::Journal(lines, most));
         }
         if let Tried::Commit = went {
             return Attempt::Commit;
@@ -419,7 +447,6 @@ impl PrivateDesk {
         ensures parts { KeepsParts self.old self.new }
         ensures tally { TalliesMore tally.old tally.new }
         ensures attempted { HasAttempted result active self.new }
-        ensures fits { FitsIfOn result self.new }
         ensures bytes { KeepsBytes self.old self.new }
         ensures follows { Follows self.old → Follows self.new }
         ensures step { Follows self.old → (word : Word) → ReadsAll word → IsInstruction word result active self.old self.new tally.old tally.new }
@@ -456,57 +483,49 @@ impl PrivateDesk {
 
     /// The limit that so many written lines pass, if they do.
     fn limit_passed(&self, lines: u32) -> Option<u32>
-        requires { self.now.used ≤ self.now.header.bank_bytes }
-        ensures none { IfNone result ((self.now.used + (132 * lines + 12) ≤ self.now.header.bank_bytes) × (lines ≤ 992)) }
-        ensures limit { result ≡ limit_passed (room (desk_of self.now)) lines }
+        ensures none { IfNone result (lines ≤ most_lines self.now.store.header) }
+        ensures limit { IfSome result (λ most. (most ≡ most_lines self.now.store.header) × (most < lines)) }
     {
-        match self.room() {
-            None => Some(0),
-            Some(most) if lines > most => Some(most),
-            Some(_) => None,
-        }
+        let most = self.store.header().most_lines();
+        if lines > most { Some(most) } else { None }
     }
 
     /// The commit call of the active activation: its record, and the end of the turn.
     fn commit<W: Outside>(&mut self, outside: &mut W, active: Active, tally: &mut Tally) -> TurnEnd
         requires sound { IsSound self.old }
         requires active { self.old.active ≡ Some active }
-        requires room { self.old.used + (132 * self.old.storage.flat.marks.written + 12) ≤ self.old.header.bank_bytes }
         requires rows { active.rows < 2 ^ 63 }
         requires tally { tally.old.ran ≤ 1000000 }
-        requires bytes { ForSome (W.held outside.old) (λ bytes. total self.old.header ≤ length bytes) }
+        requires open { self.old.closed ≡ false }
+        requires bytes { HoldsStore W.Outside self.old.store.header outside.old }
         ensures sound { IsSound self.new }
         ensures parts { KeepsParts self.old self.new }
-        ensures calls { CallsDisk W.Outside outside.old outside.new }
-        ensures bytes { ForSome (W.held outside.new) (λ bytes. total self.new.header ≤ length bytes) }
-        ensures told { IsSome (W.held outside.old) → IsSome (W.held outside.new) }
+        ensures only { OnlyWrites W.Outside outside.old outside.new }
+        ensures writes { WritesMore (W.writes outside.old) (W.writes outside.new) (writes_due result) }
         ensures turned { IsTurned result }
-        ensures follows { Follows self.old → self.old.closed ≡ false → Follows self.new }
-        ensures step { Follows self.old → self.old.closed ≡ false → (word : Word) × ReadsAll word × IsCommitted word result active self.old self.new tally.old tally.new × ((word ≡ Fine) ⊎ Rose (W.disk_faults outside.old) (W.disk_faults outside.new)) }
-        ensures numbers { Follows self.old → self.old.closed ≡ false → HasNumbers result active.number (number_after self.new.opened (desk_of self.new)) }
-        ensures kept { Follows self.old → IsSome (W.held outside.old) → Keeps self.old.header self.old.used self.old.number self.old.committed (held_of W.Outside outside.old) → self.new.closed ≡ false → Keeps self.new.header self.new.used self.new.number self.new.committed (held_of W.Outside outside.new) }
+        ensures closed { self.new.closed ≡ turn_closes result }
+        ensures cause { turn_closes result ≡ true → Rose (W.disk_faults outside.old) (W.disk_faults outside.new) }
+        ensures went { IsSure W.Outside outside.old → IsOver self.old (held_of W.Outside outside.old) → (program : Program) → slice_get self.old.programs.items active.program ≡ Some program → HasCommitted W.Outside active program result self.old self.new tally.old tally.new outside.old outside.new }
     {
-        let number = self.number.wrapping_add(1);
-        fill_body(
-            &mut self.body,
-            number,
+        let number = self.store.number().wrapping_add(1);
+        record_marked(
+            &mut self.store,
             self.storage.marks(),
             self.storage.store_bytes(),
         );
-        let gate = self.header.bank_at(Which::A) + 8 + u64::from(self.used);
-        match append(outside, &self.header, gate, &self.body) {
-            Appended::Done => {
-                self.settle(number, active);
+        match self.store.commit(outside) {
+            Kept::Done => {
+                self.settle(active);
                 tally.ran += 1;
                 TurnEnd::Committed(number, active.rows + 1)
             }
-            Appended::Doubt => {
-                self.enter_order(number, active);
+            Kept::Doubt => {
+                self.enter_order(active);
                 self.closed = true;
                 let doubt = Some(active.number);
                 TurnEnd::Closed { doubt, number }
             }
-            Appended::Unwritten => {
+            Kept::Unwritten => {
                 self.closed = true;
                 let doubt = None;
                 TurnEnd::Closed { doubt, number }
@@ -514,15 +533,14 @@ impl PrivateDesk {
         }
     }
 
-    /// The commit of the active activation enters the order, and its number is the store's.
-    fn enter_order(&mut self, number: u64, active: Active)
+    /// The commit of the active activation enters the order.
+    fn enter_order(&mut self, active: Active)
         requires rows { active.rows < 2 ^ 63 }
         ensures sound { IsSound self.old → IsSound self.new }
-        ensures others { self.new ≡ record self.old { number = number; order = self.new.order } }
+        ensures others { self.new ≡ record self.old { order = self.new.order } }
         ensures room { vec_capacity self.old.order ≤ vec_capacity self.new.order }
         ensures order { vec_len self.old.order < vec_capacity self.old.order → self.new.order.items ≡ self.old.order.items ++ record { activation = active.number; steps = active.rows + 1 } ∷ [] }
     {
-        self.number = number;
         let _ = self.order.push(Committed {
             activation: active.number,
             steps: active.rows + 1,
@@ -530,17 +548,15 @@ impl PrivateDesk {
     }
 
     /// The active activation ends with its commit.
-    fn settle(&mut self, number: u64, active: Active)
+    fn settle(&mut self, active: Active)
         requires sound { IsSound self.old }
         requires rows { active.rows < 2 ^ 63 }
-        requires room { self.old.used + (132 * self.old.storage.flat.marks.written + 12) ≤ self.old.header.bank_bytes }
         ensures sound { IsSound self.new }
         ensures parts { KeepsParts self.old self.new }
-        ensures number { self.new.number ≡ number }
+        ensures store { self.new.store ≡ self.old.store }
         ensures closed { self.new.closed ≡ self.old.closed }
         ensures out { self.new.out ≡ self.old.out }
         ensures active { self.new.active ≡ None }
-        ensures used { self.new.used ≡ self.old.used + (11 + 132 * self.old.storage.flat.marks.written) }
         ensures committed { self.new.committed ≡ self.old.storage.flat.store }
         ensures released { authority_told self.new.storage.flat.entries.entries.items ≡ map (λ authority. if authority.owner == active.number then nobody else authority) (authority_told self.old.storage.flat.entries.entries.items) }
         ensures resident { self.new.storage.flat.resident ≡ self.old.storage.flat.resident }
@@ -548,11 +564,24 @@ impl PrivateDesk {
         ensures order_room { vec_capacity self.old.order ≤ vec_capacity self.new.order }
         ensures order { vec_len self.old.order < vec_capacity self.old.order → self.new.order.items ≡ self.old.order.items ++ record { activation = active.number; steps = active.rows + 1 } ∷ [] }
     {
-        self.enter_order(number, active);
-        self.used += 11 + 132 * self.storage.marks().written;
+        self.enter_order(active);
         self.committed.write(0, self.storage.store_bytes());
         self.active = None;
         self.storage.release(active.number);
+    }
+}
+
+/// What is told of a turn that was counted so and ended so. No cycle is ever broken.
+fn told(tally: Tally, end: TurnEnd) -> Turn
+    ensures counts { counts_told result ≡ counts_of tally }
+    ensures end { result.end ≡ end }
+{
+    Turn {
+        ran: tally.ran,
+        pages: tally.pages,
+        locks: tally.locks,
+        cycles: ArrayVec::new(),
+        end,
     }
 }
 
@@ -584,78 +613,94 @@ fn absent_segment(directory: &Directory, windows: &[Option<Window>]) -> Option<u
 
 impl Supervisor for PrivateDesk {
     ghost use Rattle.private_desk.specs.PrivateDesk.{desk_of, IsSound};
-    ghost use Rattle.private_desk.specs.Follows.{Follows};
-    ghost use Rattle.private_desk.specs.Kept.{Keeps};
-    ghost use Rattle.desk.specs.Report.{number_after};
-    ghost use Rattle.store_format.specs.Header.{total};
+    ghost use Rattle.private_desk.specs.Shown.{Shown};
+    ghost use Rattle.private_desk.specs.ShownLaws.{shown-open, shown-order, shown-closed, shown-stands};
 
-    ghost desk = { desk_of };
+    ghost shows = { Shown };
 
     ghost sound = { IsSound };
 
-    ghost answers = { Follows };
+    ghost closed = { λ d. d.closed };
 
     ghost programs = { λ d. d.programs.items };
 
     ghost opened = { λ d. d.opened };
 
+    ghost header = { λ d. d.store.header };
+
     ghost begins = { λ d. d.begins };
+
+    ghost given = { λ d. d.next - 1 };
 
     ghost turns = { λ d. d.turns };
 
-    ghost store_bytes = { λ d. total d.header };
-
     ghost printed = { λ d. d.out };
 
-    ghost keeps = { λ d held. Keeps d.header d.used (number_after d.opened (desk_of d)) d.committed held };
+    ghost order = { λ d. (desk_of d).order };
 
-    ghost keeps_what_stands = { λ d held kept. kept.stand.standing };
+    ghost shown_open = { shown-open };
+
+    ghost order_shown = { shown-order };
+
+    ghost open_shown = { shown-closed };
+
+    ghost shown_stands = { shown-stands };
 
     fn begin(&mut self, program: u16, args: [u32; 4]) -> Begun {
         if self.closed {
             return Begun::Shut;
         }
-        let number = self.next;
-        self.next += 1;
-        if self.active.is_some() {
-            return Begun::Busy(number);
-        }
-        let code = &self.programs[usize::from(program)];
-        let directory = self.header.directory();
-        if let Some(segment) = absent_segment(directory, &code.windows) {
-            return Begun::NoSegment(number, segment);
-        }
-        self.storage.begin(number, code, self.committed.as_slice());
-        self.cpu = first_cpu(code.entry, args);
-        self.out.clear();
-        self.active = Some(Active {
-            number,
-            program,
-            args,
-            rows: 0,
-        });
-        Begun::Started(number)
+        self.start(program, args)
     }
 
     fn turn<W: Outside>(&mut self, outside: &mut W, activation: u32, limit: u32) -> Turn {
-        self.turns += 1;
         let mut tally = Tally {
             ran: 0,
             pages: 0,
             locks: 0,
         };
+        if self.closed {
+            return told(tally, TurnEnd::Shut);
+        }
+        self.turns += 1;
         let end = self.run(outside, activation, limit, &mut tally);
-        Turn {
-            ran: tally.ran,
-            pages: tally.pages,
-            locks: tally.locks,
-            cycles: ArrayVec::new(),
-            end,
+        told(tally, end)
+    }
+
+    fn checkpoint<W: Outside>(&mut self, outside: &mut W) -> Stored {
+        if self.closed {
+            return Stored::Shut;
+        }
+        match self.store.checkpoint(outside) {
+            Ok(()) => Stored::Number(self.store.number()),
+            Err(Failed) => {
+                self.closed = true;
+                Stored::Closed
+            }
+        }
+    }
+
+    fn forget<W: Outside>(&mut self, outside: &mut W) -> Reopened {
+        if self.closed {
+            return Reopened::Shut;
+        }
+        self.active = None;
+        self.storage.forget();
+        match self.store.reopen(outside) {
+            Ok(()) => Reopened::Number(self.store.number()),
+            Err(ReopenFault::Damaged(offset)) => {
+                self.closed = true;
+                Reopened::Damaged(offset)
+            }
+            Err(ReopenFault::DiskFault) => {
+                self.closed = true;
+                Reopened::DiskFault
+            }
         }
     }
 
     fn number(&self) -> u64 {
-        self.number
+        self.store.number()
     }
 
     fn active(&self) -> ArrayVec<u32, 16> {
@@ -668,5 +713,9 @@ impl Supervisor for PrivateDesk {
 
     fn printed(&self) -> &[u8] {
         self.out.as_slice()
+    }
+
+    fn order(&self) -> &[Committed] {
+        &self.order
     }
 }

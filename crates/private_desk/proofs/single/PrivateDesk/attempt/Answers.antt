@@ -1,30 +1,26 @@
-use Rattle.std.proofs.Common.{◌≡◌, ℕ, ◌+◌, ◌*◌, ◌≤◌, refl, sym, ◌∙◌, ap, subst, arith, rules, Option, Some}
-use Rattle.std.specs.Prelude.{IfNone, slice_get}
+use Rattle.std.proofs.Common.{◌≡◌, ℕ, refl, sym, ◌∙◌, ap, subst, arith, rules, Some}
+use Rattle.std.specs.Prelude.{slice_get}
 use Rattle.flat_machine.specs.declared.machine.Program.{Program}
 use Rattle.flat_machine.specs.Row.{On, Commit, Check}
 use Rattle.flat_machine.specs.Touched.{touched}
 use Rattle.flat_machine.specs.Due.{touched_within}
 use Rattle.desk.specs.Desk.{Desk}
-use Rattle.desk.specs.Instruction.{room, limit_passed, commits}
+use Rattle.desk.specs.Instruction.{commits}
 use Rattle.romp_cpu.specs.declared.cpu.Attempt.{Attempt}
 use Rattle.romp_cpu.specs.declared.storage.Access.{Access}
 use Rattle.romp_cpu.specs.declared.storage.Fault.{Fault}
 use Rattle.romp_cpu.specs.Attempts.{IsOfFewBytes}
-use Rattle.flat_storage.specs.declared.line_marks.LineMarks.{LineMarks}
-use Rattle.flat_storage.specs.declared.storage.Flat.{Flat}
 use Rattle.flat_storage.specs.Reach.{GoesOpen}
 use Rattle.private_desk.specs.Answered.{counts_of, commit_call}
-use Rattle.private_desk.specs.Attempts.{FitsRecord}
 use Rattle.private_desk.specs.Executed.{IsExecuted}
 use Rattle.private_desk.specs.Follows.{Follows, store_of}
 use Rattle.private_desk.specs.PrivateDesk.{desk_of, live_of}
-use Rattle.private_desk.specs.Running.{Runs, IsRolledBack, HasReached}
+use Rattle.private_desk.specs.Running.{Runs, HasReached}
 use Rattle.private_desk.specs.declared.single.PrivateDesk.{PrivateDesk}
 use Rattle.private_desk.specs.declared.single.Tally.{Tally}
 use Rattle.flat_machine.specs.declared.machine.Plain.{Plain}
-use Rattle.flat_storage.proofs.AnswerLemmas.{none-of}
-use Rattle.private_desk.proofs.InstructionLemmas.{runs, runs_as, checked, journalled, at_commit, went_on, follows_more}
-use Rattle.private_desk.proofs.ReachLemmas.{OnlyRan, CountedOn, row-at, rolled-from, parts-from, bytes-from, desk-from, follows-from, is-instruction-from, rolled-follows, counted-next, open-next, reached-open, counted-sound, shut-from, counted-parts, counted-bytes}
+use Rattle.private_desk.proofs.InstructionLemmas.{running, runs, runs_as, checked, at_commit, went_on, follows_more}
+use Rattle.private_desk.proofs.ReachLemmas.{OnlyRan, CountedOn, row-at, rolled-from, parts-from, bytes-from, desk-from, follows-from, is-instruction-from, counted-next, open-next, reached-open, counted-sound, shut-from, counted-parts, counted-bytes}
 use Rattle.private_desk.proofs.single.PrivateDesk.attempt.Goals as goal
 
 pub returns-in-Check-clause-step : goal.returns-in-Check-clause-step
@@ -72,37 +68,9 @@ returns-in-Fault c =
       parts = parts-from d mid ran c.serve.new.self served.parts;
       tally = served.tally;
       attempted = served.attempted;
-      fits = served.fits;
       bytes = bytes-from d mid ran c.serve.new.self served.bytes;
       follows = λ follows. served.follows (follows-from d mid ran (same follows) follows);
       step = λ follows word reads. is-instruction-from d mid ran word c.serve.result c.args.active c.serve.new.self c.args.tally.now c.serve.new.tally (served.step (follows-from d mid ran (same follows) follows) word reads);
-    }
-
-pub returns-in-Some : goal.returns-in-Some
-returns-in-Some c =
-    let d = c.args.self.now in
-    let mid = c.execute-went.new.self in
-    let new = c.roll_back-in-Some.new.self in
-    let ran : OnlyRan d mid = record { others = c.execute-went.ensures.others; kept = c.execute-went.ensures.kept } in
-    let back = c.roll_back-in-Some.ensures in
-    let rolled : IsRolledBack d c.args.active.number new =
-    rolled-from d mid ran c.args.active.number new
-    (record { parts = back.parts; bytes = back.bytes; active = back.active; released = back.released; resident = back.resident; frames = back.frames; owned = back.owned }) in
-    let written : c.marks.result.now.written ≡ d.storage.flat.marks.written = ap (λ (m : LineMarks). m.written) c.marks.ensures ∙ ap (λ (f : Flat). f.marks.written) ran.kept in
-    record {
-      sound = back.sound;
-      parts = rolled.parts;
-      tally = search rules;
-      attempted = tt;
-      fits = tt;
-      bytes = rolled.bytes;
-      follows = λ follows. rolled-follows d c.args.active c.args.active.number new c.requires.active rolled follows;
-      step = λ follows word reads printed.
-          let (program, on) = runs d c.args.active follows c.requires.active in
-          let (goes, counted) = counted-next d c.args.active program on c.requires.sound mid c.execute-went.result c.in_default.not-Check c.in_default-went.not-Fault
-          (c.execute-went.ensures.row c.args.active program c.requires.active on.named) in
-          journalled word d c.args.active program on c.args.tally.now c.marks.result.now.written (written ∙ counted) c.in-Some.most new goes
-          (c.in-Some.ensures.limit ∙ ap (λ (desk : Desk). limit_passed (room desk) c.marks.result.now.written) (desk-from d mid ran)) rolled;
     }
 
 pub returns-in-Commit : goal.returns-in-Commit
@@ -111,9 +79,6 @@ returns-in-Commit c =
     let mid = c.execute-went.new.self in
     let others = c.execute-went.ensures.others in
     let ran : OnlyRan d mid = record { others = others; kept = c.execute-went.ensures.kept } in
-    let none = none-of c.limit_passed.result c.in_default-limit_passed.not-Some in
-    let within = subst (λ (limit : Option ℕ). IfNone limit ((mid.used + (132 * c.marks.result.now.written + 12) ≤ mid.header.bank_bytes) × (c.marks.result.now.written ≤ 992))) none c.limit_passed.ensures.none in
-    let written : c.marks.result.now.written ≡ mid.storage.flat.marks.written = ap (λ (m : LineMarks). m.written) c.marks.ensures in
     let same : Follows d → live_of mid ≡ live_of d =
     λ follows.
     let (program, on) = runs d c.args.active follows c.requires.active in
@@ -122,19 +87,17 @@ returns-in-Commit c =
       sound = c.execute-went.ensures.sound;
       parts = parts-from d mid ran mid (record { header = refl; programs = refl; opened = refl; begins = refl; turns = refl; next = refl });
       tally = search rules;
-      attempted = (ap (λ (e : PrivateDesk). e.active) others ∙ c.requires.active, omega (arith, within.0, written));
-      fits = tt;
-      bytes = bytes-from d mid ran mid (record { committed = refl; used = refl; number = refl; order = refl; closed = refl });
+      attempted = ap (λ (e : PrivateDesk). e.active) others ∙ c.requires.active;
+      bytes = bytes-from d mid ran mid (record { committed = refl; store = refl; order = refl; closed = refl });
       follows = λ follows. follows-from d mid ran (same follows) follows;
       step = λ follows word reads program named.
           let on = runs_as d c.args.active program follows c.requires.active (ap (λ (e : PrivateDesk). slice_get e.programs.items c.args.active.program) (sym others) ∙ named) in
           let (goes, counted) = counted-next d c.args.active program on c.requires.sound mid c.execute-went.result c.in_default.not-Check c.in_default-went.not-Fault
           (c.execute-went.ensures.row c.args.active program c.requires.active on.named) in
           let (is, kept) = subst (λ (result : Attempt). IsExecuted program result d mid) c.in-Commit.is (c.execute-went.ensures.row c.args.active program c.requires.active on.named) in
-          at_commit word d c.args.active program on c.args.tally.now c.marks.result.now.written
-          (written ∙ ap (λ (f : Flat). f.marks.written) ran.kept ∙ counted)
+          at_commit word d c.args.active program on c.args.tally.now d.storage.flat.marks.written counted
           (row-at d program Commit c.requires.sound is)
-          (sym none ∙ c.limit_passed.ensures.limit ∙ ap (λ (desk : Desk). limit_passed (room desk) c.marks.result.now.written) (desk-from d mid ran))
+          (running d c.args.active c.requires.sound c.requires.active).few_lines
           ∙ ap (λ (live : Plain). commits word (commit_call c.args.active program live) (desk_of d) (counts_of c.args.tally.now)) (sym kept)
           ∙ ap (λ (desk : Desk). commits word (commit_call c.args.active program (live_of mid)) desk (counts_of c.args.tally.now)) (sym (desk-from d mid ran));
     }
@@ -157,13 +120,12 @@ returns c =
     let ran : OnlyRan d mid = record { others = others; kept = c.execute-went.ensures.kept } in
     let on-mid : mid.active ≡ Some c.args.active = ap (λ (e : PrivateDesk). e.active) others ∙ c.requires.active in
     let counted-on : CountedOn d mid new c.args.active = record { others = others; counted = c.count_row.ensures.desk } in
-    let none = none-of c.limit_passed.result c.in_default-limit_passed.not-Some in
     let goes : (program : Program) → Runs d c.args.active program → GoesOpen program d.storage.flat (live_of d) (live_of mid) mid.cpu =
     λ program on.
     took-effect c.execute-went.result program d mid c.in_default.not-Check c.in_default-went.not-Fault c.in_default-went-2.not-Commit
     (c.execute-went.ensures.row c.args.active program c.requires.active on.named) in
     let reached : (follows : Follows d) (program : Program) (on : Runs d c.args.active program)
-    → HasReached d c.args.active (touched_within program c.args.active.args (store_of d) c.args.active.rows) (touched program d.header.directory (live_of d)) (live_of mid) new c.args.tally.now c.count_row.new.tally =
+    → HasReached d c.args.active (touched_within program c.args.active.args (store_of d) c.args.active.rows) (touched program d.store.header.directory (live_of d)) (live_of mid) new c.args.tally.now c.count_row.new.tally =
     λ follows program on.
     reached-open d c.args.active program on c.requires.sound follows mid new c.args.tally.now c.count_row.new.tally counted-on ran.kept
     (open-next d c.args.active program on c.requires.sound mid (goes program on)) c.count_row.ensures.tally in
@@ -176,9 +138,6 @@ returns c =
         locks = omega (arith, ap (λ (t : Tally). t.locks) c.count_row.ensures.tally);
       };
       attempted = ap (λ (e : PrivateDesk). e.active) c.count_row.ensures.desk;
-      fits =
-          let written : c.marks.result.now.written ≡ mid.storage.flat.marks.written = ap (λ (m : LineMarks). m.written) c.marks.ensures in
-          subst FitsRecord (sym c.count_row.ensures.desk) (ap (limit_passed (room (desk_of mid))) (sym written) ∙ sym c.limit_passed.ensures.limit ∙ none);
       bytes = counted-bytes d mid new c.args.active counted-on;
       follows = λ follows.
           let (program, on) = runs d c.args.active follows c.requires.active in
@@ -188,9 +147,8 @@ returns c =
           let (program, on) = runs d c.args.active follows c.requires.active in
           let (on-row, counted) = counted-next d c.args.active program on c.requires.sound mid c.execute-went.result c.in_default.not-Check c.in_default-went.not-Fault
           (c.execute-went.ensures.row c.args.active program c.requires.active on.named) in
-          went_on word d c.args.active program on c.args.tally.now c.marks.result.now.written
-          (ap (λ (m : LineMarks). m.written) c.marks.ensures ∙ ap (λ (f : Flat). f.marks.written) ran.kept ∙ counted)
+          went_on word d c.args.active program on c.args.tally.now d.storage.flat.marks.written counted
           (live_of mid) new c.count_row.new.tally (reached follows program on) reads
           (row-at d program (On (live_of mid)) c.requires.sound (goes program on).goes)
-          (sym none ∙ c.limit_passed.ensures.limit ∙ ap (λ (desk : Desk). limit_passed (room desk) c.marks.result.now.written) (desk-from d mid ran));
+          (running d c.args.active c.requires.sound c.requires.active).few_lines;
     }

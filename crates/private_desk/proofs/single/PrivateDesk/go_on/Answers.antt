@@ -6,7 +6,8 @@ use Rattle.private_desk.specs.Follows.{Follows}
 use Rattle.private_desk.specs.PrivateDesk.{desk_of}
 use Rattle.private_desk.specs.declared.single.Active.{Active}
 use Rattle.private_desk.specs.declared.single.PrivateDesk.{PrivateDesk}
-use Rattle.private_desk.proofs.StrideLemmas.{some-of, shut-counted}
+use Rattle.private_desk.proofs.ExecuteLemmas.{some-active}
+use Rattle.private_desk.proofs.StrideLemmas.{shut-counted}
 use Rattle.private_desk.proofs.single.PrivateDesk.go_on.Goals as goal
 use Rattle.private_desk.proofs.single.PrivateDesk.go_on.Goals.{After-count_rows}
 
@@ -22,7 +23,7 @@ stridden c active is follows =
 
 pub returns-clause-follows : goal.returns-clause-follows
 returns-clause-follows c = λ follows.
-    let (active, is) = some-of c.args.self.now.active c.requires.active in
+    let (active, is) = some-active c.args.self.now.active c.requires.active in
     subst Follows (sym (is-counted c active is)) (stridden c active is follows).follows
 
 pub returns-clause-step : goal.returns-clause-step
@@ -32,6 +33,6 @@ returns-clause-step c = λ follows active is word rest reads.
 
 pub returns-clause-shut : goal.returns-clause-shut
 returns-clause-shut c =
-    let (active, is) = some-of c.args.self.now.active c.requires.active in
+    let (active, is) = some-active c.args.self.now.active c.requires.active in
     shut-counted c.stride-ran.new.self c.count_rows.new.self active c.stride-ran.result.0 (ap (λ (e : PrivateDesk). e.active) c.stride-ran.ensures.others ∙ is)
     (is-counted c active is) c.stride-ran.result.1 c.stride-ran.ensures.shut

@@ -1,6 +1,6 @@
 use Rattle.std.specs.Prelude.{IfNone}
 use Rattle.private_desk.specs.declared.single.PrivateDesk.{PrivateDesk}
-use Rattle.std.proofs.Common.{◌≡◌, ℕ, ◌+◌, ◌*◌, ◌<◌, ◌≤◌, sym, ◌∙◌, ap, subst, arith, Option}
+use Rattle.std.proofs.Common.{◌≡◌, ℕ, ◌<◌, ◌≤◌, sym, ◌∙◌, ap, subst, arith, Option}
 use Rattle.lock_rules.specs.Lines.{Lines, both}
 use Rattle.flat_machine.specs.declared.machine.Program.{Program}
 use Rattle.flat_machine.specs.Row.{On, row}
@@ -14,6 +14,7 @@ use Rattle.private_desk.specs.declared.single.Active.{Active}
 use Rattle.private_desk.proofs.AloneLemmas.{GoesOn}
 use Rattle.flat_storage.proofs.AnswerLemmas.{none-of}
 use Rattle.private_desk.proofs.InstructionLemmas.{runs, set_up, program_of, journalled, went_on, follows_more}
+use Rattle.store_format.specs.Header.{most_lines}
 use Rattle.private_desk.proofs.ReachLemmas.{HasServed, row-at, touch-is, shown-by, written-with, reached-served, goes-again, went-again, any-attempt, any-number, served-sound, counted-sound}
 use Rattle.private_desk.proofs.single.PrivateDesk.serve.Goals as goal
 
@@ -27,11 +28,11 @@ returns-in-Some-clause-step c = λ follows word reads printed.
     let shut = c.requires.shut program on.named in
     let lines = touch_lines c.touch-touch.result in
     let are = touch-is d program c.args.access lines sound shut (c.touch-touch.ensures.lines program ((set_up d active sound c.requires.active).windows program on.named)) in
-    let counted = written-with set lines (touched program d.header.directory (live_of d)) c.written_with-lines.result are
+    let counted = written-with set lines (touched program d.store.header.directory (live_of d)) c.written_with-lines.result are
     (c.written_with-lines.ensures.value set (shown-by d c.marks.result.now set c.marks.ensures on.marked)) in
     let back = c.roll_back.ensures in
     journalled word d active program on c.args.tally.now c.written_with-lines.result counted c.in-Some.most c.roll_back.new.self
-    (subst GoesOn (sym (row-at d program (On shut.next) sound shut.goes)) tt) c.in-Some.ensures.limit
+    (subst GoesOn (sym (row-at d program (On shut.next) sound shut.goes)) tt) c.in-Some.ensures.limit.0 c.in-Some.ensures.limit.1
     (record { parts = back.parts; bytes = back.bytes; active = back.active; released = back.released; resident = back.resident; frames = back.frames; owned = back.owned })
 
 pub unreachable-requires : goal.unreachable-requires
@@ -69,7 +70,7 @@ has-served c program follows on =
 
 -- they are those of the row
 lines-are : (c : goal.After-count_row) (program : Program) → Runs c.args.self.now c.args.active program
-    → touch_lines c.touch-touch.result ≡ touched program c.args.self.now.header.directory (live_of c.args.self.now)
+    → touch_lines c.touch-touch.result ≡ touched program c.args.self.now.store.header.directory (live_of c.args.self.now)
 lines-are c program on =
     let d = c.args.self.now in
     touch-is d program c.args.access (touch_lines c.touch-touch.result) c.requires.sound (c.requires.shut program on.named)
@@ -78,7 +79,7 @@ lines-are c program on =
 -- so the row is reached
 reached : (c : goal.After-count_row) (program : Program) → Follows c.args.self.now → Runs c.args.self.now c.args.active program
     → HasReached c.args.self.now c.args.active (touched_within program c.args.active.args (store_of c.args.self.now) c.args.active.rows)
-    (touched program c.args.self.now.header.directory (live_of c.args.self.now)) (live_of c.execute.new.self) c.count_row.new.self c.args.tally.now c.count_row.new.tally
+    (touched program c.args.self.now.store.header.directory (live_of c.args.self.now)) (live_of c.execute.new.self) c.count_row.new.self c.args.tally.now c.count_row.new.tally
 reached c program follows on =
     let d = c.args.self.now in
     let set = touched_within program c.args.active.args (store_of d) c.args.active.rows in
@@ -88,7 +89,7 @@ reached c program follows on =
     (record { others = c.execute.ensures.others; counted = c.count_row.ensures.desk }) c.execute.ensures.kept c.count_row.ensures.tally
 
 goes : (c : goal.After-count_row) (program : Program) → Runs c.args.self.now c.args.active program
-    → row program c.args.self.now.header.directory (live_of c.args.self.now) ≡ On (live_of c.execute.new.self)
+    → row program c.args.self.now.store.header.directory (live_of c.args.self.now) ≡ On (live_of c.execute.new.self)
 goes c program on =
     let d = c.args.self.now in
     row-at d program (On (live_of c.execute.new.self)) c.requires.sound
@@ -108,19 +109,19 @@ returns-clause-step c = λ follows word reads.
     let active = c.args.active in
     let (program, on) = runs d active follows c.requires.active in
     let set = touched_within program active.args (store_of d) active.rows in
-    let counted = written-with set (touch_lines c.touch-touch.result) (touched program d.header.directory (live_of d)) c.written_with-lines.result (lines-are c program on)
+    let counted = written-with set (touch_lines c.touch-touch.result) (touched program d.store.header.directory (live_of d)) c.written_with-lines.result (lines-are c program on)
     (c.written_with-lines.ensures.value set (shown-by d c.marks.result.now set c.marks.ensures on.marked)) in
     went_on word d active program on c.args.tally.now c.written_with-lines.result counted (live_of c.execute.new.self) c.count_row.new.self c.count_row.new.tally
-    (reached c program follows on) reads (goes c program on) (sym (none-of c.limit_passed.result c.in_default.not-Some) ∙ c.limit_passed.ensures.limit)
+    (reached c program follows on) reads (goes c program on) (subst (λ (limit : Option ℕ). IfNone limit (c.written_with-lines.result ≤ most_lines d.store.header)) (none-of c.limit_passed.result c.in_default.not-Some) c.limit_passed.ensures.none)
 
 pub execute-requires-clause-sound : goal.execute-requires-clause-sound
 execute-requires-clause-sound c =
     let d = c.args.self.now in
     let set = set_up d c.args.active c.requires.sound c.requires.active in
     let none = none-of c.limit_passed.result c.in_default.not-Some in
-    let within = subst (λ (limit : Option ℕ). IfNone limit ((d.used + (132 * c.written_with-lines.result + 12) ≤ d.header.bank_bytes) × (c.written_with-lines.result ≤ 992))) none c.limit_passed.ensures.none in
+    let within = subst (λ (limit : Option ℕ). IfNone limit (c.written_with-lines.result ≤ most_lines d.store.header)) none c.limit_passed.ensures.none in
     served-sound d c.args.active c.requires.sound c.requires.active c.serve-served.new.self (both set.locked (touch_lines c.touch-touch.result)) c.serve-served.ensures.kept
-    (omega (arith, c.serve-served.ensures.written, within.1)) (c.serve-served.ensures.marked set.locked set.shown)
+    (omega (arith, c.serve-served.ensures.written, within)) (c.serve-served.ensures.marked set.locked set.shown)
 
 pub returns-clause-sound : goal.returns-clause-sound
 returns-clause-sound c =

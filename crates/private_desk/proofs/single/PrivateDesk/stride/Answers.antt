@@ -6,7 +6,7 @@ use Rattle.private_desk.specs.Executed.{IsExecuted}
 use Rattle.private_desk.specs.declared.single.PrivateDesk.{PrivateDesk}
 use Rattle.private_desk.proofs.InstructionLemmas.{runs}
 use Rattle.private_desk.proofs.ReachLemmas.{OnlyRan, shut-from}
-use Rattle.private_desk.proofs.StrideLemmas.{none-stridden, more-stridden, same-stridden, ran-after, fits-ran, went-goes, ended-same}
+use Rattle.private_desk.proofs.StrideLemmas.{none-stridden, more-stridden, same-stridden, ran-after, went-goes, ended-same}
 use Rattle.private_desk.proofs.single.PrivateDesk.stride.Goals as goal
 
 pub loop-ran-init : goal.loop-ran-init
@@ -14,7 +14,6 @@ loop-ran-init c = record {
   sound = c.requires.sound;
   ran = record { others = refl; kept = refl };
   few = omega arith;
-  fits = c.requires.fits;
   stridden = λ active is follows few. none-stridden c.args.self.now active is follows;
 }
 
@@ -28,11 +27,10 @@ loop-ran-preserved c =
       sound = c.execute.ensures.sound;
       ran = ran-after c.args.self.now at mid held.ran ran;
       few = omega (arith, c.loop-ran-test.true);
-      fits = fits-ran at mid ran held.fits;
       stridden = λ active is follows few.
           let on : at.active ≡ Some active = ap (λ (e : PrivateDesk). e.active) held.ran.others ∙ is in
           let rows : active.rows + c.loop-ran.ran < at.turns * 1000000 = omega (arith, few, c.loop-ran-test.true, ap (λ (e : PrivateDesk). e.turns) held.ran.others) in
-          more-stridden c.args.self.now at mid active c.loop-ran.ran ran (held.stridden active is follows few) held.sound on rows held.fits
+          more-stridden c.args.self.now at mid active c.loop-ran.ran ran (held.stridden active is follows few) held.sound on rows
           (λ program named. went-goes program c.execute.result at mid c.in-Went.is (c.execute.ensures.row active program on named));
     }
 
