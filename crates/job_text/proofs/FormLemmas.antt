@@ -16,7 +16,6 @@ use Rattle.asm_parse.specs.Token.{tokens}
 use Rattle.romp_asm.specs.Layout.{Parts, assembled}
 use Rattle.job_text.specs.declared.stage.Stage.{Stage}
 use Rattle.job_text.specs.declared.stage.Stage.TheVariants.{Frames, Programs, Source, Schedule, Ended}
-use Rattle.job_text.specs.declared.stage.TheConstants.{TAKES_CHECKPOINT, TAKES_CRASH}
 use Rattle.job_text.specs.Grammar.{Content, job_of, last_part, read_from, then_read, whole}
 use Rattle.job_text.specs.Reading.{Reading, nothing_read, frames_line, program_begins, programs_line, is_end, program_ends, source_goes_on, source_line, with_event, values_of, four_of, begin_of, begin_line, is_limit, turn_line, rounds_of, drain_line, single_line, schedule_line, ended_line, by_tokens, line_read}
 use Rattle.job_text.specs.Form.{IsBlank, AreBlank, IsOnly, HaveNoEnd, IsFramesLine, HasPrograms, IsLimit, IsEventLine, HasEvents, IsJobText}
@@ -196,19 +195,18 @@ module _ (number : ℕ) (line : List ℕ) (lines : List (List ℕ)) (content : C
 
   single_step : (word : List ℕ) → found ≡ Word word ∷ [] → BackHere (single_line reading word)
   single_step word says =
-      by_tests (bytes_eq word (codes "end")) (bytes_eq word (codes "checkpoint") && TAKES_CHECKPOINT) (bytes_eq word (codes "crash") && TAKES_CRASH) refl
-      (λ is. and_parts (bytes_eq word (codes "checkpoint")) TAKES_CHECKPOINT is) (λ is. and_parts (bytes_eq word (codes "crash")) TAKES_CRASH is)
+      by_tests (bytes_eq word (codes "end")) (bytes_eq word (codes "checkpoint")) (bytes_eq word (codes "crash")) refl refl refl
     where
       this : (wanted : List ℕ) → bytes_eq word wanted ≡ true → found ≡ Word wanted ∷ []
       this wanted right = says ∙ ap (λ these. Word these ∷ []) (same_word word wanted right)
 
-      by_tests : (ends saves stops : Bool) → bytes_eq word (codes "end") ≡ ends → (saves ≡ true → (bytes_eq word (codes "checkpoint") ≡ true) × (TAKES_CHECKPOINT ≡ true)) → (stops ≡ true → (bytes_eq word (codes "crash") ≡ true) × (TAKES_CRASH ≡ true)) → BackHere (single_by ends saves stops)
-      by_tests true saves stops ending taken_save taken_stop = ends_here (this (codes "end") ending)
-      by_tests false true stops ending taken_save taken_stop =
-          event_step reading.begins Checkpoint (inr (inr (inr (inr (inl ((taken_save refl).1, this (codes "checkpoint") (taken_save refl).0, refl)))), refl))
-      by_tests false false true ending taken_save taken_stop =
-          event_step reading.begins Crash (inr (inr (inr (inr (inr ((taken_stop refl).1, this (codes "crash") (taken_stop refl).0, refl)))), refl))
-      by_tests false false false ending taken_save taken_stop = tt
+      by_tests : (ends saves stops : Bool) → bytes_eq word (codes "end") ≡ ends → bytes_eq word (codes "checkpoint") ≡ saves → bytes_eq word (codes "crash") ≡ stops → BackHere (single_by ends saves stops)
+      by_tests true saves stops ending saving stopping = ends_here (this (codes "end") ending)
+      by_tests false true stops ending saving stopping =
+          event_step reading.begins Checkpoint (inr (inr (inr (inr (inl (this (codes "checkpoint") saving, refl)))), refl))
+      by_tests false false true ending saving stopping =
+          event_step reading.begins Crash (inr (inr (inr (inr (inr (this (codes "crash") stopping, refl)))), refl))
+      by_tests false false false ending saving stopping = tt
 
   blank_step : found ≡ [] → BackHere (Ok reading)
   blank_step says left =

@@ -2,7 +2,7 @@
 use Rattle.std.proofs.Common.{◌≡◌, inl, inr, ℕ, ◌+◌, ◌*◌, ◌≤◌, Bool, true, false, List, [], ◌∷◌, ◌++◌, length, map, codes, Option, Some, None, Result, Ok, Err, refl, sym, ap, ◌∙◌, subst, arith, append_assoc, append-nil, length-append}
 use Rattle.std.proofs.lemmas.Bool.{le-leb, lt-ltb}
 use Rattle.desk.specs.declared.event.Event.{Event}
-use Rattle.desk.specs.declared.event.Event.TheVariants.{Begin, Turn}
+use Rattle.desk.specs.declared.event.Event.TheVariants.{Begin, Turn, Checkpoint, Crash}
 use Rattle.asm_parse.specs.declared.token.Token.{Token}
 use Rattle.asm_parse.specs.declared.token.Token.TheVariants.{Word, Number}
 use Rattle.asm_parse.specs.declared.statement.Statement.{Statement}
@@ -123,8 +123,12 @@ module _ (frames : ℕ) (names : List (List ℕ)) (programs : List Parts) where
       (rw (le-leb 1 is.rounds is.some.0, le-leb is.rounds 10000 is.some.1, limit_back is.limit is.small, le-leb (length events + is.rounds * begins) 10000 few) refl)
 
   single_read : (begins : ℕ) (events : List Event) (found : List Token) (here : List Event) → IsSingle found here → length events + length here ≤ 10000 → Reads begins events found begins here
-  single_read begins events found here (inl is) room = absurd (cc is.0)
-  single_read begins events found here (inr is) room = absurd (cc is.0)
+  single_read begins events found here (inl is) room =
+      let few : length events + 1 ≤ 10000 = omega (arith, room, ap length is.1) in
+      rw (is.0, is.1) (event_read begins events Checkpoint few)
+  single_read begins events found here (inr is) room =
+      let few : length events + 1 ≤ 10000 = omega (arith, room, ap length is.1) in
+      rw (is.0, is.1) (event_read begins events Crash few)
 
   other_read : (begins : ℕ) (events : List Event) (found : List Token) (here : List Event) → IsNoBegin begins found here → length events + length here ≤ 10000 → Reads begins events found begins here
   other_read begins events found here (inl is) room = rw (is.0, is.1) (ap (λ all. Ok (so_far begins all)) (sym (append-nil events)))

@@ -155,8 +155,8 @@ module _ (names : List (List ℕ)) where
       other_four (inl is) = subst AllFour (sym is.1) tt
       other_four (inr (inl is)) = subst AllFour (sym is.gives) (tt, tt)
       other_four (inr (inr (inl is))) = subst AllFour (sym is.gives) (rounds_four is.limit begins is.rounds)
-      other_four (inr (inr (inr (inl is)))) = subst AllFour (sym is.2) (tt, tt)
-      other_four (inr (inr (inr (inr is)))) = subst AllFour (sym is.2) (tt, tt)
+      other_four (inr (inr (inr (inl is)))) = subst AllFour (sym is.1) (tt, tt)
+      other_four (inr (inr (inr (inr is)))) = subst AllFour (sym is.1) (tt, tt)
 
   events_four : (begins : ℕ) (lines : List (List ℕ)) (events : List Event) → HasEvents names begins lines events → AllFour events
   events_four begins [] events has = subst AllFour (sym has) tt

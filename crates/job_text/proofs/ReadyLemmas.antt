@@ -6,7 +6,6 @@ use Rattle.std.proofs.lemmas.List.Quantifiers.{position-Some}
 use Rattle.desk.specs.declared.event.Event.{Event}
 use Rattle.desk.specs.declared.event.Event.TheVariants.{Begin, Turn, Checkpoint, Crash}
 use Rattle.asm_parse.specs.declared.token.Token.{Token}
-use Rattle.job_text.specs.declared.stage.TheConstants.{TAKES_CHECKPOINT, TAKES_CRASH}
 use Rattle.job_text.specs.Ready.{IsEventAmong}
 use Rattle.job_text.specs.Form.{IsBegin, IsNoBegin, IsEventLine, HasEvents}
 use Rattle.job_text.specs.Reading.{rounds_of, turns_to, four_of}
@@ -25,13 +24,6 @@ unfolding rounds_of
 rounds_among programs limit last zero small = All-nil (IsEventAmong programs)
 rounds_among programs limit last (suc n) small = All-append (IsEventAmong programs) (rounds_of limit last n) (turns_to limit last) (rounds_among programs limit last n small) (turns_among programs limit last small)
 
--- `checkpoint` and `crash`, if such lines are taken
-checkpoint_among : (programs : ℕ) → TAKES_CHECKPOINT ≡ true → IsEventAmong programs Checkpoint
-checkpoint_among programs taken = cc taken
-
-crash_among : (programs : ℕ) → TAKES_CRASH ≡ true → IsEventAmong programs Crash
-crash_among programs taken = cc taken
-
 -- the events of a schedule's lines
 module _ (names : List (List ℕ)) where
   abbrev AreAmong : List Event → Type 0
@@ -45,8 +37,8 @@ module _ (names : List (List ℕ)) where
   other_among begins found here (inl is) = subst AreAmong (sym is.1) (All-nil (IsEventAmong (length names)))
   other_among begins found here (inr (inl is)) = subst AreAmong (sym is.gives) (one_event (length names) (Turn is.activation is.limit) is.small.1)
   other_among begins found here (inr (inr (inl is))) = subst AreAmong (sym is.gives) (rounds_among (length names) is.limit begins is.rounds is.small.1)
-  other_among begins found here (inr (inr (inr (inl is)))) = subst AreAmong (sym is.2) (one_event (length names) Checkpoint (checkpoint_among (length names) is.0))
-  other_among begins found here (inr (inr (inr (inr is)))) = subst AreAmong (sym is.2) (one_event (length names) Crash (crash_among (length names) is.0))
+  other_among begins found here (inr (inr (inr (inl is)))) = subst AreAmong (sym is.1) (one_event (length names) Checkpoint tt)
+  other_among begins found here (inr (inr (inr (inr is)))) = subst AreAmong (sym is.1) (one_event (length names) Crash tt)
 
   line_among : (begins after : ℕ) (found : List Token) (here : List Event) → IsEventLine names begins after found here → AreAmong here
   line_among begins after found here (inl is) = begin_among found here is.0

@@ -6,7 +6,7 @@ use Rattle.std.proofs.lemmas.List.{map-append}
 use Rattle.std.proofs.lemmas.List.Quantifiers.{position-Some}
 use Rattle.std.proofs.lemmas.Slice.Eq.{bytes_eq-Decides}
 use Rattle.desk.specs.declared.event.Event.{Event}
-use Rattle.desk.specs.declared.event.Event.TheVariants.{Begin, Turn}
+use Rattle.desk.specs.declared.event.Event.TheVariants.{Begin, Turn, Checkpoint, Crash}
 use Rattle.asm_parse.specs.declared.token.Token.{Token}
 use Rattle.asm_parse.specs.declared.token.Token.TheVariants.{Word, Number}
 use Rattle.asm_parse.specs.Operand.{place_among}
@@ -132,8 +132,12 @@ module _ (names : List (List ℕ)) where
       subst (λ (events : List Event). AreWritten begins (events ++ later)) (sym is.gives) (turn_written begins is.activation is.limit later few is.known is.small others)
   other_written begins found here later few (inr (inr (inl is))) others =
       subst (λ (events : List Event). AreWritten begins (events ++ later)) (sym is.gives) (rounds_written begins is.limit is.rounds later few is.small others)
-  other_written begins found here later few (inr (inr (inr (inl is)))) others = absurd (cc is.0)
-  other_written begins found here later few (inr (inr (inr (inr is)))) others = absurd (cc is.0)
+  other_written begins found here later few (inr (inr (inr (inl is)))) others =
+      subst (λ (events : List Event). AreWritten begins (events ++ later)) (sym is.1)
+      (one_written begins begins Checkpoint later ((refl, refl, omega arith), tt) (inr (inr (inr (inr (inl (refl, refl)))), refl)) others)
+  other_written begins found here later few (inr (inr (inr (inr is)))) others =
+      subst (λ (events : List Event). AreWritten begins (events ++ later)) (sym is.1)
+      (one_written begins begins Crash later ((refl, refl, omega arith), tt) (inr (inr (inr (inr (inr (refl, refl)))), refl)) others)
 
   line_written : (begins after : ℕ) (found : List Token) (here later : List Event) → begins < 2 ^ 32 → AllByRecursion IsToken found → IsEventLine names begins after found here → AreWritten after later → AreWritten begins (here ++ later)
   line_written begins after found here later few are (inl is) others = begin_written begins found here later are is.0 (subst (λ n. AreWritten n later) is.1 others)

@@ -11,7 +11,6 @@ use Rattle.asm_parse.specs.Statement.{is_label}
 use Rattle.asm_parse.specs.Text.{lines_of, statements_from}
 use Rattle.asm_parse.specs.Token.{tokens}
 use Rattle.romp_asm.specs.Layout.{Parts, assembled}
-use Rattle.job_text.specs.declared.stage.TheConstants.{TAKES_CHECKPOINT, TAKES_CRASH}
 use Rattle.job_text.specs.Grammar.{Content, job_of}
 use Rattle.job_text.specs.Reading.{four_of, rounds_of}
 
@@ -93,11 +92,11 @@ pub record IsDrain (begins : ℕ) (found : List Token) (events : List Event) : T
   pub small : IsLimit limit
   pub gives : events ≡ rounds_of limit begins rounds
 
--- `checkpoint` or `crash`, if such lines are taken
+-- `checkpoint` or `crash`
 abbrev pub IsSingle : List Token → List Event → Type 0
 IsSingle found events =
-    ((TAKES_CHECKPOINT ≡ true) × (found ≡ Word (codes "checkpoint") ∷ []) × (events ≡ Checkpoint ∷ []))
-    ⊎ ((TAKES_CRASH ≡ true) × (found ≡ Word (codes "crash") ∷ []) × (events ≡ Crash ∷ []))
+    ((found ≡ Word (codes "checkpoint") ∷ []) × (events ≡ Checkpoint ∷ []))
+    ⊎ ((found ≡ Word (codes "crash") ∷ []) × (events ≡ Crash ∷ []))
 
 -- a line of the schedule that is no begin: blank, a turn, a drain or a single word
 abbrev pub IsNoBegin : (begins : ℕ) → List Token → List Event → Type 0

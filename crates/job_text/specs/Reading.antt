@@ -13,7 +13,6 @@ use Rattle.asm_parse.specs.Token.{tokens}
 use Rattle.romp_asm.specs.Layout.{Parts, assembled}
 use Rattle.job_text.specs.declared.stage.Stage.{Stage}
 use Rattle.job_text.specs.declared.stage.Stage.TheVariants.{Frames, Programs, Source, Schedule, Ended}
-use Rattle.job_text.specs.declared.stage.TheConstants.{TAKES_CHECKPOINT, TAKES_CRASH}
 
 -- what has been read: which lines are due, the frames, the names and programs so far, the statements of the program that is being read, the events so far and how many of them are begins
 pub record Reading : Type 0 where
@@ -132,12 +131,12 @@ drain_line reading rounds limit =
     then Ok (record reading { events = reading.events ++ rounds_of limit reading.begins rounds })
     else Err 11
 
--- `end`, `checkpoint` or `crash`, if such lines are taken
+-- `end`, `checkpoint` or `crash`
 abbrev pub single_line : Reading → List ℕ → Result Reading ℕ
 single_line reading word =
     if bytes_eq word (codes "end") then Ok (record reading { stage = Ended })
-    else if bytes_eq word (codes "checkpoint") && TAKES_CHECKPOINT then with_event reading Checkpoint
-    else if bytes_eq word (codes "crash") && TAKES_CRASH then with_event reading Crash
+    else if bytes_eq word (codes "checkpoint") then with_event reading Checkpoint
+    else if bytes_eq word (codes "crash") then with_event reading Crash
     else Err 10
 
 -- an event, or the `end` of the schedule

@@ -8,12 +8,12 @@ use Rattle.desk.specs.declared.event.Event.{Event}
 use Rattle.desk.specs.declared.event.Event.TheVariants.{Begin, Turn, Checkpoint, Crash}
 use Rattle.job_text.specs.declared.job.Job.{Job}
 
--- a begin is of one of so many programs, and a turn has a limit of at most 1,000,000; other events aren't read yet
+-- a begin is of one of so many programs, and a turn has a limit of at most 1,000,000
 abbrev pub IsEventAmong : ℕ → Event → Type 0
 IsEventAmong programs (Begin program args) = program < programs
 IsEventAmong programs (Turn activation limit) = limit ≤ 1000000
-IsEventAmong programs Checkpoint = ⊥
-IsEventAmong programs Crash = ⊥
+IsEventAmong programs Checkpoint = Unit {0}
+IsEventAmong programs Crash = Unit {0}
 
 -- a name: a letter or `_`, and behind it letters, digits and `_`; at most 31 bytes in all
 abbrev pub IsName : List ℕ → Type 0

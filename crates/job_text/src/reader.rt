@@ -5,7 +5,7 @@ ghost use Rattle.asm_parse.specs.Operand.{place_among};
 ghost use Rattle.job_text.specs.Reading.{bad_token, four_of, is_end, is_limit, rounds_of, turns_to, values_of};
 
 use super::job::{JobFault, Name};
-use super::stage::{Stage, TAKES_CHECKPOINT, TAKES_CRASH};
+use super::stage::Stage;
 use asm_parse::{LineFault, Statements, Token, Word, statement_of, tokens_into};
 use desk::Event;
 use flat_machine::Program;
@@ -222,10 +222,10 @@ impl Reader {
             self.stage = Stage::Ended;
             return Ok(());
         }
-        if word == "checkpoint" && TAKES_CHECKPOINT {
+        if word == "checkpoint" {
             return self.add(Event::Checkpoint);
         }
-        if word == "crash" && TAKES_CRASH {
+        if word == "crash" {
             return self.add(Event::Crash);
         }
         Err(LineFault::Kind(FORM))

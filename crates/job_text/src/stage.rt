@@ -12,9 +12,3 @@ pub(crate) enum Stage {
     /// Nothing more.
     Ended,
 }
-
-/// Whether the line `checkpoint` is an event yet.
-pub(crate) const TAKES_CHECKPOINT: bool = false;
-
-/// Whether the line `crash` is an event yet.
-pub(crate) const TAKES_CRASH: bool = false;
