@@ -1,21 +1,30 @@
 -- Events, one after another.
-use Rattle.std.proofs.Common.{◌≡◌, ℕ, zero, suc, ◌+◌, ◌<◌, List, [], ◌∷◌, ◌++◌, length, get_or, take, drop, cond, sym, ◌∙◌, ap, subst, arith, rules}
-use Rattle.std.specs.Prelude.{Result, Ok, Err, IsErr, All}
+use Rattle.std.proofs.Common.{◌≡◌, ℕ, zero, suc, ◌+◌, ◌<◌, ◌≤◌, List, [], ◌∷◌, ◌++◌, length, get_or, take, drop, cond, refl, sym, ◌∙◌, ap, subst, arith, rules, IsSome}
+use Rattle.std.specs.Prelude.{false, Option, Result, Ok, Err, IsErr, All}
+use Rattle.std.specs.Option.{ForSome}
 use Rattle.std.proofs.lemmas.List.{take_more, take-append-drop}
 use Rattle.std.proofs.lemmas.List.Sums.{sum_by-append}
 use Rattle.outside.specs.declared.failed.Failed.{Failed}
 use Rattle.outside.specs.declared.world.Outside.{Ghosts}
 use Rattle.outside.specs.Causes.{HasCause}
 use Rattle.outside.proofs.Counts.{cause_since}
-use Rattle.flat_machine.specs.declared.machine.Program.{Program}
 use Rattle.outside.specs.Runs.{FewerLater}
 use Rattle.outside.proofs.Runs.{elapses-trans}
+use Rattle.flat_machine.specs.declared.machine.Program.{Program}
+use Rattle.store_format.specs.Header.{Header, total}
+use Rattle.store_format.specs.Bank.{Faulty, bank_of}
+use Rattle.store_format.specs.Stands.{chosen}
+use Rattle.std.specs.Prelude.{unwrap_or}
 use Rattle.desk.specs.declared.event.Event.{Event}
 use Rattle.desk.specs.declared.supervisor.Supervisor as desk
-use Rattle.job_text.specs.Ready.{IsEventAmong}
-use Rattle.schedule_replay.specs.Asked.{is_begin, is_turn, begins_in, turns_in}
-use Rattle.schedule_replay.specs.Answered.{IsReady, Answered}
-use Rattle.schedule_replay.proofs.PutsLemmas.{done}
+use Rattle.desk.specs.Kept.{HoldsStore}
+use Rattle.desk.specs.Lines.{Line}
+use Rattle.schedule_replay.specs.declared.events.Going.{Going}
+use Rattle.schedule_replay.specs.declared.events.Going.TheVariants as going
+use Rattle.schedule_replay.specs.Asked.{IsAsked, is_begin, is_turn, begins_in, turns_in}
+use Rattle.schedule_replay.specs.Answered.{IsReady, Answered, GoesBy}
+use Rattle.schedule_replay.specs.Puts.{Puts}
+use Rattle.schedule_replay.proofs.PutsLemmas.{done, no_time}
 
 begins_split : (xs ys : List Event) → begins_in (xs ++ ys) ≡ begins_in xs + begins_in ys
 begins_split xs ys = sum_by-append (λ event. cond (is_begin event) 1 0) xs ys
@@ -39,14 +48,52 @@ module _ {D W : Type 0} (S : desk.Ghosts D) (G : Ghosts W) (fewer_later : FewerL
     sound = two.sound;
     programs = two.programs ∙ one.programs;
     opened = two.opened ∙ one.opened;
+    header = two.header ∙ one.header;
     begins = two.begins ∙ one.begins;
-    store_bytes = two.store_bytes ∙ one.store_bytes;
-    next = omega (arith, one.next, two.next, begins_split xs ys);
+    given = omega (arith, one.given, two.given, begins_split xs ys);
     turns = omega (arith, one.turns, two.turns, turns_split xs ys);
     bytes = two.bytes;
+    honest = two.honest ∙ one.honest;
+    told = λ some. two.told (one.told some);
     time = elapses-trans G fewer_later before between after one.time two.time;
     disk = omega (arith, one.disk, two.disk);
     cause = cause_since (G.put_faults before) (G.put_faults between) (G.put_faults after) value result one.cause two.cause;
+  }
+
+  -- nothing was answered yet
+  pub answered_none : (desk : D) (w : W) → S.sound desk → HoldsStore G (S.header desk) w → Answered S G [] desk desk w w done
+  answered_none desk w sound bytes = record {
+    sound = sound;
+    programs = refl;
+    opened = refl;
+    header = refl;
+    begins = refl;
+    given = omega arith;
+    turns = omega arith;
+    bytes = bytes;
+    honest = refl;
+    told = λ some. some;
+    time = no_time G w;
+    disk = omega arith;
+    cause = record { later = omega arith; failed = tt; done = refl };
+  }
+
+  -- lines were put
+  pub answered_puts : {T : Type 0} (lines : List Line) (desk : D) (before after : W) (result : Result T Failed) → S.sound desk → HoldsStore G (S.header desk) before → Puts G lines before after result → Answered S G [] desk desk before after result
+  answered_puts lines desk before after result sound bytes puts = record {
+    sound = sound;
+    programs = refl;
+    opened = refl;
+    header = refl;
+    begins = refl;
+    given = omega arith;
+    turns = omega arith;
+    bytes = subst (λ (held : Option (List ℕ)). ForSome held (λ bytes. total (S.header desk) ≤ length bytes)) (sym puts.only.held) bytes;
+    honest = puts.only.honest;
+    told = λ some. subst (λ (held : Option (List ℕ)). IsSome held) (sym puts.only.held) some;
+    time = puts.only.time;
+    disk = omega (arith, puts.only.disk);
+    cause = puts.only.cause;
   }
 
   module _ (events : List Event) (i : ℕ) (event : Event) (lt : i < length events) (old mid : D) (before between : W) where
@@ -57,8 +104,8 @@ module _ {D W : Type 0} (S : desk.Ghosts D) (G : Ghosts W) (fewer_later : FewerL
         let turns : turns_in events ≡ turns_in (take i events) + turns_in (get_or events i event ∷ []) + turns_in (drop (i + 1) events) = ap turns_in (sym (parted events i event lt)) ∙ turns_split (take i events ++ get_or events i event ∷ []) (drop (i + 1) events) ∙ ap (λ n. n + turns_in (drop (i + 1) events)) (turns_split (take i events) (get_or events i event ∷ [])) in
         record {
           sound = so_far.sound;
-          asked = all_one (λ each. IsEventAmong (length (S.programs mid)) each) (get_or events i event) (subst (λ (programs : List Program). IsEventAmong (length programs) (get_or events i event)) (sym so_far.programs) (ready.asked i event lt));
-          begins = omega (arith, so_far.next, so_far.begins, ready.begins, begins);
+          asked = all_one (λ each. IsAsked (length (S.programs mid)) each) (get_or events i event) (subst (λ (programs : List Program). IsAsked (length programs) (get_or events i event)) (sym so_far.programs) (ready.asked i event lt));
+          begins = omega (arith, so_far.given, so_far.begins, ready.begins, begins);
           turns = omega (arith, so_far.turns, ready.turns, turns);
           bytes = so_far.bytes;
         }
@@ -74,11 +121,13 @@ module _ {D W : Type 0} (S : desk.Ghosts D) (G : Ghosts W) (fewer_later : FewerL
     sound = is.sound;
     programs = is.programs;
     opened = is.opened;
+    header = is.header;
     begins = is.begins;
-    store_bytes = is.store_bytes;
-    next = is.next;
+    given = is.given;
     turns = is.turns;
     bytes = is.bytes;
+    honest = is.honest;
+    told = is.told;
     time = is.time;
     disk = is.disk;
     cause = record { later = is.cause.later; failed = tt; done = is.cause.done };
@@ -94,12 +143,29 @@ module _ {D W : Type 0} (S : desk.Ghosts D) (G : Ghosts W) (fewer_later : FewerL
     sound = is.sound;
     programs = is.programs;
     opened = is.opened;
+    header = is.header;
     begins = is.begins;
-    store_bytes = is.store_bytes;
-    next = is.next;
+    given = is.given;
     turns = is.turns;
     bytes = is.bytes;
+    honest = is.honest;
+    told = is.told;
     time = is.time;
     disk = is.disk;
     cause = broken_cause (G.put_faults before) (G.put_faults after) result other one two is.cause;
   }
+
+-- it goes on so from an earlier moment, and a supervisor that was open before
+pub goes_since : {D W : Type 0} (S : desk.Ghosts D) (G : Ghosts W) (going : Going) (old mid new : D) (before between after : W) → S.header mid ≡ S.header old → (S.closed old ≡ false → S.closed mid ≡ false) → G.disk_faults before ≤ G.disk_faults between → GoesBy S G mid new between after going → GoesBy S G old new before after going
+goes_since S G going.On old mid new before between after header still disk goes = λ was_open. goes (still was_open)
+goes_since S G going.Closed old mid new before between after header still disk goes = (goes.0, λ was_open. let rose = goes.1 (still was_open) in omega (arith, rose, disk))
+goes_since S G (going.Damaged offset) old mid new before between after header still disk goes = (goes.0, λ told. ap (λ (these : Header). bank_of (unwrap_or (G.held after) []) these (chosen (unwrap_or (G.held after) []))) (sym header) ∙ goes.1 told)
+
+-- and with puts behind it
+pub goes_until : {D W : Type 0} (S : desk.Ghosts D) (G : Ghosts W) (going : Going) (old new : D) (before middle after : W) → G.disk_faults after ≡ G.disk_faults middle → G.held after ≡ G.held middle → GoesBy S G old new before middle going → GoesBy S G old new before after going
+goes_until S G going.On old new before middle after disk held goes = goes
+goes_until S G going.Closed old new before middle after disk held goes = (goes.0, λ was_open. let rose = goes.1 was_open in omega (arith, rose, disk))
+goes_until S G (going.Damaged offset) old new before middle after disk held goes = (
+  goes.0,
+  subst (λ (those : Option (List ℕ)). IsSome those → bank_of (unwrap_or those []) (S.header old) (chosen (unwrap_or those [])) ≡ Faulty offset) (sym held) goes.1,
+)

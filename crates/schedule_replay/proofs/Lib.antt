@@ -1,7 +1,7 @@
 pub mod PutsLemmas
+pub mod WriteLemmas
+pub mod WentLemmas
+pub mod EventLemmas
 pub mod AnsweredLemmas
-pub mod TurnLemmas
-pub mod StepLemmas
-pub mod RunLemmas
 pub mod RanLemmas
 pub mod ReportLemmas

@@ -1,35 +1,196 @@
--- Puts, one after another.
-use Rattle.std.proofs.Common.{◌≡◌, ℕ, List, [], ◌∷◌, ◌++◌, map, take, sym, ◌∙◌, ap, subst, append_assoc, append-nil}
-use Rattle.std.specs.Prelude.{Option, None, Some, Result, Ok, Err}
-use Rattle.std.proofs.lemmas.List.{map-append}
+-- Puts of lines, one after another.
+use Rattle.std.proofs.Common.{◌≡◌, ⊎_elim, ℕ, ◌+◌, ◌<◌, List, [], ◌∷◌, ◌++◌, length, map, get_or, take, drop, min, refl, sym, ◌∙◌, ap, subst, append_assoc, append-nil, arith, rules, inl, IsSome}
+use Rattle.std.specs.Prelude.{Option, None, Some, Result, Ok, Err, IsErr, unwrap_or}
+use Rattle.std.proofs.Math.Seq.{take-append-add}
+use Rattle.std.proofs.lemmas.List.{map-append, take_more, take-append-drop, take_min, take-append-le}
 use Rattle.std.proofs.lemmas.Grind.{flat_map-append}
-use Rattle.outside.specs.declared.failed.Failed.{Failed}
-use Rattle.outside.specs.Bytes.{Prints}
-use Rattle.outside.proofs.Prints.{prints_same}
 use Rattle.std.specs.List.{flat_map}
+use Rattle.outside.specs.declared.failed.Failed.{Failed}
+use Rattle.outside.specs.declared.world.Outside.{Ghosts}
+use Rattle.outside.specs.Bytes.{Prints, AreTold}
+use Rattle.outside.specs.Moments.{Elapses, Shows}
+use Rattle.outside.specs.Runs.{OnlyPuts, FewerLater}
+use Rattle.outside.proofs.Prints.{prints_on, prints_stop, prints_same, prints_well, only_on}
+use Rattle.outside.proofs.Runs.{leaves_on}
+use Rattle.outside.proofs.Durable.{told_is}
 use Rattle.desk.specs.declared.answers.Cycle.{Cycle}
-use Rattle.desk.specs.Lines.{Line, line_text, Left}
+use Rattle.desk.specs.Lines.{Line, line_text, Left, Lost}
 use Rattle.desk.specs.Report.{cycle_lines}
-use Rattle.schedule_replay.specs.Puts.{BeginsWith}
+use Rattle.schedule_replay.specs.Puts.{Puts, shown_of, BeginsWith}
 
 -- a put that went well
 abbrev pub done : Result ℕ Failed
 done = Ok 0
 
--- one line
-pub prints_one : {T : Type 0} (old new : Option (List ℕ)) (line : Line) (result : Result T Failed) → Prints old new (line_text line) result → Prints old new (flat_map line_text (line ∷ [])) result
-prints_one old new line result prints = prints_same old new (line_text line) (flat_map line_text (line ∷ [])) result (sym (append-nil (line_text line))) prints
+-- the bytes of lines
+abbrev pub text_of : List Line → List ℕ
+text_of lines = flat_map line_text lines
 
--- the lines of two lists
-pub left_split : (xs ys : List ℕ) → flat_map line_text (map Left (xs ++ ys)) ≡ flat_map line_text (map Left xs) ++ flat_map line_text (map Left ys)
-left_split xs ys = ap (flat_map line_text) (map-append Left xs ys) ∙ flat_map-append line_text (map Left xs) (map Left ys)
+-- a crash leaves the bytes printed
+abbrev pub PrintedNow : {W : Type 0} → Ghosts W → Type 0
+PrintedNow {W} G = (w : W) (image seen : List ℕ) → G.left_since w (G.moment w) image seen → AreTold (G.printed w) seen
 
-pub cycles_split : (xs ys : List Cycle) → flat_map line_text (flat_map cycle_lines (map (λ each. each.members.items) (xs ++ ys))) ≡ flat_map line_text (flat_map cycle_lines (map (λ each. each.members.items) xs)) ++ flat_map line_text (flat_map cycle_lines (map (λ each. each.members.items) ys))
+cut_more : (count : ℕ) (one two : List ℕ) → take (min count (length one)) (one ++ two) ≡ take count one
+cut_more count one two = take-append-le (min count (length one)) one two (omega arith) ∙ take_min count one
+
+-- what is printed after lines were put
+pub shown_after : (old new : Option (List ℕ)) (bytes : List ℕ) {T : Type 0} (value : T) → IsSome old → Prints old new bytes (Ok value) → (IsSome new) × (unwrap_or new [] ≡ unwrap_or old [] ++ bytes)
+shown_after None new bytes value told prints = cc
+shown_after (Some old) new bytes value told prints = (subst (λ (those : Option (List ℕ)). IsSome those) (sym prints) refl, ap (λ (those : Option (List ℕ)). unwrap_or those []) prints)
+
+module _ {W : Type 0} (G : Ghosts W) where
+  -- the same lines
+  pub puts_same : {T : Type 0} (old new : W) (first second : List Line) (result : Result T Failed) → first ≡ second → Puts G first old new result → Puts G second old new result
+  puts_same old new first second result same puts = subst (λ (lines : List Line). Puts G lines old new result) same puts
+
+  -- puts that failed, of lines and more
+  pub puts_stop : {T U : Type 0} (old new : W) (first second : List Line) (result : Result T Failed) (later : Result U Failed) → IsErr result → IsErr later → Puts G first old new result → Puts G (first ++ second) old new later
+  puts_stop old new first second (Ok value) later one two puts = absurd (search (rules, one))
+  puts_stop old new first second (Err why) (Ok value) one two puts = absurd (search (rules, two))
+  puts_stop {T} {U} old new first second (Err why) (Err failed) one two puts = record {
+    only = record {
+      held = puts.only.held;
+      writes = puts.only.writes;
+      honest = puts.only.honest;
+      time = puts.only.time;
+      cause = record { later = puts.only.cause.later; failed = puts.only.cause.failed; done = tt };
+      calls = puts.only.calls;
+      disk = puts.only.disk;
+    };
+    printed = prints_same {T = U} (G.printed old) (G.printed new) (text_of first ++ text_of second) (text_of (first ++ second)) (Err failed) (sym (flat_map-append line_text first second))
+        (prints_stop (G.printed old) (G.printed new) (text_of first) (text_of second) (Err why) (Err failed) one two puts.printed);
+    images = puts.images;
+    crash = λ told image seen left.
+        let from = puts.crash told image seen left in
+        (from.0, (min from.1.0 (length (text_of first)), from.1.1 ∙ ap (λ (bytes : List ℕ). shown_of G old ++ bytes) (sym (cut_more from.1.0 (text_of first) (text_of second)) ∙ ap (λ (bytes : List ℕ). take (min from.1.0 (length (text_of first))) bytes) (sym (flat_map-append line_text first second)))));
+  }
+
+  pub puts_broken : {T U : Type 0} (old new : W) (lines : List Line) (result : Result T Failed) (later : Result U Failed) → IsErr result → IsErr later → Puts G lines old new result → Puts G lines old new later
+  puts_broken old new lines result later one two puts = puts_same old new (lines ++ []) lines later (append-nil lines) (puts_stop old new lines [] result later one two puts)
+
+  -- another value
+  pub puts_well : {T U : Type 0} (old new : W) (lines : List Line) (first : T) (second : U) → Puts G lines old new (Ok first) → Puts G lines old new (Ok second)
+  puts_well old new lines first second puts = record {
+    only = record {
+      held = puts.only.held;
+      writes = puts.only.writes;
+      honest = puts.only.honest;
+      time = puts.only.time;
+      cause = record { later = puts.only.cause.later; failed = tt; done = puts.only.cause.done };
+      calls = puts.only.calls;
+      disk = puts.only.disk;
+    };
+    printed = prints_well (G.printed old) (G.printed new) (text_of lines) first second puts.printed;
+    images = puts.images;
+    crash = puts.crash;
+  }
+
+  -- no time goes by
+  pub no_time : (w : W) → Elapses G.moment G.left_since w w
+  no_time w = record {
+    later = record { calls = omega arith; puts = omega arith };
+    nothing_else = λ t image seen before left. inl left;
+    keeps = λ t image seen before left. left;
+  }
+
+  printed_none : {T : Type 0} (told : Option (List ℕ)) (value : T) → Prints told told [] (Ok value)
+  printed_none None value = refl
+  printed_none (Some bytes) value = ap (λ (these : List ℕ). Some these) (sym (append-nil bytes))
+
+  module _ (printed_now : PrintedNow G) where
+    -- nothing is put
+    pub puts_none : {T : Type 0} (w : W) (value : T) → Puts G [] w w (Ok value)
+    puts_none w value = record {
+      only = record {
+        held = refl;
+        writes = refl;
+        honest = refl;
+        time = no_time w;
+        cause = record { later = omega arith; failed = tt; done = refl };
+        calls = refl;
+        disk = refl;
+      };
+      printed = printed_none (G.printed w) value;
+      images = λ image seen left. (seen, left);
+      crash = λ told image seen left.
+          let is : seen ≡ shown_of G w = told_is (G.printed w) seen told (printed_now w image seen left) in
+          (subst (λ (these : List ℕ). G.left_since w (G.moment w) image these) is left, (0, is ∙ sym (append-nil (shown_of G w))));
+    }
+
+    -- one line
+    pub puts_one : {T : Type 0} (line : Line) (old new : W) (result : Result T Failed) → OnlyPuts G old new result → Prints (G.printed old) (G.printed new) (line_text line) result → Shows (line_text line) G.moment G.left_since old new → Puts G (line ∷ []) old new result
+    puts_one line old new result only printed shows = record {
+      only = only;
+      printed = prints_same (G.printed old) (G.printed new) (line_text line) (text_of (line ∷ [])) result (sym (append-nil (line_text line))) printed;
+      images = λ image seen left. let from = shows image seen left in (from.0, from.1);
+      crash = λ told image seen left.
+          let from = shows image seen left in
+          let is : from.0 ≡ shown_of G old = told_is (G.printed old) from.0 told (printed_now old image from.0 from.1) in (
+            subst (λ (these : List ℕ). G.left_since old (G.moment old) image these) is from.1,
+            (from.2.0, from.2.1 ∙ ap (λ (these : List ℕ). these ++ take from.2.0 (line_text line)) is ∙ ap (λ (bytes : List ℕ). shown_of G old ++ take from.2.0 bytes) (sym (append-nil (line_text line)))),
+          );
+    }
+
+    module _ (fewer_later : FewerLater G) where
+      -- lines, and then lines
+      pub puts_on : {T U : Type 0} (old mid new : W) (first second : List Line) (value : T) (result : Result U Failed) → Puts G first old mid (Ok value) → Puts G second mid new result → Puts G (first ++ second) old new result
+      puts_on old mid new first second value result one two =
+          let whole : text_of (first ++ second) ≡ text_of first ++ text_of second = flat_map-append line_text first second in
+          record {
+            only = only_on G fewer_later old mid new value result one.only two.only;
+            printed = prints_same (G.printed old) (G.printed new) (text_of first ++ text_of second) (text_of (first ++ second)) result (sym whole)
+                (prints_on (G.printed old) (G.printed mid) (G.printed new) (text_of first) (text_of second) value result one.printed two.printed);
+            images = λ image seen left.
+                ⊎_elim (one.images image seen)
+                (λ since.
+                let from = two.images image seen since in
+                one.images image from.0 (fewer_later mid (G.moment old) (G.moment mid) image from.0 one.only.time.later from.1))
+                (two.only.time.nothing_else (G.moment old) image seen one.only.time.later left);
+            crash = λ told.
+                let after = shown_after (G.printed old) (G.printed mid) (text_of first) value told one.printed in
+                leaves_on G fewer_later old mid new one.only.time two.only.time
+                (λ (image seen : List ℕ). G.left_since old (G.moment old) image (shown_of G old) × ((count : ℕ) × (seen ≡ shown_of G old ++ take count (text_of (first ++ second)))))
+                (λ image seen left.
+                let from = one.crash told image seen left in
+                (from.0, (min from.1.0 (length (text_of first)), from.1.1 ∙ ap (λ (bytes : List ℕ). shown_of G old ++ bytes) (sym (cut_more from.1.0 (text_of first) (text_of second)) ∙ ap (λ (bytes : List ℕ). take (min from.1.0 (length (text_of first))) bytes) (sym whole)))))
+                (λ image seen left.
+                let from = two.crash after.0 image seen left in
+                let start = one.crash told image (shown_of G mid) (fewer_later mid (G.moment old) (G.moment mid) image (shown_of G mid) one.only.time.later from.0) in (
+                  start.0,
+                  (
+                    length (text_of first) + from.1.0,
+                    from.1.1 ∙ ap (λ (these : List ℕ). these ++ take from.1.0 (text_of second)) after.1 ∙ append_assoc (shown_of G old) (text_of first) (take from.1.0 (text_of second))
+                        ∙ ap (λ (bytes : List ℕ). shown_of G old ++ bytes) (sym (take-append-add (text_of first) (text_of second) from.1.0) ∙ ap (λ (bytes : List ℕ). take (length (text_of first) + from.1.0) bytes) (sym whole)),
+                  ),
+                ));
+          }
+
+      -- what is put for a list, one element after another
+      module _ {X : Type 0} (F : List X → List Line) (split : (xs ys : List X) → F (xs ++ ys) ≡ F xs ++ F ys) (xs : List X) (i : ℕ) (x : X) (lt : i < length xs) where
+        pub puts_more : {T U : Type 0} (old mid new : W) (first : T) (result : Result U Failed) → Puts G (F (take i xs)) old mid (Ok first) → Puts G (F (get_or xs i x ∷ [])) mid new result → Puts G (F (take (i + 1) xs)) old new result
+        puts_more old mid new first result one two =
+            puts_same old new (F (take i xs) ++ F (get_or xs i x ∷ [])) (F (take (i + 1) xs)) result (sym (ap F (take_more xs i x lt) ∙ split (take i xs) (get_or xs i x ∷ [])))
+            (puts_on old mid new (F (take i xs)) (F (get_or xs i x ∷ [])) first result one two)
+
+        pub puts_no_more : {T U V : Type 0} (old mid new : W) (first : T) (result : Result U Failed) (later : Result V Failed) → IsErr result → IsErr later → Puts G (F (take i xs)) old mid (Ok first) → Puts G (F (get_or xs i x ∷ [])) mid new result → Puts G (F xs) old new later
+        puts_no_more old mid new first result later is so one two =
+            puts_same old new (F (take (i + 1) xs) ++ F (drop (i + 1) xs)) (F xs) later (sym (split (take (i + 1) xs) (drop (i + 1) xs)) ∙ ap F (take-append-drop (i + 1) xs))
+            (puts_stop old new (F (take (i + 1) xs)) (F (drop (i + 1) xs)) result later is so (puts_more old mid new first result one two))
+
+pub left_split : (xs ys : List ℕ) → map Left (xs ++ ys) ≡ map Left xs ++ map Left ys
+left_split xs ys = map-append Left xs ys
+
+pub lost_split : (xs ys : List ℕ) → map Lost (xs ++ ys) ≡ map Lost xs ++ map Lost ys
+lost_split xs ys = map-append Lost xs ys
+
+-- the lines of cycles
+abbrev pub cycles_of : List Cycle → List Line
+cycles_of cycles = flat_map cycle_lines (map (λ each. each.members.items) cycles)
+
+pub cycles_split : (xs ys : List Cycle) → cycles_of (xs ++ ys) ≡ cycles_of xs ++ cycles_of ys
 cycles_split xs ys =
     let items : Cycle → List ℕ = λ each. each.members.items in
-    ap (λ (lists : List (List ℕ)). flat_map line_text (flat_map cycle_lines lists)) (map-append items xs ys)
-    ∙ ap (flat_map line_text) (flat_map-append cycle_lines (map items xs) (map items ys))
-    ∙ flat_map-append line_text (flat_map cycle_lines (map items xs)) (flat_map cycle_lines (map items ys))
+    ap (flat_map cycle_lines) (map-append items xs ys) ∙ flat_map-append cycle_lines (map items xs) (map items ys)
 
 -- bytes that were put begin with none
 pub begins_none : {T : Type 0} (old new : Option (List ℕ)) (bytes : List ℕ) (result : Result T Failed) → Prints old new bytes result → BeginsWith old new []

@@ -1,48 +1,40 @@
 -- The runs of a supervisor, one event after another.
-use Rattle.std.proofs.Common.{◌≡◌, ℕ, ◌≤◌, List, [], ◌∷◌, ◌++◌, map, refl, sym, ap, ◌∙◌, subst, arith, ⊎_elim, append-nil, append_assoc, inl, inr, IsTrue, IsSome, ◌⊎◌}
-use Rattle.std.specs.Prelude.{false, not, Option, unwrap_or, Result, Ok}
+use Rattle.std.proofs.Common.{◌≡◌, ℕ, ◌+◌, ◌*◌, ◌<◌, ◌≤◌, List, [], ◌∷◌, ◌++◌, length, map, get_or, take, refl, sym, ap, ◌∙◌, subst, arith, length-append, append-nil, append_assoc, inl, inr}
+use Rattle.std.specs.Prelude.{false, Option, None, Some, unwrap_or, Result, Ok}
 use Rattle.std.specs.List.{flat_map}
-use Rattle.std.proofs.lemmas.List.{map-append}
+use Rattle.std.proofs.lemmas.List.{map-append, take_more}
 use Rattle.std.proofs.lemmas.Grind.{flat_map-append}
 use Rattle.outside.specs.declared.failed.Failed.{Failed}
 use Rattle.outside.specs.declared.world.Outside.{Ghosts}
 use Rattle.outside.specs.Bytes.{Prints}
-use Rattle.outside.specs.Causes.{Rose, RoseBy}
-use Rattle.outside.specs.Runs.{CallsDisk, held_of}
+use Rattle.outside.specs.Moments.{Elapses}
+use Rattle.outside.specs.Durable.{IsSure}
+use Rattle.outside.specs.Runs.{FewerLater, Leaves, held_of}
+use Rattle.outside.proofs.Durable.{told_is, leaves_held}
+use Rattle.store_format.specs.Stands.{stands}
+use Rattle.desk.specs.Crash.{standing_of}
+use Rattle.outside.proofs.Runs.{elapses-trans, leaves_on}
+use Rattle.outside.proofs.Prints.{prints_same, prints_on}
 use Rattle.flat_machine.specs.declared.machine.Program.{Program}
 use Rattle.desk.specs.declared.event.Event.{Event}
-use Rattle.desk.specs.declared.event.Event.TheVariants as event
-use Rattle.desk.specs.declared.answers.Begun.{Begun}
-use Rattle.desk.specs.declared.answers.Turn.{Turn}
 use Rattle.desk.specs.declared.supervisor.Supervisor as desk
 use Rattle.desk.specs.Desk.{Desk}
-use Rattle.desk.specs.Instruction.{Word, Fine, ReadFailed, Unwritten, Doubt, Failed as broken_word}
-use Rattle.desk.specs.Run.{Step, run, step, faulted, OpenBeforeEach}
-use Rattle.desk.specs.Answers.{begun_told, turn_told, HasNumbers}
+use Rattle.desk.specs.Instruction.{Word, Doubt}
+use Rattle.desk.specs.Run.{run, OpenBeforeEach}
 use Rattle.desk.specs.Lines.{Line, line_text}
-use Rattle.desk.specs.Report.{number_after, happening_lines, event_lines}
-use Rattle.schedule_replay.specs.Lines.{is_closing}
-use Rattle.outside.specs.Runs.{OnlyPuts}
-use Rattle.schedule_replay.specs.Puts.{BeginsWith, number_told}
-use Rattle.schedule_replay.specs.Ran.{Ran, PrintsEarlier}
-use Rattle.outside.proofs.Prints.{prints_same, prints_on}
-use Rattle.schedule_replay.proofs.PutsLemmas.{begins_none, begins_on, begins_behind}
-use Rattle.schedule_replay.proofs.StepLemmas.{turn_step, answer_closes, lines_numbered}
-use Rattle.schedule_replay.proofs.RunLemmas.{run_on, open_on, lines_on, faulted_on}
-
--- the lines of one event are those of what happened at it
-one_event : (names : List (List ℕ)) (programs : List Program) (number : ℕ) (event : Event) (word : Word) (desk : Desk) (after : Step) → step programs event word desk ≡ after → event_lines names programs number ((event, word) ∷ []) desk ≡ happening_lines names (number_after number after.desk) after.happening
-one_event names programs number event word desk after is =
-    let these : Step → List Line = λ step. happening_lines names (number_after number step.desk) step.happening in
-    append-nil (these (step programs event word desk)) ∙ ap these is
-
--- a word that isn't fine is counted where the disk's faults rose
-word_faults : (event : Event) (word : Word) (before after : ℕ) → before ≤ after → (word ≡ Fine) ⊎ Rose before after → RoseBy (faulted ((event, word) ∷ [])) before after
-word_faults event Fine before after le cause = omega arith
-word_faults event (ReadFailed page) before after le cause = ⊎_elim (λ (fine : ReadFailed page ≡ Fine). absurd (let no : ⊥ = cc in no)) (λ rose. omega (arith, rose)) cause
-word_faults event Unwritten before after le cause = ⊎_elim (λ (fine : Unwritten ≡ Fine). absurd (let no : ⊥ = cc in no)) (λ rose. omega (arith, rose)) cause
-word_faults event Doubt before after le cause = ⊎_elim (λ (fine : Doubt ≡ Fine). absurd (let no : ⊥ = cc in no)) (λ rose. omega (arith, rose)) cause
-word_faults event broken_word before after le cause = ⊎_elim (λ (fine : broken_word ≡ Fine). absurd (let no : ⊥ = cc in no)) (λ rose. omega (arith, rose)) cause
+use Rattle.desk.specs.Report.{event_lines}
+use Rattle.desk.specs.Seen.{commits_seen}
+use Rattle.run_law.specs.Left.{IsLeft}
+use Rattle.run_law.proofs.SeenLemmas.{ArePlain, seen_lines, seen_all, commits_in, commits_on}
+use Rattle.run_law.proofs.StepLemmas.{AreNames, Grew, run_grew, run_plain}
+use Rattle.run_law.proofs.RunLemmas.{run_on, open_on, lines_on, faulted_on}
+use Rattle.run_law.proofs.LeftLemmas.{left_none, left_more, left_behind}
+use Rattle.schedule_replay.specs.Puts.{BeginsWith, shown_of}
+use Rattle.schedule_replay.specs.Ran.{Ran, PrintsEarlier, InDoubt, text_of}
+use Rattle.schedule_replay.proofs.PutsLemmas.{PrintedNow, done, no_time, shown_after, begins_none, begins_on, begins_behind}
+use Rattle.schedule_replay.proofs.WentLemmas.{last_is}
+use Rattle.schedule_replay.proofs.WriteLemmas.{writes_on, writes_same}
+use Rattle.desk.specs.Kept.{WritesMore}
 
 -- what is printed of earlier events, with more events behind
 earlier_on : {T U : Type 0} (old mid new : Option (List ℕ)) (text other : List (Event × Word) → List ℕ) (one two : List (Event × Word)) (value : T) (bytes : List ℕ) (result : Result U Failed)
@@ -59,110 +51,142 @@ earlier_on old mid new text other one two value bytes result behind first second
       subst (λ (these : List ℕ). BeginsWith old new these) (sym (behind front)) (begins_behind old mid new (text one) (other front) value first begins),
     )
 
-module _ {D W : Type 0} (S : desk.Ghosts D) (G : Ghosts W) where
-  -- puts leave the bytes that are told
-  pub kept_by_puts : (new : D) (before after : W) → G.held after ≡ G.held before → IsSome (G.held before) → S.keeps new (held_of G before) → IsSome (G.held after) × S.keeps new (held_of G after)
-  kept_by_puts new before after same told keeps = (
-    subst (λ (held : Option (List ℕ)). IsSome held) (sym same) told,
-    subst (λ (held : Option (List ℕ)). S.keeps new (unwrap_or held [])) (sym same) keeps,
-  )
+-- a list with the events of one is a list of one
+one_of : (taken : List (Event × Word)) (event : Event) → map (λ (each : Event × Word). each.0) taken ≡ event ∷ [] → (word : Word) × (taken ≡ (event, word) ∷ [])
+one_of [] event is = absurd (let no : ⊥ = cc in no)
+one_of (one ∷ []) event is = (one.1, let same : one.0 ≡ event = cc in ap (λ (that : Event). (that, one.1) ∷ []) same)
+one_of (one ∷ two ∷ taken) event is = absurd (let no : ⊥ = cc in no)
 
-  module _ (names : List (List ℕ)) where
-    pub ran_begin : {T : Type 0} (program : ℕ) (args : List ℕ) (begun : Begun) (old new : D) (before after : W) (result : Result T Failed) → (S.desk old).closed ≡ false
-        → step (S.programs old) (event.Begin program args) Fine (S.desk old) ≡ record { desk = S.desk new; happening = begun_told program begun }
-        → OnlyPuts G before after result → ((number : ℕ) → Prints (G.printed before) (G.printed after) (flat_map line_text (happening_lines names number (begun_told program begun))) result)
-        → ((held : List ℕ) → S.keeps old held → S.keeps new held) → S.answers new → Ran S G names (event.Begin program args ∷ []) old new before after result
-    ran_begin program args begun old new before after result was_open is only printed kept answers =
-        let after_it : Step = record { desk = S.desk new; happening = begun_told program begun } in
-        record {
-          taken = (event.Begin program args, Fine) ∷ [];
-          events_taken = refl;
-          each_open = (ap not was_open, tt);
-          leaves = ap (λ (these : Step). these.desk) is;
-          faults = omega (arith, only.disk);
-          printed = prints_same (G.printed before) (G.printed after) (flat_map line_text (happening_lines names (number_after (S.opened old) (S.desk new)) (begun_told program begun))) (flat_map line_text (event_lines names (S.programs old) (S.opened old) ((event.Begin program args, Fine) ∷ []) (S.desk old))) result
-              (ap (flat_map line_text) (sym (one_event names (S.programs old) (S.opened old) (event.Begin program args) Fine (S.desk old) after_it is)))
-              (printed (number_after (S.opened old) (S.desk new)));
-          earlier = inr ([], (event.Begin program args, Fine), refl, begins_none (G.printed before) (G.printed after) _ result (printed 0));
-          kept = λ told keeps still. kept_by_puts new before after only.held told (kept (held_of G before) keeps);
-          answers = answers;
-        }
+-- what a crash left of two parts, one after another
+module _ {W : Type 0} (G : Ghosts W) (fewer_later : FewerLater G) (programs : List Program) (number : ℕ) where
+  pub leaves_join : (start : Desk) (one two : List (Event × Word)) (first second : List ℕ) (before between after : W) (more : List (ℕ × ℕ)) → Elapses G.moment G.left_since before between → Elapses G.moment G.left_since between after → shown_of G between ≡ shown_of G before ++ first → OpenBeforeEach programs one start
+      → length start.order + commits_seen first ≤ length (run programs one start).order → ((rest : List ℕ) → commits_seen (first ++ rest) ≡ commits_seen first + commits_seen rest) → (run programs two (run programs one start)).order ≡ (run programs one start).order ++ more
+      → Leaves G (IsLeft programs number start one first (shown_of G before)) before between → Leaves G (IsLeft programs number (run programs one start) two second (shown_of G between)) between after → Leaves G (IsLeft programs number start (one ++ two) (first ++ second) (shown_of G before)) before after
+  leaves_join start one two first second before between after more time_one time_two shown each_open few adds grows left_one left_two =
+      leaves_on G fewer_later before between after time_one time_two (IsLeft programs number start (one ++ two) (first ++ second) (shown_of G before))
+      (λ image seen left. left_more programs number start one two first second (shown_of G before) image seen more grows (left_one image seen left))
+      (λ image seen left. left_behind programs number start one two first second (shown_of G before) image seen each_open few adds (subst (λ (printed : List ℕ). IsLeft programs number (run programs one start) two second printed image seen) shown (left_two image seen left)))
 
-    pub ran_turn : {T : Type 0} (activation limit : ℕ) (answer : Turn) (said : List ℕ) (old new : D) (before between after : W) (result : Result T Failed) → (S.desk old).closed ≡ false → said ≡ S.printed new
-        → ((word : Word) × (step (S.programs old) (event.Turn activation limit) word (S.desk old) ≡ record { desk = S.desk new; happening = turn_told activation answer (S.printed new) }) × ((word ≡ Fine) ⊎ Rose (G.disk_faults before) (G.disk_faults between)))
-        → HasNumbers answer.end activation (number_after (S.opened old) (S.desk new)) → CallsDisk G before between → OnlyPuts G between after result
-        → Prints (G.printed between) (G.printed after) (flat_map line_text (happening_lines names (number_told answer.end) (turn_told activation answer said))) result
-        → (IsSome (G.held before) → IsSome (G.held between))
-        → (IsSome (G.held before) → S.keeps old (held_of G before) → IsTrue (not (S.desk new).closed) → S.keeps new (held_of G between)) → S.answers new → Ran S G names (event.Turn activation limit ∷ []) old new before after result
-    ran_turn activation limit answer said old new before between after result was_open same stepping has calls only printed told kept answers =
-        let after_it : Step = record { desk = S.desk new; happening = turn_told activation answer (S.printed new) } in
-        let word = stepping.0 in
-        let is = stepping.1 in
-        let number = number_after (S.opened old) (S.desk new) in
-        let rose = word_faults (event.Turn activation limit) word (G.disk_faults before) (G.disk_faults between) calls.disk stepping.2 in
-        let from_before : Prints (G.printed before) (G.printed after) (flat_map line_text (happening_lines names (number_told answer.end) (turn_told activation answer said))) result = subst (λ (these : Option (List ℕ)). Prints these (G.printed after) (flat_map line_text (happening_lines names (number_told answer.end) (turn_told activation answer said))) result) calls.quiet.same printed in
-        record {
-          taken = (event.Turn activation limit, word) ∷ [];
-          events_taken = refl;
-          each_open = (ap not was_open, tt);
-          leaves = ap (λ (these : Step). these.desk) is;
-          faults = omega (arith, rose, only.disk);
-          printed = prints_same (G.printed before) (G.printed after) (flat_map line_text (happening_lines names (number_told answer.end) (turn_told activation answer said))) (flat_map line_text (event_lines names (S.programs old) (S.opened old) ((event.Turn activation limit, word) ∷ []) (S.desk old))) result
-              (ap (flat_map line_text)
-              (ap (λ (bytes : List ℕ). happening_lines names (number_told answer.end) (turn_told activation answer bytes)) same
-              ∙ lines_numbered names activation answer answer.end (S.printed new) number has
-              ∙ sym (one_event names (S.programs old) (S.opened old) (event.Turn activation limit) word (S.desk old) after_it is)))
-              from_before;
-          earlier = inr ([], (event.Turn activation limit, word), refl, begins_none (G.printed before) (G.printed after) _ result from_before);
-          kept = λ some keeps still. kept_by_puts new between after only.held (told some) (kept some keeps (ap not still));
-          answers = answers;
-        }
+-- the commits seen in lines, and in bytes behind them
+pub seen_behind : (lines : List Line) → ArePlain lines → (rest : List ℕ) → commits_seen (flat_map line_text lines ++ rest) ≡ commits_seen (flat_map line_text lines) + commits_seen rest
+seen_behind lines are rest =
+    let whole = seen_lines lines rest are in
+    let alone = seen_all lines are in
+    omega (arith, whole, alone)
 
-    -- a turn's answer says whether the desk is closed
-    pub turn_closes : (activation limit : ℕ) (answer : Turn) (old new : D) (word : Word) → (S.desk old).closed ≡ false
-        → step (S.programs old) (event.Turn activation limit) word (S.desk old) ≡ record { desk = S.desk new; happening = turn_told activation answer (S.printed new) } → (S.desk new).closed ≡ is_closing answer.end
-    turn_closes activation limit answer old new word was_open is =
-        let after_it : Step = record { desk = S.desk new; happening = turn_told activation answer (S.printed new) } in
-        let facts = turn_step (S.programs old) activation limit word (S.desk old) after_it was_open is in
-        facts.closed ∙ sym (answer_closes activation answer answer.end (S.printed new) facts.counts facts.ending facts.is)
+-- a run makes no fewer commits than its text tells
+pub seen_few : (names : List (List ℕ)) → AreNames names → (programs : List Program) (number : ℕ) (taken : List (Event × Word)) (start : Desk) → OpenBeforeEach programs taken start → length start.order + commits_seen (text_of names programs number taken start) ≤ length (run programs taken start).order
+seen_few names are programs number taken start each_open =
+    let grew : Grew programs names number taken start = run_grew programs names number taken start each_open in
+    let all = seen_all (event_lines names programs number taken start) (run_plain programs names number are taken start) in
+    let longer = ap (λ (order : List (ℕ × ℕ)). length order) grew.order_is in
+    omega (arith, grew.few, all, longer, length-append start.order grew.more)
 
-    pub ran_as : {T U : Type 0} (events : List Event) (old new : D) (before after : W) (result : Result T Failed) (other : Result U Failed) → ((one two : Option (List ℕ)) (bytes : List ℕ) → Prints one two bytes result → Prints one two bytes other) → Ran S G names events old new before after result → Ran S G names events old new before after other
-    ran_as events old new before after result other turns ran = record {
-      taken = ran.taken;
-      events_taken = ran.events_taken;
-      each_open = ran.each_open;
-      leaves = ran.leaves;
-      faults = ran.faults;
-      printed = turns (G.printed before) (G.printed after) (flat_map line_text (event_lines names (S.programs old) (S.opened old) ran.taken (S.desk old))) ran.printed;
-      earlier = ran.earlier;
-      kept = ran.kept;
-      answers = ran.answers;
-    }
+module _ {D W : Type 0} (S : desk.Ghosts D) (G : Ghosts W) (fewer_later : FewerLater G) (names : List (List ℕ)) (are : AreNames names) (programs : List Program) (number : ℕ) where
+  pub ran_as : {T U : Type 0} (events : List Event) (start : Desk) (new : D) (before after : W) (result : Result T Failed) (other : Result U Failed) → ((one two : Option (List ℕ)) (bytes : List ℕ) → Prints one two bytes result → Prints one two bytes other) → Ran S G names programs number events start new before after result → Ran S G names programs number events start new before after other
+  ran_as events start new before after result other turns ran = record {
+    taken = ran.taken;
+    events_taken = ran.events_taken;
+    each_open = ran.each_open;
+    closes = ran.closes;
+    ordered = ran.ordered;
+    still = ran.still;
+    faults = ran.faults;
+    writes = ran.writes;
+    printed = turns (G.printed before) (G.printed after) (text_of names programs number ran.taken start) ran.printed;
+    earlier = ran.earlier;
+    time = ran.time;
+    left = ran.left;
+    doubt = ran.doubt;
+  }
 
-    pub ran_on : {T U : Type 0} (xs ys : List Event) (old mid new : D) (before between after : W) (value : T) (result : Result U Failed) → S.programs mid ≡ S.programs old → S.opened mid ≡ S.opened old → (S.desk mid).closed ≡ false → Ran S G names xs old mid before between (Ok value) → Ran S G names ys mid new between after result → Ran S G names (xs ++ ys) old new before after result
-    ran_on xs ys old mid new before between after value result same_programs same_opened was_open one two =
-        let programs = S.programs old in
-        let number = S.opened old in
-        let start = S.desk old in
-        let middle = run programs one.taken start in
-        let bytes : List (Event × Word) → Desk → List ℕ = λ events desk. flat_map line_text (event_lines names programs number events desk) in
-        let later_open : OpenBeforeEach programs two.taken middle = subst (λ (desk : Desk). OpenBeforeEach programs two.taken desk) (sym one.leaves) (subst (λ (these : List Program). OpenBeforeEach these two.taken (S.desk mid)) same_programs two.each_open) in
-        let later : (front : List (Event × Word)) → flat_map line_text (event_lines names (S.programs mid) (S.opened mid) front (S.desk mid)) ≡ bytes front middle = λ front. ap (λ (these : List Program). flat_map line_text (event_lines names these (S.opened mid) front (S.desk mid))) same_programs ∙ ap (λ n. flat_map line_text (event_lines names programs n front (S.desk mid))) same_opened ∙ ap (λ (desk : Desk). bytes front desk) (sym one.leaves) in
-        let behind : (front : List (Event × Word)) → bytes one.taken start ++ flat_map line_text (event_lines names (S.programs mid) (S.opened mid) front (S.desk mid)) ≡ bytes (one.taken ++ front) start = λ front.
-        ap (λ (back : List ℕ). bytes one.taken start ++ back) (later front)
-        ∙ sym (flat_map-append line_text (event_lines names programs number one.taken start) (event_lines names programs number front middle))
-        ∙ ap (flat_map line_text) (sym (lines_on programs names number one.taken front start)) in
-        record {
-          taken = one.taken ++ two.taken;
-          events_taken = map-append (λ (each : Event × Word). each.0) one.taken two.taken ∙ ap (λ (front : List Event). front ++ map (λ (each : Event × Word). each.0) two.taken) one.events_taken ∙ ap (λ (back : List Event). xs ++ back) two.events_taken;
-          each_open = open_on programs one.taken two.taken start one.each_open later_open;
-          leaves = run_on programs one.taken two.taken start ∙ ap (λ (desk : Desk). run programs two.taken desk) one.leaves ∙ ap (λ (these : List Program). run these two.taken (S.desk mid)) (sym same_programs) ∙ two.leaves;
-          faults = omega (arith, one.faults, two.faults, faulted_on one.taken two.taken);
-          printed = prints_same (G.printed before) (G.printed after) (bytes one.taken start ++ flat_map line_text (event_lines names (S.programs mid) (S.opened mid) two.taken (S.desk mid))) (bytes (one.taken ++ two.taken) start) result
-              (behind two.taken)
-              (prints_on (G.printed before) (G.printed between) (G.printed after) (bytes one.taken start) (flat_map line_text (event_lines names (S.programs mid) (S.opened mid) two.taken (S.desk mid))) value result one.printed two.printed);
-          earlier = earlier_on (G.printed before) (G.printed between) (G.printed after) (λ front. bytes front start) (λ front. flat_map line_text (event_lines names (S.programs mid) (S.opened mid) front (S.desk mid))) one.taken two.taken value _ result
-              (λ front. sym (behind front)) one.printed two.printed one.earlier two.earlier;
-          kept = λ told keeps still. let first = one.kept told keeps was_open in two.kept first.0 first.1 still;
-          answers = two.answers;
-        }
+  pub ran_on : {T U : Type 0} (xs : List Event) (event : Event) (start : Desk) (mid new : D) (before between after : W) (value : T) (result : Result U Failed) → S.closed mid ≡ false → (one : Ran S G names programs number xs start mid before between (Ok value)) → Ran S G names programs number (event ∷ []) (run programs one.taken start) new between after result → Ran S G names programs number (xs ++ event ∷ []) start new before after result
+  ran_on {T} {U} xs event start mid new before between after value result was_open one two =
+      let middle : Desk = run programs one.taken start in
+      let bytes : List (Event × Word) → List ℕ = λ taken. text_of names programs number taken start in
+      let later : List (Event × Word) → List ℕ = λ taken. text_of names programs number taken middle in
+      let behind : (front : List (Event × Word)) → bytes one.taken ++ later front ≡ bytes (one.taken ++ front) = λ front.
+      sym (flat_map-append line_text (event_lines names programs number one.taken start) (event_lines names programs number front middle))
+      ∙ ap (flat_map line_text) (sym (lines_on programs names number one.taken front start)) in
+      let same : run programs (one.taken ++ two.taken) start ≡ run programs two.taken middle = run_on programs one.taken two.taken start in
+      let still_open : middle.closed ≡ false = sym one.closes ∙ was_open in
+      let grew : Grew programs names number two.taken middle = run_grew programs names number two.taken middle two.each_open in
+      record {
+        taken = one.taken ++ two.taken;
+        events_taken = map-append (λ (each : Event × Word). each.0) one.taken two.taken ∙ ap (λ (front : List Event). front ++ map (λ (each : Event × Word). each.0) two.taken) one.events_taken ∙ ap (λ (back : List Event). xs ++ back) two.events_taken;
+        each_open = open_on programs one.taken two.taken start one.each_open two.each_open;
+        closes = two.closes ∙ ap (λ (desk : Desk). desk.closed) (sym same);
+        ordered = two.ordered ∙ ap (λ (desk : Desk). desk.order) (sym same);
+        still = λ still.
+            let kept = two.still (ap (λ (desk : Desk). desk.closed) (sym same) ∙ still) in
+            (kept.0, subst (λ (desk : Desk). S.shows new (unwrap_or (G.held after) []) desk) (sym same) kept.1);
+        faults = omega (arith, one.faults, two.faults, faulted_on one.taken two.taken);
+        writes =
+            let split = ap commits_in (lines_on programs names number one.taken two.taken start) ∙ commits_on (event_lines names programs number one.taken start) (event_lines names programs number two.taken middle) in
+            subst (λ (n : ℕ). WritesMore (G.writes before) (G.writes after) n)
+            (let same : 2 * commits_in (event_lines names programs number one.taken start) + 2 * commits_in (event_lines names programs number two.taken middle) ≡ 2 * commits_in (event_lines names programs number (one.taken ++ two.taken) start) = omega (arith, split) in same)
+            (writes_on (G.writes before) (G.writes between) (G.writes after) _ _ one.writes two.writes);
+        printed = prints_same (G.printed before) (G.printed after) (bytes one.taken ++ later two.taken) (bytes (one.taken ++ two.taken)) result (behind two.taken)
+            (prints_on (G.printed before) (G.printed between) (G.printed after) (bytes one.taken) (later two.taken) value result one.printed two.printed);
+        earlier = earlier_on (G.printed before) (G.printed between) (G.printed after) bytes later one.taken two.taken value (later two.taken) result
+            (λ front. sym (behind front)) one.printed two.printed one.earlier two.earlier;
+        time = elapses-trans G fewer_later before between after one.time two.time;
+        left = λ told.
+            let shown = shown_after (G.printed before) (G.printed between) (bytes one.taken) value told one.printed in
+            subst (λ (text : List ℕ). Leaves G (IsLeft programs number start (one.taken ++ two.taken) text (shown_of G before)) before after) (behind two.taken)
+            (leaves_join G fewer_later programs number start one.taken two.taken (bytes one.taken) (later two.taken) before between after grew.more one.time two.time shown.1 one.each_open
+            (seen_few names are programs number one.taken start one.each_open)
+            (seen_behind (event_lines names programs number one.taken start) (run_plain programs names number are one.taken start))
+            grew.order_is (one.left told) (two.left shown.0));
+        doubt = λ shut front last is.
+            let word = one_of two.taken event two.events_taken in
+            let ends = last_is one.taken front (event, word.0) (last, Doubt) (ap (λ (back : List (Event × Word)). one.taken ++ back) (sym word.1) ∙ is) in
+            let doubted : word.0 ≡ Doubt = ap (λ (pair : Event × Word). pair.1) ends.1 in
+            let that : event ≡ last = ap (λ (pair : Event × Word). pair.0) ends.1 in
+            let here : InDoubt G programs number middle [] event after = two.doubt (ap (λ (desk : Desk). desk.closed) (sym same) ∙ shut) [] event (word.1 ∙ ap (λ (w : Word). (event, w) ∷ []) doubted) in
+            subst (λ (these : List (Event × Word)). InDoubt G programs number start these last after) ends.0 (subst (λ (e : Event). InDoubt G programs number start one.taken e after) that (here.0 ∙ ap (λ (desk : Desk). desk.order) (sym (run_on programs one.taken ((event, Doubt) ∷ []) start)), here.1));
+      }
+
+  pub ran_more : {U : Type 0} (events : List Event) (i : ℕ) (event : Event) → i < length events → (start : Desk) (mid new : D) (before between after : W) (result : Result U Failed) → S.closed mid ≡ false → (one : Ran S G names programs number (take i events) start mid before between done) → Ran S G names programs number (get_or events i event ∷ []) (run programs one.taken start) new between after result → Ran S G names programs number (take (i + 1) events) start new before after result
+  ran_more events i event lt start mid new before between after result was_open one two =
+      subst (λ (these : List Event). Ran S G names programs number these start new before after result) (sym (take_more events i event lt))
+      (ran_on (take i events) (get_or events i event) start mid new before between after 0 result was_open one two)
+
+  -- the next event is run from where the run is
+  pub ran_next : {U : Type 0} (events : List Event) (i : ℕ) (event : Event) → i < length events → (start : Desk) (mid new : D) (before between after : W) (result : Result U Failed) → S.closed mid ≡ false → S.programs mid ≡ programs → S.opened mid ≡ number → Ran S G names programs number (take i events) start mid before between done
+      → ((desk : Desk) → IsSure G between → S.shows mid (held_of G between) desk → Ran S G names (S.programs mid) (S.opened mid) (get_or events i event ∷ []) desk new between after result) → Ran S G names programs number (take (i + 1) events) start new before after result
+  ran_next events i event lt start mid new before between after result was_open same_programs same_number one next =
+      let kept = one.still (sym one.closes ∙ was_open) in
+      let two = next (run programs one.taken start) kept.0 kept.1 in
+      ran_more events i event lt start mid new before between after result was_open one
+      (subst (λ (n : ℕ). Ran S G names programs n (get_or events i event ∷ []) (run programs one.taken start) new between after result) same_number
+      (subst (λ (these : List Program). Ran S G names these (S.opened mid) (get_or events i event ∷ []) (run programs one.taken start) new between after result) same_programs two))
+
+-- no event was run
+none_last : (front : List (Event × Word)) (last : Event × Word) → [] ≡ front ++ last ∷ [] → ⊥
+none_last [] last is = cc
+none_last (first ∷ front) last is = cc
+
+printed_same : (told : Option (List ℕ)) → Prints told told [] done
+printed_same None = refl
+printed_same (Some bytes) = ap (λ (these : List ℕ). Some these) (sym (append-nil bytes))
+
+pub ran_none : {D W : Type 0} (S : desk.Ghosts D) (G : Ghosts W) (printed_now : PrintedNow G) (stands_law : (s : D) (held : List ℕ) (desk : Desk) → S.shows s held desk → stands held ≡ standing_of (S.opened s) desk) (open_law : (s : D) (held : List ℕ) (desk : Desk) → S.shows s held desk → desk.closed ≡ false) (closed_law : (s : D) (held : List ℕ) (desk : Desk) → S.shows s held desk → S.closed s ≡ false) (order_law : (s : D) (held : List ℕ) (desk : Desk) → S.shows s held desk → S.order s ≡ desk.order)
+    (names : List (List ℕ)) (programs : List Program) (start : Desk) (new : D) (w : W) → IsSure G w → S.shows new (held_of G w) start → Ran S G names programs (S.opened new) [] start new w w done
+ran_none S G printed_now stands_law open_law closed_law order_law names programs start new w sure shows = record {
+  taken = [];
+  events_taken = refl;
+  each_open = tt;
+  closes = closed_law new (held_of G w) start shows ∙ sym (open_law new (held_of G w) start shows);
+  ordered = order_law new (held_of G w) start shows;
+  still = λ still. (sure, shows);
+  faults = omega arith;
+  writes = writes_same (G.writes w);
+  printed = printed_same (G.printed w);
+  earlier = inl refl;
+  time = no_time G w;
+  left = λ told image seen left.
+      left_none programs (S.opened new) start [] (shown_of G w) image seen 0 (open_law new (held_of G w) start shows) (ap stands (leaves_held G w sure image seen left) ∙ stands_law new (held_of G w) start shows)
+      (told_is (G.printed w) seen told (printed_now w image seen left) ∙ sym (append-nil (shown_of G w))) refl;
+  doubt = λ shut front last is. absurd (none_last front (last, Doubt) is);
+}

@@ -1,46 +1,86 @@
 -- The report of a run, from its parts.
-use Rattle.std.proofs.Common.{◌≡◌, ℕ, ◌+◌, ◌<◌, ◌≤◌, List, [], ◌∷◌, ◌++◌, length, map, get_or, take, refl, sym, ap, ◌∙◌, subst, inl, inr, arith, rules}
+use Rattle.std.proofs.Common.{◌≡◌, ℕ, ◌*◌, List, [], ◌∷◌, ◌++◌, map, refl, sym, ap, ◌∙◌, subst, inl, inr, arith, rules, append-nil, IsSome}
 use Rattle.std.specs.Prelude.{Option, Bool, true, false, if◌then◌else◌, Result, Ok, Err, IsErr, IfOk}
 use Rattle.std.specs.List.{flat_map}
-use Rattle.std.proofs.lemmas.List.{take_more}
 use Rattle.outside.specs.declared.failed.Failed.{Failed}
 use Rattle.outside.specs.declared.world.Outside.{Ghosts}
 use Rattle.outside.specs.Bytes.{Prints}
+use Rattle.outside.specs.Durable.{IsSure}
+use Rattle.outside.specs.Moments.{Elapses}
+use Rattle.outside.specs.Runs.{FewerLater, Leaves, held_of}
+use Rattle.outside.proofs.Prints.{prints_same, prints_well, prints_on, prints_stop}
+use Rattle.outside.proofs.Runs.{elapses-trans}
+use Rattle.flat_machine.specs.declared.machine.Program.{Program}
+use Rattle.store_format.specs.Stands.{stands}
 use Rattle.desk.specs.declared.event.Event.{Event}
 use Rattle.desk.specs.declared.supervisor.Supervisor as desk
+use Rattle.desk.specs.Crash.{standing_of}
 use Rattle.desk.specs.Desk.{Desk}
+use Rattle.desk.specs.Kept.{WritesMore}
+use Rattle.schedule_replay.proofs.WriteLemmas.{writes_same}
 use Rattle.desk.specs.Holdings.{numbers}
-use Rattle.desk.specs.Lines.{Line, Open, Left, End, line_text}
-use Rattle.desk.specs.Report.{number_after, lines_from, report, event_lines}
-use Rattle.schedule_replay.specs.declared.events.Going.{Going}
-use Rattle.schedule_replay.specs.Lines.{closing_lines}
 use Rattle.desk.specs.Instruction.{Word}
-use Rattle.schedule_replay.specs.Puts.{BeginsWith}
-use Rattle.schedule_replay.specs.Ran.{Ran, HasOpened, PrintsEarlier}
+use Rattle.desk.specs.Lines.{Line, Open, Left, End, line_text}
+use Rattle.desk.specs.Report.{number_after, closing_lines, report, event_lines}
+use Rattle.desk.specs.Run.{run}
+use Rattle.desk.specs.Seen.{commits_seen}
+use Rattle.run_law.specs.Left.{IsLeft}
+use Rattle.run_law.proofs.SeenLemmas.{ArePlain, plain_on, commits_in, commits_on, seen_all}
+use Rattle.run_law.proofs.StepLemmas.{AreNames, Grew, run_grew, run_plain}
+use Rattle.run_law.proofs.RunLemmas.{report_parts}
+use Rattle.run_law.proofs.LeftLemmas.{left_none, left_more}
+use Rattle.schedule_replay.specs.declared.events.Going.{Going}
+use Rattle.schedule_replay.specs.declared.events.Going.TheVariants as going
+use Rattle.schedule_replay.specs.Puts.{Puts, BeginsWith, shown_of}
+use Rattle.schedule_replay.specs.Ran.{Ran, HasOpened, PrintsEarlier, text_of}
 use Rattle.schedule_replay.specs.Replays.{Reports, is_closed}
-use Rattle.outside.proofs.Prints.{prints_same, prints_on, prints_stop}
-use Rattle.schedule_replay.proofs.PutsLemmas.{done, begins_on, begins_behind}
-use Rattle.schedule_replay.proofs.RunLemmas.{report_parts}
-use Rattle.schedule_replay.proofs.RanLemmas.{ran_on, kept_by_puts}
+use Rattle.schedule_replay.proofs.PutsLemmas.{PrintedNow, shown_after, begins_none, begins_on, begins_behind}
+use Rattle.schedule_replay.proofs.WentLemmas.{sure_puts, image_is}
+use Rattle.schedule_replay.proofs.RanLemmas.{leaves_join, seen_behind, seen_few}
 
 -- nothing is said of the value of a failure
 pub if_ok_broken : {T : Type 0} (result : Result T Failed) (P : T → Type 0) → IsErr result → IfOk result P
 if_ok_broken (Ok value) P is = absurd (search (rules, is))
 if_ok_broken (Err failed) P is = tt
 
+-- what isn't to go on is closed
+pub not_on : (how : Going) → (how ≡ going.On → ⊥) → is_closed how ≡ false → ⊥
+not_on going.On not_so is = not_so refl
+not_on going.Closed not_so is = cc
+not_on (going.Damaged offset) not_so is = cc
+
+pub not_on_closed : (how : Going) → (how ≡ going.On → ⊥) → is_closed how ≡ true
+not_on_closed going.On not_so = absurd (not_so refl)
+not_on_closed going.Closed not_so = refl
+not_on_closed (going.Damaged offset) not_so = refl
+
 -- a closed desk has no lines of the end
-pub no_closing : (number : ℕ) (desk : Desk) → desk.closed ≡ true → flat_map line_text (closing_lines number desk) ≡ []
-no_closing number desk shut =
+pub no_closing : (number : ℕ) (rest : List Event) (desk : Desk) → desk.closed ≡ true → closing_lines number rest desk ≡ []
+no_closing number (event ∷ rest) desk shut = refl
+no_closing number [] desk shut =
     let lines : List Line = map Left (numbers desk) ++ End (number_after number desk) ∷ [] in
     let none : List Line = [] in
-    ap (λ (closed : Bool). flat_map line_text (if closed then none else lines)) shut
+    ap (λ (closed : Bool). if closed then none else lines) shut
 
-module _ {D W : Type 0} (S : desk.Ghosts D) (G : Ghosts W) where
-  -- the first line tells the number with which the desk was opened
-  pub opens : {T : Type 0} (old : D) (before after : W) (number : ℕ) (result : Result T Failed) → number ≡ number_after (S.opened old) (S.desk old) → HasOpened S old → Prints (G.printed before) (G.printed after) (line_text (Open number)) result → Prints (G.printed before) (G.printed after) (line_text (Open (S.opened old))) result
-  opens old before after number result is opened printed =
-      let same : number ≡ S.opened old = is ∙ opened.number in
-      subst (λ n. Prints (G.printed before) (G.printed after) (line_text (Open n)) result) same printed
+-- the lines of the end have no commit
+left_plain : (activations : List ℕ) → ArePlain (map Left activations)
+left_plain [] = tt
+left_plain (activation ∷ activations) = (tt, left_plain activations)
+
+left_quiet : (activations : List ℕ) → commits_in (map Left activations) ≡ 0
+left_quiet [] = refl
+left_quiet (activation ∷ activations) = let split = commits_on (Left activation ∷ []) (map Left activations) in let rest = left_quiet activations in omega (arith, split, rest)
+
+closing_quiet : (number : ℕ) (desk : Desk) → commits_seen (flat_map line_text (closing_lines number [] desk)) ≡ 0
+closing_quiet number desk = by_test desk.closed
+  where
+    by_test : (shut : Bool) → commits_seen (flat_map line_text (if shut then [] else map Left (numbers desk) ++ End (number_after number desk) ∷ [])) ≡ 0
+    by_test true = refl
+    by_test false =
+        let all = seen_all (map Left (numbers desk) ++ End (number_after number desk) ∷ []) (plain_on (map Left (numbers desk)) (End (number_after number desk) ∷ []) (left_plain (numbers desk)) (tt, tt)) in
+        let split = commits_on (map Left (numbers desk)) (End (number_after number desk) ∷ []) in
+        let none = left_quiet (numbers desk) in
+        omega (arith, all, split, none)
 
 -- what is printed of earlier events, behind the first line and with more behind it
 earlier_behind : {T : Type 0} (old between middle new : Option (List ℕ)) (first : List ℕ) (text : List (Event × Word) → List ℕ) (taken : List (Event × Word)) (value : T)
@@ -49,53 +89,160 @@ earlier_behind old between middle new first text taken value one (inl none) more
 earlier_behind old between middle new first text taken value one (inr (front, last, is, begins)) more =
     inr (front, last, is, begins_behind old between new first (text front) value one (begins_on between middle new (text front) begins more))
 
-module _ {D W : Type 0} (S : desk.Ghosts D) (G : Ghosts W) (names : List (List ℕ)) where
-  pub ran_more : {U : Type 0} (events : List Event) (i : ℕ) (event : Event) → i < length events → (old mid new : D) (before between after : W) (result : Result U Failed) → S.programs mid ≡ S.programs old → S.opened mid ≡ S.opened old → (S.desk mid).closed ≡ false → Ran S G names (take i events) old mid before between done → Ran S G names (get_or events i event ∷ []) mid new between after result → Ran S G names (take (i + 1) events) old new before after result
-  ran_more events i event lt old mid new before between after result same_programs same_opened was_open one two =
-      subst (λ (these : List Event). Ran S G names these old new before after result) (sym (take_more events i event lt))
-      (ran_on S G names (take i events) (get_or events i event ∷ []) old mid new before between after 0 result same_programs same_opened was_open one two)
+-- the first line alone
+open_text : (number : ℕ) → flat_map line_text (Open number ∷ []) ≡ line_text (Open number)
+open_text number = append-nil (line_text (Open number))
 
-  -- the open line failed
-  pub reports_none : {T : Type 0} (events : List Event) (old : D) (before after : W) (result : Result T Failed) (later : Result Going Failed) → IsErr result → IsErr later → Prints (G.printed before) (G.printed after) (line_text (Open (S.opened old))) result → G.held after ≡ G.held before → G.disk_faults after ≡ G.disk_faults before → S.answers old → Reports S G names events old old before after is_closed later
-  reports_none events old before after result later one two printed held disk answers = record {
-    taken = [];
-    rest = events;
-    is_run = record { prefix = refl; each_open = tt };
-    leaves = refl;
-    faults = omega (arith, disk);
-    printed = prints_stop (G.printed before) (G.printed after) (line_text (Open (S.opened old))) (flat_map line_text (lines_from names (S.programs old) (S.opened old) [] (S.desk old))) result later one two printed;
-    earlier = inl refl;
-    closed = if_ok_broken later (λ going. (S.desk old).closed ≡ is_closed going) two;
-    all = if_ok_broken later (λ going. is_closed going ≡ false → events ≡ []) two;
-    kept = λ told keeps still. kept_by_puts S G old before after held told keeps;
-    answers = answers;
-  }
+module _ {D W : Type 0} (S : desk.Ghosts D) (G : Ghosts W) (fewer_later : FewerLater G) (printed_now : PrintedNow G) (stands_law : (s : D) (held : List ℕ) (desk : Desk) → S.shows s held desk → stands held ≡ standing_of (S.opened s) desk) (open_law : (s : D) (held : List ℕ) (desk : Desk) → S.shows s held desk → desk.closed ≡ false) (order_law : (s : D) (held : List ℕ) (desk : Desk) → S.shows s held desk → S.order s ≡ desk.order) (names : List (List ℕ)) (are : AreNames names) where
+  -- the first line tells the number with which the desk was opened
+  pub opens : {T : Type 0} (old : D) (before after : W) (start : Desk) (number : ℕ) (result : Result T Failed) → number ≡ number_after (S.opened old) start → HasOpened S G old before start → Puts G (Open number ∷ []) before after result → Puts G (Open (S.opened old) ∷ []) before after result
+  opens old before after start number result is opened puts = subst (λ n. Puts G (Open n ∷ []) before after result) (is ∙ opened.number) puts
 
-  -- the open line is put, then the lines of events and those of the end
-  pub reports_of : {T U : Type 0} (events front rest : List Event) (old new : D) (before between middle after : W) (value : T) (result : Result U Failed) (later : Result Going Failed) → front ++ rest ≡ events → (ran : Ran S G names front old new between middle result) → Prints (G.printed before) (G.printed between) (line_text (Open (S.opened old))) (Ok value) → G.held between ≡ G.held before → G.disk_faults between ≡ G.disk_faults before → G.held after ≡ G.held middle → G.disk_faults after ≡ G.disk_faults middle → BeginsWith (G.printed middle) (G.printed after) []
-      → Prints (G.printed between) (G.printed after) (flat_map line_text (event_lines names (S.programs old) (S.opened old) ran.taken (S.desk old)) ++ flat_map line_text (closing_lines (S.opened old) (S.desk new))) later
-      → IfOk later (λ going. (S.desk new).closed ≡ is_closed going) → IfOk later (λ going. is_closed going ≡ false → rest ≡ []) → Reports S G names events old new before after is_closed later
-  reports_of events front rest old new before between middle after value result later whole ran open_put held disk held_later disk_later more printed closed all =
-      let programs = S.programs old in
-      let number = S.opened old in
-      let start = S.desk old in
-      let put = flat_map line_text (event_lines names programs number ran.taken start) in
-      let first = line_text (Open number) in
-      record {
-        taken = ran.taken;
-        rest = rest;
-        is_run = record { prefix = ap (λ (these : List Event). these ++ rest) ran.events_taken ∙ whole; each_open = ran.each_open };
-        leaves = ran.leaves;
-        faults = omega (arith, ran.faults, disk, disk_later);
-        printed = prints_same (G.printed before) (G.printed after) (first ++ (put ++ flat_map line_text (closing_lines number (S.desk new)))) (report names programs number ran.taken start) later
-            (ap (λ (desk : Desk). first ++ (put ++ flat_map line_text (closing_lines number desk))) (sym ran.leaves) ∙ sym (report_parts programs names number ran.taken start))
-            (prints_on (G.printed before) (G.printed between) (G.printed after) first (put ++ flat_map line_text (closing_lines number (S.desk new))) value later open_put printed);
-        earlier = earlier_behind (G.printed before) (G.printed between) (G.printed middle) (G.printed after) first (λ front. flat_map line_text (event_lines names programs number front start)) ran.taken value open_put ran.earlier more;
-        closed = closed;
-        all = all;
-        kept = λ told keeps still.
-            let opened = kept_by_puts S G old before between held told keeps in
-            let ended = ran.kept opened.0 opened.1 still in
-            kept_by_puts S G new middle after held_later ended.0 ended.1;
-        answers = ran.answers;
-      }
+  module _ (programs : List Program) (number : ℕ) where
+    -- what a crash left is left of a longer text
+    longer : (start : Desk) (taken : List (Event × Word)) (first second printed image seen : List ℕ) → IsLeft programs number start taken first printed image seen → IsLeft programs number start taken (first ++ second) printed image seen
+    longer start taken first second printed image seen left =
+        subst (λ (these : List (Event × Word)). IsLeft programs number start these (first ++ second) printed image seen) (append-nil taken)
+        (left_more programs number start taken [] first second printed image seen [] (sym (append-nil (run programs taken start).order)) left)
+
+    -- what a crash left while lines without a commit were put, from bytes that were sure and shown
+    left_puts : {T : Type 0} (lines : List Line) (desk : Desk) (new : D) (before after : W) (result : Result T Failed) → S.opened new ≡ number → commits_seen (flat_map line_text lines) ≡ 0 → IsSure G before → S.shows new (held_of G before) desk → Puts G lines before after result → IsSome (G.printed before)
+        → Leaves G (IsLeft programs number desk [] (flat_map line_text lines) (shown_of G before)) before after
+    left_puts lines desk new before after result opened none sure shows puts told image seen left =
+        let from = image_is S G fewer_later printed_now lines before after result puts sure told image seen left in
+        left_none programs number desk (flat_map line_text lines) (shown_of G before) image seen from.1.0 (open_law new (held_of G before) desk shows)
+        (ap stands from.0 ∙ stands_law new (held_of G before) desk shows ∙ ap (λ n. standing_of n desk) opened) from.1.1 none
+
+    -- what was put behind the first line
+    pub record Tail {T : Type 0} (start : Desk) (taken : List (Event × Word)) (rest : List Event) (between after : W) (later : Result T Failed) : Type 0 where
+      pub printed : Prints (G.printed between) (G.printed after) (text_of names programs number taken start ++ flat_map line_text (closing_lines number rest (run programs taken start))) later
+      pub left : IsSome (G.printed between) → Leaves G (IsLeft programs number start taken (text_of names programs number taken start ++ flat_map line_text (closing_lines number rest (run programs taken start))) (shown_of G between)) between after
+      pub time : Elapses G.moment G.left_since between after
+
+    -- a put failed among the lines of the events
+    pub tail_stop : {T U : Type 0} (front rest : List Event) (start : Desk) (new : D) (between after : W) (result : Result T Failed) (later : Result U Failed) → IsErr result → IsErr later → (ran : Ran S G names programs number front start new between after result) → Tail start ran.taken rest between after later
+    tail_stop front rest start new between after result later one two ran =
+        let put = text_of names programs number ran.taken start in
+        let ends = flat_map line_text (closing_lines number rest (run programs ran.taken start)) in
+        record {
+          printed = prints_stop (G.printed between) (G.printed after) put ends result later one two ran.printed;
+          left = λ told image seen left. longer start ran.taken put ends (shown_of G between) image seen (ran.left told image seen left);
+          time = ran.time;
+        }
+
+    -- the desk is closed
+    pub tail_shut : {T U : Type 0} (front rest : List Event) (start : Desk) (new : D) (between after : W) (value : T) (other : U) (ran : Ran S G names programs number front start new between after (Ok value)) → S.closed new ≡ true → Tail start ran.taken rest between after (Ok other)
+    tail_shut {T} {U} front rest start new between after value other ran shut =
+        let put = text_of names programs number ran.taken start in
+        let ends = flat_map line_text (closing_lines number rest (run programs ran.taken start)) in
+        let none : ends ≡ [] = ap (flat_map line_text) (no_closing number rest (run programs ran.taken start) (sym ran.closes ∙ shut)) in
+        record {
+          printed = subst (λ (bytes : List ℕ). Prints {T = U} (G.printed between) (G.printed after) bytes (Ok other)) (sym (append-nil put) ∙ ap (λ (tail : List ℕ). put ++ tail) (sym none)) (prints_well (G.printed between) (G.printed after) put value other ran.printed);
+          left = λ told image seen left. longer start ran.taken put ends (shown_of G between) image seen (ran.left told image seen left);
+          time = ran.time;
+        }
+
+    -- the lines of the end are put
+    pub tail_put : {T U : Type 0} (front rest : List Event) (start : Desk) (new : D) (between middle after : W) (value : T) (later : Result U Failed) → S.opened new ≡ number → S.closed new ≡ false → rest ≡ [] → (ran : Ran S G names programs number front start new between middle (Ok value))
+        → ((held : List ℕ) (desk : Desk) → S.shows new held desk → Puts G (closing_lines number [] desk) middle after later) → Tail start ran.taken rest between after later
+    tail_put front rest start new between middle after value later opened still none ran closing =
+        let last = run programs ran.taken start in
+        let put = text_of names programs number ran.taken start in
+        let ends : List ℕ = flat_map line_text (closing_lines number [] last) in
+        let kept = ran.still (sym ran.closes ∙ still) in
+        let puts : Puts G (closing_lines number [] last) middle after later = closing (held_of G middle) last kept.1 in
+        let all : Tail start ran.taken [] between after later = record {
+          printed = prints_on (G.printed between) (G.printed middle) (G.printed after) put ends value later ran.printed puts.printed;
+          left = λ told.
+              let shown = shown_after (G.printed between) (G.printed middle) put value told ran.printed in
+              subst (λ (these : List (Event × Word)). Leaves G (IsLeft programs number start these (put ++ ends) (shown_of G between)) between after) (append-nil ran.taken)
+              (leaves_join G fewer_later programs number start ran.taken [] put ends between middle after [] ran.time puts.only.time shown.1 ran.each_open
+              (seen_few names are programs number ran.taken start ran.each_open)
+              (seen_behind (event_lines names programs number ran.taken start) (run_plain programs names number are ran.taken start))
+              (sym (append-nil last.order)) (ran.left told)
+              (left_puts (closing_lines number [] last) last new middle after later opened (closing_quiet number last) kept.0 kept.1 puts shown.0));
+          time = elapses-trans G fewer_later between middle after ran.time puts.only.time;
+        } in
+        subst (λ (these : List Event). Tail start ran.taken these between after later) (sym none) all
+
+    module _ (old : D) (opened_at : S.opened old ≡ number) (start : Desk) (before between : W) where
+      -- the first line failed
+      pub reports_none : {T : Type 0} (events : List Event) (result : Result T Failed) (later : Result Going Failed) → IsErr result → IsErr later → S.closed old ≡ false → HasOpened S G old before start → Puts G (Open number ∷ []) before between result → Reports S G names programs number events start old before between is_closed later
+      reports_none events result later one two was_open opened puts =
+          let sure = sure_puts S G fewer_later printed_now (Open number ∷ []) before between result puts opened.sure in
+          let first : List ℕ = flat_map line_text (Open number ∷ []) in
+          let more : List ℕ = text_of names programs number [] start ++ flat_map line_text (closing_lines number events start) in
+          let whole : first ++ more ≡ report names programs number [] events start = ap (λ (front : List ℕ). front ++ more) (open_text number) ∙ sym (report_parts programs names number [] events start) in
+          record {
+            taken = [];
+            rest = events;
+            is_run = record { prefix = refl; each_open = tt };
+            closes = was_open ∙ sym (open_law old (held_of G before) start opened.shows);
+            ordered = order_law old (held_of G before) start opened.shows;
+            still = λ still. (sure.0, subst (λ (held : List ℕ). S.shows old held start) (sym sure.1) opened.shows);
+            faults = omega (arith, puts.only.disk);
+            writes = subst (λ (those : Option ℕ). WritesMore (G.writes before) those 0) (sym puts.only.writes) (writes_same (G.writes before));
+            printed = prints_same (G.printed before) (G.printed between) (first ++ more) (report names programs number [] events start) later whole (prints_stop (G.printed before) (G.printed between) first more result later one two puts.printed);
+            earlier = inl refl;
+            closed = if_ok_broken later (λ going. S.closed old ≡ is_closed going) two;
+            all = if_ok_broken later (λ going. is_closed going ≡ false → events ≡ []) two;
+            left = λ told image seen left.
+                subst (λ (text : List ℕ). IsLeft programs number start [] text (shown_of G before) image seen) whole
+                (longer start [] first more (shown_of G before) image seen (left_puts (Open number ∷ []) start old before between result opened_at (seen_all (Open number ∷ []) (tt, tt)) opened.sure opened.shows puts told image seen left));
+            doubt = λ shut. absurd (let no = sym (open_law old (held_of G before) start opened.shows) ∙ shut in let never : ⊥ = cc in never);
+          }
+
+      -- the first line is put, then the lines of events and those of the end
+      pub reports_of : {T U : Type 0} (events front rest : List Event) (new : D) (middle after : W) (value : T) (result : Result U Failed) (later : Result Going Failed) → HasOpened S G old before start → Puts G (Open number ∷ []) before between (Ok value) → front ++ rest ≡ events → (ran : Ran S G names programs number front start new between middle result)
+          → Tail start ran.taken rest between after later → ((run programs ran.taken start).closed ≡ false → IsSure G after × S.shows new (held_of G after) (run programs ran.taken start))
+          → ((image seen : List ℕ) → G.left_since after (G.moment after) image seen → (shown : List ℕ) × G.left_since middle (G.moment middle) image shown) → G.disk_faults after ≡ G.disk_faults middle → G.writes after ≡ G.writes middle → BeginsWith (G.printed middle) (G.printed after) []
+          → IfOk later (λ going. S.closed new ≡ is_closed going) → IfOk later (λ going. is_closed going ≡ false → rest ≡ []) → Reports S G names programs number events start new before after is_closed later
+      reports_of events front rest new middle after value result later opened puts whole ran tail still images disk same_writes more closed all =
+          let first : List ℕ = flat_map line_text (Open number ∷ []) in
+          let put = text_of names programs number ran.taken start in
+          let ends = flat_map line_text (closing_lines number rest (run programs ran.taken start)) in
+          let parts : first ++ (put ++ ends) ≡ report names programs number ran.taken rest start = ap (λ (front : List ℕ). front ++ (put ++ ends)) (open_text number) ∙ sym (report_parts programs names number ran.taken rest start) in
+          let grew : Grew programs names number ran.taken start = run_grew programs names number ran.taken start ran.each_open in
+          record {
+            taken = ran.taken;
+            rest = rest;
+            is_run = record { prefix = ap (λ (these : List Event). these ++ rest) ran.events_taken ∙ whole; each_open = ran.each_open };
+            closes = ran.closes;
+            ordered = ran.ordered;
+            still = still;
+            faults = omega (arith, ran.faults, puts.only.disk, disk);
+            writes =
+                let due : ℕ = 2 * commits_in (event_lines names programs number ran.taken start) in
+                subst (λ (those : Option ℕ). WritesMore (G.writes before) those due) (sym same_writes) (subst (λ (those : Option ℕ). WritesMore those (G.writes middle) due) puts.only.writes ran.writes);
+            printed = prints_same (G.printed before) (G.printed after) (first ++ (put ++ ends)) (report names programs number ran.taken rest start) later parts
+                (prints_on (G.printed before) (G.printed between) (G.printed after) first (put ++ ends) value later puts.printed tail.printed);
+            earlier = earlier_behind (G.printed before) (G.printed between) (G.printed middle) (G.printed after) (line_text (Open number)) (λ front. text_of names programs number front start) ran.taken value
+                (prints_same (G.printed before) (G.printed between) first (line_text (Open number)) (Ok value) (open_text number) puts.printed) ran.earlier more;
+            closed = closed;
+            all = all;
+            left = λ told.
+                let shown = shown_after (G.printed before) (G.printed between) first value told puts.printed in
+                subst (λ (text : List ℕ). Leaves G (IsLeft programs number start ran.taken text (shown_of G before)) before after) parts
+                (leaves_join G fewer_later programs number start [] ran.taken first (put ++ ends) before between after grew.more puts.only.time tail.time shown.1 tt
+                (let none = seen_all (Open number ∷ []) (tt, tt) in omega (arith, none))
+                (seen_behind (Open number ∷ []) (tt, tt)) grew.order_is
+                (left_puts (Open number ∷ []) start old before between (Ok value) opened_at (seen_all (Open number ∷ []) (tt, tt)) opened.sure opened.shows puts told)
+                (tail.left shown.0));
+            doubt = λ shut front last is.
+                let place = ran.doubt shut front last is in
+                (place.0, (place.1.0, λ image seen left. let from = images image seen left in place.1.1 image from.0 from.1));
+          }
+
+      -- and the lines of the end are put
+      pub reports_ended : {T U : Type 0} (events front rest : List Event) (new : D) (middle after : W) (value : T) (result : U) (later : Result Going Failed) → HasOpened S G old before start → Puts G (Open number ∷ []) before between (Ok value) → front ++ rest ≡ events → Ran S G names programs number front start new between middle (Ok result)
+          → S.opened new ≡ number → S.closed new ≡ false → rest ≡ [] → ((held : List ℕ) (desk : Desk) → S.shows new held desk → Puts G (closing_lines number [] desk) middle after later)
+          → IfOk later (λ going. S.closed new ≡ is_closed going) → IfOk later (λ going. is_closed going ≡ false → rest ≡ []) → Reports S G names programs number events start new before after is_closed later
+      reports_ended events front rest new middle after value result later opened puts whole ran opened_new was_open none closing closed all =
+          let last = run programs ran.taken start in
+          let kept = ran.still (sym ran.closes ∙ was_open) in
+          let ends : Puts G (closing_lines number [] last) middle after later = closing (held_of G middle) last kept.1 in
+          let sure = sure_puts S G fewer_later printed_now (closing_lines number [] last) middle after later ends kept.0 in
+          reports_of events front rest new middle after value (Ok result) later opened puts whole ran (tail_put front rest start new between middle after result later opened_new was_open none ran closing)
+          (λ still. (sure.0, subst (λ (held : List ℕ). S.shows new held last) (sym sure.1) kept.1))
+          (λ image seen left. ends.images image seen (fewer_later after (G.moment middle) (G.moment after) image seen ends.only.time.later left))
+          ends.only.disk ends.only.writes (begins_none (G.printed middle) (G.printed after) (flat_map line_text (closing_lines number [] last)) later ends.printed) closed all

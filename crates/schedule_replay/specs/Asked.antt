@@ -1,7 +1,13 @@
--- How many begins and turns are among events.
-use Rattle.std.specs.Prelude.{ℕ, Bool, true, false, List, count_by}
+-- Which events may be asked, and how many begins and turns are among events.
+use Rattle.std.specs.Prelude.{ℕ, ◌<◌, ◌≤◌, Bool, true, false, List, count_by}
 use Rattle.desk.specs.declared.event.Event.{Event}
 use Rattle.desk.specs.declared.event.Event.TheVariants.{Begin, Turn}
+
+-- a begin is of one of so many programs, and a turn has a limit of at most 1,000,000
+abbrev pub IsAsked : ℕ → Event → Type 0
+IsAsked programs (Begin program args) = program < programs
+IsAsked programs (Turn activation limit) = limit ≤ 1000000
+IsAsked programs _ = Unit {0}
 
 -- whether an event is a begin
 abbrev pub is_begin : Event → Bool

@@ -1,6 +1,5 @@
 pub mod Asked
 pub mod Puts
-pub mod Lines
 pub mod Answered
 pub mod Ran
 pub mod Replays

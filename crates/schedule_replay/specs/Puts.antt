@@ -1,19 +1,49 @@
--- What the lines of one answer are, and what was printed since.
-use Rattle.std.specs.Prelude.{◌≡◌, ℕ, List, ◌∷◌, ◌++◌, Option, None, Some}
+-- What the lines of one answer are, and what putting lines does.
+use Rattle.std.specs.Prelude.{◌≡◌, ℕ, List, [], ◌∷◌, ◌++◌, take, Option, None, Some, Result, IsSome, unwrap_or}
 use Rattle.std.specs.List.{flat_map}
+use Rattle.outside.specs.declared.world.Outside.{Ghosts}
+use Rattle.outside.specs.declared.failed.Failed.{Failed}
+use Rattle.outside.specs.Bytes.{Prints}
+use Rattle.outside.specs.Runs.{OnlyPuts, Leaves}
 use Rattle.desk.specs.declared.answers.Turn.{Turn}
 use Rattle.desk.specs.declared.answers.TurnEnd.{TurnEnd}
 use Rattle.desk.specs.declared.answers.TurnEnd.TheVariants as end
+use Rattle.desk.specs.declared.answers.Stored.{Stored}
+use Rattle.desk.specs.declared.answers.Stored.TheVariants as stored
+use Rattle.desk.specs.declared.answers.Reopened.{Reopened}
+use Rattle.desk.specs.declared.answers.Reopened.TheVariants as reopened
 use Rattle.desk.specs.Answers.{counts_told, ending_told}
 use Rattle.desk.specs.Lines as line
-use Rattle.desk.specs.Lines.{Line}
+use Rattle.desk.specs.Lines.{Line, line_text}
 use Rattle.desk.specs.Report.{cycle_lines, ending_lines}
+
+-- the bytes printed, or none where they aren't told
+abbrev pub shown_of : {W : Type 0} → Ghosts W → W → List ℕ
+shown_of G outside = unwrap_or (G.printed outside) []
+
+-- These lines are put, or a prefix of their bytes where a put failed. A crash since then leaves an image of the start, and what was
+-- printed then with a prefix of these bytes.
+pub record Puts {W T : Type 0} (G : Ghosts W) (lines : List Line) (old new : W) (result : Result T Failed) : Type 0 where
+  pub only : OnlyPuts G old new result
+  pub printed : Prints (G.printed old) (G.printed new) (flat_map line_text lines) result
+  pub images : (image seen : List ℕ) → G.left_since new (G.moment old) image seen → (start : List ℕ) × G.left_since old (G.moment old) image start
+  pub crash : IsSome (G.printed old) → Leaves G (λ image seen. G.left_since old (G.moment old) image (shown_of G old) × ((count : ℕ) × (seen ≡ shown_of G old ++ take count (flat_map line_text lines)))) old new
 
 -- the store's number that the end of a turn tells, or 0
 abbrev pub number_told : TurnEnd → ℕ
 number_told (end.Committed number steps) = number
 number_told (end.Closed doubt number) = number
 number_told _ = 0
+
+-- the store's number that the answer to a checkpoint tells, or 0
+abbrev pub stored_number : Stored → ℕ
+stored_number (stored.Number number) = number
+stored_number _ = 0
+
+-- the store's number that the answer to a crash tells, or 0
+abbrev pub reopened_number : Reopened → ℕ
+reopened_number (reopened.Number number) = number
+reopened_number _ = 0
 
 -- the lines of a turn that had an instruction to attempt: its counts, the rollbacks and its end
 abbrev pub counted_lines : ℕ → Turn → List ℕ → List Line

@@ -1,42 +1,62 @@
 -- Runs of the desk that a supervisor shows, with what they put.
-use Rattle.std.specs.Prelude.{◌≡◌, ℕ, ◌⊎◌, false, List, [], ◌∷◌, ◌++◌, map, Option, Result, IsSome}
-use Rattle.schedule_replay.specs.Puts.{BeginsWith}
+use Rattle.std.specs.Prelude.{◌≡◌, ℕ, ◌*◌, count_by, ◌⊎◌, true, false, List, [], ◌∷◌, ◌++◌, map, Option, Result, IsSome, slice_set}
 use Rattle.std.specs.List.{flat_map}
 use Rattle.outside.specs.declared.world.Outside.{Ghosts}
 use Rattle.outside.specs.declared.failed.Failed.{Failed}
 use Rattle.outside.specs.Bytes.{Prints}
 use Rattle.outside.specs.Causes.{RoseBy}
-use Rattle.outside.specs.Runs.{held_of}
+use Rattle.outside.specs.Durable.{IsSure}
+use Rattle.outside.specs.Moments.{Elapses}
+use Rattle.outside.specs.Runs.{Leaves, held_of}
+use Rattle.flat_machine.specs.declared.machine.Program.{Program}
+use Rattle.store_format.specs.Stands.{stands}
 use Rattle.desk.specs.declared.event.Event.{Event}
 use Rattle.desk.specs.declared.supervisor.Supervisor as desk
-use Rattle.desk.specs.Instruction.{Word}
+use Rattle.desk.specs.Crash.{standing_of, fine_step}
+use Rattle.desk.specs.Commits.{is_commit}
+use Rattle.desk.specs.Desk.{Desk}
+use Rattle.desk.specs.Kept.{WritesMore}
+use Rattle.desk.specs.Instruction.{Word, Doubt}
 use Rattle.desk.specs.Run.{run, faulted, OpenBeforeEach}
 use Rattle.desk.specs.Lines.{line_text}
 use Rattle.desk.specs.Report.{number_after, event_lines}
+use Rattle.run_law.specs.Left.{IsLeft}
+use Rattle.schedule_replay.specs.Puts.{BeginsWith, shown_of}
 
--- while the desk is open, it keeps the bytes that are told, where it kept them before
-abbrev pub Kept : {D W : Type 0} → desk.Ghosts D → Ghosts W → D → D → W → W → Type 0
-Kept S G old new before after =
-    IsSome (G.held before) → S.keeps old (held_of G before) → (S.desk new).closed ≡ false → IsSome (G.held after) × S.keeps new (held_of G after)
-
--- its desk is open, and was opened with the number that it tells
-pub record HasOpened {D : Type 0} (S : desk.Ghosts D) (desk : D) : Type 0 where
-  pub still_open : (S.desk desk).closed ≡ false
-  pub number : number_after (S.opened desk) (S.desk desk) ≡ S.opened desk
+-- the bytes that are told are sure, and over them the supervisor is this desk, which was opened with the number that it tells
+pub record HasOpened {D W : Type 0} (S : desk.Ghosts D) (G : Ghosts W) (desk : D) (outside : W) (start : Desk) : Type 0 where
+  pub sure : IsSure G outside
+  pub shows : S.shows desk (held_of G outside) start
+  pub number : number_after (S.opened desk) start ≡ S.opened desk
 
 -- the lines of all events but the last, if there is one, are printed whole
 abbrev pub PrintsEarlier : (before now : Option (List ℕ)) → (List (Event × Word) → List ℕ) → List (Event × Word) → Type 0
 PrintsEarlier before now text taken =
     (taken ≡ []) ⊎ ((front : List (Event × Word)) × (last : Event × Word) × (taken ≡ front ++ last ∷ []) × BeginsWith before now (text front))
 
--- the events were run, each with a word, and their lines put; its answers are still the desk's
-pub record Ran {D W : Type 0} (S : desk.Ghosts D) (G : Ghosts W) (names : List (List ℕ)) (events : List Event) (old new : D) (before after : W) {T : Type 0} (result : Result T Failed) : Type 0 where
+-- behind these events one ended in doubt: there is one place with whose byte each image stands for where it goes well
+abbrev pub InDoubt : {W : Type 0} → Ghosts W → List Program → ℕ → Desk → List (Event × Word) → Event → W → Type 0
+InDoubt G programs number start front event after =
+    ((fine_step programs event (run programs front start)).order ≡ (run programs (front ++ (event, Doubt) ∷ []) start).order)
+    × ((gate : ℕ) × Leaves G (λ image seen. stands (slice_set image gate 165) ≡ standing_of number (fine_step programs event (run programs front start))) after after)
+
+-- the text of a run's events
+abbrev pub text_of : List (List ℕ) → List Program → ℕ → List (Event × Word) → Desk → List ℕ
+text_of names programs number taken start = flat_map line_text (event_lines names programs number taken start)
+
+-- Events were run from a desk, each with a word, and their lines put. While the desk is open its bytes are sure and shown. A crash
+-- since the start left what is said of the run.
+pub record Ran {D W : Type 0} (S : desk.Ghosts D) (G : Ghosts W) (names : List (List ℕ)) (programs : List Program) (number : ℕ) (events : List Event) (start : Desk) (new : D) (before after : W) {T : Type 0} (result : Result T Failed) : Type 0 where
   pub taken : List (Event × Word)
   pub events_taken : map (λ event. event.0) taken ≡ events
-  pub each_open : OpenBeforeEach (S.programs old) taken (S.desk old)
-  pub leaves : run (S.programs old) taken (S.desk old) ≡ S.desk new
+  pub each_open : OpenBeforeEach programs taken start
+  pub closes : S.closed new ≡ (run programs taken start).closed
+  pub ordered : S.order new ≡ (run programs taken start).order
+  pub still : (run programs taken start).closed ≡ false → IsSure G after × S.shows new (held_of G after) (run programs taken start)
   pub faults : RoseBy (faulted taken) (G.disk_faults before) (G.disk_faults after)
-  pub printed : Prints (G.printed before) (G.printed after) (flat_map line_text (event_lines names (S.programs old) (S.opened old) taken (S.desk old))) result
-  pub earlier : PrintsEarlier (G.printed before) (G.printed after) (λ front. flat_map line_text (event_lines names (S.programs old) (S.opened old) front (S.desk old))) taken
-  pub kept : Kept S G old new before after
-  pub answers : S.answers new
+  pub writes : WritesMore (G.writes before) (G.writes after) (2 * count_by is_commit (event_lines names programs number taken start))
+  pub printed : Prints (G.printed before) (G.printed after) (text_of names programs number taken start) result
+  pub earlier : PrintsEarlier (G.printed before) (G.printed after) (λ front. text_of names programs number front start) taken
+  pub time : Elapses G.moment G.left_since before after
+  pub left : IsSome (G.printed before) → Leaves G (IsLeft programs number start taken (text_of names programs number taken start) (shown_of G before)) before after
+  pub doubt : (run programs taken start).closed ≡ true → (front : List (Event × Word)) (event : Event) → taken ≡ front ++ (event, Doubt) ∷ [] → InDoubt G programs number start front event after

@@ -1,55 +1,105 @@
 -- What replaying a schedule did.
-use Rattle.std.specs.Prelude.{◌≡◌, ℕ, Bool, true, false, List, [], ◌++◌, Result, Ok, Err, IfOk}
+use Rattle.std.specs.Prelude.{◌≡◌, ℕ, ◌*◌, count_by, Bool, true, false, List, [], ◌∷◌, ◌++◌, Result, Ok, Err, IfOk, IsSome}
 use Rattle.outside.specs.declared.world.Outside.{Ghosts}
 use Rattle.outside.specs.declared.failed.Failed.{Failed}
 use Rattle.outside.specs.Bytes.{Prints}
-use Rattle.std.specs.List.{flat_map}
-use Rattle.outside.specs.Causes.{RoseBy}
+use Rattle.outside.specs.Causes.{Rose, RoseBy}
+use Rattle.outside.specs.Durable.{IsSure}
+use Rattle.outside.specs.Runs.{Leaves, held_of}
+use Rattle.flat_machine.specs.declared.machine.Program.{Program}
+use Rattle.store_format.specs.Bank.{Faulty, bank_of}
+use Rattle.store_format.specs.Stands.{chosen}
+use Rattle.desk.specs.declared.answers.Begun.{Begun}
+use Rattle.desk.specs.declared.answers.Begun.TheVariants as begun
+use Rattle.desk.specs.declared.answers.Reopened.{Reopened}
+use Rattle.desk.specs.declared.answers.Reopened.TheVariants as reopened
 use Rattle.desk.specs.declared.event.Event.{Event}
 use Rattle.desk.specs.declared.supervisor.Supervisor as desk
-use Rattle.desk.specs.Instruction.{Word}
+use Rattle.desk.specs.Commits.{is_commit}
+use Rattle.desk.specs.Desk.{Desk}
+use Rattle.desk.specs.Kept.{WritesMore}
+use Rattle.desk.specs.Instruction.{Word, Doubt}
 use Rattle.desk.specs.Run.{run, faulted, IsRunOf}
 use Rattle.desk.specs.Lines.{line_text, Open}
 use Rattle.desk.specs.Report.{report, event_lines}
+use Rattle.run_law.specs.Left.{IsLeft}
 use Rattle.schedule_replay.specs.declared.events.Going.{Going}
 use Rattle.schedule_replay.specs.declared.events.Going.TheVariants as going
 use Rattle.schedule_replay.specs.declared.events.Replayed.{Replayed}
 use Rattle.schedule_replay.specs.declared.events.Replayed.TheVariants as replayed
-use Rattle.schedule_replay.specs.Ran.{Ran, Kept, PrintsEarlier}
+use Rattle.schedule_replay.specs.Puts.{shown_of}
+use Rattle.schedule_replay.specs.Ran.{Ran, PrintsEarlier, InDoubt, text_of}
 
--- whether the desk is closed
+-- whether the desk goes on
 abbrev pub is_closed : Going → Bool
 is_closed going.On = false
-is_closed going.Closed = true
+is_closed _ = true
+
+-- whether it was an answer that the bytes are damaged
+abbrev pub is_damaged : Going → Bool
+is_damaged (going.Damaged offset) = true
+is_damaged _ = false
+
+-- how it goes on by whether the answer to a turn or a checkpoint says that it is closed
+abbrev pub going_if : Bool → Going
+going_if true = going.Closed
+going_if false = going.On
+
+-- how it goes on by the answer to a begin
+abbrev pub going_begun : Begun → Going
+going_begun begun.Shut = going.Closed
+going_begun _ = going.On
+
+-- how it goes on by the answer to a crash
+abbrev pub going_by : Reopened → Going
+going_by (reopened.Number number) = going.On
+going_by (reopened.Damaged offset) = going.Damaged offset
+going_by reopened.DiskFault = going.Closed
+going_by reopened.Shut = going.Closed
 
 -- The first of the events were run, and their lines put. All events were run where the desk goes on.
-pub record RanSome {D W : Type 0} (S : desk.Ghosts D) (G : Ghosts W) (names : List (List ℕ)) (events : List Event) (old new : D) (before after : W) (result : Result Going Failed) : Type 0 where
+pub record RanSome {D W : Type 0} (S : desk.Ghosts D) (G : Ghosts W) (names : List (List ℕ)) (programs : List Program) (number : ℕ) (events : List Event) (start : Desk) (new : D) (before after : W) (result : Result Going Failed) : Type 0 where
   pub front : List Event
   pub rest : List Event
   pub whole : front ++ rest ≡ events
-  pub ran : Ran S G names front old new before after result
-  pub closed : IfOk result (λ going. (S.desk new).closed ≡ is_closed going)
+  pub ran : Ran S G names programs number front start new before after result
+  pub closed : IfOk result (λ going. S.closed new ≡ is_closed going)
+  pub sound : IfOk result (λ going. is_damaged going ≡ false)
   pub all : IfOk result (λ going. is_closed going ≡ false → rest ≡ [])
 
--- There is one run of the first of the events, which leaves the desk that is shown. Its report is put, or a prefix of it
--- where a put failed, which has the first line and those of all events but the last. The disk's faults rose by at least the
--- number of events whose word isn't fine. A result says whether the desk is closed; all events were run where it goes on. Its
--- answers are still the desk's.
-pub record Reports {D W : Type 0} (S : desk.Ghosts D) (G : Ghosts W) (names : List (List ℕ)) (events : List Event) (old new : D) (before after : W) {T : Type 0} (shut : T → Bool) (result : Result T Failed) : Type 0 where
+-- There is one run of the first of the events from the desk that was shown. Its report is put, or a prefix of it where a put failed,
+-- which has the first line and those of all events but the last. The disk's faults rose by at least the number of events whose word
+-- isn't fine. A result says whether the desk is closed; all events were run where it goes on. While the desk is open its bytes are sure and
+-- shown. A crash at any moment since the start left what is said of the run.
+pub record Reports {D W : Type 0} (S : desk.Ghosts D) (G : Ghosts W) (names : List (List ℕ)) (programs : List Program) (number : ℕ) (events : List Event) (start : Desk) (new : D) (before after : W) {T : Type 0} (shut : T → Bool) (result : Result T Failed) : Type 0 where
   pub taken : List (Event × Word)
   pub rest : List Event
-  pub is_run : IsRunOf (S.programs old) events (S.desk old) taken rest
-  pub leaves : run (S.programs old) taken (S.desk old) ≡ S.desk new
+  pub is_run : IsRunOf programs events start taken rest
+  pub closes : S.closed new ≡ (run programs taken start).closed
+  pub ordered : S.order new ≡ (run programs taken start).order
+  pub still : (run programs taken start).closed ≡ false → IsSure G after × S.shows new (held_of G after) (run programs taken start)
   pub faults : RoseBy (faulted taken) (G.disk_faults before) (G.disk_faults after)
-  pub printed : Prints (G.printed before) (G.printed after) (report names (S.programs old) (S.opened old) taken (S.desk old)) result
-  pub earlier : PrintsEarlier (G.printed before) (G.printed after) (λ front. line_text (Open (S.opened old)) ++ flat_map line_text (event_lines names (S.programs old) (S.opened old) front (S.desk old))) taken
-  pub closed : IfOk result (λ value. (S.desk new).closed ≡ shut value)
+  pub writes : WritesMore (G.writes before) (G.writes after) (2 * count_by is_commit (event_lines names programs number taken start))
+  pub printed : Prints (G.printed before) (G.printed after) (report names programs number taken rest start) result
+  pub earlier : PrintsEarlier (G.printed before) (G.printed after) (λ front. line_text (Open number) ++ text_of names programs number front start) taken
+  pub closed : IfOk result (λ value. S.closed new ≡ shut value)
   pub all : IfOk result (λ value. shut value ≡ false → rest ≡ [])
-  pub kept : Kept S G old new before after
-  pub answers : S.answers new
+  pub left : IsSome (G.printed before) → Leaves G (IsLeft programs number start taken (report names programs number taken rest start) (shown_of G before)) before after
+  pub doubt : (run programs taken start).closed ≡ true → (front : List (Event × Word)) (event : Event) → taken ≡ front ++ (event, Doubt) ∷ [] → InDoubt G programs number start front event after
 
--- The events were replayed: to the end, to the one that closed the desk, or to the one in whose report a put failed.
-abbrev pub Replays : {D W : Type 0} → desk.Ghosts D → Ghosts W → List (List ℕ) → List Event → D → D → W → W → Replayed → Type 0
-Replays S G names events old new before after replayed.Ended = Reports S G names events old new before after (λ closed. closed) (Ok false)
-Replays S G names events old new before after replayed.Closed = Reports S G names events old new before after (λ closed. closed) (Ok true)
-Replays S G names events old new before after replayed.PutFault = (failed : Failed) × Reports S G names events old new before after {T = Bool} (λ closed. closed) (Err failed)
+-- The events were replayed: to the end, to the one that closed the desk, or to the one in whose report a put failed. Bytes that are sure
+-- and shown are never found damaged.
+abbrev pub Replays : {D W : Type 0} → desk.Ghosts D → Ghosts W → List (List ℕ) → List Program → ℕ → List Event → Desk → D → W → W → Replayed → Type 0
+Replays S G names programs number events start new before after replayed.Ended = Reports S G names programs number events start new before after (λ closed. closed) (Ok false)
+Replays S G names programs number events start new before after replayed.Closed = Reports S G names programs number events start new before after (λ closed. closed) (Ok true)
+Replays S G names programs number events start new before after (replayed.Damaged offset) = ⊥
+Replays S G names programs number events start new before after replayed.PutFault = (failed : Failed) × Reports S G names programs number events start new before after {T = Bool} (λ closed. closed) (Err failed)
+
+-- Why it ended so, without a word on what the supervisor shows: of one that was open a close comes only where the disk's faults rose,
+-- and damage only where the chosen bank of the bytes that are told has that fault; a failed put only where the screen's faults rose, and
+-- otherwise they stayed.
+abbrev pub EndsBy : {D W : Type 0} → desk.Ghosts D → Ghosts W → D → D → W → W → Replayed → Type 0
+EndsBy S G old new before after replayed.Ended = (S.closed old ≡ false → S.closed new ≡ false) × (G.put_faults after ≡ G.put_faults before)
+EndsBy S G old new before after replayed.Closed = (S.closed new ≡ true) × (S.closed old ≡ false → Rose (G.disk_faults before) (G.disk_faults after)) × (G.put_faults after ≡ G.put_faults before)
+EndsBy S G old new before after (replayed.Damaged offset) = (S.closed new ≡ true) × (IsSome (G.held after) → bank_of (held_of G after) (S.header old) (chosen (held_of G after)) ≡ Faulty offset) × (G.put_faults after ≡ G.put_faults before)
+EndsBy S G old new before after replayed.PutFault = Rose (G.put_faults before) (G.put_faults after)

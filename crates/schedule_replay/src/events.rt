@@ -1,19 +1,23 @@
 // The events of a schedule, one after another, and their report.
-ghost use Rattle.std.specs.Prelude.{◌≡◌, ◌≤◌, ℕ, List, [], ◌∷◌, false, length, map, take, IfOk};
-ghost use Rattle.std.specs.List.{flat_map};
-ghost use Rattle.outside.specs.Bytes.{Prints};
+ghost use Rattle.std.specs.Prelude.{◌≡◌, ◌≤◌, ℕ, List, [], ◌∷◌, All, false, length, map, take, IfOk};
 ghost use Rattle.outside.specs.Causes.{Rose, HasCause};
+ghost use Rattle.outside.specs.Durable.{IsSure};
 ghost use Rattle.outside.specs.Moments.{Elapses};
+ghost use Rattle.outside.specs.Runs.{held_of};
 ghost use Rattle.desk.specs.declared.event.Event.TheVariants as event;
-ghost use Rattle.desk.specs.Lines.{line_text};
-ghost use Rattle.schedule_replay.specs.Answered.{IsReady, Answered, HoldsStore};
-ghost use Rattle.schedule_replay.specs.Lines.{closing_lines, is_closing};
+ghost use Rattle.desk.specs.Answers.{turn_closes, stored_closes};
+ghost use Rattle.desk.specs.Desk.{Desk};
+ghost use Rattle.desk.specs.Kept.{HoldsStore, StillTold};
+ghost use Rattle.desk.specs.Report.{closing_lines};
+ghost use Rattle.desk.specs.Seen.{IsUnbroken};
+ghost use Rattle.schedule_replay.specs.Answered.{IsReady, Answered, GoesBy};
+ghost use Rattle.schedule_replay.specs.Puts.{Puts};
 ghost use Rattle.outside.specs.Runs.{OnlyPuts};
-ghost use Rattle.schedule_replay.specs.Ran.{Ran, Kept, HasOpened};
-ghost use Rattle.schedule_replay.specs.Replays.{Replays, Reports, RanSome, is_closed};
+ghost use Rattle.schedule_replay.specs.Ran.{Ran, HasOpened};
+ghost use Rattle.schedule_replay.specs.Replays.{Replays, Reports, RanSome, EndsBy, is_closed, is_damaged, going_if, going_begun, going_by};
 
-use super::lines::{put_begun, put_left, put_turn};
-use desk::{Event, Supervisor, TurnEnd};
+use super::lines::{put_begun, put_left, put_one, put_reopened, put_stored, put_turn};
+use desk::{Begun, Event, Reopened, Stored, Supervisor, TurnEnd};
 use job_text::Name;
 use outside::{Failed, Outside};
 use report_text::{Line, Reporter};
@@ -25,6 +29,8 @@ pub enum Replayed {
     Ended,
     /// To the one that closed the desk.
     Closed,
+    /// To a crash after which the bytes of the store had a fault at this offset.
+    Damaged(u64),
     /// To the one in whose report a put failed.
     PutFault,
 }
@@ -34,6 +40,7 @@ pub enum Replayed {
 enum Going {
     On,
     Closed,
+    Damaged(u64),
 }
 
 /// Runs the events from a desk that has just opened, and puts the lines of their report. It takes no memory.
@@ -45,21 +52,26 @@ pub fn replay<S: Supervisor, W: Outside>(
 ) -> Replayed
     requires ready { IsReady S.Supervisor W.Outside events.now desk.old outside.old }
     requires names { length (S.programs desk.old) ≤ length names.now }
+    requires unbroken { All (λ name. IsUnbroken name.items) names.now }
 
-    // Where its answers are the desk's: what was run, and that what was printed is its report, or a prefix of it after a failed put.
-    ensures replays { S.answers desk.old → HasOpened S.Supervisor desk.old → Replays S.Supervisor W.Outside (map (λ name. name.items) names.now) events.now desk.old desk.new outside.old outside.new result }
+    // From bytes that are sure, over which a desk is shown: what was run, that what was printed is its report, or a prefix of
+    // it after a failed put, and what a crash left at any moment.
+    ensures replays { (start : Desk) → HasOpened S.Supervisor W.Outside desk.old outside.old start → Replays S.Supervisor W.Outside (map (λ name. name.items) names.now) (S.programs desk.old) (S.opened desk.old) events.now start desk.new outside.old outside.new result }
+    ensures ends { EndsBy S.Supervisor W.Outside desk.old desk.new outside.old outside.new result }
     ensures sound { S.sound desk.new }
+    ensures honest { W.is_honest outside.new ≡ W.is_honest outside.old }
+    ensures told { StillTold W.Outside outside.old outside.new }
     ensures time { Elapses W.moment W.left_since outside.old outside.new }
     ensures disk { W.disk_faults outside.old ≤ W.disk_faults outside.new }
     ensures put { W.put_faults outside.old ≤ W.put_faults outside.new }
-    ensures cause { result ≡ Replayed.PutFault → Rose (W.put_faults outside.old) (W.put_faults outside.new) }
-    ensures bytes { HoldsStore S.Supervisor W.Outside desk.new outside.new }
+    ensures bytes { HoldsStore W.Outside (S.header desk.new) outside.new }
     ensures opened { S.opened desk.new ≡ S.opened desk.old }
-    ensures kept { S.answers desk.old → HasOpened S.Supervisor desk.old → Kept S.Supervisor W.Outside desk.old desk.new outside.old outside.new }
+    ensures header { S.header desk.new ≡ S.header desk.old }
 {
     match put_report(desk, names, events, &mut Reporter::new(), outside) {
         Err(Failed) => Replayed::PutFault,
         Ok(Going::Closed) => Replayed::Closed,
+        Ok(Going::Damaged(offset)) => Replayed::Damaged(offset),
         Ok(Going::On) => Replayed::Ended,
     }
 }
@@ -74,21 +86,19 @@ fn put_report<S: Supervisor, W: Outside>(
 ) -> Result<Going, Failed>
     requires ready { IsReady S.Supervisor W.Outside events.now desk.old outside.old }
     requires names { length (S.programs desk.old) ≤ length names.now }
-    ensures reports { S.answers desk.old → HasOpened S.Supervisor desk.old → Reports S.Supervisor W.Outside (map (λ name. name.items) names.now) events.now desk.old desk.new outside.old outside.new is_closed result }
-    ensures sound { S.sound desk.new }
-    ensures time { Elapses W.moment W.left_since outside.old outside.new }
-    ensures disk { W.disk_faults outside.old ≤ W.disk_faults outside.new }
-    ensures cause { HasCause (W.put_faults outside.old) (W.put_faults outside.new) result }
-    ensures bytes { HoldsStore S.Supervisor W.Outside desk.new outside.new }
-    ensures opened { S.opened desk.new ≡ S.opened desk.old }
+    requires unbroken { All (λ name. IsUnbroken name.items) names.now }
+    ensures reports { (start : Desk) → HasOpened S.Supervisor W.Outside desk.old outside.old start → Reports S.Supervisor W.Outside (map (λ name. name.items) names.now) (S.programs desk.old) (S.opened desk.old) events.now start desk.new outside.old outside.new is_closed result }
+    ensures undamaged { (start : Desk) → HasOpened S.Supervisor W.Outside desk.old outside.old start → IfOk result (λ going. is_damaged going ≡ false) }
+    ensures goes { IfOk result (λ going. GoesBy S.Supervisor W.Outside desk.old desk.new outside.old outside.new going) }
+    ensures answered { (count : ℕ) × Answered S.Supervisor W.Outside (take count events.now) desk.old desk.new outside.old outside.new result }
 {
-    reporter.put(&Line::Open(desk.number()), outside)?;
+    put_one(&Line::Open(desk.number()), reporter, outside)?;
     match put_events(desk, names, events, reporter, outside)? {
-        Going::Closed => Ok(Going::Closed),
         Going::On => {
             put_closing(desk, reporter, outside)?;
             Ok(Going::On)
         }
+        going => Ok(going),
     }
 }
 
@@ -100,10 +110,10 @@ fn put_closing<S: Supervisor, W: Outside>(
 ) -> Result<(), Failed>
     requires sound { S.sound desk.now }
     ensures only { OnlyPuts W.Outside outside.old outside.new result }
-    ensures printed { S.answers desk.now → (S.desk desk.now).closed ≡ false → Prints (W.printed outside.old) (W.printed outside.new) (flat_map line_text (closing_lines (S.opened desk.now) (S.desk desk.now))) result }
+    ensures puts { (held : List ℕ) (start : Desk) → S.shows desk.now held start → Puts W.Outside (closing_lines (S.opened desk.now) [] start) outside.old outside.new result }
 {
     put_left(desk.active().as_slice(), reporter, outside)?;
-    reporter.put(&Line::End(desk.number()), outside)
+    put_one(&Line::End(desk.number()), reporter, outside)
 }
 
 /// The events and their lines, to the one that closed the desk.
@@ -116,13 +126,15 @@ fn put_events<S: Supervisor, W: Outside>(
 ) -> Result<Going, Failed>
     requires ready { IsReady S.Supervisor W.Outside events.now desk.old outside.old }
     requires names { length (S.programs desk.old) ≤ length names.now }
+    requires unbroken { All (λ name. IsUnbroken name.items) names.now }
     ensures answered { (count : ℕ) × Answered S.Supervisor W.Outside (take count events.now) desk.old desk.new outside.old outside.new result }
-    ensures ran { S.answers desk.old → (S.desk desk.old).closed ≡ false → RanSome S.Supervisor W.Outside (map (λ name. name.items) names.now) events.now desk.old desk.new outside.old outside.new result }
+    ensures goes { IfOk result (λ going. GoesBy S.Supervisor W.Outside desk.old desk.new outside.old outside.new going) }
+    ensures ran { (start : Desk) → IsSure W.Outside outside.old → S.shows desk.old (held_of W.Outside outside.old) start → RanSome S.Supervisor W.Outside (map (λ name. name.items) names.now) (S.programs desk.old) (S.opened desk.old) events.now start desk.new outside.old outside.new result }
 {
     for event in events {
         match answer(desk, names, *event, reporter, outside)? {
-            Going::Closed => return Ok(Going::Closed),
             Going::On => {}
+            going => return Ok(going),
         }
     }
     Ok(Going::On)
@@ -138,17 +150,20 @@ fn answer<S: Supervisor, W: Outside>(
 ) -> Result<Going, Failed>
     requires ready { IsReady S.Supervisor W.Outside (event ∷ []) desk.old outside.old }
     requires names { length (S.programs desk.old) ≤ length names.now }
+    requires unbroken { All (λ name. IsUnbroken name.items) names.now }
     ensures answered { Answered S.Supervisor W.Outside (event ∷ []) desk.old desk.new outside.old outside.new result }
-    ensures ran { S.answers desk.old → (S.desk desk.old).closed ≡ false → Ran S.Supervisor W.Outside (map (λ name. name.items) names.now) (event ∷ []) desk.old desk.new outside.old outside.new result }
-    ensures going { S.answers desk.old → (S.desk desk.old).closed ≡ false → IfOk result (λ going. (S.desk desk.new).closed ≡ is_closed going) }
+    ensures goes { IfOk result (λ going. GoesBy S.Supervisor W.Outside desk.old desk.new outside.old outside.new going) }
+    ensures ran { (start : Desk) → IsSure W.Outside outside.old → S.shows desk.old (held_of W.Outside outside.old) start → Ran S.Supervisor W.Outside (map (λ name. name.items) names.now) (S.programs desk.old) (S.opened desk.old) (event ∷ []) start desk.new outside.old outside.new result }
+    ensures closed { IfOk result (λ going. S.closed desk.new ≡ is_closed going) }
+    ensures undamaged { (start : Desk) → IsSure W.Outside outside.old → S.shows desk.old (held_of W.Outside outside.old) start → IfOk result (λ going. is_damaged going ≡ false) }
 {
     match event {
-        Event::Begin { program, args } => {
-            begin(desk, names, program, args, reporter, outside)?;
-            Ok(Going::On)
-        }
-        Event::Turn { activation, limit } => turn(desk, activation, limit, reporter, outside),
-        Event::Checkpoint | Event::Crash => unreachable!(),
+        Event::Begin { program, args } => begin(desk, names, program, args, reporter, outside),
+        Event::Turn { activation, limit } => turn(
+            desk, names, activation, limit, reporter, outside,
+        ),
+        Event::Checkpoint => checkpoint(desk, names, reporter, outside),
+        Event::Crash => crash(desk, names, reporter, outside),
     }
 }
 
@@ -160,41 +175,121 @@ fn begin<S: Supervisor, W: Outside>(
     args: [u32; 4],
     reporter: &mut Reporter,
     outside: &mut W,
-) -> Result<(), Failed>
+) -> Result<Going, Failed>
     requires ready { IsReady S.Supervisor W.Outside (event.Begin program args ∷ []) desk.old outside.old }
     requires names { length (S.programs desk.old) ≤ length names.now }
+    requires unbroken { All (λ name. IsUnbroken name.items) names.now }
     ensures answered { Answered S.Supervisor W.Outside (event.Begin program args ∷ []) desk.old desk.new outside.old outside.new result }
-    ensures ran { S.answers desk.old → (S.desk desk.old).closed ≡ false → Ran S.Supervisor W.Outside (map (λ name. name.items) names.now) (event.Begin program args ∷ []) desk.old desk.new outside.old outside.new result }
-    ensures open { S.answers desk.old → (S.desk desk.old).closed ≡ false → (S.desk desk.new).closed ≡ false }
+    ensures goes { IfOk result (λ going. GoesBy S.Supervisor W.Outside desk.old desk.new outside.old outside.new going) }
+    ensures ran { (start : Desk) → IsSure W.Outside outside.old → S.shows desk.old (held_of W.Outside outside.old) start → Ran S.Supervisor W.Outside (map (λ name. name.items) names.now) (S.programs desk.old) (S.opened desk.old) (event.Begin program args ∷ []) start desk.new outside.old outside.new result }
+    ensures closed { IfOk result (λ going. S.closed desk.new ≡ is_closed going) }
+    ensures undamaged { IfOk result (λ going. is_damaged going ≡ false) }
 {
     let begun = desk.begin(program, args);
-    put_begun(begun, program, names, reporter, outside)
+    put_begun(begun, program, names, reporter, outside)?;
+    Ok(going_after_begin(begun))
 }
 
 /// A turn and its lines.
 fn turn<S: Supervisor, W: Outside>(
     desk: &mut S,
+    names: &[Name],
     activation: u32,
     limit: u32,
     reporter: &mut Reporter,
     outside: &mut W,
 ) -> Result<Going, Failed>
     requires ready { IsReady S.Supervisor W.Outside (event.Turn activation limit ∷ []) desk.old outside.old }
+    requires unbroken { All (λ name. IsUnbroken name.items) names.now }
     ensures answered { Answered S.Supervisor W.Outside (event.Turn activation limit ∷ []) desk.old desk.new outside.old outside.new result }
-    ensures ran { S.answers desk.old → (S.desk desk.old).closed ≡ false → (names : List (List ℕ)) → Ran S.Supervisor W.Outside names (event.Turn activation limit ∷ []) desk.old desk.new outside.old outside.new result }
-    ensures going { S.answers desk.old → (S.desk desk.old).closed ≡ false → IfOk result (λ going. (S.desk desk.new).closed ≡ is_closed going) }
+    ensures goes { IfOk result (λ going. GoesBy S.Supervisor W.Outside desk.old desk.new outside.old outside.new going) }
+    ensures ran { (start : Desk) → IsSure W.Outside outside.old → S.shows desk.old (held_of W.Outside outside.old) start → Ran S.Supervisor W.Outside (map (λ name. name.items) names.now) (S.programs desk.old) (S.opened desk.old) (event.Turn activation limit ∷ []) start desk.new outside.old outside.new result }
+    ensures closed { IfOk result (λ going. S.closed desk.new ≡ is_closed going) }
+    ensures undamaged { IfOk result (λ going. is_damaged going ≡ false) }
 {
     let turn = desk.turn(outside, activation, limit);
     put_turn(&turn, activation, desk.printed(), reporter, outside)?;
-    Ok(going_after(&turn.end))
+    Ok(going_after_turn(&turn.end))
+}
+
+/// A checkpoint and its line.
+fn checkpoint<S: Supervisor, W: Outside>(
+    desk: &mut S,
+    names: &[Name],
+    reporter: &mut Reporter,
+    outside: &mut W,
+) -> Result<Going, Failed>
+    requires ready { IsReady S.Supervisor W.Outside (event.Checkpoint ∷ []) desk.old outside.old }
+    requires unbroken { All (λ name. IsUnbroken name.items) names.now }
+    ensures answered { Answered S.Supervisor W.Outside (event.Checkpoint ∷ []) desk.old desk.new outside.old outside.new result }
+    ensures goes { IfOk result (λ going. GoesBy S.Supervisor W.Outside desk.old desk.new outside.old outside.new going) }
+    ensures ran { (start : Desk) → IsSure W.Outside outside.old → S.shows desk.old (held_of W.Outside outside.old) start → Ran S.Supervisor W.Outside (map (λ name. name.items) names.now) (S.programs desk.old) (S.opened desk.old) (event.Checkpoint ∷ []) start desk.new outside.old outside.new result }
+    ensures closed { IfOk result (λ going. S.closed desk.new ≡ is_closed going) }
+    ensures undamaged { IfOk result (λ going. is_damaged going ≡ false) }
+{
+    let stored = desk.checkpoint(outside);
+    put_stored(stored, reporter, outside)?;
+    Ok(going_after_checkpoint(stored))
+}
+
+/// A crash and its lines: those that were active are asked for before it, and put after it.
+fn crash<S: Supervisor, W: Outside>(
+    desk: &mut S,
+    names: &[Name],
+    reporter: &mut Reporter,
+    outside: &mut W,
+) -> Result<Going, Failed>
+    requires ready { IsReady S.Supervisor W.Outside (event.Crash ∷ []) desk.old outside.old }
+    requires unbroken { All (λ name. IsUnbroken name.items) names.now }
+    ensures answered { Answered S.Supervisor W.Outside (event.Crash ∷ []) desk.old desk.new outside.old outside.new result }
+    ensures goes { IfOk result (λ going. GoesBy S.Supervisor W.Outside desk.old desk.new outside.old outside.new going) }
+    ensures ran { (start : Desk) → IsSure W.Outside outside.old → S.shows desk.old (held_of W.Outside outside.old) start → Ran S.Supervisor W.Outside (map (λ name. name.items) names.now) (S.programs desk.old) (S.opened desk.old) (event.Crash ∷ []) start desk.new outside.old outside.new result }
+    ensures closed { IfOk result (λ going. S.closed desk.new ≡ is_closed going) }
+    ensures undamaged { (start : Desk) → IsSure W.Outside outside.old → S.shows desk.old (held_of W.Outside outside.old) start → IfOk result (λ going. is_damaged going ≡ false) }
+{
+    let lost = desk.active();
+    let reopened = desk.forget(outside);
+    put_reopened(reopened, lost.as_slice(), reporter, outside)?;
+    Ok(going_after_crash(reopened))
+}
+
+/// Whether the desk goes on after a begin.
+fn going_after_begin(begun: Begun) -> Going
+    ensures { result ≡ going_begun begun }
+{
+    match begun {
+        Begun::Shut => Going::Closed,
+        _ => Going::On,
+    }
 }
 
 /// Whether the desk goes on after a turn that ended so.
-fn going_after(end: &TurnEnd) -> Going
-    ensures { is_closed result ≡ is_closing end.now }
+fn going_after_turn(end: &TurnEnd) -> Going
+    ensures { result ≡ going_if (turn_closes end.now) }
 {
     match end {
         TurnEnd::Closed { .. } | TurnEnd::Shut => Going::Closed,
         _ => Going::On,
+    }
+}
+
+/// Whether the desk goes on after a checkpoint.
+fn going_after_checkpoint(stored: Stored) -> Going
+    ensures { result ≡ going_if (stored_closes stored) }
+{
+    match stored {
+        Stored::Number(_) => Going::On,
+        Stored::Closed | Stored::Shut => Going::Closed,
+    }
+}
+
+/// Whether the desk goes on after a crash.
+fn going_after_crash(reopened: Reopened) -> Going
+    ensures { result ≡ going_by reopened }
+{
+    match reopened {
+        Reopened::Number(_) => Going::On,
+        Reopened::Damaged(offset) => Going::Damaged(offset),
+        Reopened::DiskFault | Reopened::Shut => Going::Closed,
     }
 }

@@ -1,18 +1,29 @@
 // The lines of one answer, put one after another.
-ghost use Rattle.std.specs.Prelude.{◌≡◌, ◌<◌, ◌≤◌, ℕ, List, [], ◌∷◌, length, map};
+ghost use Rattle.std.specs.Prelude.{◌≡◌, ◌<◌, ◌≤◌, ℕ, List, [], ◌∷◌, ◌++◌, length, map};
 ghost use Rattle.std.specs.List.{flat_map};
 ghost use Rattle.lock_rules.specs.Waits.{victim_of};
-ghost use Rattle.outside.specs.Bytes.{Prints};
-ghost use Rattle.desk.specs.Answers.{begun_told, turn_told, ending_told};
-ghost use Rattle.desk.specs.Lines.{line_text, Doubt, Closed, Left};
+ghost use Rattle.report_text.specs.Line.{line_told, IsShort};
+ghost use Rattle.desk.specs.Answers.{begun_told, turn_told, ending_told, stored_told, reopened_told};
+ghost use Rattle.desk.specs.Lines.{Doubt, Closed, Left, Lost};
 ghost use Rattle.desk.specs.Report.{happening_lines, cycle_lines, ending_lines};
-ghost use Rattle.outside.specs.Runs.{OnlyPuts};
-ghost use Rattle.schedule_replay.specs.Puts.{number_told, counted_lines};
+ghost use Rattle.schedule_replay.specs.Puts.{Puts, number_told, stored_number, reopened_number, counted_lines};
 
-use desk::{Begun, Cycle, Turn, TurnEnd};
+use desk::{Begun, Cycle, Reopened, Stored, Turn, TurnEnd};
 use job_text::Name;
 use outside::{Failed, Outside};
 use report_text::{Line, Reporter};
+
+/// One line.
+pub fn put_one<W: Outside>(
+    line: &Line,
+    reporter: &mut Reporter,
+    outside: &mut W,
+) -> Result<(), Failed>
+    requires { IsShort line.now }
+    ensures { Puts W.Outside (line_told line.now ∷ []) outside.old outside.new result }
+{
+    reporter.put(line, outside)
+}
 
 /// The line of a begin of the program with this place.
 pub fn put_begun<W: Outside>(
@@ -23,16 +34,15 @@ pub fn put_begun<W: Outside>(
     outside: &mut W,
 ) -> Result<(), Failed>
     requires { program < length names.now }
-    ensures only { OnlyPuts W.Outside outside.old outside.new result }
-    ensures printed { (number : ℕ) → Prints (W.printed outside.old) (W.printed outside.new) (flat_map line_text (happening_lines (map (λ name. name.items) names.now) number (begun_told program begun))) result }
+    ensures { (number : ℕ) → Puts W.Outside (happening_lines (map (λ name. name.items) names.now) number (begun_told program begun)) outside.old outside.new result }
 {
     let name = names[usize::from(program)].as_slice();
     match begun {
-        Begun::Started(activation) => reporter.put(&Line::Begin(activation, name), outside),
-        Begun::Busy(activation) => reporter.put(&Line::Busy(activation, name), outside),
+        Begun::Started(activation) => put_one(&Line::Begin(activation, name), reporter, outside),
+        Begun::Busy(activation) => put_one(&Line::Busy(activation, name), reporter, outside),
         Begun::NoSegment(activation, segment) => {
             let line = Line::NoSegment(activation, name, u32::from(segment));
-            reporter.put(&line, outside)
+            put_one(&line, reporter, outside)
         }
         Begun::Shut => Ok(()),
     }
@@ -47,11 +57,10 @@ pub fn put_turn<W: Outside>(
     outside: &mut W,
 ) -> Result<(), Failed>
     requires { length printed.now ≤ 4096 }
-    ensures only { OnlyPuts W.Outside outside.old outside.new result }
-    ensures printed { (names : List (List ℕ)) → Prints (W.printed outside.old) (W.printed outside.new) (flat_map line_text (happening_lines names (number_told turn.now.end) (turn_told activation turn.now printed.now))) result }
+    ensures { (names : List (List ℕ)) → Puts W.Outside (happening_lines names (number_told turn.now.end) (turn_told activation turn.now printed.now)) outside.old outside.new result }
 {
     match turn.end {
-        TurnEnd::Idle => reporter.put(&Line::Idle(activation), outside),
+        TurnEnd::Idle => put_one(&Line::Idle(activation), reporter, outside),
         TurnEnd::Shut => Ok(()),
         _ => put_counted(turn, activation, printed, reporter, outside),
     }
@@ -66,8 +75,7 @@ fn put_counted<W: Outside>(
     outside: &mut W,
 ) -> Result<(), Failed>
     requires { length printed.now ≤ 4096 }
-    ensures only { OnlyPuts W.Outside outside.old outside.new result }
-    ensures printed { Prints (W.printed outside.old) (W.printed outside.new) (flat_map line_text (counted_lines activation turn.now printed.now)) result }
+    ensures { Puts W.Outside (counted_lines activation turn.now printed.now) outside.old outside.new result }
 {
     let counts = Line::Turn {
         activation,
@@ -75,7 +83,7 @@ fn put_counted<W: Outside>(
         pages: turn.pages,
         locks: turn.locks,
     };
-    reporter.put(&counts, outside)?;
+    put_one(&counts, reporter, outside)?;
     put_cycles(turn.cycles.as_slice(), reporter, outside)?;
     put_end(&turn.end, activation, printed, reporter, outside)
 }
@@ -86,8 +94,7 @@ fn put_cycles<W: Outside>(
     reporter: &mut Reporter,
     outside: &mut W,
 ) -> Result<(), Failed>
-    ensures only { OnlyPuts W.Outside outside.old outside.new result }
-    ensures printed { Prints (W.printed outside.old) (W.printed outside.new) (flat_map line_text (flat_map cycle_lines (map (λ cycle. cycle.members.items) cycles.now))) result }
+    ensures { Puts W.Outside (flat_map cycle_lines (map (λ cycle. cycle.members.items) cycles.now)) outside.old outside.new result }
 {
     for cycle in cycles {
         put_cycle(cycle.members.as_slice(), reporter, outside)?;
@@ -102,11 +109,10 @@ fn put_cycle<W: Outside>(
     outside: &mut W,
 ) -> Result<(), Failed>
     requires { length members.now ≤ 17 }
-    ensures only { OnlyPuts W.Outside outside.old outside.new result }
-    ensures printed { Prints (W.printed outside.old) (W.printed outside.new) (flat_map line_text (cycle_lines members.now)) result }
+    ensures { Puts W.Outside (cycle_lines members.now) outside.old outside.new result }
 {
-    reporter.put(&Line::Cycle(members), outside)?;
-    reporter.put(&Line::Victim(greatest(members)), outside)
+    put_one(&Line::Cycle(members), reporter, outside)?;
+    put_one(&Line::Victim(greatest(members)), reporter, outside)
 }
 
 /// The greatest member of a cycle.
@@ -125,8 +131,7 @@ fn put_end<W: Outside>(
     outside: &mut W,
 ) -> Result<(), Failed>
     requires { length printed.now ≤ 4096 }
-    ensures only { OnlyPuts W.Outside outside.old outside.new result }
-    ensures printed { Prints (W.printed outside.old) (W.printed outside.new) (flat_map line_text (ending_lines (number_told end.now) activation (ending_told end.now printed.now))) result }
+    ensures { Puts W.Outside (ending_lines (number_told end.now) activation (ending_told end.now printed.now)) outside.old outside.new result }
 {
     match end {
         TurnEnd::Idle | TurnEnd::Limit | TurnEnd::Victim | TurnEnd::Shut => Ok(()),
@@ -137,7 +142,7 @@ fn put_end<W: Outside>(
                 steps: *steps,
                 out: printed,
             };
-            reporter.put(&commit, outside)
+            put_one(&commit, reporter, outside)
         }
         TurnEnd::Checked(code, iar) => {
             let check = Line::Check {
@@ -145,10 +150,14 @@ fn put_end<W: Outside>(
                 code: u32::from(*code),
                 iar: *iar,
             };
-            reporter.put(&check, outside)
+            put_one(&check, reporter, outside)
         }
         TurnEnd::Waits(_, holders) => {
-            reporter.put(&Line::Wait(activation, holders.as_slice()), outside)
+            put_one(
+                &Line::Wait(activation, holders.as_slice()),
+                reporter,
+                outside,
+            )
         }
         TurnEnd::Journal(lines, limit) => {
             let journal = Line::Journal {
@@ -156,10 +165,10 @@ fn put_end<W: Outside>(
                 lines: *lines,
                 limit: *limit,
             };
-            reporter.put(&journal, outside)
+            put_one(&journal, reporter, outside)
         }
-        TurnEnd::Disk => reporter.put(&Line::Disk(activation), outside),
-        TurnEnd::Closed { doubt: None, .. } => reporter.put(&Line::Closed, outside),
+        TurnEnd::Disk => put_one(&Line::Disk(activation), reporter, outside),
+        TurnEnd::Closed { doubt: None, .. } => put_one(&Line::Closed, reporter, outside),
         TurnEnd::Closed {
             doubt: Some(_),
             number,
@@ -174,11 +183,10 @@ fn put_doubt<W: Outside>(
     reporter: &mut Reporter,
     outside: &mut W,
 ) -> Result<(), Failed>
-    ensures only { OnlyPuts W.Outside outside.old outside.new result }
-    ensures printed { Prints (W.printed outside.old) (W.printed outside.new) (flat_map line_text (Doubt activation number ∷ Closed ∷ [])) result }
+    ensures { Puts W.Outside (Doubt activation number ∷ Closed ∷ []) outside.old outside.new result }
 {
-    reporter.put(&Line::Doubt(activation, number), outside)?;
-    reporter.put(&Line::Closed, outside)
+    put_one(&Line::Doubt(activation, number), reporter, outside)?;
+    put_one(&Line::Closed, reporter, outside)
 }
 
 /// A line for each activation that was active at the end.
@@ -187,11 +195,71 @@ pub fn put_left<W: Outside>(
     reporter: &mut Reporter,
     outside: &mut W,
 ) -> Result<(), Failed>
-    ensures only { OnlyPuts W.Outside outside.old outside.new result }
-    ensures printed { Prints (W.printed outside.old) (W.printed outside.new) (flat_map line_text (map Left activations.now)) result }
+    ensures { Puts W.Outside (map Left activations.now) outside.old outside.new result }
 {
     for activation in activations {
-        reporter.put(&Line::Left(*activation), outside)?;
+        put_one(&Line::Left(*activation), reporter, outside)?;
     }
     Ok(())
+}
+
+/// A line for each activation that a crash ended.
+pub fn put_lost<W: Outside>(
+    activations: &[u32],
+    reporter: &mut Reporter,
+    outside: &mut W,
+) -> Result<(), Failed>
+    ensures { Puts W.Outside (map Lost activations.now) outside.old outside.new result }
+{
+    for activation in activations {
+        put_one(&Line::Lost(*activation), reporter, outside)?;
+    }
+    Ok(())
+}
+
+/// The line of a checkpoint; one of a desk that was closed before has none.
+pub fn put_stored<W: Outside>(
+    stored: Stored,
+    reporter: &mut Reporter,
+    outside: &mut W,
+) -> Result<(), Failed>
+    ensures { (names : List (List ℕ)) → Puts W.Outside (happening_lines names (stored_number stored) (stored_told stored)) outside.old outside.new result }
+{
+    match stored {
+        Stored::Number(number) => put_one(&Line::Stored(number), reporter, outside),
+        Stored::Closed => put_one(&Line::Closed, reporter, outside),
+        Stored::Shut => Ok(()),
+    }
+}
+
+/// The lines of a crash: those that it ended, and the store that is open again, or closed; one of a desk that was closed
+/// before has none.
+pub fn put_reopened<W: Outside>(
+    reopened: Reopened,
+    lost: &[u32],
+    reporter: &mut Reporter,
+    outside: &mut W,
+) -> Result<(), Failed>
+    ensures { (names : List (List ℕ)) → Puts W.Outside (happening_lines names (reopened_number reopened) (reopened_told lost.now reopened)) outside.old outside.new result }
+{
+    match reopened {
+        Reopened::Shut => Ok(()),
+        Reopened::Number(number) => put_lost_and(lost, &Line::Open(number), reporter, outside),
+        Reopened::Damaged(_) => put_lost_and(lost, &Line::Closed, reporter, outside),
+        Reopened::DiskFault => put_lost_and(lost, &Line::Closed, reporter, outside),
+    }
+}
+
+/// A line for each activation that a crash ended, and one more.
+fn put_lost_and<W: Outside>(
+    lost: &[u32],
+    last: &Line,
+    reporter: &mut Reporter,
+    outside: &mut W,
+) -> Result<(), Failed>
+    requires { IsShort last.now }
+    ensures { Puts W.Outside (map Lost lost.now ++ line_told last.now ∷ []) outside.old outside.new result }
+{
+    put_lost(lost, reporter, outside)?;
+    put_one(last, reporter, outside)
 }

@@ -1,15 +1,26 @@
-use Rattle.std.proofs.Common.{◌≡◌, [], ◌+◌, List, length, map, take, drop, refl, ap, ◌∙◌, arith, rules, append-nil}
+use Rattle.std.proofs.Common.{◌≡◌, [], ◌+◌, List, length, map, take, drop, refl, sym, ap, ◌∙◌, arith, rules, append-nil}
 use Rattle.std.specs.Prelude.{Ok, false}
 use Rattle.std.proofs.lemmas.List.{take-append-drop, take_all}
 use Rattle.flat_machine.specs.declared.machine.Program.{Program}
 use Rattle.desk.specs.declared.event.Event.TheVariants.{Begin}
 use Rattle.schedule_replay.specs.declared.events.Going.TheVariants as going
-use Rattle.schedule_replay.specs.Replays.{is_closed}
+use Rattle.schedule_replay.specs.Replays.{is_closed, is_damaged}
 use Rattle.outside.proofs.Prints.{prints_broken, prints_well}
-use Rattle.schedule_replay.proofs.AnsweredLemmas.{ready_next, answered_more, answered_well, answered_broken}
-use Rattle.schedule_replay.proofs.RanLemmas.{ran_as}
-use Rattle.schedule_replay.proofs.ReportLemmas.{ran_more, if_ok_broken}
+use Rattle.schedule_replay.proofs.AnsweredLemmas.{answered_none, ready_next, answered_more, answered_well, answered_broken, goes_since}
+use Rattle.schedule_replay.proofs.WentLemmas.{names_are}
+use Rattle.schedule_replay.proofs.RanLemmas.{ran_as, ran_next, ran_none}
+use Rattle.schedule_replay.proofs.ReportLemmas.{if_ok_broken, not_on}
 use Rattle.schedule_replay.proofs.events.put_events.Goals as goal
+
+pub loop-event-init : goal.loop-event-init
+loop-event-init g c =
+    let S = g.S.Supervisor in
+    let L = g.met.S.Supervisor in
+    record {
+      answered = answered_none S g.W.Outside g.met.W.Outside.fewer_later c.args.desk.now c.args.outside.now c.requires.ready.sound c.requires.ready.bytes;
+      still = λ was_open. was_open;
+      ran = λ start sure shows. ran_none S g.W.Outside g.met.W.Outside.printed_now L.shown_stands L.shown_open L.open_shown L.order_shown (map (λ name. name.items) c.args.names.now) (S.programs c.args.desk.now) start c.args.desk.now c.args.outside.now sure shows;
+    }
 
 pub answer-requires-clause-ready : goal.answer-requires-clause-ready
 answer-requires-clause-ready g c =
@@ -20,82 +31,93 @@ answer-requires-clause-names g c =
     let same = ap (λ (programs : List Program). length programs) c.loop-event.invariant.answered.programs in
     omega (arith, same, c.requires.names)
 
-pub returns-in_err-answer : goal.returns-in_err-answer
-returns-in_err-answer g c =
+pub returns-in_err-going-clause-answered : goal.returns-in_err-going-clause-answered
+returns-in_err-going-clause-answered g c = (
+  c.loop-event.event-index + 1,
+  answered_broken g.S.Supervisor g.W.Outside g.met.W.Outside.fewer_later _ c.args.desk.now c.answer.new.desk c.args.outside.now c.answer.new.outside c.answer.result c.from_residual.result (search rules) c.from_residual.ensures.0
+      (answered_more g.S.Supervisor g.W.Outside g.met.W.Outside.fewer_later c.args.events.now c.loop-event.event-index (Begin 0 []) c.loop-event-test.true c.args.desk.now c.loop-event.desk c.args.outside.now c.loop-event.outside c.answer.new.desk c.answer.new.outside c.answer.result c.loop-event.invariant.answered c.answer.ensures.answered),
+)
+
+pub returns-in_err-going-clause-ran : goal.returns-in_err-going-clause-ran
+returns-in_err-going-clause-ran g c =
+    λ start sure shows.
+    let S = g.S.Supervisor in
+    let G = g.W.Outside in
     let now = c.loop-event.invariant in
     let names = map (λ name. name.items) c.args.names.now in
+    let are = names_are (λ name. name.items) c.args.names.now c.requires.unbroken in
+    let still = now.still (g.met.S.Supervisor.open_shown c.args.desk.now _ start shows) in
     record {
-      answered = (
-        c.loop-event.event-index + 1,
-        answered_broken g.S.Supervisor g.W.Outside g.met.W.Outside.fewer_later _ c.args.desk.now c.answer.new.desk c.args.outside.now c.answer.new.outside c.answer.result c.from_residual.result (search rules) c.from_residual.ensures.0
-            (answered_more g.S.Supervisor g.W.Outside g.met.W.Outside.fewer_later c.args.events.now c.loop-event.event-index (Begin 0 []) c.loop-event-test.true c.args.desk.now c.loop-event.desk c.args.outside.now c.loop-event.outside c.answer.new.desk c.answer.new.outside c.answer.result now.answered c.answer.ensures.answered),
-      );
-      ran = λ answers was_open.
-          let so_far = now.ran answers was_open in
-          let still = now.still answers was_open in
-          record {
-            front = take (c.loop-event.event-index + 1) c.args.events.now;
-            rest = drop (c.loop-event.event-index + 1) c.args.events.now;
-            whole = take-append-drop (c.loop-event.event-index + 1) c.args.events.now;
-            ran = ran_as g.S.Supervisor g.W.Outside names _ c.args.desk.now c.answer.new.desk c.args.outside.now c.answer.new.outside c.answer.result c.from_residual.result (prints_broken c.answer.result c.from_residual.result (search rules) c.from_residual.ensures.0)
-                (ran_more g.S.Supervisor g.W.Outside names c.args.events.now c.loop-event.event-index (Begin 0 []) c.loop-event-test.true c.args.desk.now c.loop-event.desk c.answer.new.desk c.args.outside.now c.loop-event.outside c.answer.new.outside c.answer.result now.answered.programs now.answered.opened still so_far (c.answer.ensures.ran so_far.answers still));
-            closed = if_ok_broken c.from_residual.result (λ going. (g.S.Supervisor.desk c.answer.new.desk).closed ≡ is_closed going) c.from_residual.ensures.0;
-            all = if_ok_broken c.from_residual.result (λ going. is_closed going ≡ false → drop (c.loop-event.event-index + 1) c.args.events.now ≡ []) c.from_residual.ensures.0;
-          };
+      front = take (c.loop-event.event-index + 1) c.args.events.now;
+      rest = drop (c.loop-event.event-index + 1) c.args.events.now;
+      whole = take-append-drop (c.loop-event.event-index + 1) c.args.events.now;
+      ran = ran_as S G g.met.W.Outside.fewer_later names are (S.programs c.args.desk.now) (S.opened c.args.desk.now) _ start c.answer.new.desk c.args.outside.now c.answer.new.outside c.answer.result c.from_residual.result (prints_broken c.answer.result c.from_residual.result (search rules) c.from_residual.ensures.0)
+          (ran_next S G g.met.W.Outside.fewer_later names are (S.programs c.args.desk.now) (S.opened c.args.desk.now) c.args.events.now c.loop-event.event-index (Begin 0 []) c.loop-event-test.true start c.loop-event.desk c.answer.new.desk c.args.outside.now c.loop-event.outside c.answer.new.outside c.answer.result still now.answered.programs now.answered.opened (now.ran start sure shows) c.answer.ensures.ran);
+      closed = if_ok_broken c.from_residual.result (λ going. S.closed c.answer.new.desk ≡ is_closed going) c.from_residual.ensures.0;
+      sound = if_ok_broken c.from_residual.result (λ going. is_damaged going ≡ false) c.from_residual.ensures.0;
+      all = if_ok_broken c.from_residual.result (λ going. is_closed going ≡ false → drop (c.loop-event.event-index + 1) c.args.events.now ≡ []) c.from_residual.ensures.0;
     }
 
-pub returns-in-Closed : goal.returns-in-Closed
-returns-in-Closed g c =
+pub returns-in_default : goal.returns-in_default
+returns-in_default g c =
+    let S = g.S.Supervisor in
+    let G = g.W.Outside in
     let now = c.loop-event.invariant in
     let names = map (λ name. name.items) c.args.names.now in
+    let are = names_are (λ name. name.items) c.args.names.now c.requires.unbroken in
     record {
       answered = (
         c.loop-event.event-index + 1,
-        answered_well g.S.Supervisor g.W.Outside g.met.W.Outside.fewer_later _ c.args.desk.now c.answer.new.desk c.args.outside.now c.answer.new.outside c.in_ok-answer.field-0 going.Closed
-            (answered_more g.S.Supervisor g.W.Outside g.met.W.Outside.fewer_later c.args.events.now c.loop-event.event-index (Begin 0 []) c.loop-event-test.true c.args.desk.now c.loop-event.desk c.args.outside.now c.loop-event.outside c.answer.new.desk c.answer.new.outside (Ok c.in_ok-answer.field-0) now.answered c.in_ok-answer.ensures.answered),
+        answered_well S G g.met.W.Outside.fewer_later _ c.args.desk.now c.answer.new.desk c.args.outside.now c.answer.new.outside c.in_ok-going.going _
+            (answered_more S G g.met.W.Outside.fewer_later c.args.events.now c.loop-event.event-index (Begin 0 []) c.loop-event-test.true c.args.desk.now c.loop-event.desk c.args.outside.now c.loop-event.outside c.answer.new.desk c.answer.new.outside (Ok c.in_ok-going.going) now.answered c.in_ok-going.ensures.answered),
       );
-      ran = λ answers was_open.
-          let so_far = now.ran answers was_open in
-          let still = now.still answers was_open in
+      goes = goes_since S G c.in_ok-going.going c.args.desk.now c.loop-event.desk c.answer.new.desk c.args.outside.now c.loop-event.outside c.answer.new.outside now.answered.header now.still now.answered.disk c.in_ok-going.ensures.goes;
+      ran = λ start sure shows.
+          let still = now.still (g.met.S.Supervisor.open_shown c.args.desk.now _ start shows) in
+          let before = (now.ran start sure shows).still (sym (now.ran start sure shows).closes ∙ still) in
           record {
             front = take (c.loop-event.event-index + 1) c.args.events.now;
             rest = drop (c.loop-event.event-index + 1) c.args.events.now;
             whole = take-append-drop (c.loop-event.event-index + 1) c.args.events.now;
-            ran = ran_as g.S.Supervisor g.W.Outside names _ c.args.desk.now c.answer.new.desk c.args.outside.now c.answer.new.outside (Ok c.in_ok-answer.field-0) (Ok going.Closed) (λ one two bytes prints. prints_well one two bytes c.in_ok-answer.field-0 going.Closed prints)
-                (ran_more g.S.Supervisor g.W.Outside names c.args.events.now c.loop-event.event-index (Begin 0 []) c.loop-event-test.true c.args.desk.now c.loop-event.desk c.answer.new.desk c.args.outside.now c.loop-event.outside c.answer.new.outside (Ok c.in_ok-answer.field-0) now.answered.programs now.answered.opened still so_far (c.in_ok-answer.ensures.ran so_far.answers still));
-            closed = c.in_ok-answer.ensures.going so_far.answers still ∙ ap is_closed c.in-Closed.is;
-            all = λ no. cc;
+            ran = ran_as S G g.met.W.Outside.fewer_later names are (S.programs c.args.desk.now) (S.opened c.args.desk.now) _ start c.answer.new.desk c.args.outside.now c.answer.new.outside (Ok c.in_ok-going.going) (Ok c.in_ok-going.going) (λ one two bytes prints. prints)
+                (ran_next S G g.met.W.Outside.fewer_later names are (S.programs c.args.desk.now) (S.opened c.args.desk.now) c.args.events.now c.loop-event.event-index (Begin 0 []) c.loop-event-test.true start c.loop-event.desk c.answer.new.desk c.args.outside.now c.loop-event.outside c.answer.new.outside (Ok c.in_ok-going.going) still now.answered.programs now.answered.opened (now.ran start sure shows) c.in_ok-going.ensures.ran);
+            closed = c.in_ok-going.ensures.closed;
+            sound = c.in_ok-going.ensures.undamaged _ before.0 before.1;
+            all = λ goes_on. absurd (not_on c.in_ok-going.going c.in_default.not-On goes_on);
           };
     }
 
 pub loop-event-preserved : goal.loop-event-preserved
 loop-event-preserved g c =
+    let S = g.S.Supervisor in
+    let G = g.W.Outside in
     let now = c.loop-event.invariant in
     let names = map (λ name. name.items) c.args.names.now in
+    let are = names_are (λ name. name.items) c.args.names.now c.requires.unbroken in
     record {
-      answered = answered_well g.S.Supervisor g.W.Outside g.met.W.Outside.fewer_later _ c.args.desk.now c.answer.new.desk c.args.outside.now c.answer.new.outside c.in_ok-answer.field-0 0
-          (answered_more g.S.Supervisor g.W.Outside g.met.W.Outside.fewer_later c.args.events.now c.loop-event.event-index (Begin 0 []) c.loop-event-test.true c.args.desk.now c.loop-event.desk c.args.outside.now c.loop-event.outside c.answer.new.desk c.answer.new.outside (Ok c.in_ok-answer.field-0) now.answered c.in_ok-answer.ensures.answered);
-      ran = λ answers was_open.
-          let so_far = now.ran answers was_open in
-          let still = now.still answers was_open in
-          ran_as g.S.Supervisor g.W.Outside names _ c.args.desk.now c.answer.new.desk c.args.outside.now c.answer.new.outside (Ok c.in_ok-answer.field-0) (Ok 0) (λ one two bytes prints. prints_well one two bytes c.in_ok-answer.field-0 0 prints)
-          (ran_more g.S.Supervisor g.W.Outside names c.args.events.now c.loop-event.event-index (Begin 0 []) c.loop-event-test.true c.args.desk.now c.loop-event.desk c.answer.new.desk c.args.outside.now c.loop-event.outside c.answer.new.outside (Ok c.in_ok-answer.field-0) now.answered.programs now.answered.opened still so_far (c.in_ok-answer.ensures.ran so_far.answers still));
-      still = λ answers was_open. c.in_ok-answer.ensures.going (now.ran answers was_open).answers (now.still answers was_open) ∙ ap is_closed c.in-On.is;
+      answered = answered_well S G g.met.W.Outside.fewer_later _ c.args.desk.now c.answer.new.desk c.args.outside.now c.answer.new.outside c.in_ok-going.going 0
+          (answered_more S G g.met.W.Outside.fewer_later c.args.events.now c.loop-event.event-index (Begin 0 []) c.loop-event-test.true c.args.desk.now c.loop-event.desk c.args.outside.now c.loop-event.outside c.answer.new.desk c.answer.new.outside (Ok c.in_ok-going.going) now.answered c.in_ok-going.ensures.answered);
+      still = λ was_open. c.in_ok-going.ensures.closed ∙ ap is_closed c.in-On.is;
+      ran = λ start sure shows.
+          let still = now.still (g.met.S.Supervisor.open_shown c.args.desk.now _ start shows) in
+          ran_as S G g.met.W.Outside.fewer_later names are (S.programs c.args.desk.now) (S.opened c.args.desk.now) _ start c.answer.new.desk c.args.outside.now c.answer.new.outside (Ok c.in_ok-going.going) (Ok 0) (λ one two bytes prints. prints_well one two bytes c.in_ok-going.going 0 prints)
+          (ran_next S G g.met.W.Outside.fewer_later names are (S.programs c.args.desk.now) (S.opened c.args.desk.now) c.args.events.now c.loop-event.event-index (Begin 0 []) c.loop-event-test.true start c.loop-event.desk c.answer.new.desk c.args.outside.now c.loop-event.outside c.answer.new.outside (Ok c.in_ok-going.going) still now.answered.programs now.answered.opened (now.ran start sure shows) c.in_ok-going.ensures.ran);
     }
 
-pub returns : goal.returns
-returns g c =
+pub returns-clause-ran : goal.returns-clause-ran
+returns-clause-ran g c =
+    λ start sure shows.
+    let S = g.S.Supervisor in
+    let G = g.W.Outside in
     let now = c.loop-event.invariant in
     let names = map (λ name. name.items) c.args.names.now in
+    let are = names_are (λ name. name.items) c.args.names.now c.requires.unbroken in
     record {
-      answered = (c.loop-event.event-index, answered_well g.S.Supervisor g.W.Outside g.met.W.Outside.fewer_later _ c.args.desk.now c.loop-event.desk c.args.outside.now c.loop-event.outside 0 going.On now.answered);
-      ran = λ answers was_open.
-          record {
-            front = take c.loop-event.event-index c.args.events.now;
-            rest = [];
-            whole = append-nil (take c.loop-event.event-index c.args.events.now) ∙ take_all c.loop-event.event-index c.args.events.now c.loop-event-test.false;
-            ran = ran_as g.S.Supervisor g.W.Outside names _ c.args.desk.now c.loop-event.desk c.args.outside.now c.loop-event.outside (Ok 0) (Ok going.On) (λ one two bytes prints. prints_well one two bytes 0 going.On prints) (now.ran answers was_open);
-            closed = now.still answers was_open;
-            all = λ still. refl;
-          };
+      front = take c.loop-event.event-index c.args.events.now;
+      rest = [];
+      whole = append-nil (take c.loop-event.event-index c.args.events.now) ∙ take_all c.loop-event.event-index c.args.events.now c.loop-event-test.false;
+      ran = ran_as S G g.met.W.Outside.fewer_later names are (S.programs c.args.desk.now) (S.opened c.args.desk.now) _ start c.loop-event.desk c.args.outside.now c.loop-event.outside (Ok 0) (Ok going.On) (λ one two bytes prints. prints_well one two bytes 0 going.On prints) (now.ran start sure shows);
+      closed = now.still (g.met.S.Supervisor.open_shown c.args.desk.now _ start shows);
+      sound = refl;
+      all = λ still. refl;
     }

@@ -1,17 +1,14 @@
 use Rattle.std.proofs.Common.{ℕ, ◌∷◌, [], ap, rules}
-use Rattle.std.specs.List.{flat_map}
 use Rattle.lock_rules.specs.Waits.{victim_of}
-use Rattle.desk.specs.Lines.{line_text, Cycle, Victim}
-use Rattle.outside.proofs.Prints.{prints_on, prints_stop, prints_same}
-use Rattle.schedule_replay.proofs.PutsLemmas.{prints_one}
+use Rattle.desk.specs.Lines.{Cycle, Victim}
+use Rattle.schedule_replay.proofs.PutsLemmas.{puts_on, puts_stop, puts_same}
 use Rattle.schedule_replay.proofs.lines.put_cycle.Goals as goal
 
-pub returns-in_err-put-clause-printed : goal.returns-in_err-put-clause-printed
-returns-in_err-put-clause-printed g c =
-    prints_stop (g.W.Outside.printed c.args.outside.now) (g.W.Outside.printed c.put.new.outside) (line_text (Cycle c.args.members.now)) (flat_map line_text (Victim (victim_of c.args.members.now) ∷ [])) c.put.result c.from_residual.result (search rules) c.from_residual.ensures.0 c.put.ensures.printed
+pub returns-in_err-put_one : goal.returns-in_err-put_one
+returns-in_err-put_one g c =
+    puts_stop g.W.Outside c.args.outside.now c.put_one.new.outside (Cycle c.args.members.now ∷ []) (Victim (victim_of c.args.members.now) ∷ []) c.put_one.result c.from_residual.result (search rules) c.from_residual.ensures.0 c.put_one.ensures
 
-pub returns-clause-printed : goal.returns-clause-printed
-returns-clause-printed g c =
-    prints_on (g.W.Outside.printed c.args.outside.now) (g.W.Outside.printed c.put.new.outside) (g.W.Outside.printed c.put-2.new.outside) (line_text (Cycle c.args.members.now)) (flat_map line_text (Victim (victim_of c.args.members.now) ∷ [])) c.in_ok-put.field-0 c.put-2.result c.in_ok-put.ensures.printed
-    (prints_one (g.W.Outside.printed c.put.new.outside) (g.W.Outside.printed c.put-2.new.outside) (Victim (victim_of c.args.members.now)) c.put-2.result
-    (prints_same (g.W.Outside.printed c.put.new.outside) (g.W.Outside.printed c.put-2.new.outside) (line_text (Victim c.greatest.result)) (line_text (Victim (victim_of c.args.members.now))) c.put-2.result (ap (λ (victim : ℕ). line_text (Victim victim)) c.greatest.ensures) c.put-2.ensures.printed))
+pub returns : goal.returns
+returns g c =
+    puts_on g.W.Outside g.met.W.Outside.printed_now g.met.W.Outside.fewer_later c.args.outside.now c.put_one.new.outside c.put_one-2.new.outside (Cycle c.args.members.now ∷ []) (Victim (victim_of c.args.members.now) ∷ []) c.in_ok-put_one.field-0 c.put_one-2.result c.in_ok-put_one.ensures
+    (puts_same g.W.Outside c.put_one.new.outside c.put_one-2.new.outside (Victim c.greatest.result ∷ []) (Victim (victim_of c.args.members.now) ∷ []) c.put_one-2.result (ap (λ (victim : ℕ). Victim victim ∷ []) c.greatest.ensures) c.put_one-2.ensures)

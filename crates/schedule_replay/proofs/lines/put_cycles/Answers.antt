@@ -1,15 +1,34 @@
-use Rattle.std.proofs.Common.{ℕ, List, get_or, map, rules, ap, ◌∙◌}
-use Rattle.std.specs.List.{flat_map}
+use Rattle.std.proofs.Common.{◌≡◌, ℕ, ◌+◌, List, [], ◌∷◌, take, get_or, rules, ap, ◌∙◌, sym, append-nil}
+use Rattle.std.specs.Prelude.{Ok}
+use Rattle.std.proofs.lemmas.List.{take_all}
 use Rattle.desk.specs.declared.answers.Cycle.{Cycle}
-use Rattle.desk.specs.Lines.{line_text}
 use Rattle.desk.specs.Report.{cycle_lines}
-use Rattle.outside.proofs.Prints.{prints_no_more, prints_same}
-use Rattle.schedule_replay.proofs.PutsLemmas.{cycles_split}
+use Rattle.schedule_replay.proofs.PutsLemmas.{puts_none, puts_more, puts_no_more, puts_same, puts_well, cycles_of, cycles_split}
 use Rattle.schedule_replay.proofs.lines.put_cycles.Goals as goal
 
-pub returns-in_err-put_cycle-clause-printed : goal.returns-in_err-put_cycle-clause-printed
-returns-in_err-put_cycle-clause-printed g c =
+pub loop-cycle-init : goal.loop-cycle-init
+loop-cycle-init g c = puts_none g.W.Outside g.met.W.Outside.printed_now c.args.outside.now 0
+
+-- the lines of one cycle
+one : (cycle : Cycle) (items : List ℕ) → items ≡ cycle.members.items → cycle_lines items ≡ cycles_of (cycle ∷ [])
+one cycle items is = ap cycle_lines is ∙ sym (append-nil (cycle_lines cycle.members.items))
+
+pub returns-in_err-put_cycle : goal.returns-in_err-put_cycle
+returns-in_err-put_cycle g c =
+    let G = g.W.Outside in
     let cycle = get_or c.args.cycles.now c.loop-cycle.cycle-index c.cycle-item.result in
-    prints_no_more (λ (these : List Cycle). flat_map line_text (flat_map cycle_lines (map (λ each. each.members.items) these))) cycles_split c.args.cycles.now c.loop-cycle.cycle-index c.cycle-item.result c.loop-cycle-test.true (g.W.Outside.printed c.args.outside.now) (g.W.Outside.printed c.loop-cycle.outside) (g.W.Outside.printed c.put_cycle.new.outside) 0 c.put_cycle.result c.from_residual.result (search rules) c.from_residual.ensures.0 c.loop-cycle.invariant.printed
-    (prints_same (g.W.Outside.printed c.loop-cycle.outside) (g.W.Outside.printed c.put_cycle.new.outside) (flat_map line_text (cycle_lines c.as_slice.result.now)) (flat_map line_text (cycle_lines cycle.members.items)) c.put_cycle.result
-    (ap (λ (members : List ℕ). flat_map line_text (cycle_lines members)) (c.as_slice.ensures.value ∙ ap (λ (each : Cycle). each.members.items) c.cycle-item.is)) c.put_cycle.ensures.printed)
+    puts_no_more G g.met.W.Outside.printed_now g.met.W.Outside.fewer_later cycles_of cycles_split c.args.cycles.now c.loop-cycle.cycle-index c.cycle-item.result c.loop-cycle-test.true c.args.outside.now c.loop-cycle.outside c.put_cycle.new.outside 0 c.put_cycle.result c.from_residual.result (search rules) c.from_residual.ensures.0 c.loop-cycle.invariant
+    (puts_same G c.loop-cycle.outside c.put_cycle.new.outside (cycle_lines c.as_slice.result.now) (cycles_of (cycle ∷ [])) c.put_cycle.result (one cycle c.as_slice.result.now (c.as_slice.ensures.value ∙ ap (λ (each : Cycle). each.members.items) c.cycle-item.is)) c.put_cycle.ensures)
+
+pub loop-cycle-preserved : goal.loop-cycle-preserved
+loop-cycle-preserved g c =
+    let G = g.W.Outside in
+    let cycle = get_or c.args.cycles.now c.loop-cycle.cycle-index c.cycle-item.result in
+    puts_well G c.args.outside.now c.put_cycle.new.outside (cycles_of (take (c.loop-cycle.cycle-index + 1) c.args.cycles.now)) c.in_ok-put_cycle.field-0 0
+    (puts_more G g.met.W.Outside.printed_now g.met.W.Outside.fewer_later cycles_of cycles_split c.args.cycles.now c.loop-cycle.cycle-index c.cycle-item.result c.loop-cycle-test.true c.args.outside.now c.loop-cycle.outside c.put_cycle.new.outside 0 (Ok c.in_ok-put_cycle.field-0) c.loop-cycle.invariant
+    (puts_same G c.loop-cycle.outside c.put_cycle.new.outside (cycle_lines c.as_slice.result.now) (cycles_of (cycle ∷ [])) (Ok c.in_ok-put_cycle.field-0) (one cycle c.as_slice.result.now (c.as_slice.ensures.value ∙ ap (λ (each : Cycle). each.members.items) c.cycle-item.is)) c.in_ok-put_cycle.ensures))
+
+pub returns : goal.returns
+returns g c =
+    puts_same g.W.Outside c.args.outside.now c.loop-cycle.outside (cycles_of (take c.loop-cycle.cycle-index c.args.cycles.now)) (cycles_of c.args.cycles.now) _ (ap cycles_of (take_all c.loop-cycle.cycle-index c.args.cycles.now c.loop-cycle-test.false))
+    (puts_well g.W.Outside c.args.outside.now c.loop-cycle.outside (cycles_of (take c.loop-cycle.cycle-index c.args.cycles.now)) 0 tt c.loop-cycle.invariant)

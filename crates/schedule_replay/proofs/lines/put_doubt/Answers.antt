@@ -1,13 +1,12 @@
 use Rattle.std.proofs.Common.{◌∷◌, [], rules}
-use Rattle.std.specs.List.{flat_map}
-use Rattle.desk.specs.Lines.{line_text, Doubt, Closed}
-use Rattle.outside.proofs.Prints.{prints_on, prints_stop}
+use Rattle.desk.specs.Lines.{Doubt, Closed}
+use Rattle.schedule_replay.proofs.PutsLemmas.{puts_on, puts_stop}
 use Rattle.schedule_replay.proofs.lines.put_doubt.Goals as goal
 
-pub returns-in_err-put-clause-printed : goal.returns-in_err-put-clause-printed
-returns-in_err-put-clause-printed g c =
-    prints_stop (g.W.Outside.printed c.args.outside.now) (g.W.Outside.printed c.put.new.outside) (line_text (Doubt c.args.activation c.args.number)) (flat_map line_text (Closed ∷ [])) c.put.result c.from_residual.result (search rules) c.from_residual.ensures.0 c.put.ensures.printed
+pub returns-in_err-put_one : goal.returns-in_err-put_one
+returns-in_err-put_one g c =
+    puts_stop g.W.Outside c.args.outside.now c.put_one.new.outside (Doubt c.args.activation c.args.number ∷ []) (Closed ∷ []) c.put_one.result c.from_residual.result (search rules) c.from_residual.ensures.0 c.put_one.ensures
 
-pub returns-clause-printed : goal.returns-clause-printed
-returns-clause-printed g c =
-    prints_on (g.W.Outside.printed c.args.outside.now) (g.W.Outside.printed c.put.new.outside) (g.W.Outside.printed c.put-2.new.outside) (line_text (Doubt c.args.activation c.args.number)) (flat_map line_text (Closed ∷ [])) c.in_ok-put.field-0 c.put-2.result c.in_ok-put.ensures.printed c.put-2.ensures.printed
+pub returns : goal.returns
+returns g c =
+    puts_on g.W.Outside g.met.W.Outside.printed_now g.met.W.Outside.fewer_later c.args.outside.now c.put_one.new.outside c.put_one-2.new.outside (Doubt c.args.activation c.args.number ∷ []) (Closed ∷ []) c.in_ok-put_one.field-0 c.put_one-2.result c.in_ok-put_one.ensures c.put_one-2.ensures

@@ -1,12 +1,23 @@
-use Rattle.std.proofs.Common.{ℕ, List, get_or, map, rules}
-use Rattle.std.specs.List.{flat_map}
-use Rattle.desk.specs.Lines.{line_text, Left}
-use Rattle.outside.proofs.Prints.{prints_no_more}
-use Rattle.schedule_replay.proofs.PutsLemmas.{prints_one, left_split}
+use Rattle.std.proofs.Common.{ℕ, List, map, take, rules, ap}
+use Rattle.std.specs.Prelude.{Ok}
+use Rattle.std.proofs.lemmas.List.{take_all}
+use Rattle.desk.specs.Lines.{Left}
+use Rattle.schedule_replay.proofs.PutsLemmas.{puts_none, puts_more, puts_no_more, puts_same, puts_well, left_split}
 use Rattle.schedule_replay.proofs.lines.put_left.Goals as goal
 
-pub returns-in_err-put-clause-printed : goal.returns-in_err-put-clause-printed
-returns-in_err-put-clause-printed g c =
-    let line = Left (get_or c.args.activations.now c.loop-activation.activation-index 0) in
-    prints_no_more (λ (these : List ℕ). flat_map line_text (map Left these)) left_split c.args.activations.now c.loop-activation.activation-index 0 c.loop-activation-test.true (g.W.Outside.printed c.args.outside.now) (g.W.Outside.printed c.loop-activation.outside) (g.W.Outside.printed c.put.new.outside) 0 c.put.result c.from_residual.result (search rules) c.from_residual.ensures.0 c.loop-activation.invariant.printed
-    (prints_one (g.W.Outside.printed c.loop-activation.outside) (g.W.Outside.printed c.put.new.outside) line c.put.result c.put.ensures.printed)
+pub loop-activation-init : goal.loop-activation-init
+loop-activation-init g c = puts_none g.W.Outside g.met.W.Outside.printed_now c.args.outside.now 0
+
+pub returns-in_err-put_one : goal.returns-in_err-put_one
+returns-in_err-put_one g c =
+    puts_no_more g.W.Outside g.met.W.Outside.printed_now g.met.W.Outside.fewer_later (λ (these : List ℕ). map Left these) left_split c.args.activations.now c.loop-activation.activation-index 0 c.loop-activation-test.true c.args.outside.now c.loop-activation.outside c.put_one.new.outside 0 c.put_one.result c.from_residual.result (search rules) c.from_residual.ensures.0 c.loop-activation.invariant c.put_one.ensures
+
+pub loop-activation-preserved : goal.loop-activation-preserved
+loop-activation-preserved g c =
+    puts_well g.W.Outside c.args.outside.now c.put_one.new.outside (map Left (take _ c.args.activations.now)) c.in_ok-put_one.field-0 0
+    (puts_more g.W.Outside g.met.W.Outside.printed_now g.met.W.Outside.fewer_later (λ (these : List ℕ). map Left these) left_split c.args.activations.now c.loop-activation.activation-index 0 c.loop-activation-test.true c.args.outside.now c.loop-activation.outside c.put_one.new.outside 0 (Ok c.in_ok-put_one.field-0) c.loop-activation.invariant c.in_ok-put_one.ensures)
+
+pub returns : goal.returns
+returns g c =
+    puts_same g.W.Outside c.args.outside.now c.loop-activation.outside (map Left (take c.loop-activation.activation-index c.args.activations.now)) (map Left c.args.activations.now) _ (ap (λ (these : List ℕ). map Left these) (take_all c.loop-activation.activation-index c.args.activations.now c.loop-activation-test.false))
+    (puts_well g.W.Outside c.args.outside.now c.loop-activation.outside (map Left (take c.loop-activation.activation-index c.args.activations.now)) 0 tt c.loop-activation.invariant)

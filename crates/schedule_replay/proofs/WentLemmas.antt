@@ -1,0 +1,206 @@
+-- One event of a run, and its lines.
+use Rattle.std.proofs.Common.{◌≡◌, ℕ, zero, suc, ◌+◌, ◌*◌, ◌≤◌, List, [], ◌∷◌, ◌++◌, length, map, take, refl, sym, ap, ◌∙◌, subst, arith, length-append, ⊎_elim, append-nil, inr, IsTrue, IsSome, ◌⊎◌}
+use Rattle.std.specs.Prelude.{true, false, not, Bool, Option, unwrap_or, Result, All}
+use Rattle.std.specs.List.{flat_map}
+use Rattle.outside.specs.declared.failed.Failed.{Failed}
+use Rattle.outside.specs.declared.world.Outside.{Ghosts}
+use Rattle.outside.specs.Bytes.{Prints, AreTold}
+use Rattle.outside.specs.Causes.{Rose, RoseBy}
+use Rattle.outside.specs.Durable.{IsSure}
+use Rattle.outside.specs.Runs.{CallsDisk, Leaves, FewerLater, held_of}
+use Rattle.outside.proofs.Runs.{elapses-trans, leaves_on}
+use Rattle.outside.proofs.Durable.{told_is}
+use Rattle.flat_machine.specs.declared.machine.Program.{Program}
+use Rattle.store_format.specs.Stands.{stands}
+use Rattle.desk.specs.declared.event.Event.{Event}
+use Rattle.desk.specs.declared.supervisor.Supervisor as desk
+use Rattle.desk.specs.Crash.{Did, IsEitherOf, standing_of}
+use Rattle.desk.specs.Desk.{Desk}
+use Rattle.desk.specs.Kept.{WritesMore}
+use Rattle.desk.specs.Instruction.{Word, Fine, ReadFailed, Unwritten, Doubt, Failed as broken_word}
+use Rattle.desk.specs.Run.{Step, Happening, step, faulted}
+use Rattle.desk.specs.Lines.{Line, line_text}
+use Rattle.desk.specs.Report.{number_after, happening_lines, event_lines}
+use Rattle.desk.specs.Seen.{commits_seen, IsUnbroken}
+use Rattle.run_law.specs.Left.{IsLeft}
+use Rattle.run_law.proofs.SeenLemmas.{seen_cut, seen_all, commits_in}
+use Rattle.run_law.proofs.StepLemmas.{AreNames, Stepped, step_by, run_plain}
+use Rattle.run_law.proofs.LeftLemmas.{left_quiet, left_open}
+use Rattle.schedule_replay.specs.Puts.{Puts, shown_of}
+use Rattle.schedule_replay.specs.Ran.{Ran, InDoubt, text_of}
+use Rattle.schedule_replay.proofs.PutsLemmas.{PrintedNow, puts_same, begins_none}
+
+-- the lines of one event are those of what happened at it
+pub one_event : (names : List (List ℕ)) (programs : List Program) (number : ℕ) (event : Event) (word : Word) (desk : Desk) (after : Step) → step programs event word desk ≡ after → event_lines names programs number ((event, word) ∷ []) desk ≡ happening_lines names (number_after number after.desk) after.happening
+one_event names programs number event word desk after is =
+    let these : Step → List Line = λ step. happening_lines names (number_after number step.desk) step.happening in
+    append-nil (these (step programs event word desk)) ∙ ap these is
+
+-- a word that isn't fine is counted where the disk's faults rose
+word_faults : (event : Event) (word : Word) (before after : ℕ) → before ≤ after → (word ≡ Fine) ⊎ Rose before after → RoseBy (faulted ((event, word) ∷ [])) before after
+word_faults event Fine before after le cause = omega arith
+word_faults event (ReadFailed page) before after le cause = ⊎_elim (λ (fine : ReadFailed page ≡ Fine). absurd (let no : ⊥ = cc in no)) (λ rose. omega (arith, rose)) cause
+word_faults event Unwritten before after le cause = ⊎_elim (λ (fine : Unwritten ≡ Fine). absurd (let no : ⊥ = cc in no)) (λ rose. omega (arith, rose)) cause
+word_faults event Doubt before after le cause = ⊎_elim (λ (fine : Doubt ≡ Fine). absurd (let no : ⊥ = cc in no)) (λ rose. omega (arith, rose)) cause
+word_faults event broken_word before after le cause = ⊎_elim (λ (fine : broken_word ≡ Fine). absurd (let no : ⊥ = cc in no)) (λ rose. omega (arith, rose)) cause
+
+-- the last of two lists that are one
+pub last_is : {A : Type 0} (xs ys : List A) (x y : A) → xs ++ x ∷ [] ≡ ys ++ y ∷ [] → (xs ≡ ys) × (x ≡ y)
+last_is [] [] x y is = (refl, cc)
+last_is [] (z ∷ []) x y is = absurd (let no : ⊥ = cc in no)
+last_is [] (z ∷ w ∷ ys) x y is = absurd (let no : ⊥ = cc in no)
+last_is (z ∷ []) [] x y is = absurd (let no : ⊥ = cc in no)
+last_is (z ∷ w ∷ xs) [] x y is = absurd (let no : ⊥ = cc in no)
+last_is {A} (z ∷ xs) (w ∷ ys) x y is =
+    let rest : xs ++ x ∷ [] ≡ ys ++ y ∷ [] = cc in
+    let first : z ≡ w = cc in
+    let more = last_is xs ys x y rest in
+    let front : xs ≡ ys = more.0 in
+    (cc, more.1)
+
+-- names without line feeds
+pub names_are : {A : Type 0} (items : A → List ℕ) (names : List A) → All (λ name. IsUnbroken (items name)) names → AreNames (map items names)
+names_are items [] all program = refl
+names_are items (name ∷ names) all zero = all 0 name (omega arith)
+names_are items (name ∷ names) all (suc program) = names_are items names (λ k d below. all (suc k) d (omega arith)) program
+
+module _ {D W : Type 0} (S : desk.Ghosts D) (G : Ghosts W) (fewer_later : FewerLater G) (printed_now : PrintedNow G) where
+  -- bytes that were sure are, after puts
+  pub sure_puts : {T : Type 0} (lines : List Line) (before after : W) (result : Result T Failed) → Puts G lines before after result → IsSure G before → IsSure G after × (held_of G after ≡ held_of G before)
+  sure_puts lines before after result puts sure = (
+    record {
+      honest = subst (λ b. IsTrue b) (sym puts.only.honest) sure.honest;
+      told = subst (λ (those : Option (List ℕ)). IsSome those) (sym puts.only.held) sure.told;
+      durable = λ image seen left.
+          let from = puts.images image seen (fewer_later after (G.moment before) (G.moment after) image seen puts.only.time.later left) in
+          subst (λ (those : Option (List ℕ)). AreTold those image) (sym puts.only.held) (sure.durable image from.0 from.1);
+    },
+    ap (λ (those : Option (List ℕ)). unwrap_or those []) puts.only.held,
+  )
+
+  -- a crash in a put leaves the bytes that were sure
+  pub image_is : {T : Type 0} (lines : List Line) (before after : W) (result : Result T Failed) → Puts G lines before after result → IsSure G before → IsSome (G.printed before)
+      → Leaves G (λ image seen. (image ≡ held_of G before) × ((count : ℕ) × (seen ≡ shown_of G before ++ take count (flat_map line_text lines)))) before after
+  image_is lines before after result puts sure told image seen left =
+      let from = puts.crash told image seen left in
+      (told_is (G.held before) image sure.told (sure.durable image (shown_of G before) from.0), from.1)
+
+  -- what a call of the disk leaves printed
+  pub quiet_is : (before between : W) → CallsDisk G before between → IsSome (G.printed before) → Leaves G (λ image seen. seen ≡ shown_of G before) before between
+  quiet_is before between calls told image seen left =
+      told_is (G.printed before) seen told (⊎_elim (λ was. printed_now before image seen was) (λ is. is) (calls.quiet.crash image seen left))
+
+  module _ (stands_law : (s : D) (held : List ℕ) (desk : Desk) → S.shows s held desk → stands held ≡ standing_of (S.opened s) desk) (names : List (List ℕ)) (are : AreNames names) (programs : List Program) (number : ℕ) where
+    module _ {T : Type 0} (event : Event) (told : Happening) (start : Desk) (new : D) (before between after : W) (result : Result T Failed) (was_open : start.closed ≡ false) (opened : S.opened new ≡ number) (calls : CallsDisk G before between) (did : Did G programs number event told (S.closed new) (S.order new) (S.shows new) start before between) (puts : Puts G (happening_lines names (number_after number did.next) told) between after result) (writes : WritesMore (G.writes before) (G.writes between) (2 * commits_in (happening_lines names (number_after number did.next) told))) where
+      abbrev word : Word
+      word = did.word
+
+      abbrev went : Step
+      went = step programs event word start
+
+      abbrev text : List ℕ
+      text = text_of names programs number ((event, word) ∷ []) start
+
+      next_is : went.desk ≡ did.next
+      next_is = ap (λ (after : Step). after.desk) did.stepped
+
+      steps : Stepped word start.order names went
+      steps = step_by programs event word names start was_open
+
+      lines_put : Puts G (event_lines names programs number ((event, word) ∷ []) start) between after result
+      lines_put =
+          puts_same G between after (happening_lines names (number_after number did.next) told) (event_lines names programs number ((event, word) ∷ []) start) result
+          (sym (one_event names programs number event word start (record { desk = did.next; happening = told }) did.stepped)) puts
+
+      -- the commits seen in its text are those of its lines
+      seen_is : commits_seen text ≡ commits_in (happening_lines names (number_after number went.desk) went.happening)
+      seen_is =
+          seen_all (event_lines names programs number ((event, word) ∷ []) start) (run_plain programs names number are ((event, word) ∷ []) start)
+          ∙ ap commits_in (append-nil (happening_lines names (number_after number went.desk) went.happening))
+
+      few : length start.order + commits_seen text ≤ length went.desk.order
+      few =
+          let grown = ap (λ (order : List (ℕ × ℕ)). length order) steps.order_is in
+          let some = steps.few (number_after number went.desk) in
+          omega (arith, grown, some, seen_is, length-append start.order steps.more)
+
+      none : went.desk.closed ≡ true → (count : ℕ) → commits_seen (take count text) ≡ 0
+      none shut count =
+          let no = steps.quiet shut (number_after number went.desk) in
+          let cut = seen_cut count text in
+          omega (arith, no, cut, seen_is)
+
+      either : Leaves G (λ image seen. IsEitherOf programs number event start went.desk image) before between
+      either image seen left = subst (λ (desk : Desk). IsEitherOf programs number event start desk image) (sym next_is) (did.crash image seen left)
+
+      abbrev Left : List ℕ → List ℕ → Type 0
+      Left image seen = IsLeft programs number start ((event, word) ∷ []) text (shown_of G before) image seen
+
+      in_disk : IsSome (G.printed before) → Leaves G Left before between
+      in_disk told image seen left =
+          left_quiet programs number event word names start was_open text (shown_of G before) image seen 0 (either image seen left) (quiet_is before between calls told image seen left ∙ sym (append-nil (shown_of G before))) refl
+
+      in_puts : (shut : Bool) → went.desk.closed ≡ shut → IsSome (G.printed before) → Leaves G Left between after
+      in_puts true shut told image seen left =
+          let same : G.printed between ≡ G.printed before = calls.quiet.same in
+          let from = lines_put.crash (subst (λ (those : Option (List ℕ)). IsSome those) (sym same) told) image seen left in
+          let shown : shown_of G between ≡ shown_of G before = ap (λ (those : Option (List ℕ)). unwrap_or those []) same in
+          left_quiet programs number event word names start was_open text (shown_of G before) image seen from.1.0
+          (either image (shown_of G between) (fewer_later between (G.moment before) (G.moment between) image (shown_of G between) calls.time.later from.0))
+          (from.1.1 ∙ ap (λ (these : List ℕ). these ++ take from.1.0 text) shown)
+          (none shut from.1.0)
+      in_puts false still told image seen left =
+          let same : G.printed between ≡ G.printed before = calls.quiet.same in
+          let shown : shown_of G between ≡ shown_of G before = ap (λ (those : Option (List ℕ)). unwrap_or those []) same in
+          let kept = did.still (ap (λ (desk : Desk). desk.closed) (sym next_is) ∙ still) in
+          let from = image_is (event_lines names programs number ((event, word) ∷ []) start) between after result lines_put kept.0 (subst (λ (those : Option (List ℕ)). IsSome those) (sym same) told) image seen left in
+          left_open programs number event word names start was_open text (shown_of G before) image seen from.1.0 still
+          (ap stands from.0 ∙ stands_law new (held_of G between) did.next kept.1 ∙ ap (λ n. standing_of n did.next) opened ∙ ap (standing_of number) (sym next_is))
+          (from.1.1 ∙ ap (λ (these : List ℕ). these ++ take from.1.0 text) shown)
+          few
+
+      still_after : went.desk.closed ≡ false → IsSure G after × S.shows new (held_of G after) went.desk
+      still_after still =
+          let kept = did.still (ap (λ (desk : Desk). desk.closed) (sym next_is) ∙ still) in
+          let sure = sure_puts (event_lines names programs number ((event, word) ∷ []) start) between after result lines_put kept.0 in
+          (sure.0, subst (λ (desk : Desk). S.shows new (held_of G after) desk) (sym next_is) (subst (λ (held : List ℕ). S.shows new held did.next) (sym sure.1) kept.1))
+
+      in_doubt : went.desk.closed ≡ true → (front : List (Event × Word)) (one : Event) → (event, word) ∷ [] ≡ front ++ (one, Doubt) ∷ [] → InDoubt G programs number start front one after
+      in_doubt shut front one is =
+          let last = last_is [] front (event, word) (one, Doubt) is in
+          let doubted : word ≡ Doubt = ap (λ (pair : Event × Word). pair.1) last.1 in
+          let same : event ≡ one = ap (λ (pair : Event × Word). pair.0) last.1 in
+          let place = did.doubt doubted (ap (λ (desk : Desk). desk.closed) (sym next_is) ∙ shut) in
+          let here : InDoubt G programs number start [] event after = (
+            place.0 ∙ ap (λ (desk : Desk). desk.order) (sym next_is) ∙ ap (λ (w : Word). (step programs event w start).desk.order) doubted,
+            (
+              place.1.0,
+              λ image seen left.
+                  let from = lines_put.images image seen (fewer_later after (G.moment between) (G.moment after) image seen lines_put.only.time.later left) in
+                  place.1.1 image from.0 from.1,
+            ),
+          ) in
+          subst (λ (these : List (Event × Word)). InDoubt G programs number start these one after) last.0 (subst (λ (that : Event). InDoubt G programs number start [] that after) same here)
+
+      pub ran_event : Ran S G names programs number (event ∷ []) start new before after result
+      ran_event = record {
+        taken = (event, word) ∷ [];
+        events_taken = refl;
+        each_open = (ap not was_open, tt);
+        closes = did.closes ∙ ap (λ (desk : Desk). desk.closed) (sym next_is);
+        ordered = did.ordered ∙ ap (λ (desk : Desk). desk.order) (sym next_is);
+        still = still_after;
+        faults = let rose = word_faults event word (G.disk_faults before) (G.disk_faults between) calls.disk did.why in omega (arith, rose, lines_put.only.disk);
+        writes =
+            let lines = one_event names programs number event word start (record { desk = did.next; happening = told }) did.stepped in
+            subst (λ (those : Option ℕ). WritesMore (G.writes before) those (2 * commits_in (event_lines names programs number ((event, word) ∷ []) start))) (sym lines_put.only.writes)
+            (subst (λ (these : List Line). WritesMore (G.writes before) (G.writes between) (2 * commits_in these)) (sym lines) writes);
+        printed = printed_since;
+        earlier = inr ([], (event, word), refl, begins_none (G.printed before) (G.printed after) text result printed_since);
+        time = elapses-trans G fewer_later before between after calls.time lines_put.only.time;
+        left = λ told. leaves_on G fewer_later before between after calls.time lines_put.only.time Left (in_disk told) (in_puts went.desk.closed refl told);
+        doubt = in_doubt;
+      }
+        where
+          printed_since : Prints (G.printed before) (G.printed after) text result
+          printed_since = subst (λ (those : Option (List ℕ)). Prints those (G.printed after) text result) calls.quiet.same lines_put.printed
