@@ -1,37 +1,83 @@
--- The statuses of opening a store, by how that ended.
-use Rattle.std.proofs.Common.{◌≡◌, ◌≢◌, ℕ, List, Option, refl, Result, Ok, Err, IsErr, IsErrAnd}
-use Rattle.std.specs.Option.{ForSome}
-use Rattle.store_format.specs.Header.{fresh}
-use Rattle.console.specs.declared.opening.OpenFault.{OpenFault}
-use Rattle.console.specs.declared.opening.OpenFault.TheVariants.{Other, Disk}
-use Rattle.console.specs.declared.status.Status.{Status}
+-- The statuses of a run on a disk, by how it was opened and how it ended.
+use Rattle.std.proofs.Common.{◌≡◌, ◌≢◌, ℕ, List, Option, inl, inr, refl, sym, ◌∙◌, ap, subst, false}
+use Rattle.std.specs.Prelude.{IsSome, IsTrue, take}
+use Rattle.outside.specs.declared.world.Outside.{Ghosts}
+use Rattle.outside.specs.Causes.{Rose}
+use Rattle.outside.specs.Runs.{held_of}
+use Rattle.store_format.specs.Header.{Header, header_of}
+use Rattle.store_format.specs.Bank.{Faulty, bank_of}
+use Rattle.store_format.specs.Stands.{Standing, Stands, NotAStore, Damaged, stands, chosen}
+use Rattle.redo_journal.specs.declared.fault.OpenFault.{OpenFault}
+use Rattle.redo_journal.specs.declared.fault.OpenFault.TheVariants as fault
+use Rattle.restart.specs.Faults.{IsOpenFault}
+use Rattle.private_desk.specs.Opened.{HasStood}
+use Rattle.private_desk.specs.declared.single.PrivateDesk.{PrivateDesk}
+use Rattle.private_desk.specs.contracts.single.PrivateDeskSupervisor.TheImpl.{ghosts}
 use Rattle.schedule_replay.specs.declared.events.Replayed.{Replayed}
 use Rattle.schedule_replay.specs.declared.events.Replayed.TheVariants as replayed
+use Rattle.schedule_replay.specs.Replays.{EndsBy}
+use Rattle.console.specs.declared.status.Status.{Status}
+use Rattle.console.specs.declared.status.Status.TheVariants as status
 use Rattle.console.specs.Statuses.{status_of_open, status_of_replay}
-use Rattle.console.specs.Opening.{try_layout}
-use Rattle.console.specs.Causes.{status_of, OpensBy}
+use Rattle.console.specs.Opening.{IsStanding, IsFaultAt}
+use Rattle.console.specs.Causes.{OpensBy}
 
--- a store that could not be opened
-opens-fault : (held : Option (List ℕ)) (fault : OpenFault) → (fault ≡ Other → ForSome held (λ bytes. bytes ≢ fresh try_layout)) → OpensBy held (status_of_open fault)
-opens-fault held Other other = record { no_store = λ offset is. (cc, other refl); store = λ past. absurd past }
-opens-fault held Disk other = record { no_store = λ offset is. absurd cc; store = λ past. absurd past }
+same-offset : (one two : ℕ) → Status.Store one ≡ Status.Store two → one ≡ two
+same-offset one two is = cc
 
--- a store that was opened
-pub opens-done : (held : Option (List ℕ)) → ForSome held (λ bytes. bytes ≡ fresh try_layout) → OpensBy held Status.Done
-opens-done held is = record { no_store = λ offset same. absurd cc; store = λ past. is }
+-- bytes that stand have no fault
+standing-is-none : (held : List ℕ) (offset : ℕ) → IsStanding held → stands held ≡ NotAStore offset → ⊥
+standing-is-none held offset (number, store, stood) is = let both : Stands number store ≡ NotAStore offset = sym stood ∙ is in absurd cc
 
--- a store that was opened, and a screen that failed behind it
-opens-put : (held : Option (List ℕ)) → ForSome held (λ bytes. bytes ≡ fresh try_layout) → OpensBy held Status.PutFault
-opens-put held is = record { no_store = λ offset same. absurd cc; store = λ past. is }
+standing-undamaged : (held : List ℕ) (offset : ℕ) → IsStanding held → stands held ≡ Damaged offset → ⊥
+standing-undamaged held offset (number, store, stood) is = let both : Stands number store ≡ Damaged offset = sym stood ∙ is in absurd cc
 
--- the answer of an opening that failed
-pub opens-error : {T : Type 0} (held : Option (List ℕ)) (result : Result T Status) (fault : OpenFault) → IsErr result × IsErrAnd result (λ now. now ≡ status_of_open fault)
-    → (fault ≡ Other → ForSome held (λ bytes. bytes ≢ fresh try_layout)) → OpensBy held (status_of result)
-opens-error held (Ok done) fault (err, is) other = absurd cc
-opens-error held (Err now) fault (err, is) other = rw is (opens-fault held fault other)
+-- a store that wasn't opened
+pub opens-fault : {W : Type 0} (G : Ghosts W) (before now : W) (fault : OpenFault) → IsOpenFault G before now fault → OpensBy G before now (status_of_open fault)
+opens-fault G before now (fault.NotAStore at) is = record {
+  no_store = λ offset same told. inl (inl (is told ∙ ap (λ (n : ℕ). let that : Standing = NotAStore n in that) (same-offset at offset same)));
+  store = λ past. absurd past;
+  never = λ honest told standing offset same. standing-is-none (held_of G before) at standing (is told);
+}
+opens-fault G before now (fault.Damaged at) is = record {
+  no_store = λ offset same told. inl (inr (is told ∙ ap (λ (n : ℕ). let that : Standing = Damaged n in that) (same-offset at offset same)));
+  store = λ past. absurd past;
+  never = λ honest told standing offset same. standing-undamaged (held_of G before) at standing (is told);
+}
+opens-fault G before now fault.DiskFault is = record { no_store = λ offset same told. absurd cc; store = λ past. absurd past; never = λ honest told standing offset same. absurd cc }
+opens-fault G before now fault.Memory is = record { no_store = λ offset same told. absurd cc; store = λ past. absurd past; never = λ honest told standing offset same. absurd cc }
 
--- the answer of a replay on a store that was opened
-pub opens-by : (held : Option (List ℕ)) → ForSome held (λ bytes. bytes ≡ fresh try_layout) → (replayed : Replayed) → OpensBy held (status_of_replay replayed)
-opens-by held is replayed.Ended = opens-done held is
-opens-by held is replayed.Closed = opens-fault held Disk (λ no. absurd (cc))
-opens-by held is replayed.PutFault = opens-put held is
+-- a store that was opened, and what was replayed on it
+pub opens-by : {W : Type 0} (G : Ghosts W) (before start now : W) (desk new : PrivateDesk) (result : Replayed) → (IsSome (G.held before) → HasStood desk.store.header (held_of G before))
+    → EndsBy ghosts G desk new start now result → ((offset : ℕ) → result ≡ Replayed.Damaged offset → IsTrue (G.is_honest before) → IsSome (G.held before) → ⊥) → OpensBy G before now (status_of_replay result)
+opens-by G before start now desk new replayed.Ended stood ends undamaged = record { no_store = λ offset same told. absurd cc; store = λ past told. (stood told).1; never = λ honest told standing offset same. absurd cc }
+opens-by G before start now desk new replayed.Closed stood ends undamaged = record { no_store = λ offset same told. absurd cc; store = λ past. absurd past; never = λ honest told standing offset same. absurd cc }
+opens-by G before start now desk new (replayed.Damaged at) stood ends undamaged = record {
+  no_store = λ offset same told. inr (λ still.
+      ap (λ (header : Header). bank_of (held_of G now) header (chosen (held_of G now))) (stood told).0
+      ∙ ends.1 still
+      ∙ ap Faulty (same-offset at offset same));
+  store = λ past. absurd past;
+  never = λ honest told standing offset same. undamaged at refl honest told;
+}
+opens-by G before start now desk new replayed.PutFault stood ends undamaged = record { no_store = λ offset same told. absurd cc; store = λ past told. (stood told).1; never = λ honest told standing offset same. absurd cc }
+
+-- puts that all went well
+pub put-same : {W : Type 0} (G : Ghosts W) (start now : W) (desk new : PrivateDesk) (result : Replayed) → EndsBy ghosts G desk new start now result → status_of_replay result ≡ Status.Done → G.put_faults now ≡ G.put_faults start
+put-same G start now desk new replayed.Ended ends is = ends.1
+put-same G start now desk new replayed.Closed ends is = absurd cc
+put-same G start now desk new (replayed.Damaged at) ends is = absurd cc
+put-same G start now desk new replayed.PutFault ends is = absurd cc
+
+-- a put that failed, and a disk that did
+pub put-rose : {W : Type 0} (G : Ghosts W) (start now : W) (desk new : PrivateDesk) (result : Replayed) → EndsBy ghosts G desk new start now result → status_of_replay result ≡ Status.PutFault → Rose (G.put_faults start) (G.put_faults now)
+put-rose G start now desk new replayed.Ended ends is = absurd cc
+put-rose G start now desk new replayed.Closed ends is = absurd cc
+put-rose G start now desk new (replayed.Damaged at) ends is = absurd cc
+put-rose G start now desk new replayed.PutFault ends is = ends
+
+pub disk-rose : {W : Type 0} (G : Ghosts W) (start now : W) (desk new : PrivateDesk) (result : Replayed) → desk.closed ≡ false → EndsBy ghosts G desk new start now result → status_of_replay result ≡ Status.DiskFault → Rose (G.disk_faults start) (G.disk_faults now)
+disk-rose G start now desk new replayed.Ended still ends is = absurd cc
+disk-rose G start now desk new replayed.Closed still ends is = ends.1 still
+disk-rose G start now desk new (replayed.Damaged at) still ends is = absurd cc
+disk-rose G start now desk new replayed.PutFault still ends is = absurd cc

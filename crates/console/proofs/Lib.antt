@@ -1,2 +1,3 @@
 pub mod CauseLemmas
 pub mod RunLemmas
+pub mod NameLemmas

@@ -1,46 +1,84 @@
--- What runs on the store of `try`.
-use Rattle.std.proofs.Common.{◌≡◌, ℕ, zero, suc, ◌+◌, ◌%◌, ◌^◌, ◌<◌, ◌≤◌, inl, inr, Bool, true, false, List, [], ◌∷◌, ◌++◌, length, get_or, refl, sym, ◌∙◌, ap, subst, arith, append-nil, Option, Some, None}
-use Rattle.std.specs.Prelude.{Result, Ok, Err, IsSome, unwrap_or, slice_index}
+-- What runs on the store that a disk stands for.
+use Rattle.std.proofs.Common.{◌≡◌, ℕ, ◌+◌, ◌*◌, ◌%◌, ◌^◌, ◌<◌, ◌≤◌, inl, inr, Bool, true, false, List, [], ◌∷◌, ◌++◌, length, take, refl, sym, ◌∙◌, ap, subst, arith, append-nil, Option, Some, None}
+use Rattle.std.specs.Prelude.{Result, Ok, Err, IsSome, IsTrue, unwrap_or, count_by, map, slice_set}
 use Rattle.std.specs.List.{flat_map}
-use Rattle.std.specs.Option.{ForSome}
 use Rattle.std.proofs.lemmas.Bool.{cases_lt}
 use Rattle.outside.specs.declared.world.Outside.{Ghosts}
 use Rattle.outside.specs.declared.failed.Failed.{Failed}
-use Rattle.outside.specs.Bytes.{Prints}
+use Rattle.outside.specs.Bytes.{AreTold, Prints}
 use Rattle.outside.specs.Causes.{Rose, RoseBy}
-use Rattle.outside.specs.Runs.{OnlyAsks, held_of}
+use Rattle.outside.specs.Durable.{IsSure}
+use Rattle.outside.specs.Moments.{Elapses}
+use Rattle.outside.specs.Runs.{OnlyAsks, FewerLater, Leaves, held_of}
 use Rattle.outside.proofs.Prints.{prints_well, prints_broken}
+use Rattle.outside.proofs.Runs.{elapses-trans, leaves_on}
+use Rattle.line_geometry.specs.FlatStore.{FlatStore}
 use Rattle.flat_machine.specs.declared.machine.Program.{Program}
-use Rattle.flat_machine.specs.Serial.{serial}
-use Rattle.store_format.specs.declared.header.Which.{Which}
-use Rattle.line_geometry.specs.Legal.{IsInRange, IsLegal}
-use Rattle.store_format.specs.Header.{HasRanges, fresh}
-use Rattle.store_format.specs.Stands.{Stands, stands}
-use Rattle.store_format.proofs.Fresh.{fresh_is_store}
-use Rattle.store_format.proofs.Stores.{stands_is}
-use Rattle.desk.specs.Desk.{Desk}
+use Rattle.flat_machine.specs.Serial.{Activation, serial}
+use Rattle.store_format.specs.Header.{Header, header_of, most_lines}
+use Rattle.store_format.specs.Stands.{Standing, Stands, stands}
+use Rattle.restart.specs.Kept.{number_of}
+use Rattle.desk.specs.declared.event.Event.{Event}
+use Rattle.desk.specs.Crash.{standing_of, fine_step}
+use Rattle.desk.specs.Desk.{Desk, opened}
+use Rattle.desk.specs.Instruction.{Word, Doubt}
+use Rattle.desk.specs.Kept.{WritesMore}
 use Rattle.desk.specs.Run.{run, faulted, IsRunOf}
 use Rattle.desk.specs.Lines.{line_text, Open}
 use Rattle.desk.specs.Report.{report, event_lines, number_after}
-use Rattle.desk.specs.Commits.{begun, IsSerial}
+use Rattle.desk.specs.Commits.{begun, is_commit, IsSerial}
 use Rattle.desk.proofs.SerialLaw.{run-serial, run-closed}
-use Rattle.private_desk.proofs.CommitLemmas.{keeps-same}
+use Rattle.run_law.specs.Headline.{IsPrefix}
+use Rattle.run_law.specs.Left.{IsLeft}
+use Rattle.run_law.proofs.HeadlineLemmas.{left_is_prefix, doubt_is_whole}
+use Rattle.private_desk.specs.Follows.{store_of}
+use Rattle.private_desk.specs.Opened.{IsOpened}
 use Rattle.private_desk.specs.PrivateDesk.{desk_of}
-use Rattle.private_desk.specs.Kept.{Keeps}
+use Rattle.private_desk.specs.ShownLaws.{shown-stands}
 use Rattle.private_desk.specs.declared.single.PrivateDesk.{PrivateDesk}
 use Rattle.private_desk.specs.contracts.single.PrivateDeskSupervisor.TheImpl.{ghosts}
 use Rattle.schedule_replay.specs.declared.events.Replayed.{Replayed}
 use Rattle.schedule_replay.specs.declared.events.Replayed.TheVariants as replayed
-use Rattle.schedule_replay.specs.Ran.{PrintsEarlier, HasOpened}
+use Rattle.schedule_replay.specs.Puts.{shown_of}
+use Rattle.schedule_replay.specs.Ran.{PrintsEarlier, HasOpened, InDoubt, text_of}
 use Rattle.schedule_replay.specs.Replays.{Reports, Replays}
+use Rattle.schedule_replay.proofs.PutsLemmas.{PrintedNow}
 use Rattle.job_text.specs.declared.job.Job.{Job}
 use Rattle.job_text.specs.Grammar.{job_of, content_of}
 use Rattle.console.specs.declared.status.Status.{Status}
 use Rattle.console.specs.declared.status.Status.TheVariants as status
 use Rattle.console.specs.Statuses.{status_of_replay}
-use Rattle.console.specs.Opening.{IsOpened, try_layout, try_bytes}
+use Rattle.console.specs.Opening.{StandsAt}
 use Rattle.console.specs.SourceText.{IsWhole}
-use Rattle.console.specs.Headline.{HasRun, Happened, HappenedTo, put_by, names_of, try_desk, try_flat}
+use Rattle.console.specs.Headline.{HasRun, HasRunFrom, StoodForNone, DoubtStands, Happened, HappenedTo, put_by, names_of, job_desk}
+
+-- what stands for one number and store stands for no other
+same-number : (one two : ℕ) (first second : FlatStore) → Stands one first ≡ Stands two second → one ≡ two
+same-number one two first second is = cc
+
+same-store : (one two : ℕ) (first second : FlatStore) → Stands one first ≡ Stands two second → first ≡ second
+same-store one two first second is = cc
+
+-- what is told, if it is told
+told-is : (told : Option (List ℕ)) (bytes : List ℕ) → IsSome told → AreTold told bytes → bytes ≡ unwrap_or told []
+told-is None bytes some is = absurd (cc)
+told-is (Some those) bytes some is = is
+
+-- a desk opened on the bytes of a disk
+module _ {W : Type 0} (G : Ghosts W) (frames : ℕ) (before start : W) (desk : PrivateDesk) (opens : IsOpened G frames before start desk) (asks : OnlyAsks G before start) where
+  abbrev pub first_desk : Desk
+  first_desk = opened frames 1 (most_lines desk.store.header) opens.store
+
+  pub number-fits : (desk.opened + 0) % 2 ^ 64 ≡ desk.opened
+  number-fits =
+      let over = opens.shows.over in
+      let same : held_of G start ≡ held_of G before = ap (λ (held : Option (List ℕ)). unwrap_or held []) asks.held in
+      let number : number_of desk.store ≡ desk.opened = same-number (number_of desk.store) desk.opened (store_of desk) opens.store (sym over.stood ∙ ap (λ (held : List ℕ). stands held) same ∙ opens.stood) in
+      let after : number_of desk.store ≡ number_after desk.opened (desk_of desk) = over.follows.number over.still_open in
+      ap (λ (d : Desk). number_after desk.opened d) opens.shows.is ∙ sym after ∙ number
+
+  pub has-opened : HasOpened ghosts G desk start first_desk
+  has-opened = record { sure = opens.sure; shows = opens.shows; number = number-fits }
 
 -- what a run begins with
 record Facts : Type 0 where
@@ -48,76 +86,74 @@ record Facts : Type 0 where
   start : Desk
   number : ℕ
 
-abbrev desk_facts : PrivateDesk → Facts
-desk_facts desk = record { programs = desk.programs.items; start = desk_of desk; number = desk.opened }
+module _ {W : Type 0} (G : Ghosts W) (fewer_later : FewerLater G) (printed_now : PrintedNow G) (job : Job) (before start after : W) (desk new : PrivateDesk) (number : ℕ) (store : FlatStore)
+    (standing : StandsAt G before number store) (opens : IsOpened G job.frames before start desk) (asks : OnlyAsks G before start) (programs_are : desk.programs.items ≡ job.programs.items) (same_opened : new.opened ≡ desk.opened)
+    (same_honest : G.is_honest after ≡ G.is_honest start) (time : Elapses G.moment G.left_since start after) where
+  abbrev begins_with : Desk
+  begins_with = job_desk job (held_of G before) store
 
--- the bytes that are told, if they are these
-held-some : (held : Option (List ℕ)) (bytes : List ℕ) → IsSome held → ForSome held (λ those. those ≡ bytes) → unwrap_or held [] ≡ bytes
-held-some None bytes some is = absurd (cc)
-held-some (Some those) bytes some is = is those refl
+  number-is : desk.opened ≡ number
+  number-is = same-number desk.opened number opens.store store (sym opens.stood ∙ standing.stood)
 
-in_range : (k : ℕ) (segment : ℕ × ℕ) → k < 2 → IsInRange (get_or try_layout.directory.segments k segment)
-in_range zero segment within = (omega arith, omega arith, omega arith, omega arith)
-in_range (suc zero) segment within = (omega arith, omega arith, omega arith, omega arith)
-in_range (suc (suc k)) segment within = absurd (omega arith)
-
-ascends : (k : ℕ) → k + 1 < 2 → slice_index (1 ∷ 2 ∷ []) k < slice_index (1 ∷ 2 ∷ []) (k + 1)
-ascends zero within = omega arith
-ascends (suc k) within = absurd (omega arith)
-
--- the header of the store of `try` may be written
-try_ranges : HasRanges try_layout
-try_ranges = record { page = refl; least_bank = omega arith; most_bank = omega arith }
-
-try_legal : IsLegal try_layout.directory.segments
-try_legal = record { some = omega arith; few = omega arith; in_range = in_range; ascending = ascends; pages = omega arith }
-
--- and its fresh image is kept by a desk that has just opened
-keeps-fresh : Keeps try_layout 0 0 try_bytes (fresh try_layout)
-keeps-fresh = record {
-  base = 0;
-  records = [];
-  stand = record {
-    store = fresh_is_store try_layout try_ranges try_legal;
-    standing = stands_is (fresh try_layout) try_layout Which.A 0 264 [] (fresh_is_store try_layout try_ranges try_legal);
-  };
-}
-
-module _ {W : Type 0} (G : Ghosts W) (job : Job) (before start after : W) (desk new : PrivateDesk) (begins : ℕ)
-    (opened : IsOpened job.frames begins job.programs.items G start desk) (asks : OnlyAsks G before start) (same_number : new.opened ≡ desk.opened) where
   -- the programs, the desk and the number of the run are the job's
-  these : desk_facts desk ≡ record { programs = job.programs.items; start = try_desk job; number = 0 }
-  these = λ i. record { programs = opened.programs_are i; start = opened.opens i; number = opened.number i }
+  abbrev given : Facts
+  given = record { programs = desk.programs.items; start = first_desk G job.frames before start desk opens asks; number = desk.opened }
 
-  -- the disk holds the desk's bytes as it opens
-  keeps-first : IsSome (G.held before) → Keeps desk.header desk.used (number_after desk.opened (desk_of desk)) desk.committed (held_of G start)
-  keeps-first told =
-      let number : number_after desk.opened (desk_of desk) ≡ 0 = ap (λ (f : Facts). number_after f.number f.start) these in
-      let holds : held_of G start ≡ fresh try_layout = held-some (G.held start) (fresh try_layout) (subst (λ (held : Option (List ℕ)). IsSome held) (sym asks.held) told) opened.held in
-      keeps-same try_layout desk.header 0 desk.used 0 _ try_bytes desk.committed (fresh try_layout) (held_of G start)
-      (sym opened.header) (sym (ap (λ (d : Desk). d.used) opened.opens)) (sym number) (sym (ap (λ (d : Desk). d.committed.bytes) opened.opens)) (sym holds) keeps-fresh
+  abbrev wanted : Facts
+  wanted = record { programs = job.programs.items; start = begins_with; number = number }
 
-  module _ (result : Result Bool Failed) (put : Result ℕ Failed) (now : Status) (reports : Reports ghosts G (names_of job) job.events.items desk new start after (λ closed. closed) result) where
-    is_run : IsRunOf job.programs.items job.events.items (try_desk job) reports.taken reports.rest
+  these : given ≡ wanted
+  these = λ i. record {
+    programs = programs_are i;
+    start = opened job.frames 1 (most_lines (sym opens.header i)) (same-store desk.opened number opens.store store (sym opens.stood ∙ standing.stood) i);
+    number = number-is i;
+  }
+
+  number-small : (number + 0) % 2 ^ 64 ≡ number
+  number-small = subst (λ (n : ℕ). (n + 0) % 2 ^ 64 ≡ n) number-is (number-fits G job.frames before start desk opens asks)
+
+  shown-same : shown_of G start ≡ shown_of G before
+  shown-same = ap (λ (told : Option (List ℕ)). unwrap_or told []) asks.calls.quiet.same
+
+  -- the opening left what stood
+  opening-left : (order : List (ℕ × ℕ)) → IsSome (G.printed before) → Leaves G (IsPrefix (begun job.programs.items job.events.items) number store order (shown_of G before)) before start
+  opening-left order told image seen left =
+      let earlier = asks.crash standing.told image seen left in
+      record {
+        j = 0;
+        few = omega arith;
+        since = [];
+        seen_is = told-is (G.printed before) seen told (printed_now before image seen earlier) ∙ sym (append-nil (shown_of G before));
+        told = omega arith;
+        left = store;
+        leaves = refl;
+        stood = standing.images image seen earlier ∙ ap (λ (n : ℕ). let that : Standing = Stands n store in that) (sym number-small);
+      }
+
+  module _ (result : Result Bool Failed) (put : Result ℕ Failed) (now : Status) (reports : Reports ghosts G (names_of job) desk.programs.items desk.opened job.events.items (first_desk G job.frames before start desk opens asks) new start after (λ closed. closed) result) where
+    is_run : IsRunOf job.programs.items job.events.items begins_with reports.taken reports.rest
     is_run = subst (λ (f : Facts). IsRunOf f.programs job.events.items f.start reports.taken reports.rest) these reports.is_run
 
-    leaves : run job.programs.items reports.taken (try_desk job) ≡ desk_of new
-    leaves = subst (λ (f : Facts). run f.programs reports.taken f.start ≡ desk_of new) these reports.leaves
+    abbrev ends : Desk
+    ends = run job.programs.items reports.taken begins_with
 
-    serial_run : IsSerial (begun job.programs.items job.events.items) 0 try_flat (desk_of new).order (event_lines (names_of job) job.programs.items 0 reports.taken (try_desk job)) (run job.programs.items reports.taken (try_desk job)).committed (run job.programs.items reports.taken (try_desk job)).closed
+    closes : new.closed ≡ ends.closed
+    closes = subst (λ (f : Facts). new.closed ≡ (run f.programs reports.taken f.start).closed) these reports.closes
+
+    ordered : (desk_of new).order ≡ ends.order
+    ordered = subst (λ (f : Facts). (desk_of new).order ≡ (run f.programs reports.taken f.start).order) these reports.ordered
+
+    abbrev commits : List Activation
+    commits = begun job.programs.items job.events.items
+
+    serial_run : IsSerial commits number store (desk_of new).order (event_lines (names_of job) job.programs.items number reports.taken begins_with) ends.committed ends.closed
     serial_run =
-        subst (λ (order : List (ℕ × ℕ)). IsSerial (begun job.programs.items job.events.items) 0 try_flat order (event_lines (names_of job) job.programs.items 0 reports.taken (try_desk job)) (run job.programs.items reports.taken (try_desk job)).committed (run job.programs.items reports.taken (try_desk job)).closed)
-        (ap (λ (d : Desk). d.order) leaves)
-        (run-serial (names_of job) job.programs.items 0 job.frames 1 try_layout.bank_bytes 0 try_flat job.events.items reports.taken reports.rest is_run)
+        subst (λ (order : List (ℕ × ℕ)). IsSerial commits number store order (event_lines (names_of job) job.programs.items number reports.taken begins_with) ends.committed ends.closed)
+        (sym ordered)
+        (run-serial (names_of job) job.programs.items number job.frames 1 (most_lines (header_of (take 128 (held_of G before)))) store job.events.items reports.taken reports.rest is_run)
 
     rose : RoseBy (faulted reports.taken) (G.disk_faults before) (G.disk_faults after)
     rose = omega (arith, asks.calls.disk, reports.faults)
-
-    -- a closed desk has a fault
-    pub rose-closed : (desk_of new).closed ≡ true → Rose (G.disk_faults before) (G.disk_faults after)
-    rose-closed shut =
-        let some : 1 ≤ faulted reports.taken = run-closed job.programs.items job.frames 1 try_layout.bank_bytes 0 try_flat job.events.items reports.taken reports.rest is_run (ap (λ (d : Desk). d.closed) leaves ∙ shut) in
-        omega (arith, some, rose)
 
     all-fine : (Rose (G.disk_faults before) (G.disk_faults after) → ⊥) → faulted reports.taken ≡ 0
     all-fine none =
@@ -126,77 +162,102 @@ module _ {W : Type 0} (G : Ghosts W) (job : Job) (before start after : W) (desk 
           | inr none_more ↦ omega arith
         ]
 
-    -- at Done
-    stands-now : (desk_of new).closed ≡ false → IsSome (G.held before) → IsSome (G.held after) × ForSome (G.held after) (λ bytes. stands bytes ≡ Stands (length (desk_of new).order % 2 ^ 64) (desk_of new).committed)
-    stands-now still told =
-        let kept = reports.kept (subst (λ (held : Option (List ℕ)). IsSome held) (sym asks.held) told) (keeps-first told) still in
-        let number : number_after new.opened (desk_of new) ≡ length (desk_of new).order % 2 ^ 64 = ap (λ (n : ℕ). (n + length (desk_of new).order) % 2 ^ 64) (same_number ∙ opened.number) ∙ ap (λ (n : ℕ). n % 2 ^ 64) (omega arith) in (
-          kept.0,
-          λ bytes is.
-              ap stands (sym (ap (λ (held : Option (List ℕ)). unwrap_or held []) is))
-              ∙ kept.1.stand.standing
-              ∙ ap (λ (n : ℕ). Stands n (desk_of new).committed) number,
+    -- while the desk is open
+    leaves-now : ends.closed ≡ false → IsSure G after × ((left : FlatStore) × (serial commits (desk_of new).order store ≡ Some left) × (stands (held_of G after) ≡ Stands ((number + length (desk_of new).order) % 2 ^ 64) left))
+    leaves-now still =
+        let shown = subst (λ (f : Facts). (run f.programs reports.taken f.start).closed ≡ false → IsSure G after × ghosts.shows new (held_of G after) (run f.programs reports.taken f.start)) these reports.still still in
+        let none : serial_run.doubt ≡ [] = serial_run.none_open still in
+        let all : (desk_of new).order ≡ serial_run.done = serial_run.order_is ∙ ap (λ (behind : List (ℕ × ℕ)). serial_run.done ++ behind) none ∙ append-nil serial_run.done in
+        let stood : stands (held_of G after) ≡ standing_of new.opened ends = shown-stands new (held_of G after) ends shown.1 in (
+          shown.0,
+          (
+            ends.committed,
+            ap (λ (order : List (ℕ × ℕ)). serial commits order store) all ∙ serial_run.leaves,
+            stood
+                ∙ ap (λ (n : ℕ). standing_of n ends) (same_opened ∙ number-is)
+                ∙ ap (λ (order : List (ℕ × ℕ)). let that : Standing = Stands ((number + length order) % 2 ^ 64) ends.committed in that) (sym ordered),
+          ),
         )
 
-    in_order : (desk_of new).closed ≡ false → serial (begun job.programs.items job.events.items) (desk_of new).order try_flat ≡ Some (desk_of new).committed
-    in_order still =
-        let none : serial_run.doubt ≡ [] = serial_run.none_open (ap (λ (d : Desk). d.closed) leaves ∙ still) in
-        let all : (desk_of new).order ≡ serial_run.done = serial_run.order_is ∙ ap (λ (behind : List (ℕ × ℕ)). serial_run.done ++ behind) none ∙ append-nil serial_run.done in
-        ap (λ (order : List (ℕ × ℕ)). serial (begun job.programs.items job.events.items) order try_flat) all
-        ∙ serial_run.leaves
-        ∙ ap (λ (d : Desk). Some d.committed) leaves
+    -- a crash
+    crash-leaves : IsSome (G.printed before) → Leaves G (IsPrefix commits number store (desk_of new).order (shown_of G before)) before after
+    crash-leaves told =
+        let P = IsPrefix commits number store (desk_of new).order (shown_of G before) in
+        let still : IsSome (G.printed start) = subst (λ (those : Option (List ℕ)). IsSome those) (sym asks.calls.quiet.same) told in
+        leaves_on G fewer_later before start after asks.calls.time time P (opening-left (desk_of new).order told)
+        (λ image seen left.
+        subst (λ (order : List (ℕ × ℕ)). IsPrefix commits number store order (shown_of G before) image seen) (sym ordered)
+        (subst (λ (printed : List ℕ). IsPrefix commits number store ends.order printed image seen) shown-same
+        (left_is_prefix job.programs.items number job.frames 1 (most_lines (header_of (take 128 (held_of G before)))) store job.events.items reports.taken reports.rest
+        (report (names_of job) job.programs.items number reports.taken reports.rest begins_with) (shown_of G start) image seen is_run
+        (subst (λ (f : Facts). IsLeft f.programs f.number f.start reports.taken (report (names_of job) f.programs f.number reports.taken reports.rest f.start) (shown_of G start) image seen) these (reports.left still image seen left)))))
+
+    -- a doubt
+    doubt-leaves : ends.closed ≡ true → (front : List (Event × Word)) (event : Event) → reports.taken ≡ front ++ (event, Doubt) ∷ [] → DoubtStands G job number store (desk_of new).order after
+    doubt-leaves shut front event is =
+        let doubted = subst (λ (f : Facts). (run f.programs reports.taken f.start).closed ≡ true → (front : List (Event × Word)) (event : Event) → reports.taken ≡ front ++ (event, Doubt) ∷ [] → InDoubt G f.programs f.number f.start front event after) these reports.doubt shut front event is in
+        let ran = subst (λ (taken : List (Event × Word)). IsRunOf job.programs.items job.events.items begins_with taken reports.rest) is is_run in
+        let whole = doubt_is_whole job.programs.items number job.frames 1 (most_lines (header_of (take 128 (held_of G before)))) store job.events.items front event reports.rest ran doubted.0 in
+        let order : (run job.programs.items (front ++ (event, Doubt) ∷ []) begins_with).order ≡ (desk_of new).order = ap (λ (taken : List (Event × Word)). (run job.programs.items taken begins_with).order) (sym is) ∙ sym ordered in (
+          doubted.1.0,
+          whole.0,
+          ap (λ (those : List (ℕ × ℕ)). serial commits those store) (sym order) ∙ whole.1,
+          λ image seen left. doubted.1.1 image seen left ∙ whole.2 ∙ ap (λ (those : List (ℕ × ℕ)). let that : Standing = Stands ((number + length those) % 2 ^ 64) whole.0 in that) order,
+        )
 
     pub has_run : put_by now put → ((one two : Option (List ℕ)) (bytes : List ℕ) → Prints one two bytes result → Prints one two bytes put)
-        → (now ≡ Status.Done → ((desk_of new).closed ≡ false) × (reports.rest ≡ [])) → (now ≡ Status.DiskFault → (desk_of new).closed ≡ true)
-        → HasRun G job before after (desk_of new).order now
+        → (now ≡ Status.Done → (new.closed ≡ false) × (reports.rest ≡ [])) → (now ≡ Status.DiskFault → new.closed ≡ true)
+        → HasRun G job number store before after (desk_of new).order now
     has_run put_is turns ended shut = record {
       taken = reports.taken;
       rest = reports.rest;
       is_run = is_run;
-      order_is = ap (λ (d : Desk). d.order) (sym leaves);
+      order_is = ordered;
       all = λ is. (ended is).1;
-      still_open = λ is. ap (λ (d : Desk). d.closed) leaves ∙ (ended is).0;
-      shut = λ is. ap (λ (d : Desk). d.closed) leaves ∙ shut is;
+      still_open = λ is. sym closes ∙ (ended is).0;
+      shut = λ is. sym closes ∙ shut is;
       put = put;
       put_is = put_is;
-      printed = subst (λ (told : Option (List ℕ)). Prints told (G.printed after) (report (names_of job) job.programs.items 0 reports.taken (try_desk job)) put) asks.calls.quiet.same
-          (turns (G.printed start) (G.printed after) (report (names_of job) job.programs.items 0 reports.taken (try_desk job))
-          (subst (λ (f : Facts). Prints (G.printed start) (G.printed after) (report (names_of job) f.programs f.number reports.taken f.start) result) these reports.printed));
-      earlier = subst (λ (told : Option (List ℕ)). PrintsEarlier told (G.printed after) (λ front. line_text (Open 0) ++ flat_map line_text (event_lines (names_of job) job.programs.items 0 front (try_desk job))) reports.taken) asks.calls.quiet.same
-          (subst (λ (f : Facts). PrintsEarlier (G.printed start) (G.printed after) (λ front. line_text (Open f.number) ++ flat_map line_text (event_lines (names_of job) f.programs f.number front f.start)) reports.taken) these reports.earlier);
+      printed = subst (λ (told : Option (List ℕ)). Prints told (G.printed after) (report (names_of job) job.programs.items number reports.taken reports.rest begins_with) put) asks.calls.quiet.same
+          (turns (G.printed start) (G.printed after) (report (names_of job) job.programs.items number reports.taken reports.rest begins_with)
+          (subst (λ (f : Facts). Prints (G.printed start) (G.printed after) (report (names_of job) f.programs f.number reports.taken reports.rest f.start) result) these reports.printed));
+      earlier = subst (λ (told : Option (List ℕ)). PrintsEarlier told (G.printed after) (λ front. line_text (Open number) ++ text_of (names_of job) job.programs.items number front begins_with) reports.taken) asks.calls.quiet.same
+          (subst (λ (f : Facts). PrintsEarlier (G.printed start) (G.printed after) (λ front. line_text (Open f.number) ++ text_of (names_of job) f.programs f.number front f.start) reports.taken) these reports.earlier);
       faults = rose;
       all_fine = all-fine;
+      writes = subst (λ (told : Option ℕ). WritesMore told (G.writes after) (2 * count_by is_commit (event_lines (names_of job) job.programs.items number reports.taken begins_with))) asks.writes
+          (subst (λ (f : Facts). WritesMore (G.writes start) (G.writes after) (2 * count_by is_commit (event_lines (names_of job) f.programs f.number reports.taken f.start))) these reports.writes);
       serial_run = serial_run;
-      told = λ told is. (stands-now (ended is).0 told).0;
-      leaves = λ is. ((desk_of new).committed, in_order (ended is).0, λ told. (stands-now (ended is).0 told).1);
+      leaves = leaves-now;
+      crash = crash-leaves;
+      doubt = doubt-leaves;
+      honest = same_honest ∙ asks.calls.honest;
+      time = elapses-trans G fewer_later before start after asks.calls.time time;
     }
 
-  pub happened : (replayed : Replayed) → Replays ghosts G (names_of job) job.events.items desk new start after replayed → HappenedTo G job before after (desk_of new).order (status_of_replay replayed)
-  happened replayed.Ended reports =
-      has_run (Ok false) (Ok 0) status.Done reports refl (λ one two bytes prints. prints_well one two bytes false 0 prints) (λ is. (reports.closed, reports.all refl)) (λ is. absurd (cc))
-  happened replayed.Closed reports =
-      inl (has_run (Ok true) (Ok 0) status.DiskFault reports refl (λ one two bytes prints. prints_well one two bytes true 0 prints) (λ is. absurd (cc)) (λ is. reports.closed))
-  happened replayed.PutFault (failed, reports) =
-      has_run (Err failed) (Err failed) status.PutFault reports (failed, refl) (λ one two bytes prints. prints_broken {T = Bool} {U = ℕ} (Err failed) (Err failed) refl refl one two bytes prints) (λ is. absurd (cc)) (λ is. absurd (cc))
+-- what was replayed on a desk that was opened, by how that ended
+module _ {W : Type 0} (G : Ghosts W) (fewer_later : FewerLater G) (printed_now : PrintedNow G) (job : Job) (before start after : W) (desk new : PrivateDesk)
+    (opens : IsTrue (G.is_honest before) → IsSome (G.held before) → IsOpened G job.frames before start desk) (asks : OnlyAsks G before start) (programs_are : desk.programs.items ≡ job.programs.items) (same_opened : new.opened ≡ desk.opened)
+    (same_honest : G.is_honest after ≡ G.is_honest start) (time : Elapses G.moment G.left_since start after)
+    (result : Replayed) (replays : (first : Desk) → HasOpened ghosts G desk start first → Replays ghosts G (names_of job) desk.programs.items desk.opened job.events.items first new start after result) where
+  abbrev replayed-from : (number : ℕ) (store : FlatStore) (standing : StandsAt G before number store) → Replays ghosts G (names_of job) desk.programs.items desk.opened job.events.items (first_desk G job.frames before start desk (opens standing.honest standing.told) asks) new start after result
+  replayed-from number store standing = replays (first_desk G job.frames before start desk (opens standing.honest standing.told) asks) (has-opened G job.frames before start desk (opens standing.honest standing.told) asks)
 
-  -- the desk is open as it opens, with number 0
-  pub has_opened : HasOpened ghosts desk
-  has_opened = record {
-    still_open = ap (λ (d : Desk). d.closed) opened.opens;
-    number = ap (λ (f : Facts). number_after f.number f.start) these ∙ sym opened.number;
-  }
-
-  -- a disk fault has its cause
-  pub rose-by : (replayed : Replayed) → Replays ghosts G (names_of job) job.events.items desk new start after replayed → status_of_replay replayed ≡ Status.DiskFault → Rose (G.disk_faults before) (G.disk_faults after)
-  rose-by replayed.Ended reports is = absurd (cc)
-  rose-by replayed.Closed reports is = rose-closed (Ok true) (Ok 0) status.DiskFault reports reports.closed
-  rose-by replayed.PutFault (failed, reports) is = absurd (cc)
-
--- a put that failed is told so
-pub put_failed : (replayed : Replayed) → status_of_replay replayed ≡ Status.PutFault → replayed ≡ Replayed.PutFault
-put_failed replayed.Ended is = absurd (cc)
-put_failed replayed.Closed is = absurd (cc)
-put_failed replayed.PutFault is = refl
+  pub happened-by : (that : Replayed) → result ≡ that → HappenedTo G job before after (desk_of new).order (status_of_replay that)
+  happened-by replayed.Ended is = λ number store standing.
+      let reports = subst (λ (those : Replayed). Replays ghosts G (names_of job) desk.programs.items desk.opened job.events.items (first_desk G job.frames before start desk (opens standing.honest standing.told) asks) new start after those) is (replayed-from number store standing) in
+      has_run G fewer_later printed_now job before start after desk new number store standing (opens standing.honest standing.told) asks programs_are same_opened same_honest time
+      (Ok false) (Ok 0) status.Done reports refl (λ one two bytes prints. prints_well one two bytes false 0 prints) (λ is. (reports.closed, reports.all refl)) (λ is. absurd (cc))
+  happened-by replayed.Closed is = inl (λ number store standing.
+      let reports = subst (λ (those : Replayed). Replays ghosts G (names_of job) desk.programs.items desk.opened job.events.items (first_desk G job.frames before start desk (opens standing.honest standing.told) asks) new start after those) is (replayed-from number store standing) in
+      has_run G fewer_later printed_now job before start after desk new number store standing (opens standing.honest standing.told) asks programs_are same_opened same_honest time
+      (Ok true) (Ok 0) status.DiskFault reports refl (λ one two bytes prints. prints_well one two bytes true 0 prints) (λ is. absurd (cc)) (λ is. reports.closed))
+  happened-by (replayed.Damaged offset) is = inr (λ number store standing.
+      subst (λ (those : Replayed). Replays ghosts G (names_of job) desk.programs.items desk.opened job.events.items (first_desk G job.frames before start desk (opens standing.honest standing.told) asks) new start after those) is (replayed-from number store standing))
+  happened-by replayed.PutFault is = λ number store standing.
+      let (failed, reports) = subst (λ (those : Replayed). Replays ghosts G (names_of job) desk.programs.items desk.opened job.events.items (first_desk G job.frames before start desk (opens standing.honest standing.told) asks) new start after those) is (replayed-from number store standing) in
+      has_run G fewer_later printed_now job before start after desk new number store standing (opens standing.honest standing.told) asks programs_are same_opened same_honest time
+      (Err failed) (Err failed) status.PutFault reports (failed, refl) (λ one two bytes prints. prints_broken {T = Bool} {U = ℕ} (Err failed) (Err failed) refl refl one two bytes prints) (λ is. absurd (cc)) (λ is. absurd (cc))
 
 -- what happened to the job of a text
 pub happens : {W : Type 0} (G : Ghosts W) (left left_now : Option (List ℕ)) (before after : W) (text : List ℕ) (job : Job) (order : List (ℕ × ℕ)) (now : Status)
@@ -205,4 +266,5 @@ happens G left left_now before after text job order status.Done whole means did 
 happens G left left_now before after text job order status.PutFault whole means did = record { text = text; whole = whole; job = job; means = means; has_run = did }
 happens G left left_now before after text job order status.DiskFault whole means (inl did) = inl (record { text = text; whole = whole; job = job; means = means; has_run = did })
 happens G left left_now before after text job order status.DiskFault whole means (inr untouched) = inr untouched
+happens G left left_now before after text job order (status.Store offset) whole means did = did
 happens G left left_now before after text job order _ whole means did = did

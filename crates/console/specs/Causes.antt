@@ -1,14 +1,14 @@
 -- How a call ended, and why.
-use Rattle.std.specs.Prelude.{◌≡◌, ◌≢◌, ◌≤◌, ℕ, List, length, Option, Some, Result, Ok, Err, String}
-use Rattle.std.specs.Option.{ForSome}
+use Rattle.std.specs.Prelude.{◌≡◌, ◌≢◌, ◌≤◌, ◌⊎◌, ℕ, List, length, Option, Some, Result, Ok, Err, String, IsSome, IsTrue}
 use Rattle.std.specs.declared.alloc.Global.{Global}
 use Rattle.outside.specs.Causes.{Rose}
-use Rattle.store_format.specs.Header.{fresh}
+use Rattle.outside.specs.declared.world.Outside.{Ghosts}
+use Rattle.outside.specs.Runs.{held_of}
 use Rattle.job_text.specs.Grammar.{Content, job_of}
 use Rattle.console.specs.declared.status.Status.{Status}
 use Rattle.console.specs.declared.status.Status.TheVariants as status
 use Rattle.console.specs.declared.words.Command.{Command}
-use Rattle.console.specs.Opening.{try_layout}
+use Rattle.console.specs.Opening.{IsStanding, IsFaultAt, IsFaultSince}
 use Rattle.console.specs.SourceText.{HasRead, IsWhole}
 use Rattle.console.specs.Words.{IsForm}
 
@@ -63,17 +63,18 @@ pub record ReadsBy (left left_now : Option (List ℕ)) (faults faults_now : ℕ)
   pub no_job : (line kind : ℕ) → status ≡ Status.Job line kind → (text : List ℕ) × IsWhole left left_now text × (job_of text ≡ Err (line, kind))
   pub job : IsPastJob status → (text : List ℕ) × IsWhole left left_now text × IsSomeJob text
 
--- what the bytes of a disk tell of the status with which it was opened
-pub record OpensBy (held : Option (List ℕ)) (status : Status) : Type 0 where
-  pub no_store : (offset : ℕ) → status ≡ Status.Store offset → (offset ≡ 0) × ForSome held (λ bytes. bytes ≢ fresh try_layout)
-  pub store : IsPastOpening status → ForSome held (λ bytes. bytes ≡ fresh try_layout)
+-- What the bytes of a disk tell of the status with which a job ran on it. An honest disk whose bytes stand is never told otherwise.
+pub record OpensBy {W : Type 0} (G : Ghosts W) (before now : W) (status : Status) : Type 0 where
+  pub no_store : (offset : ℕ) → status ≡ Status.Store offset → IsSome (G.held before) → IsFaultAt (held_of G before) offset ⊎ (IsSome (G.held now) → IsFaultSince (held_of G before) (held_of G now) offset)
+  pub store : IsPastOpening status → IsSome (G.held before) → IsStanding (held_of G before)
+  pub never : IsTrue (G.is_honest before) → IsSome (G.held before) → IsStanding (held_of G before) → (offset : ℕ) → status ≢ Status.Store offset
 
--- the words are a command, the source has the text of a job, and for `try` the disk has the store of `try`
-pub record IsComplete (words : List (String Global)) (left held : Option (List ℕ)) : Type 0 where
+-- the words are a command, the source has the text of a job, and for `try` the disk is honest and its bytes stand for a store
+pub record IsComplete {W : Type 0} (G : Ghosts W) (words : List (String Global)) (left : Option (List ℕ)) (outside : W) : Type 0 where
   pub form : Command
   pub asks : IsForm form words
   pub text : List ℕ
   pub has_text : left ≡ Some text
   pub few : length text ≤ 1048576
   pub is_job : IsSomeJob text
-  pub store : form ≡ Command.Try → held ≡ Some (fresh try_layout)
+  pub store : form ≡ Command.Try → IsTrue (G.is_honest outside) × IsSome (G.held outside) × IsStanding (held_of G outside)

@@ -1,33 +1,32 @@
--- The store that `try` runs on, and the desk over it.
-use Rattle.std.specs.Prelude.{◌≡◌, ℕ, ◌≤◌, List, [], ◌∷◌, length}
-use Rattle.std.specs.Option.{ForSome}
+-- The store that `try` is handed, and what the bytes of a disk say of an opening.
+use Rattle.std.specs.Prelude.{◌≡◌, ℕ, ◌⊎◌, List, [], ◌∷◌, take, Option, Some, IsSome, Bool, IsTrue}
 use Rattle.line_geometry.specs.declared.directory.PageSize.TheVariants.{Two}
-use Rattle.flat_machine.specs.declared.machine.Program.{Program}
-use Rattle.store_format.specs.Header.{Header, total, fresh, home_at}
+use Rattle.line_geometry.specs.FlatStore.{FlatStore}
 use Rattle.outside.specs.declared.world.Outside.{Ghosts}
-use Rattle.desk.specs.Desk.{opened}
-use Rattle.private_desk.specs.declared.single.PrivateDesk.{PrivateDesk}
-use Rattle.private_desk.specs.PrivateDesk.{desk_of, header_told, programs_told, begins_told, turns_told, opened_told, IsSound}
-use Rattle.private_desk.specs.Follows.{Follows}
-use Rattle.std.specs.Prelude.{drop}
+use Rattle.outside.specs.Runs.{Leaves, held_of}
+use Rattle.store_format.specs.Header.{Header, header_of}
+use Rattle.store_format.specs.Bank.{Faulty, bank_of}
+use Rattle.store_format.specs.Stands.{Stands, NotAStore, Damaged, stands, chosen}
 
 -- the header of the store: segment 1 with four pages, segment 2 with two, and a bank of 65,536 bytes
 abbrev pub try_layout : Header
 try_layout = record { directory = record { page = Two; segments = (1, 4) ∷ (2, 2) ∷ [] }; bank_bytes = 65536 }
 
--- the bytes of its segments
-abbrev pub try_bytes : List ℕ
-try_bytes = drop (home_at try_layout 0) (fresh try_layout)
+-- the bytes stand for a number and a store
+abbrev pub IsStanding : List ℕ → Type 0
+IsStanding held = (number : ℕ) × (store : FlatStore) × (stands held ≡ Stands number store)
 
--- a desk that has just opened on it, for so many begins of these programs; a disk that tells its bytes holds the store
-pub record IsOpened {W : Type 0} (frames most_begins : ℕ) (programs : List Program) (G : Ghosts W) (outside : W) (desk : PrivateDesk) : Type 0 where
-  pub sound : IsSound desk
-  pub opens : desk_of desk ≡ opened frames 1 65536 0 (record { directory = try_layout.directory; bytes = try_bytes })
-  pub header : header_told desk ≡ try_layout
-  pub programs_are : programs_told desk ≡ programs
-  pub begins : begins_told desk ≡ most_begins
-  pub turns : turns_told desk ≡ 0
-  pub number : opened_told desk ≡ 0
-  pub follows : Follows desk
-  pub held : ForSome (G.held outside) (λ bytes. bytes ≡ fresh try_layout)
-  pub long : ForSome (G.held outside) (λ bytes. total try_layout ≤ length bytes)
+-- the bytes stand for nothing, from this offset on
+abbrev pub IsFaultAt : List ℕ → ℕ → Type 0
+IsFaultAt held offset = (stands held ≡ NotAStore offset) ⊎ (stands held ≡ Damaged offset)
+
+-- the bytes held now have this fault in the chosen bank, under the header of the bytes held before
+abbrev pub IsFaultSince : (before now : List ℕ) → ℕ → Type 0
+IsFaultSince before now offset = bank_of now (header_of (take 128 before)) (chosen now) ≡ Faulty offset
+
+-- An honest disk tells its bytes, and they and each image of it stand for this number and this store.
+pub record StandsAt {W : Type 0} (G : Ghosts W) (outside : W) (number : ℕ) (store : FlatStore) : Type 0 where
+  pub honest : IsTrue (G.is_honest outside)
+  pub told : IsSome (G.held outside)
+  pub stood : stands (held_of G outside) ≡ Stands number store
+  pub images : Leaves G (λ image seen. stands image ≡ Stands number store) outside outside

@@ -2,8 +2,8 @@
 use Rattle.std.specs.Prelude.{ℕ, List, [], ◌++◌, codes, decimal}
 use Rattle.console.specs.declared.source_text.TextFault.{TextFault}
 use Rattle.console.specs.declared.source_text.TextFault.TheVariants as text
-use Rattle.console.specs.declared.opening.OpenFault.{OpenFault}
-use Rattle.console.specs.declared.opening.OpenFault.TheVariants as open_fault
+use Rattle.redo_journal.specs.declared.fault.OpenFault.{OpenFault}
+use Rattle.redo_journal.specs.declared.fault.OpenFault.TheVariants as open_fault
 use Rattle.console.specs.declared.status.Status.{Status}
 use Rattle.console.specs.declared.status.Status.TheVariants as status
 use Rattle.schedule_replay.specs.declared.events.Replayed.{Replayed}
@@ -24,13 +24,16 @@ status_of_text text.Memory = Status.NoMemory
 
 -- of an opening
 abbrev pub status_of_open : OpenFault → Status
-status_of_open open_fault.Other = Status.Store 0
-status_of_open open_fault.Disk = Status.DiskFault
+status_of_open (open_fault.NotAStore offset) = Status.Store offset
+status_of_open (open_fault.Damaged offset) = Status.Store offset
+status_of_open open_fault.DiskFault = Status.DiskFault
+status_of_open open_fault.Memory = Status.NoMemory
 
 -- of a replay
 abbrev pub status_of_replay : Replayed → Status
 status_of_replay replayed.Ended = Status.Done
 status_of_replay replayed.Closed = Status.DiskFault
+status_of_replay (replayed.Damaged offset) = Status.Store offset
 status_of_replay replayed.PutFault = Status.PutFault
 
 -- the number with which the program ends

@@ -1,24 +1,20 @@
-ghost use Rattle.std.specs.Prelude.{◌≡◌, ◌≢◌, ◌<◌, ◌≤◌, ◌⊎◌, ◌↔◌, ◌-◌, ◌^◌, ℕ, List, length, IfOk, IfErr, Ok, Err};
+ghost use Rattle.std.specs.Prelude.{◌≡◌, ◌≢◌, ◌<◌, ◌≤◌, ◌⊎◌, ◌↔◌, ◌-◌, ◌^◌, ℕ, List, length, IfOk, IfErr, OnOk, Ok};
 ghost use Rattle.outside.specs.Causes.{Rose};
-ghost use Rattle.outside.specs.Runs.{OnlyAsks};
-ghost use Rattle.console.specs.Opening.{IsOpened};
 ghost use Rattle.desk.specs.Answers.{order_told};
 ghost use Rattle.job_text.specs.Grammar.{job_of, content_of};
 ghost use Rattle.job_text.specs.Ready.{IsReady};
 ghost use Rattle.schedule_replay.specs.Asked.{begins_in};
 ghost use Rattle.console.specs.SourceText.{IsWhole};
-ghost use Rattle.console.specs.Causes.{IsComplete, ReadsBy, OpensBy, IsPastJob, IsOfReading, IsOfOpening, status_of};
+ghost use Rattle.console.specs.Causes.{IsComplete, ReadsBy, OpensBy, IsPastJob, IsOfReading, status_of};
 ghost use Rattle.console.specs.Headline.{Happened, HappenedTo};
 ghost use Rattle.console.specs.Listed.{Listed};
 ghost use Rattle.console.specs.Words.{IsForm, IsNoForm};
 
 use super::list::list_job;
-use super::opening::{check_store, try_header, try_store};
 use super::source_text::read_text;
 use super::status::{Ended, Status};
 use super::words::{Command, command_of};
 use desk::{Committed, Event};
-use flat_machine::Program;
 use job_text::{Job, read_job};
 use outside::{Outside, Source};
 use private_desk::PrivateDesk;
@@ -37,13 +33,15 @@ pub fn console<S: Source, W: Outside>(
     outside: &mut W,
 ) -> Ended
     ensures usage { result.status ≡ Status.Usage ↔ IsNoForm words.now }
+    ensures unasked { result.status ≡ Status.Usage → (job.new ≡ job.old) × (outside.new ≡ outside.old) }
     ensures read { ReadsBy (S.left job.old) (S.left job.new) (S.faults job.old) (S.faults job.new) result.status }
-    ensures opened { IsForm Command.Try words.now → OpensBy (W.held outside.old) result.status }
+    ensures unfailed { result.status ≡ Status.Done → (S.faults job.new ≡ S.faults job.old) × (W.put_faults outside.new ≡ W.put_faults outside.old) }
+    ensures opened { IsForm Command.Try words.now → OpensBy W.Outside outside.old outside.new result.status }
     ensures put { result.status ≡ Status.PutFault → Rose (W.put_faults outside.old) (W.put_faults outside.new) }
     ensures disk { result.status ≡ Status.DiskFault → Rose (W.disk_faults outside.old) (W.disk_faults outside.new) }
     ensures happened { (IsForm Command.List words.now → ⊥) → Happened W.Outside (S.left job.old) (S.left job.new) outside.old outside.new (order_told result.order.items) result.status }
     ensures listed { IsForm Command.List words.now → Listed W.Outside (S.left job.old) (S.left job.new) outside.old outside.new (order_told result.order.items) result.status }
-    ensures complete { IsComplete words.now (S.left job.old) (W.held outside.old) → (Rose (S.faults job.old) (S.faults job.new) → ⊥) → (Rose (W.disk_faults outside.old) (W.disk_faults outside.new) → ⊥) → (Rose (W.put_faults outside.old) (W.put_faults outside.new) → ⊥) → (result.status ≡ Status.Done) ⊎ (result.status ≡ Status.NoMemory) }
+    ensures complete { IsComplete W.Outside words.now (S.left job.old) outside.old → (Rose (S.faults job.old) (S.faults job.new) → ⊥) → (Rose (W.disk_faults outside.old) (W.disk_faults outside.new) → ⊥) → (Rose (W.put_faults outside.old) (W.put_faults outside.new) → ⊥) → (result.status ≡ Status.Done) ⊎ (result.status ≡ Status.NoMemory) }
     ensures never { (result.status ≢ Status.Exists) × (result.status ≢ Status.NoRange) }
 {
     let Some(command) = command_of(words) else {
@@ -61,6 +59,7 @@ pub fn console<S: Source, W: Outside>(
 /// The job of the source.
 fn read<S: Source>(alloc: Global, source: &mut S) -> Result<Job, Status>
     ensures read { ReadsBy (S.left source.old) (S.left source.new) (S.faults source.old) (S.faults source.new) (status_of result) }
+    ensures unfailed { OnOk result (S.faults source.new ≡ S.faults source.old) }
     ensures only { IfErr result IsOfReading }
     ensures means { IfOk result (λ job. (text : List ℕ) × IsWhole (S.left source.old) (S.left source.new) text × (job_of text ≡ Ok (content_of job))) }
     ensures ready { IfOk result IsReady }
@@ -72,7 +71,8 @@ fn read<S: Source>(alloc: Global, source: &mut S) -> Result<Job, Status>
 /// The store is opened, and the events of the job run.
 fn try_job<W: Outside>(alloc: Global, job: Job, outside: &mut W) -> Ended
     requires { IsReady job }
-    ensures opened { OpensBy (W.held outside.old) result.status }
+    ensures opened { OpensBy W.Outside outside.old outside.new result.status }
+    ensures unfailed { result.status ≡ Status.Done → W.put_faults outside.new ≡ W.put_faults outside.old }
     ensures put { result.status ≡ Status.PutFault → Rose (W.put_faults outside.old) (W.put_faults outside.new) }
     ensures disk { result.status ≡ Status.DiskFault → Rose (W.disk_faults outside.old) (W.disk_faults outside.new) }
     ensures happened { HappenedTo W.Outside job outside.old outside.new (order_told result.order.items) result.status }
@@ -80,11 +80,9 @@ fn try_job<W: Outside>(alloc: Global, job: Job, outside: &mut W) -> Ended
     ensures never { (result.status ≢ Status.Exists) × (result.status ≢ Status.NoRange) }
 {
     let begins = begins_in(&job.events);
-    let mut desk = match open(alloc, job.frames, job.programs, begins, outside) {
+    let mut desk = match PrivateDesk::open(alloc, outside, job.programs, job.frames, begins) {
         Ok(desk) => desk,
-        Err(status) => {
-            return Ended::without_events(alloc, status);
-        }
+        Err(fault) => return Ended::without_events(alloc, Status::from(fault)),
     };
     let replayed = replay(&mut desk, &job.names, &job.events, outside);
     Ended {
@@ -102,29 +100,4 @@ fn begins_in(events: &[Event]) -> u32
         .iter()
         .filter(|event| matches!(event, Event::Begin { .. }))
         .count() as u32
-}
-
-/// The desk over the store that the disk holds. All memory that the events need is taken first.
-fn open<W: Outside>(
-    alloc: Global,
-    frames: u16,
-    programs: Vec<Program>,
-    begins: u32,
-    outside: &mut W,
-) -> Result<PrivateDesk, Status>
-    requires frames { 1 < frames }
-    requires begins { begins < 2 ^ 32 - 1 }
-    ensures disk { result ≡ Err Status.DiskFault → Rose (W.disk_faults outside.old) (W.disk_faults outside.new) }
-    ensures asks { OnlyAsks W.Outside outside.old outside.new }
-    ensures store { OpensBy (W.held outside.old) (status_of result) }
-    ensures only { IfErr result IsOfOpening }
-    ensures opened { IfOk result (IsOpened frames begins programs.items W.Outside outside.new) }
-{
-    let wanted = try_store(alloc)?;
-    let mut read = vec![in alloc; 0; wanted.len()]?;
-    let header = try_header();
-    let home = header.home_at(0) as usize;
-    let desk = PrivateDesk::open(alloc, header, &wanted[home..], programs, frames, begins)?;
-    check_store(outside, &wanted, &mut read)?;
-    Ok(desk)
 }

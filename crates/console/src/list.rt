@@ -15,6 +15,7 @@ pub fn list_job<W: Outside>(alloc: Global, job: &Job, outside: &mut W) -> Ended
     requires { length job.now.names.items ≡ length job.now.programs.items }
     ensures puts { Puts W.Outside (listings_of (content_of job.now)) outside.old outside.new (put_of result.status) }
     ensures order { result.order.items ≡ [] }
+    ensures unfailed { result.status ≡ Status.Done → W.put_faults outside.new ≡ W.put_faults outside.old }
     ensures only { (result.status ≡ Status.Done) ⊎ (result.status ≡ Status.PutFault) }
 {
     let status = match put_programs(job, outside) {

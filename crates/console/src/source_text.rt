@@ -1,5 +1,5 @@
 // The bytes of a job, whole from their source.
-ghost use Rattle.std.specs.Prelude.{◌≡◌, ◌≤◌, List, ℕ, Option, MatchResult};
+ghost use Rattle.std.specs.Prelude.{◌≡◌, ◌≤◌, List, ℕ, Option, MatchResult, OnOk};
 ghost use Rattle.outside.specs.Causes.{Rose};
 ghost use Rattle.console.specs.declared.source_text.TextFault.TheVariants.{Memory as memory_fault, Source as source_fault};
 ghost use Rattle.console.specs.SourceText.{IsWhole, IsWhy};
@@ -46,6 +46,7 @@ pub fn read_text<S: Source>(alloc: Global, source: &mut S) -> Result<Vec<u8>, Te
     ensures bytes { MatchResult result (λ text. IsWhole (S.left source.old) (S.left source.new) text.items)
         (λ fault. IsWhy fault (S.left source.old) (S.left source.new) (Rose (S.faults source.old) (S.faults source.new))) }
     ensures later { S.faults source.old ≤ S.faults source.new }
+    ensures unfailed { OnOk result (S.faults source.new ≡ S.faults source.old) }
 {
     let mut text = Vec::new(alloc);
     while text.len() <= MOST_BYTES {

@@ -2,12 +2,12 @@ ghost use Rattle.std.specs.Prelude.{◌≡◌, ◌+◌, ◌≤◌, [], ◌++◌,
 ghost use Rattle.console.specs.declared.status.Status.TheVariants.{NoMemory};
 ghost use Rattle.console.specs.Statuses.{status_of_job, status_of_text, status_of_open, status_of_replay, number_of, text_of};
 
-use super::opening::OpenFault;
 use super::source_text::TextFault;
 use arrayvec::ArrayString;
 use desk::Committed;
 use itoa::Buffer;
 use job_text::JobFault;
+use redo_journal::OpenFault;
 use schedule_replay::Replayed;
 use std::alloc::{AllocError, Global};
 
@@ -158,8 +158,9 @@ impl From<OpenFault> for Status {
 
     fn from(fault: OpenFault) -> Self {
         match fault {
-            OpenFault::Other => Status::Store(0),
-            OpenFault::Disk => Status::DiskFault,
+            OpenFault::NotAStore(offset) | OpenFault::Damaged(offset) => Status::Store(offset),
+            OpenFault::DiskFault => Status::DiskFault,
+            OpenFault::Memory => Status::NoMemory,
         }
     }
 }
@@ -171,6 +172,7 @@ impl From<Replayed> for Status {
         match replayed {
             Replayed::Ended => Status::Done,
             Replayed::Closed => Status::DiskFault,
+            Replayed::Damaged(offset) => Status::Store(offset),
             Replayed::PutFault => Status::PutFault,
         }
     }

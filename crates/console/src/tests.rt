@@ -117,7 +117,7 @@ const CASES: [Case; 12] = [
     Case {
         name: "another store",
         other_byte: Some(9),
-        status: Status::Store(0),
+        status: Status::Store(8),
         ..PLAIN
     },
     Case {
@@ -227,7 +227,7 @@ const PROGRAMS: &str = "frames 2\n\
     schedule\n";
 
 /// The events of a schedule, and the report of it behind the line that opens it.
-const SCHEDULES: [(&str, &str); 11] = [
+const SCHEDULES: [(&str, &str); 12] = [
     ("", "end 0\n"),
     (
         "begin add 5\nturn 1 9\nbegin add 7\nbegin add 1\nturn 2 9\n",
@@ -274,6 +274,12 @@ const SCHEDULES: [(&str, &str); 11] = [
          commit 1 number 1 steps 5 out -\nend 1\n",
     ),
     (
+        "begin add 5\nturn 1 9\ncheckpoint\nbegin add 7\nturn 2 3\ncrash\nturn 2 9\nbegin rd\nturn 3 9\n",
+        "begin 1 add\nturn 1 ran 5 page 1 lock 2\ncommit 1 number 1 steps 5 out -\nstored 1\nbegin 2 add\n\
+         turn 2 ran 3 page 0 lock 1\nlost 2\nopen 1\nidle 2\nbegin 3 rd\nturn 3 ran 5 page 1 lock 1\n\
+         commit 3 number 2 steps 5 out 05\nend 2\n",
+    ),
+    (
         "begin fill 64\nturn 1 999\nbegin fill 64\nturn 2 999\nbegin fill 64\nturn 3 999\nbegin fill 64\nturn 4 999\n\
          begin fill 64\nturn 5 999\nbegin fill 64\nturn 6 999\nbegin fill 64\nturn 7 999\nbegin fill 64\nturn 8 999\n",
         "begin 1 fill\nturn 1 ran 258 page 4 lock 64\ncommit 1 number 1 steps 258 out -\n\
@@ -283,7 +289,7 @@ const SCHEDULES: [(&str, &str); 11] = [
          begin 5 fill\nturn 5 ran 258 page 4 lock 64\ncommit 5 number 5 steps 258 out -\n\
          begin 6 fill\nturn 6 ran 258 page 4 lock 64\ncommit 6 number 6 steps 258 out -\n\
          begin 7 fill\nturn 7 ran 258 page 4 lock 64\ncommit 7 number 7 steps 258 out -\n\
-         begin 8 fill\nturn 8 ran 189 page 3 lock 47\njournal 8 lines 48 limit 47\nend 7\n",
+         begin 8 fill\nturn 8 ran 258 page 4 lock 64\ncommit 8 number 8 steps 258 out -\nend 8\n",
     ),
 ];
 

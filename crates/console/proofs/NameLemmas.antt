@@ -1,0 +1,24 @@
+-- The names and events of a job that is ready.
+use Rattle.std.proofs.Common.{◌≡◌, ◌≢◌, ℕ, zero, suc, ◌<◌, ◌==◌, false, List, [], ◌∷◌, length, refl, arith, All}
+use Rattle.std.proofs.lemmas.Bool.Decides.{nat_tests}
+use Rattle.desk.specs.Seen.{IsUnbroken}
+use Rattle.desk.specs.declared.event.Event.{Event}
+use Rattle.desk.specs.declared.event.Event.TheVariants.{Begin, Turn, Checkpoint, Crash}
+use Rattle.run_law.proofs.Unbroken.{unbroken_more}
+use Rattle.job_text.specs.Ready.{IsEventAmong, IsName}
+use Rattle.job_text.proofs.NameLemmas.{name_no_feed}
+use Rattle.schedule_replay.specs.Asked.{IsAsked}
+
+bytes-unbroken : (bytes : List ℕ) → All (λ byte. byte ≢ 10) bytes → IsUnbroken bytes
+bytes-unbroken [] none = refl
+bytes-unbroken (byte ∷ bytes) none = unbroken_more byte bytes (grind (arith, nat_tests, none 0 0 (let some : 0 < length (byte ∷ bytes) = omega arith in some))) (bytes-unbroken bytes (λ k d within. none (suc k) d (omega (arith, within))))
+
+pub name-unbroken : (name : List ℕ) → IsName name → IsUnbroken name
+name-unbroken name is = bytes-unbroken name (name_no_feed name is)
+
+-- an event that a job may have may be asked
+pub asked-among : (programs : ℕ) (event : Event) → IsEventAmong programs event → IsAsked programs event
+asked-among programs (Begin program args) is = is
+asked-among programs (Turn activation limit) is = is
+asked-among programs Checkpoint is = tt
+asked-among programs Crash is = tt
