@@ -1,7 +1,6 @@
 #!/usr/bin/env bash
-# run.sh PROGRAM [SCRATCH]: holds the interpreter of interp.c to PROGRAM, the built romp801, and prints the tables of
-# docs/SPEED.md on standard output. Everything that it makes goes to SCRATCH, a new temporary folder where that is absent.
-# It wants gcc and python3, and valgrind for the counts of instructions.
+# run.sh PROGRAM [SCRATCH]: checks interp against the program and prints the tables of docs/SPEED.md.
+# Wants gcc and python3, and valgrind for the counts of instructions.
 set -eu
 
 here=$(dirname -- "$(readlink -f -- "${BASH_SOURCE[0]}")")
@@ -12,6 +11,9 @@ scratch=$(readlink -f -- "$scratch")
 
 cd -- "$here"
 export PYTHONDONTWRITEBYTECODE=1
-gcc -O2 -Wall -Wextra -o "$scratch/interp" interp.c
-python3 check.py "$program" "$scratch/interp" "$scratch" "${CASES:-300}"
-python3 measure.py "$program" "$scratch"
+gcc -O2 -Wall -Wextra -o "$scratch/interp-O2" interp.c
+gcc -O3 -Wall -Wextra -o "$scratch/interp-O3" interp.c
+gcc -O2 -static -Wall -Wextra -o "$scratch/once" once.c
+python3 jobs.py "$scratch/jobs"
+python3 check.py "$program" "$scratch/interp-O2" "$scratch" 2000
+python3 table.py "$program" "$scratch"

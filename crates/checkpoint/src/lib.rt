@@ -7,6 +7,3 @@ mod selector;
 
 pub use banks::Banks;
 pub use redo_journal::{Appended, OpenFault, ReopenFault};
-
-#[cfg(test)]
-mod tests;
