@@ -1,5 +1,5 @@
 -- Newest bytes that are written home.
-use Rattle.std.proofs.Common.{◌≡◌, inl, inr, ℕ, ◌+◌, ◌*◌, ◌-◌, ◌<◌, ◌≤◌, List, [], ◌∷◌, ◌++◌, length, take, drop, refl, sym, ◌∙◌, ap, subst, arith}
+use Rattle.std.proofs.Common.{◌≡◌, inl, inr, ℕ, ◌+◌, ◌*◌, ◌-◌, ◌<◌, ◌≤◌, List, length, take, drop, refl, sym, ◌∙◌, ap, subst, arith}
 use Rattle.std.specs.Prelude.{Option, None, Some, fold}
 use Rattle.std.proofs.lemmas.Bool.{cases_lt, cases_eq}
 use Rattle.std.proofs.lemmas.List.{drop-drop, take_at, length-drop, length-take-le}
@@ -8,7 +8,7 @@ use Rattle.store_format.specs.declared.header.Which.{Which}
 use Rattle.store_format.specs.declared.header.Which.TheVariants.{A, B}
 use Rattle.redo_journal.specs.Kept.{end_of}
 use Rattle.store_format.specs.Header.{Header, home_at, bank_at}
-use Rattle.store_format.specs.Bank.{RecordLine, area_of}
+use Rattle.store_format.specs.Bank.{RecordLine}
 use Rattle.store_format.specs.Stands.{IsStore, laid, home_of, stands}
 use Rattle.store_format.proofs.Fronts.{shorter_front, rest_front}
 use Rattle.store_format.proofs.Stores.{area_within}

@@ -1,11 +1,11 @@
 -- The other bank, its head, and the selector.
-use Rattle.std.proofs.Common.{◌≡◌, inl, inr, ◌⊎◌, ℕ, ◌+◌, ◌*◌, ◌-◌, ◌%◌, ◌^◌, ◌<◌, ◌≤◌, Bool, true, false, List, [], ◌∷◌, ◌++◌, length, take, drop, refl, sym, ◌∙◌, ap, subst, arith, slice_index, append_assoc}
+use Rattle.std.proofs.Common.{◌≡◌, inl, inr, ◌⊎◌, ℕ, ◌+◌, ◌%◌, ◌^◌, ◌<◌, ◌≤◌, List, [], ◌∷◌, length, drop, refl, sym, ◌∙◌, ap, arith, slice_index}
 use Rattle.std.specs.Prelude.{◌==◌, if◌then◌else◌, fold}
-use Rattle.std.proofs.lemmas.List.{take_at, drop_at, drop-drop, get_or-drop}
+use Rattle.std.proofs.lemmas.List.{get_or-drop}
 use Rattle.store_format.specs.declared.header.Which.{Which}
 use Rattle.store_format.specs.declared.header.Which.TheVariants.{A, B}
-use Rattle.store_format.specs.Header.{Header, number_at, home_at, bank_at, total}
-use Rattle.store_format.specs.Bank.{RecordLine, area_at, area_of, base_of}
+use Rattle.store_format.specs.Header.{Header, home_at, bank_at}
+use Rattle.store_format.specs.Bank.{RecordLine, area_at}
 use Rattle.store_format.specs.Stands.{IsStore, HasHeader, laid, home_of, chosen, stands}
 use Rattle.store_format.proofs.Fronts.{shorter_front, same_byte}
 use Rattle.store_format.proofs.Stores.{area_within}
@@ -14,7 +14,6 @@ use Rattle.line_geometry.specs.Lines.{line_count}
 use Rattle.outside.specs.Bytes.{written, Torn}
 use Rattle.outside.proofs.Torn.{torn_by_written}
 use Rattle.redo_journal.specs.Kept.{KeptBank, number_of}
-use Rattle.redo_journal.specs.Tracks.{HoldsRecords}
 use Rattle.redo_journal.specs.Turned.{head_bytes}
 use Rattle.redo_journal.proofs.HeadLemmas.{IsEmpty, head_empty, head_long}
 use Rattle.redo_journal.proofs.GateLemmas.{drop-written}

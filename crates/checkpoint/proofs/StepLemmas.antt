@@ -1,10 +1,9 @@
 -- What a crash leaves of calls that write, one after another, from images on that weren't sure.
-use Rattle.std.proofs.Common.{◌≡◌, inl, inr, ⊎_elim, ℕ, List, [], refl, sym, ap, subst, ◌∙◌}
+use Rattle.std.proofs.Common.{◌≡◌, ⊎_elim, ℕ, List, [], sym, ap, subst}
 use Rattle.std.specs.Prelude.{Option, None, Some, Result, Ok, Err, OnOk, IsSome, IsTrue, unwrap_or}
 use Rattle.outside.specs.declared.world.Outside.{Ghosts}
 use Rattle.outside.specs.Moments.{Elapses, Follows, IsDurable}
 use Rattle.outside.specs.Runs.{Leaves, OnlyAsks, FewerLater, held_of}
-use Rattle.outside.specs.declared.failed.Failed.{Failed}
 use Rattle.outside.specs.Bytes.{Writes, written}
 use Rattle.outside.specs.Durable.{IsSure}
 

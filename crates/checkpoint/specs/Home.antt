@@ -1,5 +1,5 @@
 -- Home lines, and the newest bytes of lines that are written there.
-use Rattle.std.specs.Prelude.{◌≡◌, ◌≢◌, ℕ, ◌+◌, ◌*◌, ◌<◌, List, length, take, Option, None, Some}
+use Rattle.std.specs.Prelude.{◌≡◌, ℕ, ◌+◌, ◌*◌, ◌<◌, List, length, take, Option, None, Some}
 use Rattle.line_geometry.specs.Lines.{line_count}
 use Rattle.store_format.specs.declared.header.Which.TheVariants.{B}
 use Rattle.store_format.specs.Header.{Header, home_at}

@@ -1,6 +1,5 @@
 -- What a checkpoint leaves.
-use Rattle.std.specs.Prelude.{◌≡◌, ◌⊎◌, ℕ, List, [], length, take, Result, Ok, Err}
-use Rattle.store_format.specs.declared.header.Which.{Which}
+use Rattle.std.specs.Prelude.{◌≡◌, ◌⊎◌, ℕ, List, [], take, Result, Ok, Err}
 use Rattle.store_format.specs.Header.{Header, header_of}
 use Rattle.store_format.specs.Bank.{RecordLine, area_at}
 use Rattle.store_format.specs.Stands.{IsStore, stands}

@@ -1,4 +1,4 @@
-ghost use Rattle.std.specs.Prelude.{◌≡◌, ◌↔◌, ◌≢◌, ◌+◌, ◌≤◌, ◌<◌, [], All, length, slice_set, slice_get, Some, None, IsSome, IfSome, IfOk, IfErr, OnOk};
+ghost use Rattle.std.specs.Prelude.{◌≡◌, ◌≢◌, ◌↔◌, ◌+◌, ◌≤◌, ◌<◌, [], All, length, slice_set, slice_get, Some, None, IsSome, IfSome, IfOk, IfErr, OnOk};
 ghost use Rattle.std.specs.Option.{option_map};
 ghost use Rattle.store_format.specs.Header.{total};
 ghost use Rattle.store_format.specs.Bank.{record_bytes};
@@ -55,6 +55,7 @@ impl Banks {
         ensures read { IfOk result (λ bank. IsSome (W.held outside.old) → IsChosen (held_of W.Outside outside.old) bank) }
         ensures no_fault { IfOk result (λ bank. W.disk_faults outside.new ≡ W.disk_faults outside.old) }
         ensures fault { IfErr result (IsOpenFault W.Outside outside.old outside.new header.now) }
+        ensures calm { IfErr result (λ fault. fault ≢ OpenFault.DiskFault → W.disk_faults outside.new ≡ W.disk_faults outside.old) }
     {
         let which = match read_selector(outside) {
             Err(Failed) => return Err(OpenFault::DiskFault),
@@ -82,6 +83,7 @@ impl Banks {
         ensures read { OnOk result (IsSome (W.held outside.old) → IsChosen (held_of W.Outside outside.old) self.new) }
         ensures no_fault { OnOk result (W.disk_faults outside.new ≡ W.disk_faults outside.old) }
         ensures fault { IfErr result (IsReopenFault W.Outside outside.old outside.new self.old) }
+        ensures calm { IfErr result (λ fault. fault ≢ ReopenFault.DiskFault → W.disk_faults outside.new ≡ W.disk_faults outside.old) }
         ensures intact { IfErr result (λ fault. IsSome (W.held outside.old) → IsIntact (held_of W.Outside outside.old) self.old → fault ≡ ReopenFault.DiskFault) }
     {
         match read_selector(outside) {

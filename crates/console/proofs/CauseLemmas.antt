@@ -1,10 +1,10 @@
 -- The statuses of a run on a disk, by how it was opened and how it ended.
-use Rattle.std.proofs.Common.{◌≡◌, ◌≢◌, ℕ, List, Option, inl, inr, refl, sym, ◌∙◌, ap, subst, false}
-use Rattle.std.specs.Prelude.{IsSome, IsTrue, take}
+use Rattle.std.proofs.Common.{◌≡◌, ℕ, List, inl, inr, refl, sym, ◌∙◌, ap, false}
+use Rattle.std.specs.Prelude.{IsSome, IsTrue}
 use Rattle.outside.specs.declared.world.Outside.{Ghosts}
 use Rattle.outside.specs.Causes.{Rose}
 use Rattle.outside.specs.Runs.{held_of}
-use Rattle.store_format.specs.Header.{Header, header_of}
+use Rattle.store_format.specs.Header.{Header}
 use Rattle.store_format.specs.Bank.{Faulty, bank_of}
 use Rattle.store_format.specs.Stands.{Standing, Stands, NotAStore, Damaged, stands, chosen}
 use Rattle.redo_journal.specs.declared.fault.OpenFault.{OpenFault}
@@ -17,9 +17,8 @@ use Rattle.schedule_replay.specs.declared.events.Replayed.{Replayed}
 use Rattle.schedule_replay.specs.declared.events.Replayed.TheVariants as replayed
 use Rattle.schedule_replay.specs.Replays.{EndsBy}
 use Rattle.console.specs.declared.status.Status.{Status}
-use Rattle.console.specs.declared.status.Status.TheVariants as status
 use Rattle.console.specs.Statuses.{status_of_open, status_of_replay}
-use Rattle.console.specs.Opening.{IsStanding, IsFaultAt}
+use Rattle.console.specs.Opening.{IsStanding}
 use Rattle.console.specs.Causes.{OpensBy}
 
 same-offset : (one two : ℕ) → Status.Store one ≡ Status.Store two → one ≡ two

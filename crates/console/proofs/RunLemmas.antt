@@ -1,7 +1,6 @@
 -- What runs on the store that a disk stands for.
-use Rattle.std.proofs.Common.{◌≡◌, ℕ, ◌+◌, ◌*◌, ◌%◌, ◌^◌, ◌<◌, ◌≤◌, inl, inr, Bool, true, false, List, [], ◌∷◌, ◌++◌, length, take, refl, sym, ◌∙◌, ap, subst, arith, append-nil, Option, Some, None}
-use Rattle.std.specs.Prelude.{Result, Ok, Err, IsSome, IsTrue, unwrap_or, count_by, map, slice_set}
-use Rattle.std.specs.List.{flat_map}
+use Rattle.std.proofs.Common.{◌≡◌, ℕ, ◌+◌, ◌*◌, ◌%◌, ◌^◌, ◌≤◌, inl, inr, Bool, true, false, List, [], ◌∷◌, ◌++◌, length, take, refl, sym, ◌∙◌, ap, subst, arith, append-nil, Option, Some, None}
+use Rattle.std.specs.Prelude.{Result, Ok, Err, IsErr, IsSome, IsTrue, unwrap_or, count_by}
 use Rattle.std.proofs.lemmas.Bool.{cases_lt}
 use Rattle.outside.specs.declared.world.Outside.{Ghosts}
 use Rattle.outside.specs.declared.failed.Failed.{Failed}
@@ -15,19 +14,19 @@ use Rattle.outside.proofs.Runs.{elapses-trans, leaves_on}
 use Rattle.line_geometry.specs.FlatStore.{FlatStore}
 use Rattle.flat_machine.specs.declared.machine.Program.{Program}
 use Rattle.flat_machine.specs.Serial.{Activation, serial}
-use Rattle.store_format.specs.Header.{Header, header_of, most_lines}
+use Rattle.store_format.specs.Header.{header_of, most_lines}
 use Rattle.store_format.specs.Stands.{Standing, Stands, stands}
 use Rattle.restart.specs.Kept.{number_of}
 use Rattle.desk.specs.declared.event.Event.{Event}
-use Rattle.desk.specs.Crash.{standing_of, fine_step}
+use Rattle.desk.specs.Crash.{standing_of}
 use Rattle.desk.specs.Desk.{Desk, opened}
 use Rattle.desk.specs.Instruction.{Word, Doubt}
-use Rattle.desk.specs.Kept.{WritesMore}
+use Rattle.desk.specs.Kept.{WritesMore, records_in, most_records, tells_fault}
 use Rattle.desk.specs.Run.{run, faulted, IsRunOf}
 use Rattle.desk.specs.Lines.{line_text, Open}
-use Rattle.desk.specs.Report.{report, event_lines, number_after}
+use Rattle.desk.specs.Report.{report, report_lines, event_lines, number_after}
 use Rattle.desk.specs.Commits.{begun, is_commit, IsSerial}
-use Rattle.desk.proofs.SerialLaw.{run-serial, run-closed}
+use Rattle.desk.proofs.SerialLaw.{run-serial}
 use Rattle.run_law.specs.Headline.{IsPrefix}
 use Rattle.run_law.specs.Left.{IsLeft}
 use Rattle.run_law.proofs.HeadlineLemmas.{left_is_prefix, doubt_is_whole}
@@ -39,9 +38,10 @@ use Rattle.private_desk.specs.declared.single.PrivateDesk.{PrivateDesk}
 use Rattle.private_desk.specs.contracts.single.PrivateDeskSupervisor.TheImpl.{ghosts}
 use Rattle.schedule_replay.specs.declared.events.Replayed.{Replayed}
 use Rattle.schedule_replay.specs.declared.events.Replayed.TheVariants as replayed
-use Rattle.schedule_replay.specs.Puts.{shown_of}
+use Rattle.schedule_replay.specs.Puts.{PutsTimes, shown_of}
 use Rattle.schedule_replay.specs.Ran.{PrintsEarlier, HasOpened, InDoubt, text_of}
 use Rattle.schedule_replay.specs.Replays.{Reports, Replays}
+use Rattle.schedule_replay.proofs.CountLemmas.{on_ok_as}
 use Rattle.schedule_replay.proofs.PutsLemmas.{PrintedNow}
 use Rattle.job_text.specs.declared.job.Job.{Job}
 use Rattle.job_text.specs.Grammar.{job_of, content_of}
@@ -50,7 +50,7 @@ use Rattle.console.specs.declared.status.Status.TheVariants as status
 use Rattle.console.specs.Statuses.{status_of_replay}
 use Rattle.console.specs.Opening.{StandsAt}
 use Rattle.console.specs.SourceText.{IsWhole}
-use Rattle.console.specs.Headline.{HasRun, HasRunFrom, StoodForNone, DoubtStands, Happened, HappenedTo, put_by, names_of, job_desk}
+use Rattle.console.specs.Headline.{HasRun, DoubtStands, Happened, HappenedTo, put_by, names_of, job_desk}
 
 -- what stands for one number and store stands for no other
 same-number : (one two : ℕ) (first second : FlatStore) → Stands one first ≡ Stands two second → one ≡ two
@@ -88,7 +88,7 @@ record Facts : Type 0 where
 
 module _ {W : Type 0} (G : Ghosts W) (fewer_later : FewerLater G) (printed_now : PrintedNow G) (job : Job) (before start after : W) (desk new : PrivateDesk) (number : ℕ) (store : FlatStore)
     (standing : StandsAt G before number store) (opens : IsOpened G job.frames before start desk) (asks : OnlyAsks G before start) (programs_are : desk.programs.items ≡ job.programs.items) (same_opened : new.opened ≡ desk.opened)
-    (same_honest : G.is_honest after ≡ G.is_honest start) (time : Elapses G.moment G.left_since start after) where
+    (same_honest : G.is_honest after ≡ G.is_honest start) (time : Elapses G.moment G.left_since start after) (asks-calm : G.disk_faults start ≡ G.disk_faults before) where
   abbrev begins_with : Desk
   begins_with = job_desk job (held_of G before) store
 
@@ -205,10 +205,17 @@ module _ {W : Type 0} (G : Ghosts W) (fewer_later : FewerLater G) (printed_now :
           λ image seen left. doubted.1.1 image seen left ∙ whole.2 ∙ ap (λ (those : List (ℕ × ℕ)). let that : Standing = Stands ((number + length those) % 2 ^ 64) whole.0 in that) order,
         )
 
-    pub has_run : put_by now put → ((one two : Option (List ℕ)) (bytes : List ℕ) → Prints one two bytes result → Prints one two bytes put)
+    -- the opening puts nothing
+    times-since : (put : Result ℕ Failed) → PutsTimes G (length (report_lines (names_of job) job.programs.items number reports.taken reports.rest begins_with)) start after put → PutsTimes G (length (report_lines (names_of job) job.programs.items number reports.taken reports.rest begins_with)) before after put
+    times-since (Err failed) times = tt
+    times-since (Ok value) times = λ told.
+        let more = times (subst (λ (those : Option (List ℕ)). IsSome those) (sym asks.calls.quiet.same) told) in
+        omega (arith, more, asks.calls.puts)
+
+    pub has_run : put_by now put → ((one two : Option (List ℕ)) (bytes : List ℕ) → Prints one two bytes result → Prints one two bytes put) → (IsErr result → IsErr put)
         → (now ≡ Status.Done → (new.closed ≡ false) × (reports.rest ≡ [])) → (now ≡ Status.DiskFault → new.closed ≡ true)
         → HasRun G job number store before after (desk_of new).order now
-    has_run put_is turns ended shut = record {
+    has_run put_is turns fails ended shut = record {
       taken = reports.taken;
       rest = reports.rest;
       is_run = is_run;
@@ -223,12 +230,17 @@ module _ {W : Type 0} (G : Ghosts W) (fewer_later : FewerLater G) (printed_now :
           (subst (λ (f : Facts). Prints (G.printed start) (G.printed after) (report (names_of job) f.programs f.number reports.taken reports.rest f.start) result) these reports.printed));
       earlier = subst (λ (told : Option (List ℕ)). PrintsEarlier told (G.printed after) (λ front. line_text (Open number) ++ text_of (names_of job) job.programs.items number front begins_with) reports.taken) asks.calls.quiet.same
           (subst (λ (f : Facts). PrintsEarlier (G.printed start) (G.printed after) (λ front. line_text (Open f.number) ++ text_of (names_of job) f.programs f.number front f.start) reports.taken) these reports.earlier);
+      times = times-since put (on_ok_as _ result put fails (subst (λ (f : Facts). PutsTimes G (length (report_lines (names_of job) f.programs f.number reports.taken reports.rest f.start)) start after result) these reports.times));
       faults = rose;
       all_fine = all-fine;
+      calm = λ none. subst (λ (f : Facts). count_by tells_fault (event_lines (names_of job) f.programs f.number reports.taken f.start) ≡ 0 → G.disk_faults after ≡ G.disk_faults start) these reports.calm none ∙ asks-calm;
       writes = subst (λ (told : Option ℕ). WritesMore told (G.writes after) (2 * count_by is_commit (event_lines (names_of job) job.programs.items number reports.taken begins_with))) asks.writes
           (subst (λ (f : Facts). WritesMore (G.writes start) (G.writes after) (2 * count_by is_commit (event_lines (names_of job) f.programs f.number reports.taken f.start))) these reports.writes);
       serial_run = serial_run;
       leaves = leaves-now;
+      records = λ still.
+          subst (λ (those : Option (List ℕ)). records_in (held_of G after) ≤ most_records (event_lines (names_of job) job.programs.items number reports.taken begins_with) (records_in (unwrap_or those []))) asks.held
+          (subst (λ (f : Facts). (run f.programs reports.taken f.start).closed ≡ false → records_in (held_of G after) ≤ most_records (event_lines (names_of job) f.programs f.number reports.taken f.start) (records_in (held_of G start))) these reports.records still);
       crash = crash-leaves;
       doubt = doubt-leaves;
       honest = same_honest ∙ asks.calls.honest;
@@ -238,7 +250,7 @@ module _ {W : Type 0} (G : Ghosts W) (fewer_later : FewerLater G) (printed_now :
 -- what was replayed on a desk that was opened, by how that ended
 module _ {W : Type 0} (G : Ghosts W) (fewer_later : FewerLater G) (printed_now : PrintedNow G) (job : Job) (before start after : W) (desk new : PrivateDesk)
     (opens : IsTrue (G.is_honest before) → IsSome (G.held before) → IsOpened G job.frames before start desk) (asks : OnlyAsks G before start) (programs_are : desk.programs.items ≡ job.programs.items) (same_opened : new.opened ≡ desk.opened)
-    (same_honest : G.is_honest after ≡ G.is_honest start) (time : Elapses G.moment G.left_since start after)
+    (same_honest : G.is_honest after ≡ G.is_honest start) (time : Elapses G.moment G.left_since start after) (asks-calm : G.disk_faults start ≡ G.disk_faults before)
     (result : Replayed) (replays : (first : Desk) → HasOpened ghosts G desk start first → Replays ghosts G (names_of job) desk.programs.items desk.opened job.events.items first new start after result) where
   abbrev replayed-from : (number : ℕ) (store : FlatStore) (standing : StandsAt G before number store) → Replays ghosts G (names_of job) desk.programs.items desk.opened job.events.items (first_desk G job.frames before start desk (opens standing.honest standing.told) asks) new start after result
   replayed-from number store standing = replays (first_desk G job.frames before start desk (opens standing.honest standing.told) asks) (has-opened G job.frames before start desk (opens standing.honest standing.told) asks)
@@ -246,18 +258,18 @@ module _ {W : Type 0} (G : Ghosts W) (fewer_later : FewerLater G) (printed_now :
   pub happened-by : (that : Replayed) → result ≡ that → HappenedTo G job before after (desk_of new).order (status_of_replay that)
   happened-by replayed.Ended is = λ number store standing.
       let reports = subst (λ (those : Replayed). Replays ghosts G (names_of job) desk.programs.items desk.opened job.events.items (first_desk G job.frames before start desk (opens standing.honest standing.told) asks) new start after those) is (replayed-from number store standing) in
-      has_run G fewer_later printed_now job before start after desk new number store standing (opens standing.honest standing.told) asks programs_are same_opened same_honest time
-      (Ok false) (Ok 0) status.Done reports refl (λ one two bytes prints. prints_well one two bytes false 0 prints) (λ is. (reports.closed, reports.all refl)) (λ is. absurd (cc))
+      has_run G fewer_later printed_now job before start after desk new number store standing (opens standing.honest standing.told) asks programs_are same_opened same_honest time asks-calm
+      (Ok false) (Ok 0) status.Done reports refl (λ one two bytes prints. prints_well one two bytes false 0 prints) (λ is. is) (λ is. (reports.closed, reports.all refl)) (λ is. absurd (cc))
   happened-by replayed.Closed is = inl (λ number store standing.
       let reports = subst (λ (those : Replayed). Replays ghosts G (names_of job) desk.programs.items desk.opened job.events.items (first_desk G job.frames before start desk (opens standing.honest standing.told) asks) new start after those) is (replayed-from number store standing) in
-      has_run G fewer_later printed_now job before start after desk new number store standing (opens standing.honest standing.told) asks programs_are same_opened same_honest time
-      (Ok true) (Ok 0) status.DiskFault reports refl (λ one two bytes prints. prints_well one two bytes true 0 prints) (λ is. absurd (cc)) (λ is. reports.closed))
+      has_run G fewer_later printed_now job before start after desk new number store standing (opens standing.honest standing.told) asks programs_are same_opened same_honest time asks-calm
+      (Ok true) (Ok 0) status.DiskFault reports refl (λ one two bytes prints. prints_well one two bytes true 0 prints) (λ is. is) (λ is. absurd (cc)) (λ is. reports.closed))
   happened-by (replayed.Damaged offset) is = inr (λ number store standing.
       subst (λ (those : Replayed). Replays ghosts G (names_of job) desk.programs.items desk.opened job.events.items (first_desk G job.frames before start desk (opens standing.honest standing.told) asks) new start after those) is (replayed-from number store standing))
   happened-by replayed.PutFault is = λ number store standing.
       let (failed, reports) = subst (λ (those : Replayed). Replays ghosts G (names_of job) desk.programs.items desk.opened job.events.items (first_desk G job.frames before start desk (opens standing.honest standing.told) asks) new start after those) is (replayed-from number store standing) in
-      has_run G fewer_later printed_now job before start after desk new number store standing (opens standing.honest standing.told) asks programs_are same_opened same_honest time
-      (Err failed) (Err failed) status.PutFault reports (failed, refl) (λ one two bytes prints. prints_broken {T = Bool} {U = ℕ} (Err failed) (Err failed) refl refl one two bytes prints) (λ is. absurd (cc)) (λ is. absurd (cc))
+      has_run G fewer_later printed_now job before start after desk new number store standing (opens standing.honest standing.told) asks programs_are same_opened same_honest time asks-calm
+      (Err failed) (Err failed) status.PutFault reports (failed, refl) (λ one two bytes prints. prints_broken {T = Bool} {U = ℕ} (Err failed) (Err failed) refl refl one two bytes prints) (λ is. is) (λ is. absurd (cc)) (λ is. absurd (cc))
 
 -- what happened to the job of a text
 pub happens : {W : Type 0} (G : Ghosts W) (left left_now : Option (List ℕ)) (before after : W) (text : List ℕ) (job : Job) (order : List (ℕ × ℕ)) (now : Status)

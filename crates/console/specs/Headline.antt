@@ -1,6 +1,5 @@
 -- What a call of the console did: the run of the desk that its report tells of and what a crash leaves of it, or nothing.
-use Rattle.std.specs.Prelude.{◌≡◌, ℕ, ◌⊎◌, ◌+◌, ◌*◌, ◌%◌, ◌^◌, true, false, List, [], ◌∷◌, ◌++◌, length, map, take, count_by, slice_set, Option, Some, IsSome, Result, Ok, Err}
-use Rattle.std.specs.List.{flat_map}
+use Rattle.std.specs.Prelude.{◌≡◌, ℕ, ◌⊎◌, ◌≤◌, ◌+◌, ◌*◌, ◌%◌, ◌^◌, true, false, List, [], ◌∷◌, ◌++◌, length, map, take, count_by, slice_set, Option, Some, IsSome, Result, Ok, Err}
 use Rattle.outside.specs.declared.world.Outside.{Ghosts}
 use Rattle.outside.specs.declared.failed.Failed.{Failed}
 use Rattle.outside.specs.Bytes.{Prints}
@@ -17,11 +16,11 @@ use Rattle.desk.specs.Desk.{Desk, opened}
 use Rattle.desk.specs.Instruction.{Word, Doubt}
 use Rattle.desk.specs.Run.{run, faulted, IsRunOf}
 use Rattle.desk.specs.Lines.{line_text, Open}
-use Rattle.desk.specs.Report.{report, event_lines}
+use Rattle.desk.specs.Report.{report, report_lines, event_lines}
 use Rattle.desk.specs.Commits.{begun, is_commit, IsSerial}
-use Rattle.desk.specs.Kept.{WritesMore}
+use Rattle.desk.specs.Kept.{WritesMore, records_in, most_records, tells_fault}
 use Rattle.run_law.specs.Headline.{IsPrefix}
-use Rattle.schedule_replay.specs.Puts.{shown_of}
+use Rattle.schedule_replay.specs.Puts.{PutsTimes, shown_of}
 use Rattle.schedule_replay.specs.Ran.{PrintsEarlier, text_of}
 use Rattle.job_text.specs.declared.job.Job.{Job}
 use Rattle.job_text.specs.Grammar.{job_of, content_of}
@@ -64,10 +63,14 @@ pub record HasRun {W : Type 0} (G : Ghosts W) (job : Job) (number : ℕ) (store 
   pub put : Result ℕ Failed
   pub put_is : put_by status put
   pub printed : Prints (G.printed before) (G.printed after) (report (names_of job) job.programs.items number taken rest (job_desk job (held_of G before) store)) put
+  -- each line by one put
+  pub times : PutsTimes G (length (report_lines (names_of job) job.programs.items number taken rest (job_desk job (held_of G before) store))) before after put
   pub earlier : PrintsEarlier (G.printed before) (G.printed after) (λ front. line_text (Open number) ++ text_of (names_of job) job.programs.items number front (job_desk job (held_of G before) store)) taken
-  -- the disk's faults rose by at least the number of events whose word isn't fine, and all are fine where they didn't rise
+  -- the disk's faults rose by at least the number of events whose word isn't fine, and all are fine where they didn't rise; they stay where
+  -- no line tells of one
   pub faults : RoseBy (faulted taken) (G.disk_faults before) (G.disk_faults after)
   pub all_fine : (Rose (G.disk_faults before) (G.disk_faults after) → ⊥) → faulted taken ≡ 0
+  pub calm : count_by tells_fault (event_lines (names_of job) job.programs.items number taken (job_desk job (held_of G before) store)) ≡ 0 → G.disk_faults after ≡ G.disk_faults before
   -- each commit line comes behind two writes of its own
   pub writes : WritesMore (G.writes before) (G.writes after) (2 * count_by is_commit (event_lines (names_of job) job.programs.items number taken (job_desk job (held_of G before) store)))
   -- the commits are those of the job's activations, one after another, and so are the commit lines
@@ -75,6 +78,9 @@ pub record HasRun {W : Type 0} (G : Ghosts W) (job : Job) (number : ℕ) (store 
   -- while the desk is open the disk's bytes are sure, and stand for the number of commits and the store that they leave one after another
   pub leaves : (run job.programs.items taken (job_desk job (held_of G before) store)).closed ≡ false
       → IsSure G after × ((left : FlatStore) × (serial (begun job.programs.items job.events.items) order store ≡ Some left) × (stands (held_of G after) ≡ Stands ((number + length order) % 2 ^ 64) left))
+  -- and their chosen bank holds no more records than the lines tell: behind the last checkpoint, as many as there are commits
+  pub records : (run job.programs.items taken (job_desk job (held_of G before) store)).closed ≡ false
+      → records_in (held_of G after) ≤ most_records (event_lines (names_of job) job.programs.items number taken (job_desk job (held_of G before) store)) (records_in (held_of G before))
   -- a crash at any moment of the call leaves a store that the first commits leave one after another, and no fewer than those printed then
   pub crash : IsSome (G.printed before) → Leaves G (IsPrefix (begun job.programs.items job.events.items) number store order (shown_of G before)) before after
   -- and where the last event ended in doubt, the gate byte alone decides whether its commit is among them

@@ -1,10 +1,10 @@
 -- What a listing of a job's programs did.
 use Rattle.std.specs.Prelude.{◌≡◌, ℕ, List, [], Option, Result, Ok, Err}
-use Rattle.std.specs.List.{flat_map, zip}
+use Rattle.std.specs.List.{flat_map, zip, sum_by}
 use Rattle.outside.specs.declared.world.Outside.{Ghosts}
 use Rattle.outside.specs.declared.failed.Failed.{Failed}
-use Rattle.listing.specs.Listing.{listing_of}
-use Rattle.listing.specs.Puts.{Puts}
+use Rattle.listing.specs.Listing.{listing_of, lines_in}
+use Rattle.listing.specs.Puts.{Puts, PutsTimes}
 use Rattle.job_text.specs.Grammar.{Content, job_of}
 use Rattle.console.specs.declared.status.Status.{Status}
 use Rattle.console.specs.declared.status.Status.TheVariants as status
@@ -14,18 +14,23 @@ use Rattle.console.specs.SourceText.{IsWhole}
 abbrev pub listings_of : Content → List ℕ
 listings_of content = flat_map (λ named. listing_of named.0 named.1.image named.1.entry named.1.windows) (zip content.names content.programs)
 
+-- how many lines these are
+abbrev pub lines_listed : Content → ℕ
+lines_listed content = sum_by (λ parts. lines_in parts.image parts.windows) content.programs
+
 -- how the puts went, by the status
 abbrev pub put_of : Status → Result (Unit {0}) Failed
 put_of status.PutFault = Err (record {})
 put_of _ = Ok tt
 
--- the text was had whole and means a job; the listings of its programs are put, and the disk is left alone
+-- the text was had whole and means a job; the listings of its programs are put, each line by one put, and the disk is left alone
 pub record ListsJob {W : Type 0} (G : Ghosts W) (left left_now : Option (List ℕ)) (before after : W) (status : Status) : Type 0 where
   pub text : List ℕ
   pub whole : IsWhole left left_now text
   pub content : Content
   pub means : job_of text ≡ Ok content
   pub puts : Puts G (listings_of content) before after (put_of status)
+  pub times : PutsTimes G (lines_listed content) before after (put_of status)
 
 -- what a listing did, by its status: the programs are listed or a put failed, or nothing outside was called; other statuses don't come
 abbrev pub ListedBy : {W : Type 0} → Ghosts W → Option (List ℕ) → Option (List ℕ) → W → W → Status → Type 0

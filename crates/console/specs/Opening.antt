@@ -1,5 +1,5 @@
 -- The store that `try` is handed, and what the bytes of a disk say of an opening.
-use Rattle.std.specs.Prelude.{◌≡◌, ℕ, ◌⊎◌, List, [], ◌∷◌, take, Option, Some, IsSome, Bool, IsTrue}
+use Rattle.std.specs.Prelude.{◌≡◌, ℕ, ◌⊎◌, List, [], ◌∷◌, take, IsSome, IsTrue}
 use Rattle.line_geometry.specs.declared.directory.PageSize.TheVariants.{Two}
 use Rattle.line_geometry.specs.FlatStore.{FlatStore}
 use Rattle.outside.specs.declared.world.Outside.{Ghosts}

@@ -11,7 +11,7 @@ use Rattle.lock_rules.specs.Waits.{shown_cycle, victim_of}
 use Rattle.desk.specs.Desk.{Desk, Entry, with_entry, ended, rolled_back}
 use Rattle.desk.specs.Holdings.{wanted, numbers, waits_for, conflicts_of}
 use Rattle.desk.specs.Run.{is_fine}
-use Rattle.desk.specs.Instruction.{Word, Fine, ReadFailed, Unwritten, Doubt, Failed, Counts, Ending, Committed, CommitUnwritten, CommitDoubted, Turning, Going, Over, Attempt, Fetching, Fetched, Broken, Contest, Contested, Settled, Lost, attempts, attempts_at, instruction, turns, limited, is_over_limit, lines_written, turn, turn_of, no_counts, fetched_first, fetches_touched, asks, gets, goes_on, takes_effect, commits, breaks, breaks_cycle, breaks_cycles, contest_ends, ordered, waits_or_gets, with_grants, refused_pages}
+use Rattle.desk.specs.Instruction.{Word, Fine, ReadFailed, Unwritten, Doubt, Failed, Counts, Ending, Committed, CommitUnwritten, CommitDoubted, Turning, Going, Over, Attempt, Fetching, Fetched, Broken, Contest, Contested, Settled, Lost, attempts, attempts_at, instruction, turns, limited, is_over_limit, turn, turn_of, no_counts, fetched_first, fetches_touched, asks, gets, goes_on, takes_effect, commits, breaks, breaks_cycle, breaks_cycles, contest_ends, ordered, waits_or_gets, with_grants, refused_pages}
 
 -- each active entry runs the activation of its number
 abbrev pub AreNumbered : List Activation → List Entry → Type 0

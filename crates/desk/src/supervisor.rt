@@ -1,4 +1,4 @@
-ghost use Rattle.std.specs.Prelude.{◌≡◌, ◌↔◌, ◌+◌, ◌≤◌, ◌<◌, ◌^◌, Bool, true, false, List, ℕ, length, map};
+ghost use Rattle.std.specs.Prelude.{◌≡◌, ◌≢◌, ◌↔◌, ◌+◌, ◌≤◌, ◌<◌, ◌^◌, Bool, true, false, List, ℕ, length, map};
 ghost use Rattle.outside.specs.Causes.{Rose};
 ghost use Rattle.outside.specs.Durable.{IsSure};
 ghost use Rattle.outside.specs.Runs.{CallsDisk, OnlyAsks, held_of};
@@ -13,7 +13,7 @@ ghost use Rattle.desk.specs.Run.{step};
 ghost use Rattle.desk.specs.Report.{number_after};
 ghost use Rattle.desk.specs.Answers.{begun_told, turn_told, stored_told, reopened_told, turn_closes, stored_closes, reopened_closes, HasNumbers, StoredNumber, IsReopened};
 ghost use Rattle.desk.specs.Crash.{Did, standing_of};
-ghost use Rattle.desk.specs.Kept.{HoldsStore, StillTold, IsDamage, WritesMore, writes_due};
+ghost use Rattle.desk.specs.Kept.{HoldsStore, StillTold, IsDamage, WritesMore, writes_due, turn_fails};
 
 use super::answers::{Begun, Committed, Reopened, Stored, Turn, TurnEnd};
 use arrayvec::ArrayVec;
@@ -86,6 +86,7 @@ pub trait Supervisor {
         ensures closed { closed self.new ≡ turn_closes result.end }
         ensures cause { closed self.old ≡ false → closed self.new ≡ true → Rose (W.disk_faults outside.old) (W.disk_faults outside.new) }
         ensures disk { result.end ≡ TurnEnd.Disk → Rose (W.disk_faults outside.old) (W.disk_faults outside.new) }
+        ensures calm { turn_fails result.end ≡ false → W.disk_faults outside.new ≡ W.disk_faults outside.old }
         ensures calls { CallsDisk W.Outside outside.old outside.new }
         ensures told { StillTold W.Outside outside.old outside.new }
         ensures bytes { HoldsStore W.Outside (header self.new) outside.new }
@@ -107,6 +108,7 @@ pub trait Supervisor {
         ensures unchanged { closed self.old ≡ true → (self.new ≡ self.old) × (outside.new ≡ outside.old) }
         ensures closed { closed self.new ≡ stored_closes result }
         ensures cause { closed self.old ≡ false → closed self.new ≡ true → Rose (W.disk_faults outside.old) (W.disk_faults outside.new) }
+        ensures calm { result ≢ Stored.Closed → W.disk_faults outside.new ≡ W.disk_faults outside.old }
         ensures calls { CallsDisk W.Outside outside.old outside.new }
         ensures told { StillTold W.Outside outside.old outside.new }
         ensures bytes { HoldsStore W.Outside (header self.new) outside.new }
@@ -127,6 +129,7 @@ pub trait Supervisor {
         ensures unchanged { closed self.old ≡ true → (self.new ≡ self.old) × (outside.new ≡ outside.old) }
         ensures closed { closed self.new ≡ reopened_closes result }
         ensures cause { result ≡ Reopened.DiskFault → Rose (W.disk_faults outside.old) (W.disk_faults outside.new) }
+        ensures calm { result ≢ Reopened.DiskFault → W.disk_faults outside.new ≡ W.disk_faults outside.old }
         ensures damage { IsDamage W.Outside (header self.old) outside.old result }
         ensures asks { OnlyAsks W.Outside outside.old outside.new }
         ensures sound { sound self.new }

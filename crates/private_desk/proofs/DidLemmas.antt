@@ -1,5 +1,5 @@
 -- What the events of a private desk did.
-use Rattle.std.proofs.Common.{◌≡◌, inl, inr, ⊎_elim, ℕ, zero, suc, ◌+◌, ◌%◌, ◌^◌, ◌<◌, List, [], length, refl, sym, ◌∙◌, ap, subst, arith, Some, None, Option}
+use Rattle.std.proofs.Common.{◌≡◌, inl, inr, ⊎_elim, ℕ, zero, suc, ◌+◌, ◌%◌, ◌^◌, ◌<◌, ◌≤◌, List, [], length, refl, sym, ◌∙◌, ap, subst, arith, Some, None, Option}
 use Rattle.std.specs.Prelude.{true, false, unwrap_or, is_some, find, ◌==◌, replicate, vec_len}
 use Rattle.line_geometry.specs.FlatStore.{FlatStore}
 use Rattle.outside.specs.declared.world.Outside.{Ghosts}
@@ -7,7 +7,8 @@ use Rattle.outside.specs.Causes.{Rose}
 use Rattle.outside.specs.Durable.{IsSure}
 use Rattle.outside.specs.Runs.{Leaves, OnlyAsks, held_of}
 use Rattle.flat_machine.specs.declared.machine.Program.{Program}
-use Rattle.store_format.specs.Header.{most_lines}
+use Rattle.store_format.specs.Header.{Header, most_lines}
+use Rattle.store_format.specs.declared.header.Which.{Which}
 use Rattle.store_format.specs.Stands.{Stands, stands, chosen}
 use Rattle.restart.specs.Kept.{KeptStore, number_of}
 use Rattle.restart.specs.Shows.{Shows, Tracks}
@@ -25,7 +26,8 @@ use Rattle.desk.specs.declared.answers.Turn.{Turn}
 use Rattle.desk.specs.declared.answers.TurnEnd.{TurnEnd}
 use Rattle.desk.specs.declared.answers.TurnEnd.TheVariants as end
 use Rattle.desk.specs.declared.event.Event.TheVariants as event
-use Rattle.desk.specs.Answers.{order_told, counts_told, ending_told, turn_told, HasNumbers}
+use Rattle.desk.specs.Answers.{order_told, counts_told, ending_told, turn_told, turn_closes, HasNumbers}
+use Rattle.desk.specs.Kept.{record_count, records_in, records_after, turn_fails}
 use Rattle.desk.specs.Crash.{Did, IsEitherOf, standing_of, fine_step}
 use Rattle.desk.specs.Desk.{Desk, Entry, Authority, nobody}
 use Rattle.desk.specs.Instruction.{Word, Fine, Failed, Counts, Going, turn, turn_of, turns, no_counts, commits}
@@ -35,7 +37,7 @@ use Rattle.run_law.proofs.StepLemmas.{stepped}
 use Rattle.flat_storage.specs.Words.{ReadsAll}
 use Rattle.private_desk.specs.PrivateDesk.{desk_of, live_of, IsSound}
 use Rattle.private_desk.specs.Answered.{counts_of, commit_call}
-use Rattle.private_desk.specs.Attempts.{KeepsBytes, IsTurned}
+use Rattle.private_desk.specs.Attempts.{KeepsBytes, IsTurned, most_kept, records_told}
 use Rattle.private_desk.specs.Follows.{Follows, IsAfterIf, HasPlaces, store_of}
 use Rattle.private_desk.specs.Shown.{IsOver, Shown}
 use Rattle.private_desk.specs.Went.{HasRun, HasCommitted, fine_desk}
@@ -73,11 +75,47 @@ told-by end.Disk activation answer printed is = refl
 told-by (end.Closed doubt number) activation answer printed is = refl
 told-by end.Shut activation answer printed is = absurd is
 
+-- bytes that a store shows hold as many records as it counts
+pub records-shown : (held : List ℕ) (store : KeptStore) → Shows held store → records_in held ≡ store.bank.count
+records-shown held store shows =
+    let whole = shown_store held store shows in
+    ap (λ (header : Header). record_count (bank_of held header (chosen held))) whole.said
+    ∙ ap (λ (which : Which). record_count (bank_of held store.header which)) whole.chooses
+    ∙ ap record_count whole.holds
+    ∙ shows.read.count
+
+-- the most records by the end of a turn are those by what is told of it
+pub most-told : (end : TurnEnd) (activation : ℕ) (counts : Counts) (printed : List ℕ) (records : ℕ) → most_kept end records ≡ records_after (Turned activation counts (ending_told end printed)) records
+most-told end.Idle activation counts printed records = refl
+most-told end.Limit activation counts printed records = refl
+most-told (end.Committed number steps) activation counts printed records = refl
+most-told (end.Checked code address) activation counts printed records = refl
+most-told (end.Waits waiting holders) activation counts printed records = refl
+most-told end.Victim activation counts printed records = refl
+most-told (end.Journal lines limit) activation counts printed records = refl
+most-told end.Disk activation counts printed records = refl
+most-told (end.Closed None number) activation counts printed records = refl
+most-told (end.Closed (Some doubt) number) activation counts printed records = refl
+most-told end.Shut activation counts printed records = refl
+
+-- a turn that left an open desk didn't fail
+pub open-calm : (end : TurnEnd) → IsTurned end → turn_closes end ≡ false → turn_fails end ≡ false
+open-calm end.Idle is still = refl
+open-calm end.Limit is still = refl
+open-calm (end.Committed number steps) is still = refl
+open-calm (end.Checked code address) is still = refl
+open-calm (end.Waits waiting holders) is still = refl
+open-calm end.Victim is still = refl
+open-calm (end.Journal lines limit) is still = refl
+open-calm end.Disk is still = absurd is
+open-calm (end.Closed doubt number) is still = absurd (let no : ⊥ = cc in no)
+open-calm end.Shut is still = absurd is
+
 -- a turn of an open desk
 module _ {W : Type 0} (G : Ghosts W) (d new : PrivateDesk) (activation limit : ℕ) (result : TurnEnd) (now : Tally) (answer : Turn) (before after : W) where
-  abbrev pub did-turn : d.closed ≡ false → IsTurned result → counts_told answer ≡ counts_of now → answer.end ≡ result → HasRun G activation limit result d new now before after
+  abbrev pub did-turn : d.closed ≡ false → IsTurned result → counts_told answer ≡ counts_of now → answer.end ≡ result → Shows (held_of G before) d.store → (new.closed ≡ false → records_told new ≤ most_kept result (records_told d)) → HasRun G activation limit result d new now before after
       → Did G d.programs.items d.opened (event.Turn activation limit) (turn_told activation answer new.out) new.closed (desk_of new).order (λ held desk. Shown new held desk) (desk_of d) before after
-  did-turn still is counts ends ran =
+  did-turn still is counts ends shows records ran =
       let told : Turned activation (counts_of now) (ending_told result new.out) ≡ turn_told activation answer new.out =
       ap (λ (counted : Counts). Turned activation counted (ending_told result new.out)) (sym counts)
       ∙ told-by result activation answer new.out is
@@ -93,6 +131,15 @@ module _ {W : Type 0} (G : Ghosts W) (d new : PrivateDesk) (activation limit : �
         closes = refl;
         ordered = refl;
         still = λ open_now. let over = ran.still open_now in (over.0, record { over = over.1; is = refl });
+        records = λ open_now.
+            let over = ran.still open_now in
+            let few = records open_now in
+            let now_held = records-shown (held_of G after) new.store over.1.shows in
+            let then_held = records-shown (held_of G before) d.store shows in
+            let most = most-told result activation (counts_of now) new.out (records_told d) in
+            let some : records_in (held_of G after) ≤ records_after (Turned activation (counts_of now) (ending_told result new.out)) (records_told d) = omega (arith, few, now_held, most) in
+            subst (λ (happening : Happening). records_in (held_of G after) ≤ records_after happening (records_in (held_of G before))) told
+            (subst (λ (n : ℕ). records_in (held_of G after) ≤ records_after (Turned activation (counts_of now) (ending_told result new.out)) n) (sym then_held) some);
         crash = ran.crash;
         doubt = ran.doubt;
       }
@@ -174,9 +221,9 @@ module _ {W : Type 0} (G : Ghosts W) (d : PrivateDesk) (s : KeptStore) (header :
   pub either : (image seen : List ℕ) (next : Desk) → G.left_since after (G.moment before) image seen → IsEitherOf d.programs.items d.opened event.Checkpoint (desk_of d) next image
   either image seen next left = inl (crash image seen left ∙ stood-before d (held_of G before) over)
 
-  abbrev pub did-checkpoint : IsSure G after → IsOver (record d { store = s }) (held_of G after)
+  abbrev pub did-checkpoint : IsSure G after → s.bank.count ≡ 0 → IsOver (record d { store = s }) (held_of G after)
       → Did G d.programs.items d.opened event.Checkpoint CheckpointMade d.closed (desk_of d).order (λ held desk. Shown (record d { store = s }) held desk) (desk_of d) before after
-  did-checkpoint sure over_now = record {
+  did-checkpoint sure none over_now = record {
     word = Fine;
     next = desk_of (record d { store = s });
     stepped = stepped d.programs.items event.Checkpoint Fine (desk_of d) over.still_open ∙ ap (λ (desk : Desk). let left : Step = record { desk = desk; happening = CheckpointMade } in left) (sym (desk-kept d s header));
@@ -184,6 +231,7 @@ module _ {W : Type 0} (G : Ghosts W) (d : PrivateDesk) (s : KeptStore) (header :
     closes = refl;
     ordered = refl;
     still = λ still. (sure, record { over = over_now; is = refl });
+    records = λ still. let now_held = records-shown (held_of G after) s over_now.shows in omega (arith, now_held, none);
     crash = λ image seen left. either image seen (desk_of (record d { store = s })) left;
     doubt = λ doubted. absurd (let no : ⊥ = cc in no);
   }
@@ -198,6 +246,7 @@ module _ {W : Type 0} (G : Ghosts W) (d : PrivateDesk) (s : KeptStore) (header :
     closes = refl;
     ordered = refl;
     still = λ still. absurd (let no : ⊥ = cc in no);
+    records = λ still. absurd (let no : ⊥ = cc in no);
     crash = λ image seen left. either image seen (shut (desk_of d)) left;
     doubt = λ doubted. absurd (let no : ⊥ = cc in no);
   }
@@ -232,7 +281,7 @@ module _ {W : Type 0} (G : Ghosts W) (d : PrivateDesk) (s : KeptStore) (header :
     resident = gone.resident i;
   }
 
-  same_bytes : held_of G after ≡ held_of G before
+  pub same_bytes : held_of G after ≡ held_of G before
   same_bytes = ap (λ (those : Option (List ℕ)). unwrap_or those []) asks.held
 
   pub crash-leaves : (image seen : List ℕ) → G.left_since after (G.moment before) image seen → stands image ≡ standing_of d.opened (desk_of d)
@@ -272,6 +321,7 @@ module _ {W : Type 0} (G : Ghosts W) (d : PrivateDesk) (s : KeptStore) (header :
       closes = refl;
       ordered = refl;
       still = λ still. (tracks.sure, record { over = over-forgotten; is = refl });
+      records = λ still. let same = ap records_in same_bytes in omega (arith, same);
       crash = λ image seen left. inl (crash-leaves image seen left);
       doubt = λ doubted. absurd (let no : ⊥ = cc in no);
     }
@@ -286,6 +336,7 @@ module _ {W : Type 0} (G : Ghosts W) (d : PrivateDesk) (s : KeptStore) (header :
     closes = refl;
     ordered = refl;
     still = λ still. absurd (let no : ⊥ = cc in no);
+    records = λ still. absurd (let no : ⊥ = cc in no);
     crash = λ image seen left. inl (crash-leaves image seen left);
     doubt = λ doubted. absurd (let no : ⊥ = cc in no);
   }

@@ -48,6 +48,15 @@ IsTurned end.Shut = ⊥
 IsTurned end.Disk = ⊥
 IsTurned _ = Unit {0}
 
+-- the most records of the chosen bank after a turn that ended so, where it held so many
+abbrev pub most_kept : TurnEnd → ℕ → ℕ
+most_kept (end.Committed number steps) records = records + 1
+most_kept _ records = records
+
+-- how many records the chosen bank of the store holds
+abbrev pub records_told : PrivateDesk → ℕ
+records_told d = d.store.bank.count
+
 -- one instruction more was counted at most, with four pages, two each before and after its grants, and two refusals
 pub record TalliesMore (old new : Tally) : Type 0 where
   pub ran : new.ran ≤ old.ran + 1

@@ -1,5 +1,5 @@
 // The bytes of a store that is open.
-ghost use Rattle.std.specs.Prelude.{◌≡◌, ◌*◌, vec_len, IfOk, IfErr};
+ghost use Rattle.std.specs.Prelude.{◌≡◌, ◌≢◌, ◌*◌, vec_len, IfOk, IfErr, OnOk};
 ghost use Rattle.line_geometry.specs.Directory.{page_count};
 ghost use Rattle.outside.specs.Runs.{OnlyAsks, held_of};
 ghost use Rattle.redo_journal.specs.Held.{HoldsAtLeast};
@@ -24,7 +24,9 @@ pub fn store_bytes<W: Outside>(
     ensures asks { OnlyAsks W.Outside outside.old outside.new }
     ensures len { IfOk result (λ bytes. vec_len bytes ≡ page_count store.now.header.directory * 2048) }
     ensures bytes { IfOk result (λ bytes. Tracks W.Outside store.now outside.old → bytes.items ≡ bytes_in (stands (held_of W.Outside outside.old))) }
+    ensures unfailed { OnOk result (W.disk_faults outside.new ≡ W.disk_faults outside.old) }
     ensures fault { IfErr result (FailsBy W.Outside outside.old outside.new) }
+    ensures calm { IfErr result (λ fault. fault ≢ OpenFault.DiskFault → W.disk_faults outside.new ≡ W.disk_faults outside.old) }
 {
     let pages = store.header().directory().pages();
     let mut bytes = Vec::with_capacity(alloc, usize::from(pages) * 2048)?;

@@ -1,5 +1,5 @@
 // The desk of `try`: at most one activation at a time, over a store whose bytes are in memory too.
-ghost use Rattle.std.specs.Prelude.{◌≡◌, ◌+◌, ◌*◌, ◌<◌, ◌≤◌, ◌^◌, ◌-◌, ◌%◌, ◌==◌, ◌≢◌, ℕ, List, [], ◌∷◌, ◌++◌, Bool, true, false, length, vec_len, vec_capacity, map, find, is_some, slice_get, slice_index_or, filter, if◌then◌else◌, IfOk, IfErr, IfNone, IfSome, IsSome, IsTrue, Some, None, Option};
+ghost use Rattle.std.specs.Prelude.{◌≡◌, ◌+◌, ◌*◌, ◌<◌, ◌≤◌, ◌^◌, ◌-◌, ◌%◌, ◌==◌, ◌≢◌, ℕ, List, [], ◌∷◌, ◌++◌, Bool, true, false, length, vec_len, vec_capacity, map, find, is_some, slice_get, slice_index_or, filter, if◌then◌else◌, IfOk, IfErr, OnOk, IfNone, IfSome, IsSome, IsTrue, Some, None, Option};
 ghost use Rattle.std.specs.Option.{ForSome};
 ghost use Rattle.outside.specs.Causes.{Rose};
 ghost use Rattle.outside.specs.Durable.{IsSure};
@@ -15,7 +15,7 @@ ghost use Rattle.private_desk.specs.declared.single.Active.{Active};
 ghost use Rattle.store_format.specs.Header.{total, most_lines};
 ghost use Rattle.redo_journal.specs.Held.{OnlyWrites};
 ghost use Rattle.restart.specs.Faults.{IsOpenFault};
-ghost use Rattle.desk.specs.Kept.{HoldsStore, WritesMore, writes_due};
+ghost use Rattle.desk.specs.Kept.{HoldsStore, WritesMore, writes_due, turn_fails};
 ghost use Rattle.desk.specs.Run.{absent_segment};
 ghost use Rattle.desk.specs.Answers.{counts_told};
 ghost use Rattle.private_desk.specs.Answered.{counts_of};
@@ -108,7 +108,7 @@ impl PrivateDesk {
     ghost use Rattle.private_desk.specs.Executed.{IsExecuted};
     ghost use Rattle.private_desk.specs.Follows.{Follows};
     ghost use Rattle.private_desk.specs.Answered.{IsInstruction, AreTurns, IsOfActivation};
-    ghost use Rattle.private_desk.specs.Attempts.{KeepsParts, KeepsBytes, IsTurned, HasAttempted, HasStopped, HaveRowsWithin, TalliesMore, IsOfBytes, IsShutFrom, HasStridden, counted};
+    ghost use Rattle.private_desk.specs.Attempts.{KeepsParts, KeepsBytes, IsTurned, HasAttempted, HasStopped, HaveRowsWithin, TalliesMore, IsOfBytes, IsShutFrom, HasStridden, counted, most_kept, records_told};
 
     /// A desk over the store that the disk holds, for so many begins of these programs. It takes all the memory that it will
     /// need, and only asks the disk.
@@ -126,7 +126,9 @@ impl PrivateDesk {
         requires frames { 1 < frames }
         requires begins { begins < 2 ^ 32 - 1 }
         ensures asks { OnlyAsks W.Outside outside.old outside.new }
+        ensures unfailed { OnOk result (W.disk_faults outside.new ≡ W.disk_faults outside.old) }
         ensures fault { IfErr result (IsOpenFault W.Outside outside.old outside.new) }
+        ensures calm { IfErr result (λ fault. fault ≢ OpenFault.DiskFault → W.disk_faults outside.new ≡ W.disk_faults outside.old) }
         ensures new { IfOk result (IsNew programs.items begins) }
         ensures room { IfOk result (λ desk. HoldsStore W.Outside (header_told desk) outside.new) }
         ensures opened { IfOk result (λ desk. IsTrue (W.is_honest outside.old) → IsSome (W.held outside.old) → IsOpened W.Outside frames outside.old outside.new desk) }
@@ -223,6 +225,8 @@ impl PrivateDesk {
         ensures turned { IsTurned result }
         ensures closed { self.new.closed ≡ turn_closes result }
         ensures cause { turn_closes result ≡ true → Rose (W.disk_faults outside.old) (W.disk_faults outside.new) }
+        ensures calm { turn_fails result ≡ false → W.disk_faults outside.new ≡ W.disk_faults outside.old }
+        ensures records { turn_fails result ≡ false → records_told self.new ≤ most_kept result (records_told self.old) }
         ensures went { IsSure W.Outside outside.old → IsOver self.old (held_of W.Outside outside.old) → HasRun W.Outside activation limit result self.old self.new tally.new outside.old outside.new }
     {
         if !self.is_active(activation) {
@@ -505,6 +509,8 @@ impl PrivateDesk {
         ensures turned { IsTurned result }
         ensures closed { self.new.closed ≡ turn_closes result }
         ensures cause { turn_closes result ≡ true → Rose (W.disk_faults outside.old) (W.disk_faults outside.new) }
+        ensures calm { turn_fails result ≡ false → W.disk_faults outside.new ≡ W.disk_faults outside.old }
+        ensures records { turn_fails result ≡ false → records_told self.new ≤ most_kept result (records_told self.old) }
         ensures went { IsSure W.Outside outside.old → IsOver self.old (held_of W.Outside outside.old) → (program : Program) → slice_get self.old.programs.items active.program ≡ Some program → HasCommitted W.Outside active program result self.old self.new tally.old tally.new outside.old outside.new }
     {
         let number = self.store.number().wrapping_add(1);

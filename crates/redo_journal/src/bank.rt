@@ -82,6 +82,7 @@ impl Bank {
         ensures read { IfOk result (λ bank. IsSome (W.held outside.old) → IsRead (held_of W.Outside outside.old) bank) }
         ensures no_fault { IfOk result (λ bank. W.disk_faults outside.new ≡ W.disk_faults outside.old) }
         ensures fault { IfErr result (IsOpenFault W.Outside outside.old outside.new header.now which) }
+        ensures calm { IfErr result (λ fault. fault ≢ OpenFault.DiskFault → W.disk_faults outside.new ≡ W.disk_faults outside.old) }
     {
         let mut bank = match Bank::of_store(alloc, header) {
             Err(AllocError) => return Err(OpenFault::Memory),
@@ -129,6 +130,7 @@ impl Bank {
         ensures read { OnOk result (IsSome (W.held outside.old) → IsRead (held_of W.Outside outside.old) self.new) }
         ensures no_fault { OnOk result (W.disk_faults outside.new ≡ W.disk_faults outside.old) }
         ensures fault { IfErr result (IsReopenFault W.Outside outside.old outside.new which self.old) }
+        ensures calm { IfErr result (λ fault. fault ≢ ReopenFault.DiskFault → W.disk_faults outside.new ≡ W.disk_faults outside.old) }
     {
         forget(&mut self.newest);
         let at = place_of(which, self.bank_bytes);

@@ -1,4 +1,4 @@
-ghost use Rattle.std.specs.Prelude.{◌≡◌, ◌+◌, ◌*◌, ◌%◌, ◌^◌, ◌≤◌, ◌<◌, [], All, length, slice_set, Some, None, IsTrue, IsSome, IfOk, IfErr, OnOk};
+ghost use Rattle.std.specs.Prelude.{◌≡◌, ◌≢◌, ◌+◌, ◌*◌, ◌%◌, ◌^◌, ◌≤◌, ◌<◌, [], All, length, slice_set, Some, None, IsTrue, IsSome, IfOk, IfErr, OnOk};
 ghost use Rattle.line_geometry.specs.Directory.{page_count};
 ghost use Rattle.line_geometry.specs.Lines.{line_count};
 ghost use Rattle.store_format.specs.Header.{total};
@@ -60,6 +60,7 @@ impl Durable {
         ensures begun { IfOk result (λ store. store.bank.begun ≡ None) }
         ensures no_fault { IfOk result (λ store. W.disk_faults outside.new ≡ W.disk_faults outside.old) }
         ensures fault { IfErr result (IsOpenFault W.Outside outside.old outside.new) }
+        ensures calm { IfErr result (λ fault. fault ≢ OpenFault.DiskFault → W.disk_faults outside.new ≡ W.disk_faults outside.old) }
     {
         let header = start(outside)?;
         match Banks::open(alloc, &header, outside) {
@@ -100,6 +101,7 @@ impl Durable {
         ensures tracks { OnOk result (HasHeader (held_of W.Outside outside.old) self.old.header → IsTrue (W.is_honest outside.old) → IsSome (W.held outside.old) → Tracks W.Outside self.new outside.new) }
         ensures no_fault { OnOk result (W.disk_faults outside.new ≡ W.disk_faults outside.old) }
         ensures fault { IfErr result (IsReopenFault W.Outside outside.old outside.new self.old.header) }
+        ensures calm { IfErr result (λ fault. fault ≢ ReopenFault.DiskFault → W.disk_faults outside.new ≡ W.disk_faults outside.old) }
         ensures intact { IfErr result (λ fault. IsSome (W.held outside.old) → IsIntact self.old.header (held_of W.Outside outside.old) → fault ≡ ReopenFault.DiskFault) }
     {
         match synced(outside) {

@@ -1,5 +1,5 @@
 // How an opening begins: the disk is synced, and the header is read.
-ghost use Rattle.std.specs.Prelude.{◌≡◌, IsTrue, IsSome, IfOk, IfErr, OnOk};
+ghost use Rattle.std.specs.Prelude.{◌≡◌, ◌≢◌, IsTrue, IsSome, IfOk, IfErr, OnOk};
 ghost use Rattle.store_format.specs.Header.{total};
 ghost use Rattle.store_format.specs.Stands.{HasHeader};
 ghost use Rattle.outside.specs.Causes.{HasCause};
@@ -20,6 +20,7 @@ pub fn start<W: Outside>(outside: &mut W) -> Result<Header, OpenFault>
     ensures header { IfOk result (λ header. IsSome (W.held outside.old) → HasHeader (held_of W.Outside outside.old) header) }
     ensures no_fault { OnOk result (W.disk_faults outside.new ≡ W.disk_faults outside.old) }
     ensures fault { IfErr result (IsStartFault W.Outside outside.old outside.new) }
+    ensures calm { IfErr result (λ fault. fault ≢ OpenFault.DiskFault → W.disk_faults outside.new ≡ W.disk_faults outside.old) }
 {
     match synced(outside) {
         Err(Failed) => return Err(OpenFault::DiskFault),

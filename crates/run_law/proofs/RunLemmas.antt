@@ -30,7 +30,7 @@ module _ (programs : List Program) where
         let here = happening_lines names (number_after number after.desk) after.happening in
         ap (λ (rest : List Line). here ++ rest) (lines_on xs ys after.desk) ∙ sym (append_assoc here (event_lines names programs number xs after.desk) (event_lines names programs number ys (run programs xs after.desk)))
 
-    lines_end : (xs : List (Event × Word)) (left : List Event) (desk : Desk) → lines_from names programs number xs left desk ≡ event_lines names programs number xs desk ++ closing_lines number left (run programs xs desk)
+    pub lines_end : (xs : List (Event × Word)) (left : List Event) (desk : Desk) → lines_from names programs number xs left desk ≡ event_lines names programs number xs desk ++ closing_lines number left (run programs xs desk)
     lines_end [] left desk = refl
     lines_end (x ∷ xs) left desk =
         let after = step programs x.0 x.1 desk in

@@ -27,7 +27,7 @@ use Rattle.desk.specs.Answers.{turn_told, stored_told, reopened_told, reopened_c
 use Rattle.desk.specs.Crash.{Did, standing_of}
 use Rattle.desk.specs.Desk.{Desk}
 use Rattle.desk.specs.Instruction.{Fine}
-use Rattle.desk.specs.Kept.{HoldsStore, StillTold, IsDamage}
+use Rattle.desk.specs.Kept.{HoldsStore, StillTold, IsDamage, records_in, records_after}
 use Rattle.desk.specs.Lines.{Line}
 use Rattle.desk.specs.Report.{happening_lines}
 use Rattle.desk.specs.Run.{step, Happening}
@@ -114,8 +114,8 @@ module _ {D W : Type 0} (S : desk.Ghosts D) (G : Ghosts W) where
 
   -- a begin asks no disk
   pub begin_did : (stands_law : (s : D) (held : List ℕ) (desk : Desk) → S.shows s held desk → stands held ≡ standing_of (S.opened s) desk) (open_law : (s : D) (held : List ℕ) (desk : Desk) → S.shows s held desk → desk.closed ≡ false) (closed_law : (s : D) (held : List ℕ) (desk : Desk) → S.shows s held desk → S.closed s ≡ false) (order_law : (s : D) (held : List ℕ) (desk : Desk) → S.shows s held desk → S.order s ≡ desk.order)
-      (programs : List Program) (one : Event) (told : Happening) (start next : Desk) (old new : D) (w : W) → IsSure G w → S.shows old (held_of G w) start → step programs one Fine start ≡ record { desk = next; happening = told } → S.shows new (held_of G w) next → Did G programs (S.opened old) one told (S.closed new) (S.order new) (S.shows new) start w w
-  begin_did stands_law open_law closed_law order_law programs one told start next old new w sure shows is shown = record {
+      (programs : List Program) (one : Event) (told : Happening) (start next : Desk) (old new : D) (w : W) → IsSure G w → S.shows old (held_of G w) start → step programs one Fine start ≡ record { desk = next; happening = told } → S.shows new (held_of G w) next → records_in (held_of G w) ≤ records_after told (records_in (held_of G w)) → Did G programs (S.opened old) one told (S.closed new) (S.order new) (S.shows new) start w w
+  begin_did stands_law open_law closed_law order_law programs one told start next old new w sure shows is shown few = record {
     word = Fine;
     next = next;
     stepped = is;
@@ -123,6 +123,7 @@ module _ {D W : Type 0} (S : desk.Ghosts D) (G : Ghosts W) where
     closes = closed_law new (held_of G w) next shown ∙ sym (open_law new (held_of G w) next shown);
     ordered = order_law new (held_of G w) next shown;
     still = λ still. (sure, shown);
+    records = λ still. few;
     crash = λ image seen left. inl (ap stands (leaves_held G w sure image seen left) ∙ stands_law old (held_of G w) start shows);
     doubt = λ doubted. absurd (let no : ⊥ = cc in no);
   }

@@ -1,5 +1,5 @@
 -- Puts of lines, one after another.
-use Rattle.std.proofs.Common.{◌≡◌, ⊎_elim, ℕ, ◌+◌, ◌<◌, List, [], ◌∷◌, ◌++◌, length, map, get_or, take, drop, min, refl, sym, ◌∙◌, ap, subst, append_assoc, append-nil, arith, rules, inl, IsSome}
+use Rattle.std.proofs.Common.{◌≡◌, ⊎_elim, ℕ, ◌+◌, ◌<◌, List, [], ◌∷◌, ◌++◌, length, map, get_or, take, drop, min, refl, sym, ◌∙◌, ap, subst, append_assoc, append-nil, length-append, arith, rules, inl, IsSome}
 use Rattle.std.specs.Prelude.{Option, None, Some, Result, Ok, Err, IsErr, unwrap_or}
 use Rattle.std.proofs.Math.Seq.{take-append-add}
 use Rattle.std.proofs.lemmas.List.{map-append, take_more, take-append-drop, take_min, take-append-le}
@@ -16,7 +16,7 @@ use Rattle.outside.proofs.Durable.{told_is}
 use Rattle.desk.specs.declared.answers.Cycle.{Cycle}
 use Rattle.desk.specs.Lines.{Line, line_text, Left, Lost}
 use Rattle.desk.specs.Report.{cycle_lines}
-use Rattle.schedule_replay.specs.Puts.{Puts, shown_of, BeginsWith}
+use Rattle.schedule_replay.specs.Puts.{Puts, PutsTimes, shown_of, BeginsWith}
 
 -- a put that went well
 abbrev pub done : Result ℕ Failed
@@ -59,6 +59,7 @@ module _ {W : Type 0} (G : Ghosts W) where
     };
     printed = prints_same {T = U} (G.printed old) (G.printed new) (text_of first ++ text_of second) (text_of (first ++ second)) (Err failed) (sym (flat_map-append line_text first second))
         (prints_stop (G.printed old) (G.printed new) (text_of first) (text_of second) (Err why) (Err failed) one two puts.printed);
+    times = tt;
     images = puts.images;
     crash = λ told image seen left.
         let from = puts.crash told image seen left in
@@ -81,9 +82,19 @@ module _ {W : Type 0} (G : Ghosts W) where
       disk = puts.only.disk;
     };
     printed = prints_well (G.printed old) (G.printed new) (text_of lines) first second puts.printed;
+    times = puts.times;
     images = puts.images;
     crash = puts.crash;
   }
+
+  -- the puts of lines, and then of lines
+  pub times_on : {T U : Type 0} (old mid new : W) (first second : List Line) (value : T) (result : Result U Failed) → Prints (G.printed old) (G.printed mid) (text_of first) (Ok value) → PutsTimes {T = T} G (length first) old mid (Ok value) → PutsTimes G (length second) mid new result → PutsTimes G (length (first ++ second)) old new result
+  times_on old mid new first second value (Err failed) prints one two = tt
+  times_on old mid new first second value (Ok other) prints one two = λ told.
+      let after = shown_after (G.printed old) (G.printed mid) (text_of first) value told prints in
+      let before = one told in
+      let behind = two after.0 in
+      omega (arith, before, behind, length-append first second)
 
   -- no time goes by
   pub no_time : (w : W) → Elapses G.moment G.left_since w w
@@ -111,6 +122,7 @@ module _ {W : Type 0} (G : Ghosts W) where
         disk = refl;
       };
       printed = printed_none (G.printed w) value;
+      times = λ told. omega arith;
       images = λ image seen left. (seen, left);
       crash = λ told image seen left.
           let is : seen ≡ shown_of G w = told_is (G.printed w) seen told (printed_now w image seen left) in
@@ -118,10 +130,11 @@ module _ {W : Type 0} (G : Ghosts W) where
     }
 
     -- one line
-    pub puts_one : {T : Type 0} (line : Line) (old new : W) (result : Result T Failed) → OnlyPuts G old new result → Prints (G.printed old) (G.printed new) (line_text line) result → Shows (line_text line) G.moment G.left_since old new → Puts G (line ∷ []) old new result
-    puts_one line old new result only printed shows = record {
+    pub puts_one : {T : Type 0} (line : Line) (old new : W) (result : Result T Failed) → OnlyPuts G old new result → Prints (G.printed old) (G.printed new) (line_text line) result → PutsTimes G 1 old new result → Shows (line_text line) G.moment G.left_since old new → Puts G (line ∷ []) old new result
+    puts_one line old new result only printed times shows = record {
       only = only;
       printed = prints_same (G.printed old) (G.printed new) (line_text line) (text_of (line ∷ [])) result (sym (append-nil (line_text line))) printed;
+      times = times;
       images = λ image seen left. let from = shows image seen left in (from.0, from.1);
       crash = λ told image seen left.
           let from = shows image seen left in
@@ -140,6 +153,7 @@ module _ {W : Type 0} (G : Ghosts W) where
             only = only_on G fewer_later old mid new value result one.only two.only;
             printed = prints_same (G.printed old) (G.printed new) (text_of first ++ text_of second) (text_of (first ++ second)) result (sym whole)
                 (prints_on (G.printed old) (G.printed mid) (G.printed new) (text_of first) (text_of second) value result one.printed two.printed);
+            times = times_on old mid new first second value result one.printed one.times two.times;
             images = λ image seen left.
                 ⊎_elim (one.images image seen)
                 (λ since.

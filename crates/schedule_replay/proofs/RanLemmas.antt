@@ -1,6 +1,6 @@
 -- The runs of a supervisor, one event after another.
 use Rattle.std.proofs.Common.{◌≡◌, ℕ, ◌+◌, ◌*◌, ◌<◌, ◌≤◌, List, [], ◌∷◌, ◌++◌, length, map, get_or, take, refl, sym, ap, ◌∙◌, subst, arith, length-append, append-nil, append_assoc, inl, inr}
-use Rattle.std.specs.Prelude.{false, Option, None, Some, unwrap_or, Result, Ok}
+use Rattle.std.specs.Prelude.{false, Option, None, Some, unwrap_or, Result, Ok, IsErr}
 use Rattle.std.specs.List.{flat_map}
 use Rattle.std.proofs.lemmas.List.{map-append, take_more}
 use Rattle.std.proofs.lemmas.Grind.{flat_map-append}
@@ -29,12 +29,13 @@ use Rattle.run_law.proofs.SeenLemmas.{ArePlain, seen_lines, seen_all, commits_in
 use Rattle.run_law.proofs.StepLemmas.{AreNames, Grew, run_grew, run_plain}
 use Rattle.run_law.proofs.RunLemmas.{run_on, open_on, lines_on, faulted_on}
 use Rattle.run_law.proofs.LeftLemmas.{left_none, left_more, left_behind}
-use Rattle.schedule_replay.specs.Puts.{BeginsWith, shown_of}
+use Rattle.schedule_replay.specs.Puts.{BeginsWith, PutsTimes, shown_of}
 use Rattle.schedule_replay.specs.Ran.{Ran, PrintsEarlier, InDoubt, text_of}
-use Rattle.schedule_replay.proofs.PutsLemmas.{PrintedNow, done, no_time, shown_after, begins_none, begins_on, begins_behind}
+use Rattle.schedule_replay.proofs.CountLemmas.{faults_in, faults_front, faults_behind, most_on, most_le, on_ok_as}
+use Rattle.schedule_replay.proofs.PutsLemmas.{PrintedNow, done, no_time, times_on, shown_after, begins_none, begins_on, begins_behind}
 use Rattle.schedule_replay.proofs.WentLemmas.{last_is}
 use Rattle.schedule_replay.proofs.WriteLemmas.{writes_on, writes_same}
-use Rattle.desk.specs.Kept.{WritesMore}
+use Rattle.desk.specs.Kept.{WritesMore, records_in, most_records}
 
 -- what is printed of earlier events, with more events behind
 earlier_on : {T U : Type 0} (old mid new : Option (List ℕ)) (text other : List (Event × Word) → List ℕ) (one two : List (Event × Word)) (value : T) (bytes : List ℕ) (result : Result U Failed)
@@ -83,17 +84,20 @@ seen_few names are programs number taken start each_open =
     omega (arith, grew.few, all, longer, length-append start.order grew.more)
 
 module _ {D W : Type 0} (S : desk.Ghosts D) (G : Ghosts W) (fewer_later : FewerLater G) (names : List (List ℕ)) (are : AreNames names) (programs : List Program) (number : ℕ) where
-  pub ran_as : {T U : Type 0} (events : List Event) (start : Desk) (new : D) (before after : W) (result : Result T Failed) (other : Result U Failed) → ((one two : Option (List ℕ)) (bytes : List ℕ) → Prints one two bytes result → Prints one two bytes other) → Ran S G names programs number events start new before after result → Ran S G names programs number events start new before after other
-  ran_as events start new before after result other turns ran = record {
+  pub ran_as : {T U : Type 0} (events : List Event) (start : Desk) (new : D) (before after : W) (result : Result T Failed) (other : Result U Failed) → ((one two : Option (List ℕ)) (bytes : List ℕ) → Prints one two bytes result → Prints one two bytes other) → (IsErr result → IsErr other) → Ran S G names programs number events start new before after result → Ran S G names programs number events start new before after other
+  ran_as events start new before after result other turns fails ran = record {
     taken = ran.taken;
     events_taken = ran.events_taken;
     each_open = ran.each_open;
     closes = ran.closes;
     ordered = ran.ordered;
     still = ran.still;
+    records = ran.records;
     faults = ran.faults;
+    calm = ran.calm;
     writes = ran.writes;
     printed = turns (G.printed before) (G.printed after) (text_of names programs number ran.taken start) ran.printed;
+    times = on_ok_as _ result other fails ran.times;
     earlier = ran.earlier;
     time = ran.time;
     left = ran.left;
@@ -120,7 +124,20 @@ module _ {D W : Type 0} (S : desk.Ghosts D) (G : Ghosts W) (fewer_later : FewerL
         still = λ still.
             let kept = two.still (ap (λ (desk : Desk). desk.closed) (sym same) ∙ still) in
             (kept.0, subst (λ (desk : Desk). S.shows new (unwrap_or (G.held after) []) desk) (sym same) kept.1);
+        records = λ still.
+            let first : List Line = event_lines names programs number one.taken start in
+            let second : List Line = event_lines names programs number two.taken middle in
+            let kept = one.records still_open in
+            let later_kept = two.records (ap (λ (desk : Desk). desk.closed) (sym same) ∙ still) in
+            let grown = most_le second (records_in (held_of G between)) (most_records first (records_in (held_of G before))) kept in
+            let split = ap (λ (lines : List Line). most_records lines (records_in (held_of G before))) (lines_on programs names number one.taken two.taken start) ∙ most_on first second (records_in (held_of G before)) in
+            omega (arith, later_kept, grown, split);
         faults = omega (arith, one.faults, two.faults, faulted_on one.taken two.taken);
+        calm = λ none.
+            let first : List Line = event_lines names programs number one.taken start in
+            let second : List Line = event_lines names programs number two.taken middle in
+            let both : faults_in (first ++ second) ≡ 0 = ap faults_in (sym (lines_on programs names number one.taken two.taken start)) ∙ none in
+            two.calm (faults_behind first second both) ∙ one.calm (faults_front first second both);
         writes =
             let split = ap commits_in (lines_on programs names number one.taken two.taken start) ∙ commits_on (event_lines names programs number one.taken start) (event_lines names programs number two.taken middle) in
             subst (λ (n : ℕ). WritesMore (G.writes before) (G.writes after) n)
@@ -128,6 +145,9 @@ module _ {D W : Type 0} (S : desk.Ghosts D) (G : Ghosts W) (fewer_later : FewerL
             (writes_on (G.writes before) (G.writes between) (G.writes after) _ _ one.writes two.writes);
         printed = prints_same (G.printed before) (G.printed after) (bytes one.taken ++ later two.taken) (bytes (one.taken ++ two.taken)) result (behind two.taken)
             (prints_on (G.printed before) (G.printed between) (G.printed after) (bytes one.taken) (later two.taken) value result one.printed two.printed);
+        times =
+            subst (λ (lines : List Line). PutsTimes G (length lines) before after result) (sym (lines_on programs names number one.taken two.taken start))
+            (times_on G before between after (event_lines names programs number one.taken start) (event_lines names programs number two.taken middle) value result one.printed one.times two.times);
         earlier = earlier_on (G.printed before) (G.printed between) (G.printed after) bytes later one.taken two.taken value (later two.taken) result
             (λ front. sym (behind front)) one.printed two.printed one.earlier two.earlier;
         time = elapses-trans G fewer_later before between after one.time two.time;
@@ -180,9 +200,12 @@ ran_none S G printed_now stands_law open_law closed_law order_law names programs
   closes = closed_law new (held_of G w) start shows ∙ sym (open_law new (held_of G w) start shows);
   ordered = order_law new (held_of G w) start shows;
   still = λ still. (sure, shows);
+  records = λ still. omega arith;
   faults = omega arith;
+  calm = λ none. refl;
   writes = writes_same (G.writes w);
   printed = printed_same (G.printed w);
+  times = λ told. omega arith;
   earlier = inl refl;
   time = no_time G w;
   left = λ told image seen left.

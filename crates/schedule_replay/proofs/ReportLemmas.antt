@@ -1,6 +1,6 @@
 -- The report of a run, from its parts.
-use Rattle.std.proofs.Common.{◌≡◌, ℕ, ◌*◌, List, [], ◌∷◌, ◌++◌, map, refl, sym, ap, ◌∙◌, subst, inl, inr, arith, rules, append-nil, IsSome}
-use Rattle.std.specs.Prelude.{Option, Bool, true, false, if◌then◌else◌, Result, Ok, Err, IsErr, IfOk}
+use Rattle.std.proofs.Common.{◌≡◌, ℕ, ◌*◌, List, [], ◌∷◌, ◌++◌, length, map, refl, sym, ap, ◌∙◌, subst, inl, inr, arith, rules, append-nil, IsSome}
+use Rattle.std.specs.Prelude.{Option, unwrap_or, Bool, true, false, if◌then◌else◌, Result, Ok, Err, IsErr, IfOk, OnOk}
 use Rattle.std.specs.List.{flat_map}
 use Rattle.outside.specs.declared.failed.Failed.{Failed}
 use Rattle.outside.specs.declared.world.Outside.{Ghosts}
@@ -16,7 +16,7 @@ use Rattle.desk.specs.declared.event.Event.{Event}
 use Rattle.desk.specs.declared.supervisor.Supervisor as desk
 use Rattle.desk.specs.Crash.{standing_of}
 use Rattle.desk.specs.Desk.{Desk}
-use Rattle.desk.specs.Kept.{WritesMore}
+use Rattle.desk.specs.Kept.{WritesMore, records_in, most_records}
 use Rattle.schedule_replay.proofs.WriteLemmas.{writes_same}
 use Rattle.desk.specs.Holdings.{numbers}
 use Rattle.desk.specs.Instruction.{Word}
@@ -27,16 +27,21 @@ use Rattle.desk.specs.Seen.{commits_seen}
 use Rattle.run_law.specs.Left.{IsLeft}
 use Rattle.run_law.proofs.SeenLemmas.{ArePlain, plain_on, commits_in, commits_on, seen_all}
 use Rattle.run_law.proofs.StepLemmas.{AreNames, Grew, run_grew, run_plain}
-use Rattle.run_law.proofs.RunLemmas.{report_parts}
+use Rattle.run_law.proofs.RunLemmas.{report_parts, lines_end}
 use Rattle.run_law.proofs.LeftLemmas.{left_none, left_more}
 use Rattle.schedule_replay.specs.declared.events.Going.{Going}
 use Rattle.schedule_replay.specs.declared.events.Going.TheVariants as going
-use Rattle.schedule_replay.specs.Puts.{Puts, BeginsWith, shown_of}
+use Rattle.schedule_replay.specs.Puts.{Puts, PutsTimes, BeginsWith, shown_of}
 use Rattle.schedule_replay.specs.Ran.{Ran, HasOpened, PrintsEarlier, text_of}
 use Rattle.schedule_replay.specs.Replays.{Reports, is_closed}
-use Rattle.schedule_replay.proofs.PutsLemmas.{PrintedNow, shown_after, begins_none, begins_on, begins_behind}
+use Rattle.schedule_replay.proofs.PutsLemmas.{PrintedNow, times_on, shown_after, begins_none, begins_on, begins_behind}
 use Rattle.schedule_replay.proofs.WentLemmas.{sure_puts, image_is}
 use Rattle.schedule_replay.proofs.RanLemmas.{leaves_join, seen_behind, seen_few}
+
+-- nothing is said of success where it failed
+times_failed : {T : Type 0} (P : Type 0) (result : Result T Failed) → IsErr result → OnOk result P
+times_failed P (Ok value) is = absurd (search (rules, is))
+times_failed P (Err failed) is = tt
 
 -- nothing is said of the value of a failure
 pub if_ok_broken : {T : Type 0} (result : Result T Failed) (P : T → Type 0) → IsErr result → IfOk result P
@@ -116,6 +121,7 @@ module _ {D W : Type 0} (S : desk.Ghosts D) (G : Ghosts W) (fewer_later : FewerL
     -- what was put behind the first line
     pub record Tail {T : Type 0} (start : Desk) (taken : List (Event × Word)) (rest : List Event) (between after : W) (later : Result T Failed) : Type 0 where
       pub printed : Prints (G.printed between) (G.printed after) (text_of names programs number taken start ++ flat_map line_text (closing_lines number rest (run programs taken start))) later
+      pub times : PutsTimes G (length (event_lines names programs number taken start ++ closing_lines number rest (run programs taken start))) between after later
       pub left : IsSome (G.printed between) → Leaves G (IsLeft programs number start taken (text_of names programs number taken start ++ flat_map line_text (closing_lines number rest (run programs taken start))) (shown_of G between)) between after
       pub time : Elapses G.moment G.left_since between after
 
@@ -126,6 +132,7 @@ module _ {D W : Type 0} (S : desk.Ghosts D) (G : Ghosts W) (fewer_later : FewerL
         let ends = flat_map line_text (closing_lines number rest (run programs ran.taken start)) in
         record {
           printed = prints_stop (G.printed between) (G.printed after) put ends result later one two ran.printed;
+          times = times_failed _ later two;
           left = λ told image seen left. longer start ran.taken put ends (shown_of G between) image seen (ran.left told image seen left);
           time = ran.time;
         }
@@ -138,6 +145,7 @@ module _ {D W : Type 0} (S : desk.Ghosts D) (G : Ghosts W) (fewer_later : FewerL
         let none : ends ≡ [] = ap (flat_map line_text) (no_closing number rest (run programs ran.taken start) (sym ran.closes ∙ shut)) in
         record {
           printed = subst (λ (bytes : List ℕ). Prints {T = U} (G.printed between) (G.printed after) bytes (Ok other)) (sym (append-nil put) ∙ ap (λ (tail : List ℕ). put ++ tail) (sym none)) (prints_well (G.printed between) (G.printed after) put value other ran.printed);
+          times = subst (λ (lines : List Line). PutsTimes {T = U} G (length lines) between after (Ok other)) (sym (append-nil (event_lines names programs number ran.taken start)) ∙ ap (λ (tail : List Line). event_lines names programs number ran.taken start ++ tail) (sym (no_closing number rest (run programs ran.taken start) (sym ran.closes ∙ shut)))) ran.times;
           left = λ told image seen left. longer start ran.taken put ends (shown_of G between) image seen (ran.left told image seen left);
           time = ran.time;
         }
@@ -153,6 +161,7 @@ module _ {D W : Type 0} (S : desk.Ghosts D) (G : Ghosts W) (fewer_later : FewerL
         let puts : Puts G (closing_lines number [] last) middle after later = closing (held_of G middle) last kept.1 in
         let all : Tail start ran.taken [] between after later = record {
           printed = prints_on (G.printed between) (G.printed middle) (G.printed after) put ends value later ran.printed puts.printed;
+          times = times_on G between middle after (event_lines names programs number ran.taken start) (closing_lines number [] last) value later ran.printed ran.times puts.times;
           left = λ told.
               let shown = shown_after (G.printed between) (G.printed middle) put value told ran.printed in
               subst (λ (these : List (Event × Word)). Leaves G (IsLeft programs number start these (put ++ ends) (shown_of G between)) between after) (append-nil ran.taken)
@@ -180,9 +189,12 @@ module _ {D W : Type 0} (S : desk.Ghosts D) (G : Ghosts W) (fewer_later : FewerL
             closes = was_open ∙ sym (open_law old (held_of G before) start opened.shows);
             ordered = order_law old (held_of G before) start opened.shows;
             still = λ still. (sure.0, subst (λ (held : List ℕ). S.shows old held start) (sym sure.1) opened.shows);
+            records = λ still. omega (arith, ap records_in sure.1);
             faults = omega (arith, puts.only.disk);
+            calm = λ none. puts.only.disk;
             writes = subst (λ (those : Option ℕ). WritesMore (G.writes before) those 0) (sym puts.only.writes) (writes_same (G.writes before));
             printed = prints_same (G.printed before) (G.printed between) (first ++ more) (report names programs number [] events start) later whole (prints_stop (G.printed before) (G.printed between) first more result later one two puts.printed);
+            times = times_failed _ later two;
             earlier = inl refl;
             closed = if_ok_broken later (λ going. S.closed old ≡ is_closed going) two;
             all = if_ok_broken later (λ going. is_closed going ≡ false → events ≡ []) two;
@@ -195,9 +207,9 @@ module _ {D W : Type 0} (S : desk.Ghosts D) (G : Ghosts W) (fewer_later : FewerL
       -- the first line is put, then the lines of events and those of the end
       pub reports_of : {T U : Type 0} (events front rest : List Event) (new : D) (middle after : W) (value : T) (result : Result U Failed) (later : Result Going Failed) → HasOpened S G old before start → Puts G (Open number ∷ []) before between (Ok value) → front ++ rest ≡ events → (ran : Ran S G names programs number front start new between middle result)
           → Tail start ran.taken rest between after later → ((run programs ran.taken start).closed ≡ false → IsSure G after × S.shows new (held_of G after) (run programs ran.taken start))
-          → ((image seen : List ℕ) → G.left_since after (G.moment after) image seen → (shown : List ℕ) × G.left_since middle (G.moment middle) image shown) → G.disk_faults after ≡ G.disk_faults middle → G.writes after ≡ G.writes middle → BeginsWith (G.printed middle) (G.printed after) []
+          → ((image seen : List ℕ) → G.left_since after (G.moment after) image seen → (shown : List ℕ) × G.left_since middle (G.moment middle) image shown) → G.disk_faults after ≡ G.disk_faults middle → G.held after ≡ G.held middle → G.writes after ≡ G.writes middle → BeginsWith (G.printed middle) (G.printed after) []
           → IfOk later (λ going. S.closed new ≡ is_closed going) → IfOk later (λ going. is_closed going ≡ false → rest ≡ []) → Reports S G names programs number events start new before after is_closed later
-      reports_of events front rest new middle after value result later opened puts whole ran tail still images disk same_writes more closed all =
+      reports_of events front rest new middle after value result later opened puts whole ran tail still images disk same_held same_writes more closed all =
           let first : List ℕ = flat_map line_text (Open number ∷ []) in
           let put = text_of names programs number ran.taken start in
           let ends = flat_map line_text (closing_lines number rest (run programs ran.taken start)) in
@@ -210,12 +222,21 @@ module _ {D W : Type 0} (S : desk.Ghosts D) (G : Ghosts W) (fewer_later : FewerL
             closes = ran.closes;
             ordered = ran.ordered;
             still = still;
+            records = λ last_open.
+                let kept = ran.records last_open in
+                let at_start = ap (λ (held : Option (List ℕ)). most_records (event_lines names programs number ran.taken start) (records_in (unwrap_or held []))) puts.only.held in
+                let at_end = ap (λ (held : Option (List ℕ)). records_in (unwrap_or held [])) same_held in
+                omega (arith, kept, at_start, at_end);
             faults = omega (arith, ran.faults, puts.only.disk, disk);
+            calm = λ none. disk ∙ ran.calm none ∙ puts.only.disk;
             writes =
                 let due : ℕ = 2 * commits_in (event_lines names programs number ran.taken start) in
                 subst (λ (those : Option ℕ). WritesMore (G.writes before) those due) (sym same_writes) (subst (λ (those : Option ℕ). WritesMore those (G.writes middle) due) puts.only.writes ran.writes);
             printed = prints_same (G.printed before) (G.printed after) (first ++ (put ++ ends)) (report names programs number ran.taken rest start) later parts
                 (prints_on (G.printed before) (G.printed between) (G.printed after) first (put ++ ends) value later puts.printed tail.printed);
+            times =
+                subst (λ (lines : List Line). PutsTimes G (length (Open number ∷ lines)) before after later) (sym (lines_end programs names number ran.taken rest start))
+                (times_on G before between after (Open number ∷ []) (event_lines names programs number ran.taken start ++ closing_lines number rest (run programs ran.taken start)) value later puts.printed puts.times tail.times);
             earlier = earlier_behind (G.printed before) (G.printed between) (G.printed middle) (G.printed after) (line_text (Open number)) (λ front. text_of names programs number front start) ran.taken value
                 (prints_same (G.printed before) (G.printed between) first (line_text (Open number)) (Ok value) (open_text number) puts.printed) ran.earlier more;
             closed = closed;
@@ -245,4 +266,26 @@ module _ {D W : Type 0} (S : desk.Ghosts D) (G : Ghosts W) (fewer_later : FewerL
           reports_of events front rest new middle after value (Ok result) later opened puts whole ran (tail_put front rest start new between middle after result later opened_new was_open none ran closing)
           (λ still. (sure.0, subst (λ (held : List ℕ). S.shows new held last) (sym sure.1) kept.1))
           (λ image seen left. ends.images image seen (fewer_later after (G.moment middle) (G.moment after) image seen ends.only.time.later left))
-          ends.only.disk ends.only.writes (begins_none (G.printed middle) (G.printed after) (flat_map line_text (closing_lines number [] last)) later ends.printed) closed all
+          ends.only.disk ends.only.held ends.only.writes (begins_none (G.printed middle) (G.printed after) (flat_map line_text (closing_lines number [] last)) later ends.printed) closed all
+
+-- what is told of how it goes on, as whether the desk is closed
+pub reports_told : {D W : Type 0} (S : desk.Ghosts D) (G : Ghosts W) (names : List (List ℕ)) (programs : List Program) (number : ℕ) (events : List Event) (start : Desk) (new : D) (before after : W) (how : Going) (shut : Bool) → is_closed how ≡ shut → Reports S G names programs number events start new before after is_closed (Ok how) → Reports S G names programs number events start new before after (λ closed. closed) (Ok shut)
+reports_told S G names programs number events start new before after how shut is reports = record {
+  taken = reports.taken;
+  rest = reports.rest;
+  is_run = reports.is_run;
+  closes = reports.closes;
+  ordered = reports.ordered;
+  still = reports.still;
+  records = reports.records;
+  faults = reports.faults;
+  calm = reports.calm;
+  writes = reports.writes;
+  printed = prints_well (G.printed before) (G.printed after) (report names programs number reports.taken reports.rest start) how shut reports.printed;
+  times = reports.times;
+  earlier = reports.earlier;
+  closed = reports.closed ∙ is;
+  all = λ going_on. reports.all (is ∙ going_on);
+  left = reports.left;
+  doubt = reports.doubt;
+}

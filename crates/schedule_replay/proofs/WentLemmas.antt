@@ -1,6 +1,6 @@
 -- One event of a run, and its lines.
 use Rattle.std.proofs.Common.{◌≡◌, ℕ, zero, suc, ◌+◌, ◌*◌, ◌≤◌, List, [], ◌∷◌, ◌++◌, length, map, take, refl, sym, ap, ◌∙◌, subst, arith, length-append, ⊎_elim, append-nil, inr, IsTrue, IsSome, ◌⊎◌}
-use Rattle.std.specs.Prelude.{true, false, not, Bool, Option, unwrap_or, Result, All}
+use Rattle.std.specs.Prelude.{true, false, not, Bool, Option, unwrap_or, Result, Ok, Err, All}
 use Rattle.std.specs.List.{flat_map}
 use Rattle.outside.specs.declared.failed.Failed.{Failed}
 use Rattle.outside.specs.declared.world.Outside.{Ghosts}
@@ -16,7 +16,7 @@ use Rattle.desk.specs.declared.event.Event.{Event}
 use Rattle.desk.specs.declared.supervisor.Supervisor as desk
 use Rattle.desk.specs.Crash.{Did, IsEitherOf, standing_of}
 use Rattle.desk.specs.Desk.{Desk}
-use Rattle.desk.specs.Kept.{WritesMore}
+use Rattle.desk.specs.Kept.{WritesMore, records_in, most_records}
 use Rattle.desk.specs.Instruction.{Word, Fine, ReadFailed, Unwritten, Doubt, Failed as broken_word}
 use Rattle.desk.specs.Run.{Step, Happening, step, faulted}
 use Rattle.desk.specs.Lines.{Line, line_text}
@@ -26,8 +26,9 @@ use Rattle.run_law.specs.Left.{IsLeft}
 use Rattle.run_law.proofs.SeenLemmas.{seen_cut, seen_all, commits_in}
 use Rattle.run_law.proofs.StepLemmas.{AreNames, Stepped, step_by, run_plain}
 use Rattle.run_law.proofs.LeftLemmas.{left_quiet, left_open}
-use Rattle.schedule_replay.specs.Puts.{Puts, shown_of}
+use Rattle.schedule_replay.specs.Puts.{Puts, PutsTimes, shown_of}
 use Rattle.schedule_replay.specs.Ran.{Ran, InDoubt, text_of}
+use Rattle.schedule_replay.proofs.CountLemmas.{faults_in, happened_keep}
 use Rattle.schedule_replay.proofs.PutsLemmas.{PrintedNow, puts_same, begins_none}
 
 -- the lines of one event are those of what happened at it
@@ -91,7 +92,7 @@ module _ {D W : Type 0} (S : desk.Ghosts D) (G : Ghosts W) (fewer_later : FewerL
       told_is (G.printed before) seen told (⊎_elim (λ was. printed_now before image seen was) (λ is. is) (calls.quiet.crash image seen left))
 
   module _ (stands_law : (s : D) (held : List ℕ) (desk : Desk) → S.shows s held desk → stands held ≡ standing_of (S.opened s) desk) (names : List (List ℕ)) (are : AreNames names) (programs : List Program) (number : ℕ) where
-    module _ {T : Type 0} (event : Event) (told : Happening) (start : Desk) (new : D) (before between after : W) (result : Result T Failed) (was_open : start.closed ≡ false) (opened : S.opened new ≡ number) (calls : CallsDisk G before between) (did : Did G programs number event told (S.closed new) (S.order new) (S.shows new) start before between) (puts : Puts G (happening_lines names (number_after number did.next) told) between after result) (writes : WritesMore (G.writes before) (G.writes between) (2 * commits_in (happening_lines names (number_after number did.next) told))) where
+    module _ {T : Type 0} (event : Event) (told : Happening) (start : Desk) (new : D) (before between after : W) (result : Result T Failed) (was_open : start.closed ≡ false) (opened : S.opened new ≡ number) (calls : CallsDisk G before between) (did : Did G programs number event told (S.closed new) (S.order new) (S.shows new) start before between) (puts : Puts G (happening_lines names (number_after number did.next) told) between after result) (writes : WritesMore (G.writes before) (G.writes between) (2 * commits_in (happening_lines names (number_after number did.next) told))) (calm : faults_in (happening_lines names (number_after number did.next) told) ≡ 0 → G.disk_faults between ≡ G.disk_faults before) where
       abbrev word : Word
       word = did.word
 
@@ -107,10 +108,13 @@ module _ {D W : Type 0} (S : desk.Ghosts D) (G : Ghosts W) (fewer_later : FewerL
       steps : Stepped word start.order names went
       steps = step_by programs event word names start was_open
 
+      lines_are : event_lines names programs number ((event, word) ∷ []) start ≡ happening_lines names (number_after number did.next) told
+      lines_are = one_event names programs number event word start (record { desk = did.next; happening = told }) did.stepped
+
       lines_put : Puts G (event_lines names programs number ((event, word) ∷ []) start) between after result
       lines_put =
           puts_same G between after (happening_lines names (number_after number did.next) told) (event_lines names programs number ((event, word) ∷ []) start) result
-          (sym (one_event names programs number event word start (record { desk = did.next; happening = told }) did.stepped)) puts
+          (sym lines_are) puts
 
       -- the commits seen in its text are those of its lines
       seen_is : commits_seen text ≡ commits_in (happening_lines names (number_after number went.desk) went.happening)
@@ -190,17 +194,31 @@ module _ {D W : Type 0} (S : desk.Ghosts D) (G : Ghosts W) (fewer_later : FewerL
         closes = did.closes ∙ ap (λ (desk : Desk). desk.closed) (sym next_is);
         ordered = did.ordered ∙ ap (λ (desk : Desk). desk.order) (sym next_is);
         still = still_after;
+        records = λ still.
+            let kept = did.records (ap (λ (desk : Desk). desk.closed) (sym next_is) ∙ still) in
+            let lines = happened_keep names (number_after number did.next) told (records_in (held_of G before)) in
+            let some : records_in (held_of G between) ≤ most_records (happening_lines names (number_after number did.next) told) (records_in (held_of G before)) = omega (arith, kept, lines) in
+            subst (λ (held : Option (List ℕ)). records_in (unwrap_or held []) ≤ most_records (event_lines names programs number ((event, word) ∷ []) start) (records_in (held_of G before))) (sym lines_put.only.held)
+            (subst (λ (these : List Line). records_in (held_of G between) ≤ most_records these (records_in (held_of G before))) (sym lines_are) some);
+        calm = λ none. lines_put.only.disk ∙ calm (ap faults_in (sym lines_are) ∙ none);
         faults = let rose = word_faults event word (G.disk_faults before) (G.disk_faults between) calls.disk did.why in omega (arith, rose, lines_put.only.disk);
         writes =
-            let lines = one_event names programs number event word start (record { desk = did.next; happening = told }) did.stepped in
             subst (λ (those : Option ℕ). WritesMore (G.writes before) those (2 * commits_in (event_lines names programs number ((event, word) ∷ []) start))) (sym lines_put.only.writes)
-            (subst (λ (these : List Line). WritesMore (G.writes before) (G.writes between) (2 * commits_in these)) (sym lines) writes);
+            (subst (λ (these : List Line). WritesMore (G.writes before) (G.writes between) (2 * commits_in these)) (sym lines_are) writes);
         printed = printed_since;
+        times = times_since result lines_put.times;
         earlier = inr ([], (event, word), refl, begins_none (G.printed before) (G.printed after) text result printed_since);
         time = elapses-trans G fewer_later before between after calls.time lines_put.only.time;
         left = λ told. leaves_on G fewer_later before between after calls.time lines_put.only.time Left (in_disk told) (in_puts went.desk.closed refl told);
         doubt = in_doubt;
       }
         where
+          times_since : (how : Result T Failed) → PutsTimes G (length (event_lines names programs number ((event, word) ∷ []) start)) between after how → PutsTimes G (length (event_lines names programs number ((event, word) ∷ []) start)) before after how
+          times_since (Err failed) times = tt
+          times_since (Ok value) times = λ told.
+              let same : G.printed between ≡ G.printed before = calls.quiet.same in
+              let put = times (subst (λ (those : Option (List ℕ)). IsSome those) (sym same) told) in
+              omega (arith, put, calls.puts)
+
           printed_since : Prints (G.printed before) (G.printed after) text result
           printed_since = subst (λ (those : Option (List ℕ)). Prints those (G.printed after) text result) calls.quiet.same lines_put.printed

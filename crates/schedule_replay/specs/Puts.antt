@@ -1,5 +1,5 @@
 -- What the lines of one answer are, and what putting lines does.
-use Rattle.std.specs.Prelude.{◌≡◌, ℕ, List, [], ◌∷◌, ◌++◌, take, Option, None, Some, Result, IsSome, unwrap_or}
+use Rattle.std.specs.Prelude.{◌≡◌, ℕ, ◌+◌, List, [], ◌∷◌, ◌++◌, length, take, Option, None, Some, Result, OnOk, IsSome, unwrap_or}
 use Rattle.std.specs.List.{flat_map}
 use Rattle.outside.specs.declared.world.Outside.{Ghosts}
 use Rattle.outside.specs.declared.failed.Failed.{Failed}
@@ -21,11 +21,16 @@ use Rattle.desk.specs.Report.{cycle_lines, ending_lines}
 abbrev pub shown_of : {W : Type 0} → Ghosts W → W → List ℕ
 shown_of G outside = unwrap_or (G.printed outside) []
 
--- These lines are put, or a prefix of their bytes where a put failed. A crash since then leaves an image of the start, and what was
--- printed then with a prefix of these bytes.
+-- so many puts were recorded, where the last succeeded and the printed bytes are told
+abbrev pub PutsTimes : {W T : Type 0} → Ghosts W → ℕ → W → W → Result T Failed → Type 0
+PutsTimes G count old new result = OnOk result (IsSome (G.printed old) → (G.moment new).puts ≡ (G.moment old).puts + count)
+
+-- These lines are put, each by one put, or a prefix of their bytes where a put failed. A crash since then leaves an image of the start,
+-- and what was printed then with a prefix of these bytes.
 pub record Puts {W T : Type 0} (G : Ghosts W) (lines : List Line) (old new : W) (result : Result T Failed) : Type 0 where
   pub only : OnlyPuts G old new result
   pub printed : Prints (G.printed old) (G.printed new) (flat_map line_text lines) result
+  pub times : PutsTimes G (length lines) old new result
   pub images : (image seen : List ℕ) → G.left_since new (G.moment old) image seen → (start : List ℕ) × G.left_since old (G.moment old) image start
   pub crash : IsSome (G.printed old) → Leaves G (λ image seen. G.left_since old (G.moment old) image (shown_of G old) × ((count : ℕ) × (seen ≡ shown_of G old ++ take count (flat_map line_text lines)))) old new
 

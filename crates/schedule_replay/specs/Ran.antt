@@ -1,5 +1,5 @@
 -- Runs of the desk that a supervisor shows, with what they put.
-use Rattle.std.specs.Prelude.{◌≡◌, ℕ, ◌*◌, count_by, ◌⊎◌, true, false, List, [], ◌∷◌, ◌++◌, map, Option, Result, IsSome, slice_set}
+use Rattle.std.specs.Prelude.{◌≡◌, ℕ, ◌*◌, ◌≤◌, count_by, ◌⊎◌, true, false, List, [], ◌∷◌, ◌++◌, length, map, Option, Result, IsSome, slice_set}
 use Rattle.std.specs.List.{flat_map}
 use Rattle.outside.specs.declared.world.Outside.{Ghosts}
 use Rattle.outside.specs.declared.failed.Failed.{Failed}
@@ -15,13 +15,13 @@ use Rattle.desk.specs.declared.supervisor.Supervisor as desk
 use Rattle.desk.specs.Crash.{standing_of, fine_step}
 use Rattle.desk.specs.Commits.{is_commit}
 use Rattle.desk.specs.Desk.{Desk}
-use Rattle.desk.specs.Kept.{WritesMore}
+use Rattle.desk.specs.Kept.{WritesMore, records_in, most_records, tells_fault}
 use Rattle.desk.specs.Instruction.{Word, Doubt}
 use Rattle.desk.specs.Run.{run, faulted, OpenBeforeEach}
 use Rattle.desk.specs.Lines.{line_text}
 use Rattle.desk.specs.Report.{number_after, event_lines}
 use Rattle.run_law.specs.Left.{IsLeft}
-use Rattle.schedule_replay.specs.Puts.{BeginsWith, shown_of}
+use Rattle.schedule_replay.specs.Puts.{BeginsWith, PutsTimes, shown_of}
 
 -- the bytes that are told are sure, and over them the supervisor is this desk, which was opened with the number that it tells
 pub record HasOpened {D W : Type 0} (S : desk.Ghosts D) (G : Ghosts W) (desk : D) (outside : W) (start : Desk) : Type 0 where
@@ -44,8 +44,9 @@ InDoubt G programs number start front event after =
 abbrev pub text_of : List (List ℕ) → List Program → ℕ → List (Event × Word) → Desk → List ℕ
 text_of names programs number taken start = flat_map line_text (event_lines names programs number taken start)
 
--- Events were run from a desk, each with a word, and their lines put. While the desk is open its bytes are sure and shown. A crash
--- since the start left what is said of the run.
+-- Events were run from a desk, each with a word, and their lines put. While the desk is open its bytes are sure and shown, and their
+-- chosen bank holds no more records than the lines tell. The disk's count of faults stays where no line tells of one. A crash since the
+-- start left what is said of the run.
 pub record Ran {D W : Type 0} (S : desk.Ghosts D) (G : Ghosts W) (names : List (List ℕ)) (programs : List Program) (number : ℕ) (events : List Event) (start : Desk) (new : D) (before after : W) {T : Type 0} (result : Result T Failed) : Type 0 where
   pub taken : List (Event × Word)
   pub events_taken : map (λ event. event.0) taken ≡ events
@@ -53,9 +54,12 @@ pub record Ran {D W : Type 0} (S : desk.Ghosts D) (G : Ghosts W) (names : List (
   pub closes : S.closed new ≡ (run programs taken start).closed
   pub ordered : S.order new ≡ (run programs taken start).order
   pub still : (run programs taken start).closed ≡ false → IsSure G after × S.shows new (held_of G after) (run programs taken start)
+  pub records : (run programs taken start).closed ≡ false → records_in (held_of G after) ≤ most_records (event_lines names programs number taken start) (records_in (held_of G before))
   pub faults : RoseBy (faulted taken) (G.disk_faults before) (G.disk_faults after)
+  pub calm : count_by tells_fault (event_lines names programs number taken start) ≡ 0 → G.disk_faults after ≡ G.disk_faults before
   pub writes : WritesMore (G.writes before) (G.writes after) (2 * count_by is_commit (event_lines names programs number taken start))
   pub printed : Prints (G.printed before) (G.printed after) (text_of names programs number taken start) result
+  pub times : PutsTimes G (length (event_lines names programs number taken start)) before after result
   pub earlier : PrintsEarlier (G.printed before) (G.printed after) (λ front. text_of names programs number front start) taken
   pub time : Elapses G.moment G.left_since before after
   pub left : IsSome (G.printed before) → Leaves G (IsLeft programs number start taken (text_of names programs number taken start) (shown_of G before)) before after

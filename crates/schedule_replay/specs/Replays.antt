@@ -1,5 +1,5 @@
 -- What replaying a schedule did.
-use Rattle.std.specs.Prelude.{◌≡◌, ℕ, ◌*◌, count_by, Bool, true, false, List, [], ◌∷◌, ◌++◌, Result, Ok, Err, IfOk, IsSome}
+use Rattle.std.specs.Prelude.{◌≡◌, ℕ, ◌*◌, ◌≤◌, count_by, length, Bool, true, false, List, [], ◌∷◌, ◌++◌, Result, Ok, Err, IfOk, IsSome}
 use Rattle.outside.specs.declared.world.Outside.{Ghosts}
 use Rattle.outside.specs.declared.failed.Failed.{Failed}
 use Rattle.outside.specs.Bytes.{Prints}
@@ -17,17 +17,17 @@ use Rattle.desk.specs.declared.event.Event.{Event}
 use Rattle.desk.specs.declared.supervisor.Supervisor as desk
 use Rattle.desk.specs.Commits.{is_commit}
 use Rattle.desk.specs.Desk.{Desk}
-use Rattle.desk.specs.Kept.{WritesMore}
+use Rattle.desk.specs.Kept.{WritesMore, records_in, most_records, tells_fault}
 use Rattle.desk.specs.Instruction.{Word, Doubt}
 use Rattle.desk.specs.Run.{run, faulted, IsRunOf}
 use Rattle.desk.specs.Lines.{line_text, Open}
-use Rattle.desk.specs.Report.{report, event_lines}
+use Rattle.desk.specs.Report.{report, report_lines, event_lines}
 use Rattle.run_law.specs.Left.{IsLeft}
 use Rattle.schedule_replay.specs.declared.events.Going.{Going}
 use Rattle.schedule_replay.specs.declared.events.Going.TheVariants as going
 use Rattle.schedule_replay.specs.declared.events.Replayed.{Replayed}
 use Rattle.schedule_replay.specs.declared.events.Replayed.TheVariants as replayed
-use Rattle.schedule_replay.specs.Puts.{shown_of}
+use Rattle.schedule_replay.specs.Puts.{PutsTimes, shown_of}
 use Rattle.schedule_replay.specs.Ran.{Ran, PrintsEarlier, InDoubt, text_of}
 
 -- whether the desk goes on
@@ -67,10 +67,11 @@ pub record RanSome {D W : Type 0} (S : desk.Ghosts D) (G : Ghosts W) (names : Li
   pub sound : IfOk result (λ going. is_damaged going ≡ false)
   pub all : IfOk result (λ going. is_closed going ≡ false → rest ≡ [])
 
--- There is one run of the first of the events from the desk that was shown. Its report is put, or a prefix of it where a put failed,
--- which has the first line and those of all events but the last. The disk's faults rose by at least the number of events whose word
--- isn't fine. A result says whether the desk is closed; all events were run where it goes on. While the desk is open its bytes are sure and
--- shown. A crash at any moment since the start left what is said of the run.
+-- There is one run of the first of the events from the desk that was shown. Its report is put, a line by each put, or a prefix of it where
+-- a put failed, which has the first line and those of all events but the last. The disk's faults rose by at least the number of events
+-- whose word isn't fine, and stay where no line tells of one. A result says whether the desk is closed; all events were run where it goes
+-- on. While the desk is open its bytes are sure and shown, and their chosen bank holds no more records than the lines tell. A crash at any
+-- moment since the start left what is said of the run.
 pub record Reports {D W : Type 0} (S : desk.Ghosts D) (G : Ghosts W) (names : List (List ℕ)) (programs : List Program) (number : ℕ) (events : List Event) (start : Desk) (new : D) (before after : W) {T : Type 0} (shut : T → Bool) (result : Result T Failed) : Type 0 where
   pub taken : List (Event × Word)
   pub rest : List Event
@@ -78,9 +79,12 @@ pub record Reports {D W : Type 0} (S : desk.Ghosts D) (G : Ghosts W) (names : Li
   pub closes : S.closed new ≡ (run programs taken start).closed
   pub ordered : S.order new ≡ (run programs taken start).order
   pub still : (run programs taken start).closed ≡ false → IsSure G after × S.shows new (held_of G after) (run programs taken start)
+  pub records : (run programs taken start).closed ≡ false → records_in (held_of G after) ≤ most_records (event_lines names programs number taken start) (records_in (held_of G before))
   pub faults : RoseBy (faulted taken) (G.disk_faults before) (G.disk_faults after)
+  pub calm : count_by tells_fault (event_lines names programs number taken start) ≡ 0 → G.disk_faults after ≡ G.disk_faults before
   pub writes : WritesMore (G.writes before) (G.writes after) (2 * count_by is_commit (event_lines names programs number taken start))
   pub printed : Prints (G.printed before) (G.printed after) (report names programs number taken rest start) result
+  pub times : PutsTimes G (length (report_lines names programs number taken rest start)) before after result
   pub earlier : PrintsEarlier (G.printed before) (G.printed after) (λ front. line_text (Open number) ++ text_of names programs number front start) taken
   pub closed : IfOk result (λ value. S.closed new ≡ shut value)
   pub all : IfOk result (λ value. shut value ≡ false → rest ≡ [])

@@ -1,5 +1,5 @@
 // Reading the header of a store.
-ghost use Rattle.std.specs.Prelude.{◌≡◌, ℕ, ◌+◌, ◌-◌, ◌*◌, ◌≤◌, List, [], ◌∷◌, ◌++◌, length, take, replicate, None, IfOk, IfErr, IsSome};
+ghost use Rattle.std.specs.Prelude.{◌≡◌, ◌≢◌, ℕ, ◌+◌, ◌-◌, ◌*◌, ◌≤◌, List, [], ◌∷◌, ◌++◌, length, take, replicate, None, IfOk, IfErr, IsSome};
 ghost use Rattle.outside.specs.Causes.{HasCause};
 ghost use Rattle.outside.specs.Runs.{OnlyAsks, held_of};
 ghost use Rattle.store_format.specs.Read.{IsHeaderFault};
@@ -39,6 +39,7 @@ pub fn read_header<W: Outside>(outside: &mut W) -> Result<Header, HeaderFault>
     ensures header { IfOk result (λ header. IsSome (W.held outside.old) → HasHeader (held_of W.Outside outside.old) header) }
     ensures no_fault { IfOk result (λ header. W.disk_faults outside.new ≡ W.disk_faults outside.old) }
     ensures fault { IfErr result (IsHeaderFault W.Outside outside.old outside.new) }
+    ensures calm { IfErr result (λ fault. fault ≢ HeaderFault.DiskFault → W.disk_faults outside.new ≡ W.disk_faults outside.old) }
 {
     let (length, head) = match read_head(outside) {
         Err(Failed) => return Err(HeaderFault::DiskFault),

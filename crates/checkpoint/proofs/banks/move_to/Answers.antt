@@ -1,5 +1,5 @@
-use Rattle.std.proofs.Common.{◌≡◌, ℕ, ◌+◌, ◌∷◌, [], ◌≤◌, List, length, sym, subst, ◌∙◌, ap, arith, IsTrue, IsSome}
-use Rattle.std.specs.Prelude.{Bool, Option}
+use Rattle.std.proofs.Common.{◌≡◌, ℕ, ◌∷◌, [], List, length, sym, subst, ◌∙◌, ap, arith, IsTrue}
+use Rattle.std.specs.Prelude.{Bool}
 use Rattle.line_geometry.specs.Lines.{line_count}
 use Rattle.store_format.specs.declared.header.Which.{Which}
 use Rattle.store_format.specs.Header.{bank_at}
@@ -7,7 +7,6 @@ use Rattle.outside.specs.Bytes.{Torn, written}
 use Rattle.outside.specs.Durable.{IsSure}
 use Rattle.outside.specs.Runs.{Leaves, OnlyAsks, held_of}
 use Rattle.outside.proofs.Runs.{leaves_on, leaves_same, asks_one}
-use Rattle.outside.proofs.Durable.{told_some}
 use Rattle.redo_journal.specs.Held.{OnlyWrites}
 use Rattle.redo_journal.specs.Kept.{place_of, end_of, number_of}
 use Rattle.redo_journal.specs.Tracks.{Tracks}

@@ -1,4 +1,4 @@
-use Rattle.std.proofs.Common.{◌≡◌, List, ℕ}
+use Rattle.std.proofs.Common.{◌≡◌}
 use Rattle.outside.specs.Runs.{Leaves, held_of}
 use Rattle.redo_journal.specs.Held.{OnlyWrites}
 use Rattle.redo_journal.specs.Tracks.{Tracks}

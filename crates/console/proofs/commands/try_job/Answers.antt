@@ -1,5 +1,5 @@
-use Rattle.std.proofs.Common.{◌≡◌, ◌∙◌, ap, sym, ◌≤◌, ◌+◌, ◌-◌, ◌^◌, subst, arith, length, get_or, All, List, ℕ, refl}
-use Rattle.std.specs.Prelude.{IsSome, IsTrue, map}
+use Rattle.std.proofs.Common.{◌≡◌, ◌∙◌, ap, sym, ◌≤◌, subst, arith, length, get_or, All, List, ℕ, refl}
+use Rattle.std.specs.Prelude.{map}
 use Rattle.std.proofs.lemmas.List.Sums.{count_by-le-length}
 use Rattle.arrayvec.specs.ArrayVec.{ArrayVec}
 use Rattle.outside.specs.declared.world.Outside.{Ghosts}
@@ -8,12 +8,11 @@ use Rattle.desk.specs.Answers.{order_told}
 use Rattle.desk.specs.Desk.{Desk}
 use Rattle.desk.specs.Seen.{IsUnbroken}
 use Rattle.desk.specs.declared.event.Event.{Event}
-use Rattle.job_text.specs.Ready.{IsEventAmong, IsName}
+use Rattle.job_text.specs.Ready.{IsEventAmong}
 use Rattle.job_text.specs.declared.job.Job.{Job}
 use Rattle.private_desk.specs.declared.single.PrivateDesk.{PrivateDesk}
 use Rattle.private_desk.specs.contracts.single.PrivateDeskSupervisor.TheImpl.{ghosts}
-use Rattle.schedule_replay.specs.Answered.{IsReady}
-use Rattle.schedule_replay.specs.Asked.{IsAsked, is_turn, begins_in, turns_in}
+use Rattle.schedule_replay.specs.Asked.{is_turn, begins_in, turns_in}
 use Rattle.schedule_replay.specs.Ran.{HasOpened}
 use Rattle.schedule_replay.specs.Replays.{Replays}
 use Rattle.schedule_replay.specs.declared.events.Replayed.{Replayed}
@@ -96,7 +95,7 @@ returns-clause-happened g c =
     subst (λ (now : Status). HappenedTo G job before after (order_told c.into_order.result.items) now) (sym c.from-2.ensures)
     (subst (λ (order : List (ℕ × ℕ)). HappenedTo G job before after order (status_of_replay result)) (sym c.into_order.ensures)
     (happened-by G g.met.W.Outside.fewer_later g.met.W.Outside.printed_now job before start after desk new c.in-Ok.ensures.opened c.in-Ok.ensures.asks c.in-Ok.ensures.new.programs_are c.replay-replayed.ensures.opened
-    c.replay-replayed.ensures.honest c.replay-replayed.ensures.time result did result refl))
+    c.replay-replayed.ensures.honest c.replay-replayed.ensures.time c.in-Ok.ensures.unfailed result did result refl))
 
 pub returns-clause-disk : goal.returns-clause-disk
 returns-clause-disk g c = λ is.

@@ -1,4 +1,4 @@
-use Rattle.std.proofs.Common.{◌≡◌, ℕ, [], ◌*◌, ◌≤◌, sym, ◌∙◌, ap, arith, Option, List}
+use Rattle.std.proofs.Common.{◌≡◌, ℕ, [], ◌*◌, ◌≤◌, refl, sym, ◌∙◌, ap, arith, Option, List}
 use Rattle.std.specs.Prelude.{unwrap_or}
 use Rattle.std.proofs.lemmas.List.{take_all}
 use Rattle.line_geometry.specs.Directory.{Layout, page_count}
@@ -14,6 +14,7 @@ use Rattle.private_desk.proofs.read.store_bytes.Goals as goal
 pub loop-page-init : goal.loop-page-init
 loop-page-init g c = record {
   asks = asks-none g.W.Outside c.args.outside.now;
+  unfailed = refl;
   len = c.in_ok-bytes.ensures.len;
   read = λ tracks. c.in_ok-bytes.ensures.items;
 }
@@ -39,6 +40,7 @@ loop-page-preserved g c =
     let held = held_of G c.args.outside.now in
     record {
       asks = asks_on G g.met.W.Outside.fewer_later c.args.outside.now c.loop-page.outside c.read_page.new.outside so_far.asks c.read_page.ensures.asks;
+      unfailed = c.in-Ok.ensures.cause.done ∙ so_far.unfailed;
       len = omega (arith, c.in_ok-extend_from_slice-in-Ok.ensures.len, so_far.len);
       read = λ tracks.
           let still = tracked-on G g.met.W.Outside.fewer_later c.args.store.now c.args.outside.now c.loop-page.outside so_far.asks tracks in

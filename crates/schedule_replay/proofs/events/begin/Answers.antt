@@ -1,10 +1,12 @@
-use Rattle.std.proofs.Common.{ℕ, [], ◌∷◌, map, sym, subst, rules, arith}
+use Rattle.std.proofs.Common.{ℕ, [], ◌∷◌, map, refl, sym, subst, rules, arith}
 use Rattle.std.specs.Prelude.{Ok}
 use Rattle.desk.specs.declared.event.Event.TheVariants as event
 use Rattle.desk.specs.Answers.{begun_told}
 use Rattle.desk.specs.Report.{number_after, happening_lines}
 use Rattle.store_format.specs.Header.{Header}
-use Rattle.desk.specs.Kept.{HoldsStore, WritesMore}
+use Rattle.outside.specs.Runs.{held_of}
+use Rattle.desk.specs.Kept.{HoldsStore, WritesMore, records_in}
+use Rattle.schedule_replay.proofs.CountLemmas.{begun_keep}
 use Rattle.std.proofs.Common.{◌*◌}
 use Rattle.schedule_replay.proofs.WriteLemmas.{writes_same, begin_writes}
 use Rattle.schedule_replay.proofs.PutsLemmas.{puts_broken, puts_well}
@@ -40,10 +42,11 @@ returns-in_err-put_begun-clause-ran g c =
     let old = c.args.desk.now in
     let before = c.args.outside.now in
     let stepped = c.begin-begun.ensures.did _ start shows in
-    let did = begin_did S G L.shown_stands L.shown_open L.open_shown L.order_shown (S.programs old) (event.Begin c.args.program c.args.args) (begun_told c.args.program c.begin-begun.result) start stepped.0 old c.begin-begun.new.self before sure shows stepped.1 stepped.2 in
+    let did = begin_did S G L.shown_stands L.shown_open L.open_shown L.order_shown (S.programs old) (event.Begin c.args.program c.args.args) (begun_told c.args.program c.begin-begun.result) start stepped.0 old c.begin-begun.new.self before sure shows stepped.1 stepped.2 (begun_keep c.args.program c.begin-begun.result (records_in (held_of G before))) in
     ran_event S G g.met.W.Outside.fewer_later g.met.W.Outside.printed_now L.shown_stands names (names_are (λ name. name.items) c.args.names.now c.requires.unbroken) (S.programs old) (S.opened old) (event.Begin c.args.program c.args.args) (begun_told c.args.program c.begin-begun.result) start c.begin-begun.new.self before c.args.outside.now c.put_begun.new.outside c.from_residual.result (L.shown_open old _ start shows) c.begin-begun.ensures.opened (calls_none g.W.Outside c.args.outside.now) did
     (puts_broken G c.args.outside.now c.put_begun.new.outside (happening_lines names (number_after (S.opened old) did.next) (begun_told c.args.program c.begin-begun.result)) c.put_begun.result c.from_residual.result (search rules) c.from_residual.ensures.0 (c.put_begun.ensures (number_after (S.opened old) did.next)))
     (subst (λ (n : ℕ). WritesMore (g.W.Outside.writes c.args.outside.now) (g.W.Outside.writes c.args.outside.now) (2 * n)) (sym (begin_writes names (number_after (S.opened old) did.next) c.args.program c.begin-begun.result)) (writes_same (g.W.Outside.writes c.args.outside.now)))
+    (λ none. refl)
 
 pub returns-clause-ran : goal.returns-clause-ran
 returns-clause-ran g c =
@@ -55,7 +58,8 @@ returns-clause-ran g c =
     let old = c.args.desk.now in
     let before = c.args.outside.now in
     let stepped = c.begin-begun.ensures.did _ start shows in
-    let did = begin_did S G L.shown_stands L.shown_open L.open_shown L.order_shown (S.programs old) (event.Begin c.args.program c.args.args) (begun_told c.args.program c.begin-begun.result) start stepped.0 old c.begin-begun.new.self before sure shows stepped.1 stepped.2 in
+    let did = begin_did S G L.shown_stands L.shown_open L.open_shown L.order_shown (S.programs old) (event.Begin c.args.program c.args.args) (begun_told c.args.program c.begin-begun.result) start stepped.0 old c.begin-begun.new.self before sure shows stepped.1 stepped.2 (begun_keep c.args.program c.begin-begun.result (records_in (held_of G before))) in
     ran_event S G g.met.W.Outside.fewer_later g.met.W.Outside.printed_now L.shown_stands names (names_are (λ name. name.items) c.args.names.now c.requires.unbroken) (S.programs old) (S.opened old) (event.Begin c.args.program c.args.args) (begun_told c.args.program c.begin-begun.result) start c.begin-begun.new.self before c.args.outside.now c.put_begun.new.outside (Ok c.going_after_begin.result) (L.shown_open old _ start shows) c.begin-begun.ensures.opened (calls_none g.W.Outside c.args.outside.now) did
     (puts_well G c.args.outside.now c.put_begun.new.outside (happening_lines names (number_after (S.opened old) did.next) (begun_told c.args.program c.begin-begun.result)) c.in_ok-put_begun.field-0 c.going_after_begin.result (c.in_ok-put_begun.ensures (number_after (S.opened old) did.next)))
     (subst (λ (n : ℕ). WritesMore (g.W.Outside.writes c.args.outside.now) (g.W.Outside.writes c.args.outside.now) (2 * n)) (sym (begin_writes names (number_after (S.opened old) did.next) c.args.program c.begin-begun.result)) (writes_same (g.W.Outside.writes c.args.outside.now)))
+    (λ none. refl)

@@ -6,6 +6,7 @@ use Rattle.desk.specs.Report.{number_after, happening_lines}
 use Rattle.desk.specs.Answers.{stored_closes}
 use Rattle.desk.specs.Kept.{WritesMore}
 use Rattle.std.proofs.Common.{◌*◌}
+use Rattle.schedule_replay.proofs.CountLemmas.{stored_calm}
 use Rattle.schedule_replay.proofs.WriteLemmas.{stored_writes}
 use Rattle.schedule_replay.specs.Answered.{GoesBy}
 use Rattle.schedule_replay.specs.Puts.{stored_number}
@@ -43,6 +44,7 @@ returns-in_err-put_stored-clause-ran g c =
     ran_event S G g.met.W.Outside.fewer_later g.met.W.Outside.printed_now L.shown_stands names (names_are (λ name. name.items) c.args.names.now c.requires.unbroken) (S.programs old) (S.opened old) event.Checkpoint (stored_told c.checkpoint-stored.result) start c.checkpoint-stored.new.self before c.checkpoint-stored.new.outside c.put_stored.new.outside c.from_residual.result (L.shown_open old _ start shows) c.checkpoint-stored.ensures.opened c.checkpoint-stored.ensures.calls did
     (puts_same G c.checkpoint-stored.new.outside c.put_stored.new.outside (happening_lines names (stored_number c.checkpoint-stored.result) (stored_told c.checkpoint-stored.result)) (happening_lines names (number_after (S.opened old) did.next) (stored_told c.checkpoint-stored.result)) c.from_residual.result (stored_numbered names c.checkpoint-stored.result (number_after (S.opened old) did.next) has) (puts_broken G c.checkpoint-stored.new.outside c.put_stored.new.outside (happening_lines names (stored_number c.checkpoint-stored.result) (stored_told c.checkpoint-stored.result)) c.put_stored.result c.from_residual.result (search rules) c.from_residual.ensures.0 (c.put_stored.ensures names)))
     (subst (λ (n : ℕ). WritesMore (G.writes before) (G.writes c.checkpoint-stored.new.outside) (2 * n)) (sym (stored_writes names (number_after (S.opened old) did.next) c.checkpoint-stored.result)) c.checkpoint-stored.ensures.writes)
+    (λ none. c.checkpoint-stored.ensures.calm (stored_calm names (number_after (S.opened old) did.next) c.checkpoint-stored.result none))
 
 pub returns-clause-ran : goal.returns-clause-ran
 returns-clause-ran g c =
@@ -59,6 +61,7 @@ returns-clause-ran g c =
     ran_event S G g.met.W.Outside.fewer_later g.met.W.Outside.printed_now L.shown_stands names (names_are (λ name. name.items) c.args.names.now c.requires.unbroken) (S.programs old) (S.opened old) event.Checkpoint (stored_told c.checkpoint-stored.result) start c.checkpoint-stored.new.self before c.checkpoint-stored.new.outside c.put_stored.new.outside (Ok c.going_after_checkpoint.result) (L.shown_open old _ start shows) c.checkpoint-stored.ensures.opened c.checkpoint-stored.ensures.calls did
     (puts_same G c.checkpoint-stored.new.outside c.put_stored.new.outside (happening_lines names (stored_number c.checkpoint-stored.result) (stored_told c.checkpoint-stored.result)) (happening_lines names (number_after (S.opened old) did.next) (stored_told c.checkpoint-stored.result)) (Ok c.going_after_checkpoint.result) (stored_numbered names c.checkpoint-stored.result (number_after (S.opened old) did.next) has) (puts_well G c.checkpoint-stored.new.outside c.put_stored.new.outside (happening_lines names (stored_number c.checkpoint-stored.result) (stored_told c.checkpoint-stored.result)) c.in_ok-put_stored.field-0 c.going_after_checkpoint.result (c.in_ok-put_stored.ensures names)))
     (subst (λ (n : ℕ). WritesMore (G.writes before) (G.writes c.checkpoint-stored.new.outside) (2 * n)) (sym (stored_writes names (number_after (S.opened old) did.next) c.checkpoint-stored.result)) c.checkpoint-stored.ensures.writes)
+    (λ none. c.checkpoint-stored.ensures.calm (stored_calm names (number_after (S.opened old) did.next) c.checkpoint-stored.result none))
 
 pub returns-clause-goes : goal.returns-clause-goes
 returns-clause-goes g c =

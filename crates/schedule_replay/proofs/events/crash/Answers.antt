@@ -10,6 +10,7 @@ use Rattle.std.specs.Option.{ForSome}
 use Rattle.store_format.specs.Header.{Header, total}
 use Rattle.desk.specs.Kept.{HoldsStore, WritesMore}
 use Rattle.std.proofs.Common.{◌*◌}
+use Rattle.schedule_replay.proofs.CountLemmas.{reopened_calm}
 use Rattle.schedule_replay.proofs.WriteLemmas.{writes_same, reopened_writes}
 use Rattle.schedule_replay.specs.Answered.{GoesBy}
 use Rattle.schedule_replay.specs.Replays.{is_damaged}
@@ -53,6 +54,7 @@ returns-in_err-put_reopened-clause-ran g c =
     ran_event S G g.met.W.Outside.fewer_later g.met.W.Outside.printed_now L.shown_stands names (names_are (λ name. name.items) c.args.names.now c.requires.unbroken) (S.programs old) (S.opened old) event.Crash (reopened_told (numbers start) c.forget-reopened.result) start c.forget-reopened.new.self before c.forget-reopened.new.outside c.put_reopened.new.outside c.from_residual.result (L.shown_open old _ start shows) c.forget-reopened.ensures.opened c.forget-reopened.ensures.asks.calls did
     (puts_same G c.forget-reopened.new.outside c.put_reopened.new.outside (happening_lines names (reopened_number c.forget-reopened.result) (reopened_told c.as_slice.result.now c.forget-reopened.result)) (happening_lines names (number_after (S.opened old) did.next) (reopened_told (numbers start) c.forget-reopened.result)) c.from_residual.result (ap (λ (lost : List ℕ). happening_lines names (reopened_number c.forget-reopened.result) (reopened_told lost c.forget-reopened.result)) (c.as_slice.ensures.value ∙ c.active-lost.ensures _ start shows) ∙ reopened_numbered names (numbers start) c.forget-reopened.result (number_after (S.opened old) did.next) has) (puts_broken G c.forget-reopened.new.outside c.put_reopened.new.outside (happening_lines names (reopened_number c.forget-reopened.result) (reopened_told c.as_slice.result.now c.forget-reopened.result)) c.put_reopened.result c.from_residual.result (search rules) c.from_residual.ensures.0 (c.put_reopened.ensures names)))
     (subst (λ (n : ℕ). WritesMore (G.writes before) (G.writes c.forget-reopened.new.outside) (2 * n)) (sym (reopened_writes names (number_after (S.opened old) did.next) (numbers start) c.forget-reopened.result)) (subst (λ (told : Option ℕ). WritesMore (G.writes before) told 0) (sym c.forget-reopened.ensures.asks.writes) (writes_same (G.writes before))))
+    (λ none. c.forget-reopened.ensures.calm (reopened_calm names (number_after (S.opened old) did.next) (numbers start) c.forget-reopened.result none))
 
 pub returns-clause-ran : goal.returns-clause-ran
 returns-clause-ran g c =
@@ -69,6 +71,7 @@ returns-clause-ran g c =
     ran_event S G g.met.W.Outside.fewer_later g.met.W.Outside.printed_now L.shown_stands names (names_are (λ name. name.items) c.args.names.now c.requires.unbroken) (S.programs old) (S.opened old) event.Crash (reopened_told (numbers start) c.forget-reopened.result) start c.forget-reopened.new.self before c.forget-reopened.new.outside c.put_reopened.new.outside (Ok c.going_after_crash.result) (L.shown_open old _ start shows) c.forget-reopened.ensures.opened c.forget-reopened.ensures.asks.calls did
     (puts_same G c.forget-reopened.new.outside c.put_reopened.new.outside (happening_lines names (reopened_number c.forget-reopened.result) (reopened_told c.as_slice.result.now c.forget-reopened.result)) (happening_lines names (number_after (S.opened old) did.next) (reopened_told (numbers start) c.forget-reopened.result)) (Ok c.going_after_crash.result) (ap (λ (lost : List ℕ). happening_lines names (reopened_number c.forget-reopened.result) (reopened_told lost c.forget-reopened.result)) (c.as_slice.ensures.value ∙ c.active-lost.ensures _ start shows) ∙ reopened_numbered names (numbers start) c.forget-reopened.result (number_after (S.opened old) did.next) has) (puts_well G c.forget-reopened.new.outside c.put_reopened.new.outside (happening_lines names (reopened_number c.forget-reopened.result) (reopened_told c.as_slice.result.now c.forget-reopened.result)) c.in_ok-put_reopened.field-0 c.going_after_crash.result (c.in_ok-put_reopened.ensures names)))
     (subst (λ (n : ℕ). WritesMore (G.writes before) (G.writes c.forget-reopened.new.outside) (2 * n)) (sym (reopened_writes names (number_after (S.opened old) did.next) (numbers start) c.forget-reopened.result)) (subst (λ (told : Option ℕ). WritesMore (G.writes before) told 0) (sym c.forget-reopened.ensures.asks.writes) (writes_same (G.writes before))))
+    (λ none. c.forget-reopened.ensures.calm (reopened_calm names (number_after (S.opened old) did.next) (numbers start) c.forget-reopened.result none))
 
 pub returns-clause-goes : goal.returns-clause-goes
 returns-clause-goes g c =

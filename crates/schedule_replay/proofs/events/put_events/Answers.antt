@@ -51,7 +51,7 @@ returns-in_err-going-clause-ran g c =
       front = take (c.loop-event.event-index + 1) c.args.events.now;
       rest = drop (c.loop-event.event-index + 1) c.args.events.now;
       whole = take-append-drop (c.loop-event.event-index + 1) c.args.events.now;
-      ran = ran_as S G g.met.W.Outside.fewer_later names are (S.programs c.args.desk.now) (S.opened c.args.desk.now) _ start c.answer.new.desk c.args.outside.now c.answer.new.outside c.answer.result c.from_residual.result (prints_broken c.answer.result c.from_residual.result (search rules) c.from_residual.ensures.0)
+      ran = ran_as S G g.met.W.Outside.fewer_later names are (S.programs c.args.desk.now) (S.opened c.args.desk.now) _ start c.answer.new.desk c.args.outside.now c.answer.new.outside c.answer.result c.from_residual.result (prints_broken c.answer.result c.from_residual.result (search rules) c.from_residual.ensures.0) (λ is. c.from_residual.ensures.0)
           (ran_next S G g.met.W.Outside.fewer_later names are (S.programs c.args.desk.now) (S.opened c.args.desk.now) c.args.events.now c.loop-event.event-index (Begin 0 []) c.loop-event-test.true start c.loop-event.desk c.answer.new.desk c.args.outside.now c.loop-event.outside c.answer.new.outside c.answer.result still now.answered.programs now.answered.opened (now.ran start sure shows) c.answer.ensures.ran);
       closed = if_ok_broken c.from_residual.result (λ going. S.closed c.answer.new.desk ≡ is_closed going) c.from_residual.ensures.0;
       sound = if_ok_broken c.from_residual.result (λ going. is_damaged going ≡ false) c.from_residual.ensures.0;
@@ -79,7 +79,7 @@ returns-in_default g c =
             front = take (c.loop-event.event-index + 1) c.args.events.now;
             rest = drop (c.loop-event.event-index + 1) c.args.events.now;
             whole = take-append-drop (c.loop-event.event-index + 1) c.args.events.now;
-            ran = ran_as S G g.met.W.Outside.fewer_later names are (S.programs c.args.desk.now) (S.opened c.args.desk.now) _ start c.answer.new.desk c.args.outside.now c.answer.new.outside (Ok c.in_ok-going.going) (Ok c.in_ok-going.going) (λ one two bytes prints. prints)
+            ran = ran_as S G g.met.W.Outside.fewer_later names are (S.programs c.args.desk.now) (S.opened c.args.desk.now) _ start c.answer.new.desk c.args.outside.now c.answer.new.outside (Ok c.in_ok-going.going) (Ok c.in_ok-going.going) (λ one two bytes prints. prints) (λ is. is)
                 (ran_next S G g.met.W.Outside.fewer_later names are (S.programs c.args.desk.now) (S.opened c.args.desk.now) c.args.events.now c.loop-event.event-index (Begin 0 []) c.loop-event-test.true start c.loop-event.desk c.answer.new.desk c.args.outside.now c.loop-event.outside c.answer.new.outside (Ok c.in_ok-going.going) still now.answered.programs now.answered.opened (now.ran start sure shows) c.in_ok-going.ensures.ran);
             closed = c.in_ok-going.ensures.closed;
             sound = c.in_ok-going.ensures.undamaged _ before.0 before.1;
@@ -100,7 +100,7 @@ loop-event-preserved g c =
       still = λ was_open. c.in_ok-going.ensures.closed ∙ ap is_closed c.in-On.is;
       ran = λ start sure shows.
           let still = now.still (g.met.S.Supervisor.open_shown c.args.desk.now _ start shows) in
-          ran_as S G g.met.W.Outside.fewer_later names are (S.programs c.args.desk.now) (S.opened c.args.desk.now) _ start c.answer.new.desk c.args.outside.now c.answer.new.outside (Ok c.in_ok-going.going) (Ok 0) (λ one two bytes prints. prints_well one two bytes c.in_ok-going.going 0 prints)
+          ran_as S G g.met.W.Outside.fewer_later names are (S.programs c.args.desk.now) (S.opened c.args.desk.now) _ start c.answer.new.desk c.args.outside.now c.answer.new.outside (Ok c.in_ok-going.going) (Ok 0) (λ one two bytes prints. prints_well one two bytes c.in_ok-going.going 0 prints) (λ is. is)
           (ran_next S G g.met.W.Outside.fewer_later names are (S.programs c.args.desk.now) (S.opened c.args.desk.now) c.args.events.now c.loop-event.event-index (Begin 0 []) c.loop-event-test.true start c.loop-event.desk c.answer.new.desk c.args.outside.now c.loop-event.outside c.answer.new.outside (Ok c.in_ok-going.going) still now.answered.programs now.answered.opened (now.ran start sure shows) c.in_ok-going.ensures.ran);
     }
 
@@ -116,7 +116,7 @@ returns-clause-ran g c =
       front = take c.loop-event.event-index c.args.events.now;
       rest = [];
       whole = append-nil (take c.loop-event.event-index c.args.events.now) ∙ take_all c.loop-event.event-index c.args.events.now c.loop-event-test.false;
-      ran = ran_as S G g.met.W.Outside.fewer_later names are (S.programs c.args.desk.now) (S.opened c.args.desk.now) _ start c.loop-event.desk c.args.outside.now c.loop-event.outside (Ok 0) (Ok going.On) (λ one two bytes prints. prints_well one two bytes 0 going.On prints) (now.ran start sure shows);
+      ran = ran_as S G g.met.W.Outside.fewer_later names are (S.programs c.args.desk.now) (S.opened c.args.desk.now) _ start c.loop-event.desk c.args.outside.now c.loop-event.outside (Ok 0) (Ok going.On) (λ one two bytes prints. prints_well one two bytes 0 going.On prints) (λ is. is) (now.ran start sure shows);
       closed = now.still (g.met.S.Supervisor.open_shown c.args.desk.now _ start shows);
       sound = refl;
       all = λ still. refl;

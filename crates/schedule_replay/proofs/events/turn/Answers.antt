@@ -5,6 +5,7 @@ use Rattle.desk.specs.Answers.{turn_told}
 use Rattle.desk.specs.Report.{number_after, happening_lines}
 use Rattle.desk.specs.Answers.{turn_closes}
 use Rattle.desk.specs.Kept.{writes_due}
+use Rattle.schedule_replay.proofs.CountLemmas.{turn_calm}
 use Rattle.schedule_replay.proofs.WriteLemmas.{writes_fewer, turn_writes}
 use Rattle.schedule_replay.specs.Answered.{GoesBy}
 use Rattle.schedule_replay.specs.Puts.{number_told}
@@ -42,6 +43,7 @@ returns-in_err-put_turn-clause-ran g c =
     ran_event S G g.met.W.Outside.fewer_later g.met.W.Outside.printed_now L.shown_stands names (names_are (λ name. name.items) c.args.names.now c.requires.unbroken) (S.programs old) (S.opened old) (event.Turn c.args.activation c.args.limit) (turn_told c.args.activation c.turn-turn.result (S.printed c.turn-turn.new.self)) start c.turn-turn.new.self before c.turn-turn.new.outside c.put_turn.new.outside c.from_residual.result (L.shown_open old _ start shows) c.turn-turn.ensures.opened c.turn-turn.ensures.calls did
     (puts_same G c.turn-turn.new.outside c.put_turn.new.outside (happening_lines names (number_told c.turn-turn.result.end) (turn_told c.args.activation c.turn-turn.result c.printed.result.now)) (happening_lines names (number_after (S.opened old) did.next) (turn_told c.args.activation c.turn-turn.result (S.printed c.turn-turn.new.self))) c.from_residual.result (ap (λ (bytes : List ℕ). happening_lines names (number_told c.turn-turn.result.end) (turn_told c.args.activation c.turn-turn.result bytes)) c.printed.ensures.bytes ∙ lines_numbered names c.args.activation c.turn-turn.result c.turn-turn.result.end (S.printed c.turn-turn.new.self) (number_after (S.opened old) did.next) has) (puts_broken G c.turn-turn.new.outside c.put_turn.new.outside (happening_lines names (number_told c.turn-turn.result.end) (turn_told c.args.activation c.turn-turn.result c.printed.result.now)) c.put_turn.result c.from_residual.result (search rules) c.from_residual.ensures.0 (c.put_turn.ensures names)))
     (writes_fewer (G.writes before) (G.writes c.turn-turn.new.outside) (writes_due c.turn-turn.result.end) _ (turn_writes names (number_after (S.opened old) did.next) c.args.activation c.turn-turn.result c.turn-turn.result.end (S.printed c.turn-turn.new.self)) c.turn-turn.ensures.writes)
+    (λ none. c.turn-turn.ensures.calm (turn_calm names (number_after (S.opened old) did.next) c.args.activation c.turn-turn.result c.turn-turn.result.end (S.printed c.turn-turn.new.self) none))
 
 pub returns-clause-ran : goal.returns-clause-ran
 returns-clause-ran g c =
@@ -58,6 +60,7 @@ returns-clause-ran g c =
     ran_event S G g.met.W.Outside.fewer_later g.met.W.Outside.printed_now L.shown_stands names (names_are (λ name. name.items) c.args.names.now c.requires.unbroken) (S.programs old) (S.opened old) (event.Turn c.args.activation c.args.limit) (turn_told c.args.activation c.turn-turn.result (S.printed c.turn-turn.new.self)) start c.turn-turn.new.self before c.turn-turn.new.outside c.put_turn.new.outside (Ok c.going_after_turn.result) (L.shown_open old _ start shows) c.turn-turn.ensures.opened c.turn-turn.ensures.calls did
     (puts_same G c.turn-turn.new.outside c.put_turn.new.outside (happening_lines names (number_told c.turn-turn.result.end) (turn_told c.args.activation c.turn-turn.result c.printed.result.now)) (happening_lines names (number_after (S.opened old) did.next) (turn_told c.args.activation c.turn-turn.result (S.printed c.turn-turn.new.self))) (Ok c.going_after_turn.result) (ap (λ (bytes : List ℕ). happening_lines names (number_told c.turn-turn.result.end) (turn_told c.args.activation c.turn-turn.result bytes)) c.printed.ensures.bytes ∙ lines_numbered names c.args.activation c.turn-turn.result c.turn-turn.result.end (S.printed c.turn-turn.new.self) (number_after (S.opened old) did.next) has) (puts_well G c.turn-turn.new.outside c.put_turn.new.outside (happening_lines names (number_told c.turn-turn.result.end) (turn_told c.args.activation c.turn-turn.result c.printed.result.now)) c.in_ok-put_turn.field-0 c.going_after_turn.result (c.in_ok-put_turn.ensures names)))
     (writes_fewer (G.writes before) (G.writes c.turn-turn.new.outside) (writes_due c.turn-turn.result.end) _ (turn_writes names (number_after (S.opened old) did.next) c.args.activation c.turn-turn.result c.turn-turn.result.end (S.printed c.turn-turn.new.self)) c.turn-turn.ensures.writes)
+    (λ none. c.turn-turn.ensures.calm (turn_calm names (number_after (S.opened old) did.next) c.args.activation c.turn-turn.result c.turn-turn.result.end (S.printed c.turn-turn.new.self) none))
 
 pub returns-clause-goes : goal.returns-clause-goes
 returns-clause-goes g c =

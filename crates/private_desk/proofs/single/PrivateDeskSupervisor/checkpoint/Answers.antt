@@ -25,7 +25,7 @@ returns-in-Ok-clause-did g c = λ desk sure shown.
     let done = c.in-Ok.ensures.done tracks in
     let crash : Leaves G (λ image seen. stands image ≡ stands (held_of G before)) before after = λ image seen left. (c.in-Ok.ensures.crash tracks image seen left).stood in
     let now = over-stored d s c.in-Ok.ensures.header (held_of G before) (held_of G after) over c.in-Ok.ensures.number done.tracks.shows done.stood in
-    let did = did-checkpoint G d s c.in-Ok.ensures.header before after over crash done.tracks.sure now in
+    let did = did-checkpoint G d s c.in-Ok.ensures.header before after over crash done.tracks.sure c.in-Ok.ensures.count now in
     let number : c.number.result ≡ number_after d.opened (desk_of d) = c.number.ensures ∙ c.in-Ok.ensures.number ∙ over.follows.number over.still_open in
     subst
     (λ (that : Desk). (x : Did G d.programs.items d.opened event.Checkpoint CheckpointMade d.closed (desk_of d).order (λ held shown. Shown (record d { store = s }) held shown) that before after) × (c.number.result ≡ number_after d.opened x.next))

@@ -1,4 +1,4 @@
-use Rattle.std.proofs.Common.{◌+◌, ℕ, sym, subst}
+use Rattle.std.proofs.Common.{◌+◌, ℕ, sym, ◌∙◌, subst}
 use Rattle.outside.specs.Runs.{held_of}
 use Rattle.desk.specs.declared.answers.TurnEnd.{TurnEnd}
 use Rattle.desk.specs.declared.event.Event.TheVariants as event
@@ -8,7 +8,7 @@ use Rattle.desk.specs.Desk.{Desk}
 use Rattle.desk.specs.Report.{number_after}
 use Rattle.private_desk.specs.PrivateDesk.{desk_of}
 use Rattle.private_desk.specs.Shown.{IsOver, Shown}
-use Rattle.private_desk.proofs.DidLemmas.{did-turn}
+use Rattle.private_desk.proofs.DidLemmas.{did-turn, open-calm}
 use Rattle.private_desk.proofs.single.PrivateDeskSupervisor.turn.Goals as goal
 
 pub returns-clause-did : goal.returns-clause-did
@@ -26,7 +26,7 @@ returns-clause-did g c = λ desk sure shown.
       stood = over.stood;
     } in
     let ran = c.run-end.ensures.went sure begun in
-    let did = did-turn G (record d { turns = d.turns + 1 }) new c.args.activation c.args.limit c.run-end.result c.run-end.new.tally answer c.args.outside.now c.run-end.new.outside over.still_open c.run-end.ensures.turned c.told-2.ensures.counts c.told-2.ensures.end ran in
+    let did = did-turn G (record d { turns = d.turns + 1 }) new c.args.activation c.args.limit c.run-end.result c.run-end.new.tally answer c.args.outside.now c.run-end.new.outside over.still_open c.run-end.ensures.turned c.told-2.ensures.counts c.told-2.ensures.end over.shows (λ still. c.run-end.ensures.records (open-calm c.run-end.result c.run-end.ensures.turned (sym c.run-end.ensures.closed ∙ still))) ran in
     let numbers : HasNumbers answer.end c.args.activation (number_after d.opened (desk_of new)) =
     subst (λ (e : TurnEnd). HasNumbers e c.args.activation (number_after d.opened (desk_of new))) (sym c.told-2.ensures.end)
     (subst (λ (opened : ℕ). HasNumbers c.run-end.result c.args.activation (number_after opened (desk_of new))) c.run-end.ensures.parts.opened ran.numbers) in
