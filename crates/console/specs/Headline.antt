@@ -109,18 +109,23 @@ pub record Untouched {W : Type 0} (G : Ghosts W) (before after : W) (order : Lis
   pub no_order : order ≡ []
   pub asks : OnlyAsks G before after
 
+-- and the disk didn't fail
+pub record Refused {W : Type 0} (G : Ghosts W) (before after : W) (order : List (ℕ × ℕ)) : Type 0 where
+  pub untouched : Untouched G before after order
+  pub calm : G.disk_faults after ≡ G.disk_faults before
+
 -- what a call did, by its status; a disk fault comes in the opening or in an event
 abbrev pub Happened : {W : Type 0} → Ghosts W → Option (List ℕ) → Option (List ℕ) → W → W → List (ℕ × ℕ) → Status → Type 0
 Happened G left left_now before after order status.Done = RanJob G left left_now before after order status.Done
 Happened G left left_now before after order status.PutFault = RanJob G left left_now before after order status.PutFault
 Happened G left left_now before after order status.DiskFault = RanJob G left left_now before after order status.DiskFault ⊎ Untouched G before after order
-Happened G left left_now before after order (status.Store offset) = Untouched G before after order ⊎ StoodForNone G before
-Happened G left left_now before after order _ = Untouched G before after order
+Happened G left left_now before after order (status.Store offset) = Refused G before after order ⊎ StoodForNone G before
+Happened G left left_now before after order _ = Refused G before after order
 
 -- the same for a job that is given
 abbrev pub HappenedTo : {W : Type 0} → Ghosts W → Job → W → W → List (ℕ × ℕ) → Status → Type 0
 HappenedTo G job before after order status.Done = HasRunFrom G job before after order status.Done
 HappenedTo G job before after order status.PutFault = HasRunFrom G job before after order status.PutFault
 HappenedTo G job before after order status.DiskFault = HasRunFrom G job before after order status.DiskFault ⊎ Untouched G before after order
-HappenedTo G job before after order (status.Store offset) = Untouched G before after order ⊎ StoodForNone G before
-HappenedTo G job before after order _ = Untouched G before after order
+HappenedTo G job before after order (status.Store offset) = Refused G before after order ⊎ StoodForNone G before
+HappenedTo G job before after order _ = Refused G before after order

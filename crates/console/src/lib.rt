@@ -13,4 +13,6 @@ pub use opening::try_store;
 pub use status::{Ended, Status, status_text};
 
 #[cfg(test)]
+mod crash_tests;
+#[cfg(test)]
 mod tests;

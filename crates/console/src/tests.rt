@@ -227,7 +227,7 @@ const PROGRAMS: &str = "frames 2\n\
     schedule\n";
 
 /// The events of a schedule, and the report of it behind the line that opens it.
-const SCHEDULES: [(&str, &str); 12] = [
+const SCHEDULES: [(&str, &str); 13] = [
     ("", "end 0\n"),
     (
         "begin add 5\nturn 1 9\nbegin add 7\nbegin add 1\nturn 2 9\n",
@@ -278,6 +278,12 @@ const SCHEDULES: [(&str, &str); 12] = [
         "begin 1 add\nturn 1 ran 5 page 1 lock 2\ncommit 1 number 1 steps 5 out -\nstored 1\nbegin 2 add\n\
          turn 2 ran 3 page 0 lock 1\nlost 2\nopen 1\nidle 2\nbegin 3 rd\nturn 3 ran 5 page 1 lock 1\n\
          commit 3 number 2 steps 5 out 05\nend 2\n",
+    ),
+    (
+        "begin add 5\nturn 1 9\nbegin add 7\nturn 2 2\ncrash\nturn 2 9\nbegin add 1\nturn 3 9\n",
+        "begin 1 add\nturn 1 ran 5 page 1 lock 2\ncommit 1 number 1 steps 5 out -\nbegin 2 add\n\
+         turn 2 ran 2 page 0 lock 1\nlost 2\nopen 1\nidle 2\nbegin 3 add\nturn 3 ran 5 page 1 lock 2\n\
+         commit 3 number 2 steps 5 out -\nend 2\n",
     ),
     (
         "begin fill 64\nturn 1 999\nbegin fill 64\nturn 2 999\nbegin fill 64\nturn 3 999\nbegin fill 64\nturn 4 999\n\

@@ -1,0 +1,186 @@
+//! What a disk that stopped within a write holds, opened again; and stores that are damaged. The places and numbers are
+//! those of docs/FORMATS.md, worked out by hand.
+use super::*;
+use line_geometry::{Directory, PageSize};
+use outside::{Joint, MemoryDisk, MemoryScreen, MemorySource};
+use std::alloc::{AllocError, Global};
+use std::process::Abort;
+use std::test::Fail;
+use store_format::Header;
+
+/// One program that adds 5 to the first word of segment 1.
+const ONE_ADD: &str = "frames 2\nprogram add\n.window 1, 1, rw\ncau r6, r0, 0x1000\nl r3, 0(r6)\na r3, r2\nst r3, 0(r6)\nsvc 0\nend\nschedule\nbegin add 5\nturn 1 9\nend\n";
+
+/// A record of 31 lines, which fills a bank of 4,104 bytes, and a commit behind it.
+const FILLED: &str = "frames 2\nprogram fill\n.window 1, 1, rw\ncau r6, r0, 0x1000\nloop: st r2, 0(r6)\nai r6, r6, 128\nsis r2, 1\njnb eq, loop\nsvc 0\nend\nprogram null\nsvc 0\nend\nschedule\nbegin fill 31\nturn 1 999\nbegin null\nturn 2 9\nend\n";
+
+/// A program that prints the last byte of the word at an offset of segment 1, begun at line 3.
+const SHOWN: &str = "frames 2\nprogram shown\n.window 1, 1, r\ncau r6, r0, 0x1000\ncas r6, r6, r2\nl r2, 0(r6)\nsvc 1\nsvc 0\nend\nschedule\nbegin shown 384\nturn 1 9\nend\n";
+
+/// The same for the first word of segment 1.
+const FIRST: &str = "frames 2\nprogram shown\n.window 1, 1, r\ncau r6, r0, 0x1000\nl r2, 0(r6)\nsvc 1\nsvc 0\nend\nschedule\nbegin shown\nturn 1 9\nend\n";
+
+/// A disk that stops at a write with some bytes in its range, and what opens then.
+struct Stop {
+    small: bool,
+    write: u32,
+    outcome: (u8, usize),
+    report: &'static str,
+}
+
+const STOPS: [Stop; 9] = [
+    Stop {
+        small: false,
+        write: 1,
+        outcome: (0xff, 143),
+        report: "open 0\nbegin 1 shown\nturn 1 ran 4 page 1 lock 1\ncommit 1 number 1 steps 4 out 00\nend 1\n",
+    },
+    Stop {
+        small: false,
+        write: 2,
+        outcome: (0x5a, 1),
+        report: "open 0\nbegin 1 shown\nturn 1 ran 4 page 1 lock 1\ncommit 1 number 1 steps 4 out 00\nend 1\n",
+    },
+    Stop {
+        small: false,
+        write: 2,
+        outcome: (0xa5, 1),
+        report: "open 1\nbegin 1 shown\nturn 1 ran 4 page 1 lock 1\ncommit 1 number 2 steps 4 out 05\nend 2\n",
+    },
+    // the home line 3, the head of the other bank, and the selector
+    Stop {
+        small: true,
+        write: 6,
+        outcome: (0xff, 128),
+        report: "open 1\nbegin 1 shown\nturn 1 ran 5 page 1 lock 1\ncommit 1 number 2 steps 5 out 1c\nend 2\n",
+    },
+    Stop {
+        small: true,
+        write: 34,
+        outcome: (0xa5, 9),
+        report: "open 1\nbegin 1 shown\nturn 1 ran 5 page 1 lock 1\ncommit 1 number 2 steps 5 out 1c\nend 2\n",
+    },
+    Stop {
+        small: true,
+        write: 35,
+        outcome: (7, 1),
+        report: "open 1\nbegin 1 shown\nturn 1 ran 5 page 1 lock 1\ncommit 1 number 2 steps 5 out 1c\nend 2\n",
+    },
+    Stop {
+        small: true,
+        write: 35,
+        outcome: (1, 1),
+        report: "open 1\nbegin 1 shown\nturn 1 ran 5 page 1 lock 1\ncommit 1 number 2 steps 5 out 1c\nend 2\n",
+    },
+    Stop {
+        small: true,
+        write: 36,
+        outcome: (0xff, 11),
+        report: "open 1\nbegin 1 shown\nturn 1 ran 5 page 1 lock 1\ncommit 1 number 2 steps 5 out 1c\nend 2\n",
+    },
+    Stop {
+        small: true,
+        write: 37,
+        outcome: (0xa5, 1),
+        report: "open 2\nbegin 1 shown\nturn 1 ran 5 page 1 lock 1\ncommit 1 number 3 steps 5 out 1c\nend 3\n",
+    },
+];
+
+/// Changes of the store that one add leaves, and where it doesn't stand then: its length, and bytes from an offset on.
+const DAMAGES: [(usize, usize, &[u8], u64); 4] = [
+    (100, 0, &[], 100),
+    (143_632, 9, &[3], 8),
+    (143_632, 274, &[2], 267),
+    // two lines, both with the number 5
+    (143_632, 264, &[0xa5, 0, 2, 0, 0, 0, 0, 0, 0, 0, 1, 0, 0, 0, 5], 407),
+];
+
+/// What a call left: its status, what it printed, and the disk's bytes.
+#[derive(Drop)]
+struct Left {
+    status: Status,
+    printed: Vec<u8>,
+    held: Vec<u8>,
+}
+
+/// The job on a disk with these bytes, which stops at a write, if it has one to stop at.
+fn run(
+    alloc: Global,
+    held: Vec<u8>,
+    stop: Option<(u32, Vec<u8>)>,
+    job: &str,
+) -> Result<Left, AllocError> {
+    let mut words = Vec::new(alloc);
+    words.push(String::from_str(alloc, "try")?)?;
+    let mut source = MemorySource::new(Vec::from_slice(alloc, job.as_bytes())?, Vec::new(alloc));
+    let mut disk = MemoryDisk::new(alloc, held, Vec::new(alloc));
+    if let Some((write, outcome)) = stop {
+        disk.fuse(write, outcome);
+    }
+    let mut outside = Joint::new(disk, MemoryScreen::new(alloc, Vec::new(alloc)));
+    let ended = console(alloc, &words, &mut source, &mut outside);
+    let (disk, screen) = outside.into_parts();
+    Ok(Left {
+        status: ended.status,
+        printed: screen.into_bytes(),
+        held: disk.into_bytes(),
+    })
+}
+
+/// A store of segment 1 with four pages, and a bank that takes one record of 31 lines.
+fn small_store(alloc: Global) -> Result<Vec<u8>, Fail> {
+    let directory = Directory::new(PageSize::Two, &[(1, 4)])?;
+    Ok(Header::new(directory, 4104).fresh(alloc)?)
+}
+
+#[test]
+fn a_disk_that_stopped_opens_as_the_commits_before(rt: HostRuntime) -> Result<(), Fail> {
+    let alloc = rt.alloc();
+    for stop in &STOPS {
+        let (held, job, reads) = if stop.small {
+            (small_store(alloc)?, FILLED, SHOWN)
+        } else {
+            (try_store(alloc)?, ONE_ADD, FIRST)
+        };
+        let outcome = vec![in alloc; stop.outcome.0; stop.outcome.1]?;
+        let stopped = run(alloc, held, Some((stop.write, outcome)), job)?;
+        assert_eq!(rt; stopped.status, Status::DiskFault, "write {}", stop.write);
+        let opened = run(alloc, stopped.held, None, reads)?;
+        assert_eq!(rt; opened.status, Status::Done, "write {}", stop.write);
+        assert!(rt; opened.printed.as_slice() == stop.report.as_bytes(), "write {}", stop.write);
+    }
+    Ok(())
+}
+
+#[test]
+fn a_record_that_fills_its_bank_is_followed_by_a_checkpoint(rt: HostRuntime) -> Result<(), Fail> {
+    let alloc = rt.alloc();
+    let left = run(alloc, small_store(alloc)?, None, FILLED)?;
+    assert_eq!(rt; left.status, Status::Done);
+    let report = "open 0\nbegin 1 fill\nturn 1 ran 126 page 2 lock 31\ncommit 1 number 1 steps 126 out -\n\
+        begin 2 null\nturn 2 ran 1 page 0 lock 0\ncommit 2 number 2 steps 1 out -\nend 2\n";
+    assert!(rt; left.printed.as_slice() == report.as_bytes());
+    assert_eq!(rt; left.held.len(), 16_672);
+    assert_eq!(rt; left.held.get(128), Some(&1));
+    let bank = [0, 0, 0, 0, 0, 0, 0, 1, 0xa5, 0, 0, 0, 0, 0, 0, 0, 0, 0, 2, 0];
+    assert!(rt; left.held.as_slice().get(4368..4388) == Some(&bank));
+    Ok(())
+}
+
+#[test]
+fn a_damaged_store_is_told_and_left_alone(rt: HostRuntime) -> Result<(), Fail> {
+    let alloc = rt.alloc();
+    for (length, at, bytes, offset) in &DAMAGES {
+        let mut held = run(alloc, try_store(alloc)?, None, ONE_ADD)?.held;
+        held.truncate(*length);
+        if let Some(place) = held.as_mut_slice().get_mut(*at..at + bytes.len()) {
+            place.copy_from_slice(bytes);
+        }
+        let before = Vec::from_slice(alloc, &held)?;
+        let left = run(alloc, held, None, ONE_ADD)?;
+        assert_eq!(rt; left.status, Status::Store(*offset));
+        assert!(rt; left.printed.is_empty());
+        assert!(rt; left.held == before);
+    }
+    Ok(())
+}
