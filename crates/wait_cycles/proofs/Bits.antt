@@ -1,0 +1,108 @@
+-- Rows of bits over the sixteen places.
+use Rattle.std.proofs.Common.{◌≡◌, ◌≢◌, ℕ, zero, suc, ◌+◌, ◌*◌, ◌%◌, ◌^◌, ◌<◌, ◌≤◌, ◌==◌, ◌&&◌, ◌||◌, min, max, nat_lt, cond, Bool, true, false, List, [], ◌∷◌, refl, sym, ap, ◌∙◌, subst, arith, inl, inr, bit_and, bit_or, w16, Option, Some, None, find}
+use Rattle.std.specs.Prelude.{if◌then◌else◌}
+use Rattle.std.specs.List.{range_with_len, list_any}
+use Rattle.std.specs.Int.{bit_at, trailing_zeros}
+use Rattle.std.proofs.lemmas.Bool.{eq-eqb, ne_eqb, cases_eq, cases_lt}
+use Rattle.std.proofs.lemmas.Nat.Bits.{bit_at-lt, bit_at-zero, bit_at_and, bit_at-trailing_zeros, bit_at_set_same, bit_at_set_other}
+use Rattle.wait_cycles.specs.Rows.{is_on, places}
+
+-- the first number of a range that passes a test
+pub find-first : (p : ℕ → Bool) (low n k : ℕ) → low ≤ k → k < low + n → p k ≡ true → ((i : ℕ) → low ≤ i → i < k → p i ≡ false) → find p (range_with_len low n) ≡ Some k
+find-first p low zero k from within passes before = absurd (omega arith)
+find-first p low (suc n) k from within passes before =
+    by_test (p low) refl (λ less. find-first p (low + 1) n k (omega (arith, less)) (omega (arith, within)) passes (λ i above below. before i (omega (arith, above)) below))
+  where
+    by_test : (here : Bool) → p low ≡ here → (low < k → find p (range_with_len (low + 1) n) ≡ Some k) → cond here (Some low) (find p (range_with_len (low + 1) n)) ≡ Some k
+    by_test true is later = elim (cases_lt low k) [
+      | inl less ↦ absurd (let no : true ≡ false = sym is ∙ before low (omega arith) less in let never : ⊥ = cc in never)
+      | inr not_less ↦ let same : low ≡ k = omega (arith, from, not_less) in ap (λ (x : ℕ). Some x) same
+    ]
+    by_test false is later = elim (cases_lt low k) [
+      | inl less ↦ later less
+      | inr not_less ↦ absurd (let same : low ≡ k = omega (arith, from, not_less) in let no : false ≡ true = sym is ∙ ap p same ∙ passes in let never : ⊥ = cc in never)
+    ]
+
+-- no number of a range passes a test
+pub find-none : (p : ℕ → Bool) (low n : ℕ) → ((i : ℕ) → p i ≡ false) → find p (range_with_len low n) ≡ None
+find-none p low zero none = refl
+find-none p low (suc n) none = ap (λ (here : Bool). cond here (Some low) (find p (range_with_len (low + 1) n))) (none low) ∙ find-none p (low + 1) n none
+
+-- what is found in a range is in it
+pub find-within : (p : ℕ → Bool) (low n k : ℕ) → find p (range_with_len low n) ≡ Some k → k < low + n
+find-within p low zero k found = absurd (let no : ⊥ = cc in no)
+find-within p low (suc n) k found = by_test (p low) found (λ later. let within = find-within p (low + 1) n k later in omega (arith, within))
+  where
+    by_test : (here : Bool) → cond here (Some low) (find p (range_with_len (low + 1) n)) ≡ Some k → (find p (range_with_len (low + 1) n) ≡ Some k → k < low + suc n) → k < low + suc n
+    by_test true is later = let same : low ≡ k = cc in omega (arith, same)
+    by_test false is later = later is
+
+-- tests that answer alike
+pub find-alike : (p q : ℕ → Bool) (low n : ℕ) → ((i : ℕ) → i < low + n → p i ≡ q i) → find p (range_with_len low n) ≡ find q (range_with_len low n)
+find-alike p q low zero alike = refl
+find-alike p q low (suc n) alike =
+    ap (λ (here : Bool). cond here (Some low) (find p (range_with_len (low + 1) n))) (alike low (omega arith))
+    ∙ ap (λ (rest : Option ℕ). cond (q low) (Some low) rest) (find-alike p q (low + 1) n (λ i below. alike i (omega (arith, below))))
+
+pub any-alike : (p q : ℕ → Bool) (low n : ℕ) → ((i : ℕ) → i < low + n → p i ≡ q i) → list_any p (range_with_len low n) ≡ list_any q (range_with_len low n)
+any-alike p q low zero alike = refl
+any-alike p q low (suc n) alike =
+    ap (λ (here : Bool). here || list_any p (range_with_len (low + 1) n)) (alike low (omega arith))
+    ∙ ap (λ (rest : Bool). q low || rest) (any-alike p q (low + 1) n (λ i below. alike i (omega (arith, below))))
+
+pub any-some : (p : ℕ → Bool) (low n k : ℕ) → low ≤ k → k < low + n → p k ≡ true → list_any p (range_with_len low n) ≡ true
+any-some p low zero k from within passes = absurd (omega arith)
+any-some p low (suc n) k from within passes =
+    by_test (p low) refl (λ less. any-some p (low + 1) n k (omega (arith, less)) (omega (arith, within)) passes)
+  where
+    by_test : (here : Bool) → p low ≡ here → (low < k → list_any p (range_with_len (low + 1) n) ≡ true) → (here || list_any p (range_with_len (low + 1) n)) ≡ true
+    by_test true is later = refl
+    by_test false is later = elim (cases_lt low k) [
+      | inl less ↦ later less
+      | inr not_less ↦ absurd (let same : low ≡ k = omega (arith, from, not_less) in let no : false ≡ true = sym is ∙ ap p same ∙ passes in let never : ⊥ = cc in never)
+    ]
+
+pub any-none : (p : ℕ → Bool) (low n : ℕ) → ((i : ℕ) → p i ≡ false) → list_any p (range_with_len low n) ≡ false
+any-none p low zero none = refl
+any-none p low (suc n) none = ap (λ (here : Bool). here || list_any p (range_with_len (low + 1) n)) (none low) ∙ any-none p (low + 1) n none
+
+-- a place is in both of two rows
+both-bits : (x y : ℕ) → x < 2 → y < 2 → (min x y == 1) ≡ ((x == 1) && (y == 1))
+both-bits zero y few less = ap (λ (least : ℕ). least == 1) (let none : min 0 y ≡ 0 = omega arith in none)
+both-bits (suc zero) zero few less = refl
+both-bits (suc zero) (suc zero) few less = refl
+both-bits (suc zero) (suc (suc y)) few less = absurd (omega (arith, less))
+both-bits (suc (suc x)) y few less = absurd (omega (arith, few))
+
+pub on-both : (a b place : ℕ) → is_on (bit_and a b) place ≡ (is_on a place && is_on b place)
+on-both a b place = ap (λ (x : ℕ). x == 1) (bit_at_and a b place) ∙ both-bits (bit_at a place) (bit_at b place) (bit_at-lt a place) (bit_at-lt b place)
+
+pub on-none : (place : ℕ) → is_on 0 place ≡ false
+on-none place = ap (λ (x : ℕ). x == 1) (bit_at-zero place)
+
+-- two rows meet where their common row isn't zero
+pub meets-some : (a b : ℕ) → 0 < bit_and a b → bit_and a b < 2 ^ 16 → list_any (λ next. is_on a next && is_on b next) places ≡ true
+meets-some a b some small =
+    let lowest = bit_at-trailing_zeros w16 (bit_and a b) some small in
+    any-some (λ next. is_on a next && is_on b next) 0 16 _ (omega arith) lowest.0 (sym (on-both a b _) ∙ ap (λ (x : ℕ). x == 1) lowest.1)
+
+pub meets-none : (a b : ℕ) → bit_and a b ≡ 0 → list_any (λ next. is_on a next && is_on b next) places ≡ false
+meets-none a b none = any-none (λ next. is_on a next && is_on b next) 0 16 (λ i. sym (on-both a b i) ∙ ap (λ (bits : ℕ). is_on bits i) none ∙ on-none i)
+
+-- the least place of a row
+pub least-is : (bits : ℕ) → 0 < bits → bits < 2 ^ 16 → find (is_on bits) places ≡ Some (trailing_zeros w16 bits)
+least-is bits some small =
+    let lowest = bit_at-trailing_zeros w16 bits some small in
+    find-first (is_on bits) 0 16 (trailing_zeros w16 bits) (omega arith) lowest.0 (ap (λ (x : ℕ). x == 1) lowest.1) (λ i above below. ap (λ (x : ℕ). x == 1) (lowest.2 i below))
+
+-- a place more in a row
+pub on-set : (bits place other : ℕ) → place < 16 → is_on (bit_or bits (1 * 2 ^ place % 2 ^ 16)) other ≡ ((other == place) || is_on bits other)
+on-set bits place other small = elim (cases_eq other place) [
+  | inl same ↦
+      ap (λ (n : ℕ). is_on (bit_or bits (1 * 2 ^ place % 2 ^ 16)) n) same
+      ∙ ap (λ (x : ℕ). x == 1) (bit_at_set_same w16 bits place small)
+      ∙ sym (ap (λ (here : Bool). here || is_on bits other) (eq-eqb other place same))
+  | inr differs ↦
+      ap (λ (x : ℕ). x == 1) (bit_at_set_other w16 bits place small other differs)
+      ∙ sym (ap (λ (here : Bool). here || is_on bits other) (ne_eqb other place differs))
+]

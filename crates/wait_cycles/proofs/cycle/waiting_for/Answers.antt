@@ -1,0 +1,23 @@
+use Rattle.std.proofs.Common.{◌≡◌, ◌<◌, ◌+◌, ◌^◌, ◌&&◌, ◌==◌, ℕ, Bool, slice_index_or, nat_lt, arith, sym, ap, ◌∙◌, subst, bit_and}
+use Rattle.std.specs.List.{list_any}
+use Rattle.std.proofs.lemmas.Nat.{and_le_r}
+use Rattle.wait_cycles.specs.Rows.{is_on, waits_in, places}
+use Rattle.wait_cycles.proofs.Bits.{meets-some, meets-none}
+use Rattle.wait_cycles.proofs.Walk.{marked, unmarked}
+use Rattle.wait_cycles.proofs.cycle.waiting_for.Goals as goal
+use Rattle.wait_cycles.proofs.cycle.waiting_for.Goals.{then-row-goals-ne0, else-row-goals-ne0}
+
+pub loop-place-preserved : goal.loop-place-preserved
+loop-place-preserved c =
+    let waits_for : ℕ → Bool = λ p. list_any (λ next. waits_in c.args.waits.now p next && is_on c.args.goals next) places in
+    elim c.if-row-goals-ne0.branch [
+      | then-row-goals-ne0 w ↦
+          λ p below.
+          ap (λ (bits : ℕ). is_on bits p) w.waiting-is
+          ∙ marked waits_for c.loop-place.waiting c.loop-place.place c.loop-place-test.true c.loop-place.invariant
+          (let row : ℕ = slice_index_or c.args.waits.now c.loop-place.place 0 in meets-some row c.args.goals (omega (arith, w.if-row-goals-ne0.true)) (let less = and_le_r row c.args.goals in omega (arith, less, c.ranges.goals.fits))) p below
+      | else-row-goals-ne0 w ↦
+          λ p below.
+          ap (λ (bits : ℕ). is_on bits p) w.waiting-is
+          ∙ unmarked waits_for c.loop-place.waiting c.loop-place.place c.loop-place-test.true c.loop-place.invariant (meets-none _ c.args.goals w.if-row-goals-ne0.false) p below
+    ]
