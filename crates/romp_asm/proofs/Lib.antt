@@ -3,6 +3,7 @@ pub mod ValueLemmas
 pub mod NoteLemmas
 pub mod LayLemmas
 pub mod LayoutLemmas
+pub mod AloneLemmas
 pub mod LawLemmas
 pub mod MadeLemmas
 pub mod WindowLemmas

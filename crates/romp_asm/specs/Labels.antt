@@ -1,5 +1,5 @@
 -- The labels as they are looked up.
-use Rattle.std.specs.Prelude.{ℕ, ℤ, pos, ◌+◌, nat_lt, false, if◌then◌else◌, Bool, List, [], ◌∷◌, Option, Some, None}
+use Rattle.std.specs.Prelude.{◌≡◌, ℕ, ℤ, pos, ◌<◌, IfSome, slice_index_or, ◌+◌, nat_lt, false, if◌then◌else◌, Bool, List, [], ◌∷◌, Option, Some, None}
 use Rattle.std.specs.Option.{option_map, option_map_or}
 use denote.Ref.{Bor}
 use Rattle.std.specs.Ordering.{nat_cmp}
@@ -26,6 +26,15 @@ stands_before index None = false
 -- whether a statement's label stands before the statement with this number
 abbrev pub repeated_in : BTreeMap (Bor (List ℕ)) Place → ℕ → Statement → Bool
 repeated_in labels index statement = option_map_or (λ label. stands_before index (found_in labels label)) statement.label false
+
+-- a statement's label, if it has one, is in no table yet
+abbrev pub IsNew : BTreeMap (Bor (List ℕ)) Place → Statement → Type 0
+IsNew labels statement = IfSome statement.label (λ label. found_in labels label ≡ None)
+
+-- the labels of so many of the first statements stand nowhere before them
+abbrev pub AreAlone : BTreeMap (Bor (List ℕ)) Place → List Statement → ℕ → Type 0
+AreAlone labels statements count =
+    (index : ℕ) (statement : Statement) → index < count → statement ≡ slice_index_or statements index statement → repeated_in labels index statement ≡ false
 
 -- where a label stands after one statement more: where it stood, or else at that statement if it has the label
 abbrev pub noted : Option Place → Bool → Place → Option Place

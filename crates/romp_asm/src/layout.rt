@@ -1,4 +1,4 @@
-ghost use Rattle.std.specs.Prelude.{◌≡◌, ◌<◌, ◌≤◌, ◌^◌, length, MatchResult};
+ghost use Rattle.std.specs.Prelude.{◌≡◌, false, ◌<◌, ◌≤◌, ◌^◌, length, MatchResult};
 ghost use Rattle.asm_parse.specs.Answers.{IsAnswer, IsTextFaultOf};
 ghost use Rattle.asm_parse.specs.Kept.{stated};
 ghost use Rattle.asm_parse.specs.Text.{at_line};
@@ -8,7 +8,7 @@ ghost use Rattle.romp_asm.specs.Source.{source_of};
 ghost use Rattle.romp_asm.specs.Layout.{assembled, parts_of, piece_of};
 
 use super::output::Output;
-use super::value::{Labels, labels_kept, labels_of};
+use super::value::{Labels, Table, labels_kept, labels_of};
 use asm_parse::{AsmFault, LineFault, Part, Statement, Statements, parse};
 use flat_machine::Program;
 use std::alloc::Global;
@@ -45,10 +45,10 @@ pub fn assemble(alloc: Global, statements: &[Statement]) -> Result<Program, AsmF
     requires { length statements.now ≤ 2 ^ 30 }
     ensures { IsAnswer parts_of result (assembled statements.now) }
 {
-    let labels = labels_of(alloc, statements)?;
+    let table = labels_of(alloc, statements)?;
     let mut output = Output::new(alloc);
     for (index, statement) in statements.iter().enumerate() {
-        add(&mut output, &labels, index, &Part::of(statement))?;
+        add(&mut output, &table, index, &Part::of(statement))?;
     }
     Ok(output.finish())
 }
@@ -62,10 +62,10 @@ pub fn assemble_kept(alloc: Global, statements: &Statements) -> Result<Program, 
     requires { length statements.now ≤ 2 ^ 30 }
     ensures { IsAnswer parts_of result (assembled statements.now) }
 {
-    let labels = labels_kept(alloc, statements)?;
+    let table = labels_kept(alloc, statements)?;
     let mut output = Output::new(alloc);
     for index in 0..statements.len() {
-        add(&mut output, &labels, index, &statements.at(index))?;
+        add(&mut output, &table, index, &statements.at(index))?;
     }
     Ok(output.finish())
 }
@@ -73,17 +73,18 @@ pub fn assemble_kept(alloc: Global, statements: &Statements) -> Result<Program, 
 /// Lays one statement behind the others.
 fn add(
     output: &mut Output,
-    labels: &Labels<'_>,
+    table: &Table<'_>,
     index: usize,
     part: &Part<'_>,
 ) -> Result<(), AsmFault>
+    requires alone { table.now.repeats ≡ false → repeated_in table.now.labels index (stated part.now) ≡ false }
     ensures { let statement = stated part.now in
-        let reading = piece_of (addresses_in labels.now) (repeated_in labels.now index statement) (length output.old.image.items) output.old.entry output.old.windows statement.body in
-        MatchResult result (λ _. IsLaid (addresses_in labels.now) output.old output.new statement.body reading)
+        let reading = piece_of (addresses_in table.now.labels) (repeated_in table.now.labels index statement) (length output.old.image.items) output.old.entry output.old.windows statement.body in
+        MatchResult result (λ _. IsLaid (addresses_in table.now.labels) output.old output.new statement.body reading)
         (λ fault. IsTextFaultOf fault (at_line statement.line reading)) }
 {
-    let repeated = is_repeated(labels, index, part);
-    match output.add(labels, repeated, part.body) {
+    let repeated = table.repeats && is_repeated(&table.labels, index, part);
+    match output.add(&table.labels, repeated, part.body) {
         Ok(()) => Ok(()),
         Err(LineFault::Kind(kind)) => Err(AsmFault::Fault {
             line: part.line,

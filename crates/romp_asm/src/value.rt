@@ -1,8 +1,8 @@
-ghost use Rattle.std.specs.Prelude.{◌≡◌, ◌≤◌, ◌<◌, ◌^◌, ◌+ℤ◌, ℕ, List, length, IfOk, OnOk, MatchResult, Ok, Err};
+ghost use Rattle.std.specs.Prelude.{◌≡◌, false, ◌≤◌, ◌<◌, ◌^◌, ◌+ℤ◌, ℕ, List, length, IfOk, OnOk, MatchResult, Ok, Err};
 ghost use Rattle.std.specs.Option.{option_map};
 ghost use Rattle.asm_parse.specs.Kept.{stated};
 ghost use Rattle.romp_asm.specs.Value.{is_labelled, known_of, knowns_of, least_kind, value_of, within_reach};
-ghost use Rattle.romp_asm.specs.Labels.{addresses_in, found_in, noted, place_of};
+ghost use Rattle.romp_asm.specs.Labels.{addresses_in, found_in, noted, place_of, IsNew, AreAlone};
 
 use super::field::{OUT_OF_REACH, UNKNOWN_LABEL};
 use super::size::size_of;
@@ -21,6 +21,13 @@ pub(crate) struct Place {
 /// The labels of statements, each where it stands first.
 pub(crate) type Labels<'a> = BTreeMap<&'a str, Place>;
 
+/// The labels of statements, and whether one of them stands twice.
+#[derive(Drop)]
+pub(crate) struct Table<'a> {
+    pub labels: Labels<'a>,
+    pub repeats: bool,
+}
+
 /// An operand whose labels are replaced by their addresses.
 #[derive(Drop)]
 pub(crate) enum Known {
@@ -37,29 +44,34 @@ impl Default for Known {
 }
 
 /// The labels of statements.
-pub(crate) fn labels_of(alloc: Global, statements: &[Statement]) -> Result<Labels<'_>, AllocError>
+pub(crate) fn labels_of(alloc: Global, statements: &[Statement]) -> Result<Table<'_>, AllocError>
     requires { length statements.now ≤ 2 ^ 30 }
-    ensures { IfOk result (λ labels. (word : List ℕ) → found_in labels word ≡ place_of statements.now word) }
+    ensures found { IfOk result (λ table. (word : List ℕ) → found_in table.labels word ≡ place_of statements.now word) }
+    ensures alone { IfOk result (λ table. table.repeats ≡ false → AreAlone table.labels statements.now (length statements.now)) }
 {
     let mut labels = BTreeMap::new(alloc);
+    let mut repeats = false;
     let mut address: u64 = 0;
     for (index, statement) in statements.iter().enumerate() {
         let place = Place {
             statement: index,
             address: address as i64,
         };
-        note(&mut labels, &Part::of(statement), place)?;
+        let again = note(&mut labels, &Part::of(statement), place)?;
+        repeats |= again;
         address += u64::from(size_of(&statement.body));
     }
-    Ok(labels)
+    Ok(Table { labels, repeats })
 }
 
 /// The labels of statements that are kept.
-pub(crate) fn labels_kept(alloc: Global, statements: &Statements) -> Result<Labels<'_>, AllocError>
+pub(crate) fn labels_kept(alloc: Global, statements: &Statements) -> Result<Table<'_>, AllocError>
     requires { length statements.now ≤ 2 ^ 30 }
-    ensures { IfOk result (λ labels. (word : List ℕ) → found_in labels word ≡ place_of statements.now word) }
+    ensures found { IfOk result (λ table. (word : List ℕ) → found_in table.labels word ≡ place_of statements.now word) }
+    ensures alone { IfOk result (λ table. table.repeats ≡ false → AreAlone table.labels statements.now (length statements.now)) }
 {
     let mut labels = BTreeMap::new(alloc);
+    let mut repeats = false;
     let mut address: u64 = 0;
     for index in 0..statements.len() {
         let part = statements.at(index);
@@ -67,25 +79,27 @@ pub(crate) fn labels_kept(alloc: Global, statements: &Statements) -> Result<Labe
             statement: index,
             address: address as i64,
         };
-        note(&mut labels, &part, place)?;
+        let again = note(&mut labels, &part, place)?;
+        repeats |= again;
         address += u64::from(size_of(part.body));
     }
-    Ok(labels)
+    Ok(Table { labels, repeats })
 }
 
-/// Notes the label of a statement, if it has one and no statement had it before.
-fn note<'a>(labels: &mut Labels<'a>, part: &Part<'a>, place: Place) -> Result<(), AllocError>
-    ensures { OnOk result ((word : List ℕ) →
+/// Notes the label of a statement, if it has one and no statement had it before. The answer is whether one had it.
+fn note<'a>(labels: &mut Labels<'a>, part: &Part<'a>, place: Place) -> Result<bool, AllocError>
+    ensures noted { OnOk result ((word : List ℕ) →
         found_in labels.new word ≡ noted (found_in labels.old word) (is_labelled word (stated part.now)) place) }
+    ensures again { IfOk result (λ again. again ≡ false → IsNew labels.old (stated part.now)) }
 {
     let Some(label) = part.label else {
-        return Ok(());
+        return Ok(false);
     };
     match labels.insert(label.as_str(), place)? {
-        None => Ok(()),
+        None => Ok(false),
         Some(first) => {
             labels.insert(label.as_str(), first)?;
-            Ok(())
+            Ok(true)
         }
     }
 }

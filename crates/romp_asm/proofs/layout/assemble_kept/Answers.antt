@@ -10,9 +10,9 @@ loop-index-preserved c =
     let i = c.loop-index.index in
     let statement = stated c.at.result in
     let before : Before all i c.loop-index.output = record { size = c.loop-index.invariant.size; entry = c.loop-index.invariant.entry; windows = c.loop-index.invariant.windows } in
-    let after = before_more c.in_ok-labels.labels all i statement c.loop-index.output c.add.new.output c.in_ok-labels.ensures (omega arith) c.at.ensures before c.in_ok-add.ensures in
+    let after = before_more c.in_ok-table.table.labels all i statement c.loop-index.output c.add.new.output c.in_ok-table.ensures.found (omega arith) c.at.ensures before c.in_ok-add.ensures in
     record {
-      so_far = image_more c.in_ok-labels.labels all i statement c.loop-index.output c.add.new.output c.in_ok-labels.ensures (omega arith) c.at.ensures before c.in_ok-add.ensures c.loop-index.invariant.so_far;
+      so_far = image_more c.in_ok-table.table.labels all i statement c.loop-index.output c.add.new.output c.in_ok-table.ensures.found (omega arith) c.at.ensures before c.in_ok-add.ensures c.loop-index.invariant.so_far;
       size = after.size;
       entry = after.entry;
       windows = after.windows;
@@ -23,7 +23,7 @@ returns-in_err-add c =
     let all = c.args.statements.now in
     let before : Before all c.loop-index.index c.loop-index.output = record { size = c.loop-index.invariant.size; entry = c.loop-index.invariant.entry; windows = c.loop-index.invariant.windows } in
     let told = err_from_is_err_and c.from_residual-in_err-add.result c.from_residual-in_err-add.ensures.1 in
-    rw (told.1, told.2) (fault_told c.in_ok-labels.labels all c.loop-index.index (stated c.at.result) c.loop-index.output c.in_err-add.field-0.0 c.in_ok-labels.ensures (omega arith) c.at.ensures before c.in_err-add.ensures c.loop-index.invariant.so_far)
+    rw (told.1, told.2) (fault_told c.in_ok-table.table.labels all c.loop-index.index (stated c.at.result) c.loop-index.output c.in_err-add.field-0.0 c.in_ok-table.ensures.found (omega arith) c.at.ensures before c.in_err-add.ensures c.loop-index.invariant.so_far)
 
 pub returns : goal.returns
 returns c =

@@ -8,13 +8,13 @@ use Rattle.romp_asm.specs.Labels.{found_in}
 use Rattle.romp_asm.proofs.NoteLemmas.{noted_back, noted_label}
 use Rattle.romp_asm.proofs.value.note.Goals as goal
 
-pub returns-in-None : goal.returns-in-None
-returns-in-None c = λ word.
+pub returns-in-None-clause-noted : goal.returns-in-None-clause-noted
+returns-in-None-clause-noted c = λ word.
     btree_map_updates_str c.as_str.result.now c.args.labels.now c.insert.new.self _ c.in_ok-insert.ensures.updates word
     ∙ noted_label (found_in c.args.labels.now) (stated c.args.part.now) c.in-Some.label.now c.as_str.result.now word c.args.place (ap (option_map (λ (label : Bor (List ℕ)). label.now)) c.in-Some.is) c.as_str.ensures (ap is_some (sym c.in-None.is ∙ c.in_ok-insert.ensures.old))
 
-pub returns-in_ok-insert-in-Some-2 : goal.returns-in_ok-insert-in-Some-2
-returns-in_ok-insert-in-Some-2 c = λ word.
+pub returns-in_ok-insert-in-Some-2-clause-noted : goal.returns-in_ok-insert-in-Some-2-clause-noted
+returns-in_ok-insert-in-Some-2-clause-noted c = λ word.
     let old = found_in c.args.labels.now in
     let text = c.as_str.result.now in
     let again : c.as_str-in-Some-2.result.now ≡ text = c.as_str-in-Some-2.ensures ∙ sym c.as_str.ensures in

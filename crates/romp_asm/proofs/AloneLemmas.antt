@@ -1,0 +1,52 @@
+-- Labels that stand nowhere before.
+use Rattle.std.proofs.Common.{◌≡◌, ℕ, ◌+◌, ◌<◌, ◌≤◌, ◌||◌, Bool, true, false, List, length, get_or, Bor, Option, Some, None, refl, sym, ap, ◌∙◌, subst, arith, inl, inr}
+use Rattle.std.specs.Option.{option_map_or}
+use Rattle.std.specs.BTreeMap.{BTreeMap}
+use Rattle.std.proofs.lemmas.Bool.{le-ltb, cases_lt}
+use Rattle.std.proofs.lemmas.List.{get_or_default}
+use Rattle.asm_parse.specs.declared.statement.Statement.{Statement}
+use Rattle.romp_asm.specs.declared.value.Place.{Place}
+use Rattle.romp_asm.specs.Value.{is_labelled}
+use Rattle.romp_asm.specs.Labels.{found_in, stands_before, repeated_in, noted, IsNew, AreAlone}
+
+-- neither of two
+pub or_none : (one two : Bool) → (one || two) ≡ false → (one ≡ false) × (two ≡ false)
+or_none true two none = absurd (let no : ⊥ = cc in no)
+or_none false two none = (refl, none)
+
+abbrev Labels : Type 0
+Labels = BTreeMap (Bor (List ℕ)) Place
+
+-- what doesn't stand before a statement doesn't so once a later one is noted
+stays_alone : (index : ℕ) (found : Option Place) (labelled : Bool) (place : Place) → index ≤ place.statement → stands_before index found ≡ false → stands_before index (noted found labelled place) ≡ false
+stays_alone index (Some before) labelled place le is = is
+stays_alone index None true place le is = le-ltb place.statement index le
+stays_alone index None false place le is = refl
+
+module _ (old new : Labels) (statement : Statement) (place : Place) (noted_is : (word : List ℕ) → found_in new word ≡ noted (found_in old word) (is_labelled word statement) place) where
+  repeated_on : (other : Statement) (index : ℕ) → index ≤ place.statement → repeated_in old index other ≡ false → repeated_in new index other ≡ false
+  repeated_on other index le is = by_label other.label is
+    where
+      by_label : (label : Option _) → option_map_or (λ label. stands_before index (found_in old label)) label false ≡ false → option_map_or (λ label. stands_before index (found_in new label)) label false ≡ false
+      by_label None before = refl
+      by_label (Some label) before = ap (stands_before index) (noted_is label) ∙ stays_alone index (found_in old label) (is_labelled label statement) place le before
+
+  new_alone : IsNew old statement → repeated_in new place.statement statement ≡ false
+  new_alone is = by_label statement.label is
+    where
+      by_label : (label : Option _) → (let none : Type 0 = IsNew old (record statement { label = label }) in none) → option_map_or (λ label. stands_before place.statement (found_in new label)) label false ≡ false
+      by_label None before = refl
+      by_label (Some label) before =
+          ap (stands_before place.statement) (noted_is label ∙ ap (λ (found : Option Place). noted found (is_labelled label statement) place) before)
+          ∙ stays_alone place.statement None (is_labelled label statement) place (omega arith) refl
+
+  -- one statement more
+  pub alone_more : (statements : List Statement) → place.statement < length statements → statement ≡ get_or statements place.statement statement → AreAlone old statements place.statement → IsNew old statement → AreAlone new statements (place.statement + 1)
+  alone_more statements within here alone is = λ index that below there.
+      elim (cases_lt index place.statement) [
+        | inl less ↦ repeated_on that index (omega (arith, less)) (alone index that less there)
+        | inr not_less ↦
+            let same : index ≡ place.statement = omega (arith, below, not_less) in
+            let this : statement ≡ that = here ∙ get_or_default statements place.statement statement that within ∙ ap (λ (i : ℕ). get_or statements i that) (sym same) ∙ sym there in
+            ap (λ (i : ℕ). repeated_in new i that) same ∙ ap (λ (one : Statement). repeated_in new place.statement one) (sym this) ∙ new_alone is
+      ]
