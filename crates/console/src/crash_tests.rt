@@ -9,16 +9,20 @@ use std::test::Fail;
 use store_format::Header;
 
 /// One program that adds 5 to the first word of segment 1.
-const ONE_ADD: &str = "frames 2\nprogram add\n.window 1, 1, rw\ncau r6, r0, 0x1000\nl r3, 0(r6)\na r3, r2\nst r3, 0(r6)\nsvc 0\nend\nschedule\nbegin add 5\nturn 1 9\nend\n";
+const ONE_ADD: &str =
+    "frames 2\nprogram add\n.window 1, 1, rw\ncau r6, r0, 0x1000\nl r3, 0(r6)\na r3, r2\nst r3, 0(r6)\nsvc 0\nend\nschedule\nbegin add 5\nturn 1 9\nend\n";
 
 /// A record of 31 lines, which fills a bank of 4,104 bytes, and a commit behind it.
-const FILLED: &str = "frames 2\nprogram fill\n.window 1, 1, rw\ncau r6, r0, 0x1000\nloop: st r2, 0(r6)\nai r6, r6, 128\nsis r2, 1\njnb eq, loop\nsvc 0\nend\nprogram null\nsvc 0\nend\nschedule\nbegin fill 31\nturn 1 999\nbegin null\nturn 2 9\nend\n";
+const FILLED: &str =
+    "frames 2\nprogram fill\n.window 1, 1, rw\ncau r6, r0, 0x1000\nloop: st r2, 0(r6)\nai r6, r6, 128\nsis r2, 1\njnb eq, loop\nsvc 0\nend\nprogram null\nsvc 0\nend\nschedule\nbegin fill 31\nturn 1 999\nbegin null\nturn 2 9\nend\n";
 
 /// A program that prints the last byte of the word at an offset of segment 1, begun at line 3.
-const SHOWN: &str = "frames 2\nprogram shown\n.window 1, 1, r\ncau r6, r0, 0x1000\ncas r6, r6, r2\nl r2, 0(r6)\nsvc 1\nsvc 0\nend\nschedule\nbegin shown 384\nturn 1 9\nend\n";
+const SHOWN: &str =
+    "frames 2\nprogram shown\n.window 1, 1, r\ncau r6, r0, 0x1000\ncas r6, r6, r2\nl r2, 0(r6)\nsvc 1\nsvc 0\nend\nschedule\nbegin shown 384\nturn 1 9\nend\n";
 
 /// The same for the first word of segment 1.
-const FIRST: &str = "frames 2\nprogram shown\n.window 1, 1, r\ncau r6, r0, 0x1000\nl r2, 0(r6)\nsvc 1\nsvc 0\nend\nschedule\nbegin shown\nturn 1 9\nend\n";
+const FIRST: &str =
+    "frames 2\nprogram shown\n.window 1, 1, r\ncau r6, r0, 0x1000\nl r2, 0(r6)\nsvc 1\nsvc 0\nend\nschedule\nbegin shown\nturn 1 9\nend\n";
 
 /// A disk that stops at a write with some bytes in its range, and what opens then.
 struct Stop {
@@ -92,7 +96,12 @@ const DAMAGES: [(usize, usize, &[u8], u64); 4] = [
     (143_632, 9, &[3], 8),
     (143_632, 274, &[2], 267),
     // two lines, both with the number 5
-    (143_632, 264, &[0xa5, 0, 2, 0, 0, 0, 0, 0, 0, 0, 1, 0, 0, 0, 5], 407),
+    (
+        143_632,
+        264,
+        &[0xa5, 0, 2, 0, 0, 0, 0, 0, 0, 0, 1, 0, 0, 0, 5],
+        407,
+    ),
 ];
 
 /// What a call left: its status, what it printed, and the disk's bytes.
@@ -147,7 +156,11 @@ fn a_disk_that_stopped_opens_as_the_commits_before(rt: HostRuntime) -> Result<()
         assert_eq!(rt; stopped.status, Status::DiskFault, "write {}", stop.write);
         let opened = run(alloc, stopped.held, None, reads)?;
         assert_eq!(rt; opened.status, Status::Done, "write {}", stop.write);
-        assert!(rt; opened.printed.as_slice() == stop.report.as_bytes(), "write {}", stop.write);
+        assert!(rt;
+            opened.printed.as_slice() == stop.report.as_bytes(),
+            "write {}",
+            stop.write
+        );
     }
     Ok(())
 }
@@ -157,12 +170,15 @@ fn a_record_that_fills_its_bank_is_followed_by_a_checkpoint(rt: HostRuntime) -> 
     let alloc = rt.alloc();
     let left = run(alloc, small_store(alloc)?, None, FILLED)?;
     assert_eq!(rt; left.status, Status::Done);
-    let report = "open 0\nbegin 1 fill\nturn 1 ran 126 page 2 lock 31\ncommit 1 number 1 steps 126 out -\n\
+    let report =
+        "open 0\nbegin 1 fill\nturn 1 ran 126 page 2 lock 31\ncommit 1 number 1 steps 126 out -\n\
         begin 2 null\nturn 2 ran 1 page 0 lock 0\ncommit 2 number 2 steps 1 out -\nend 2\n";
     assert!(rt; left.printed.as_slice() == report.as_bytes());
     assert_eq!(rt; left.held.len(), 16_672);
     assert_eq!(rt; left.held.get(128), Some(&1));
-    let bank = [0, 0, 0, 0, 0, 0, 0, 1, 0xa5, 0, 0, 0, 0, 0, 0, 0, 0, 0, 2, 0];
+    let bank = [
+        0, 0, 0, 0, 0, 0, 0, 1, 0xa5, 0, 0, 0, 0, 0, 0, 0, 0, 0, 2, 0,
+    ];
     assert!(rt; left.held.as_slice().get(4368..4388) == Some(&bank));
     Ok(())
 }

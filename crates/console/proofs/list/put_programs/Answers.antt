@@ -66,12 +66,12 @@ loop-index-preserved g c =
     let more : sum_by lines_of (take c.loop-index.index programs) + lines_of c.program-item.result ≡ sum_by lines_of (take (c.loop-index.index + 1) programs) =
     ap (λ (program : Program). sum_by lines_of (take c.loop-index.index programs) + lines_of program) (sym this) ∙ sym (sum_by_more lines_of programs c.loop-index.index c.program-item.result within) in
     record {
-    times = subst (λ (n : ℕ). PutsTimes g.W.Outside n c.args.outside.now c.put_program.new.outside done) more
-        (times_on g.W.Outside c.args.outside.now c.loop-index.outside c.put_program.new.outside (sum_by lines_of (take c.loop-index.index programs)) (lines_of c.program-item.result) _ tt done c.loop-index.invariant.puts c.loop-index.invariant.times c.in_ok-put_program.ensures.times);
-    puts = puts_more g.W.Outside g.met.W.Outside.fewer_later listing_named (named_in names programs) c.loop-index.index ([], parts_of c.program-item.result) _
-    (omega (arith, within, count names programs c.requires))
-    (same_listing names programs c.deref-program-items.result.now c.loop-index.index c.as_slice.result.now c.index.result.now c.program-item.result (omega (arith, within, c.requires)) within c.as_slice.ensures.value c.index.ensures c.deref-program-items.ensures.value c.program-item.is)
-    c.args.outside.now c.loop-index.outside c.put_program.new.outside tt done c.loop-index.invariant.puts c.in_ok-put_program.ensures.puts;
+      times = subst (λ (n : ℕ). PutsTimes g.W.Outside n c.args.outside.now c.put_program.new.outside done) more
+          (times_on g.W.Outside c.args.outside.now c.loop-index.outside c.put_program.new.outside (sum_by lines_of (take c.loop-index.index programs)) (lines_of c.program-item.result) _ tt done c.loop-index.invariant.puts c.loop-index.invariant.times c.in_ok-put_program.ensures.times);
+      puts = puts_more g.W.Outside g.met.W.Outside.fewer_later listing_named (named_in names programs) c.loop-index.index ([], parts_of c.program-item.result) _
+          (omega (arith, within, count names programs c.requires))
+          (same_listing names programs c.deref-program-items.result.now c.loop-index.index c.as_slice.result.now c.index.result.now c.program-item.result (omega (arith, within, c.requires)) within c.as_slice.ensures.value c.index.ensures c.deref-program-items.ensures.value c.program-item.is)
+          c.args.outside.now c.loop-index.outside c.put_program.new.outside tt done c.loop-index.invariant.puts c.in_ok-put_program.ensures.puts;
     }
 
 pub returns-clause-puts : goal.returns-clause-puts
