@@ -11,12 +11,12 @@ use Rattle.outside.specs.Runs.{CallsDisk, FewerLater, Leaves, OnlyAsks, held_of}
 use Rattle.outside.proofs.Runs.{elapses-trans, leaves_on}
 use Rattle.outside.proofs.Torn.{untouched}
 use Rattle.store_format.specs.Header.{Header, fresh, total}
-use Rattle.listing.specs.Puts.{Puts}
+use Rattle.listing.specs.Puts.{Puts, PutsTimes}
 use Rattle.console.specs.declared.status.Status.{Status}
 use Rattle.console.specs.declared.status.Status.TheVariants as status
 use Rattle.console.specs.Listed.{put_of}
 use Rattle.console.specs.Show.{PrintsBy}
-use Rattle.console.specs.New.{IsFresh, IsTorn, IsTornBy, IsWrittenWhole, LeavesTorn, Made, MadeBy, new_line}
+use Rattle.console.specs.New.{IsFresh, IsTorn, IsTornBy, IsWrittenWhole, LeavesTorn, Made, MadeBy, PutsOnce, new_line}
 use Rattle.console.proofs.ShowLemmas.{shows_puts, sure_shows}
 
 nothing_in : (bytes : List ℕ) → length bytes ≡ 0 → bytes ≡ []
@@ -94,6 +94,10 @@ module _ {W : Type 0} (G : Ghosts W) (fewer_later : FewerLater G) (before start 
         by_status = by;
       }
 
-      pub made_put : (now : Status) → (now ≡ status.Done) ⊎ (now ≡ status.PutFault) → Puts G (new_line header) mid after (put_of now) → Made G header before after [] now
-      made_put now (inl is) puts = let those = subst (λ (this : Status). Puts G (new_line header) mid after (put_of this)) is puts in subst (λ (this : Status). Made G header before after [] this) (sym is) (put-made status.Done (Ok tt) those (fresh-held (Ok tt) those, printed-from (Ok tt) those))
-      made_put now (inr is) puts = let those = subst (λ (this : Status). Puts G (new_line header) mid after (put_of this)) is puts in subst (λ (this : Status). Made G header before after [] this) (sym is) (put-made status.PutFault (Err (record {})) those (fresh-held (Err (record {})) those, printed-from (Err (record {})) those))
+      once : PutsTimes {T = Unit {0}} G 1 mid after (Ok tt) → PutsOnce G before after
+      once times told =
+          times (subst (λ (these : Option (List ℕ)). IsSome these) (sym (calls.quiet.same ∙ asks.calls.quiet.same)) told) ∙ ap (λ (n : ℕ). n + 1) (calls.puts ∙ asks.calls.puts)
+
+      pub made_put : (now : Status) → (now ≡ status.Done) ⊎ (now ≡ status.PutFault) → Puts G (new_line header) mid after (put_of now) → PutsTimes G 1 mid after (put_of now) → Made G header before after [] now
+      made_put now (inl is) puts times = let those = subst (λ (this : Status). Puts G (new_line header) mid after (put_of this)) is puts in subst (λ (this : Status). Made G header before after [] this) (sym is) (put-made status.Done (Ok tt) those (fresh-held (Ok tt) those, printed-from (Ok tt) those, once (subst (λ (this : Status). PutsTimes G 1 mid after (put_of this)) is times)))
+      made_put now (inr is) puts times = let those = subst (λ (this : Status). Puts G (new_line header) mid after (put_of this)) is puts in subst (λ (this : Status). Made G header before after [] this) (sym is) (put-made status.PutFault (Err (record {})) those (fresh-held (Err (record {})) those, printed-from (Err (record {})) those))

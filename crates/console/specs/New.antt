@@ -43,9 +43,13 @@ LeavesTorn G count before after =
     IsTrue (G.is_honest before) → IsSome (G.held before)
     → Leaves G (λ image seen. (start : List ℕ) × (begun : List ℕ) × G.left_since before (G.moment before) start begun × Torn 0 count start image) before after
 
+-- one put was recorded, where the printed bytes are told
+abbrev pub PutsOnce : {W : Type 0} → Ghosts W → W → W → Type 0
+PutsOnce G before after = IsSome (G.printed before) → (G.moment after).puts ≡ (G.moment before).puts + 1
+
 -- what it did, by the status; other statuses don't come
 abbrev pub MadeBy : {W : Type 0} → Ghosts W → Header → W → W → Status → Type 0
-MadeBy G header before after status.Done = IsFresh G header before after × PrintsBy (G.printed before) (G.printed after) (new_line header) status.Done
+MadeBy G header before after status.Done = IsFresh G header before after × PrintsBy (G.printed before) (G.printed after) (new_line header) status.Done × PutsOnce G before after
 MadeBy G header before after status.PutFault = IsFresh G header before after × PrintsBy (G.printed before) (G.printed after) (new_line header) status.PutFault
 MadeBy G header before after status.DiskFault = (G.printed after ≡ G.printed before) × IsTorn G header before after
 MadeBy G header before after status.Exists = OnlyAsks G before after × (IsSome (G.held before) → 0 < length (held_of G before))

@@ -2,7 +2,7 @@
 ghost use Rattle.std.specs.Prelude.{◌≡◌, ◌⊎◌, ◌++◌, [], codes, decimal, length, IsSome, IfOk, OnOk};
 ghost use Rattle.outside.specs.Causes.{Rose, HasCause};
 ghost use Rattle.outside.specs.Runs.{CallsDisk, OnlyAsks, held_of};
-ghost use Rattle.listing.specs.Puts.{Puts};
+ghost use Rattle.listing.specs.Puts.{Puts, PutsTimes};
 ghost use Rattle.console.specs.Listed.{put_of};
 ghost use Rattle.console.specs.New.{Made, IsWrittenWhole, IsTornBy, LeavesTorn, new_line};
 
@@ -58,6 +58,7 @@ fn write<W: Outside>(bytes: &[u8], outside: &mut W) -> Result<(), Failed>
 /// Prints the line of a new store.
 fn put_total<W: Outside>(header: &Header, outside: &mut W) -> Status
     ensures puts { Puts W.Outside (new_line header.now) outside.old outside.new (put_of result) }
+    ensures times { PutsTimes W.Outside 1 outside.old outside.new (put_of result) }
     ensures only { (result ≡ Status.Done) ⊎ (result ≡ Status.PutFault) }
 {
     match put_line(header.total(), outside) {
@@ -68,7 +69,8 @@ fn put_total<W: Outside>(header: &Header, outside: &mut W) -> Status
 
 /// Puts `new` and a number.
 fn put_line<W: Outside>(total: u64, outside: &mut W) -> Result<(), Failed>
-    ensures { Puts W.Outside (codes "new " ++ decimal total ++ codes "\n") outside.old outside.new result }
+    ensures puts { Puts W.Outside (codes "new " ++ decimal total ++ codes "\n") outside.old outside.new result }
+    ensures times { PutsTimes W.Outside 1 outside.old outside.new result }
 {
     let mut text = TextLine::new();
     text.begin(b"new");
