@@ -1,13 +1,12 @@
 -- What making a store did.
 use Rattle.std.proofs.Common.{◌≡◌, ◌⊎◌, inl, inr, ◌+◌, ℕ, List, [], ◌∷◌, length, refl, sym, ◌∙◌, ap, subst, arith}
-use Rattle.std.specs.Prelude.{Option, None, Some, IsSome, IsTrue, Result, Ok, Err, unwrap_or}
+use Rattle.std.specs.Prelude.{Option, Some, IsSome, IsTrue, Result, Ok, Err, unwrap_or}
 use Rattle.std.specs.Option.{option_map}
 use Rattle.outside.specs.declared.world.Outside.{Ghosts}
 use Rattle.outside.specs.declared.failed.Failed.{Failed}
 use Rattle.outside.specs.Bytes.{Prints, Torn}
-use Rattle.outside.specs.Durable.{IsSure}
 use Rattle.outside.specs.Moments.{Elapses}
-use Rattle.outside.specs.Runs.{CallsDisk, FewerLater, Leaves, OnlyAsks, held_of}
+use Rattle.outside.specs.Runs.{CallsDisk, FewerLater, OnlyAsks, held_of}
 use Rattle.outside.proofs.Runs.{elapses-trans, leaves_on}
 use Rattle.outside.proofs.Torn.{untouched}
 use Rattle.store_format.specs.Header.{Header, fresh, total}
@@ -15,8 +14,7 @@ use Rattle.listing.specs.Puts.{Puts, PutsTimes}
 use Rattle.console.specs.declared.status.Status.{Status}
 use Rattle.console.specs.declared.status.Status.TheVariants as status
 use Rattle.console.specs.Listed.{put_of}
-use Rattle.console.specs.Show.{PrintsBy}
-use Rattle.console.specs.New.{IsFresh, IsTorn, IsTornBy, IsWrittenWhole, LeavesTorn, Made, MadeBy, PutsOnce, new_line}
+use Rattle.console.specs.New.{IsFresh, IsTornBy, IsWrittenWhole, LeavesTorn, Made, MadeBy, PutsOnce, new_line}
 use Rattle.console.proofs.ShowLemmas.{shows_puts, sure_shows}
 
 nothing_in : (bytes : List ℕ) → length bytes ≡ 0 → bytes ≡ []

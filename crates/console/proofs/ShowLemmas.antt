@@ -1,14 +1,13 @@
 -- Calls that ask the disk, and puts, one after another.
-use Rattle.std.proofs.Common.{◌≡◌, ◌≤◌, ◌<◌, ◌+◌, ◌-◌, ◌*◌, ◌/◌, ◌%◌, inl, inr, ⊎_elim, ℕ, zero, suc, List, [], ◌∷◌, ◌++◌, length, take, drop, refl, sym, ◌∙◌, ap, subst, arith, append-nil, length-append}
-use Rattle.std.specs.Prelude.{Option, None, Some, IsSome, IsTrue, Result, Ok, Err, OnOk, IfErr, unwrap_or, min}
+use Rattle.std.proofs.Common.{◌≡◌, ◌≤◌, ◌<◌, ◌+◌, ◌-◌, ◌*◌, ◌/◌, ◌%◌, inl, ⊎_elim, ℕ, zero, suc, List, [], ◌∷◌, ◌++◌, length, take, drop, refl, sym, ◌∙◌, ap, subst, arith, append-nil, length-append}
+use Rattle.std.specs.Prelude.{Option, None, Some, IsSome, IsTrue, Result, Ok, Err, unwrap_or}
 use Rattle.std.specs.Int.{div_ceil}
 use Rattle.std.proofs.lemmas.Bool.{cases_lt}
-use Rattle.std.proofs.Math.Seq.{take-add, take-append_seam}
+use Rattle.std.proofs.Math.Seq.{take-add}
 use Rattle.std.proofs.lemmas.List.{drop-drop, drop-take}
 use Rattle.outside.specs.declared.world.Outside.{Ghosts}
 use Rattle.outside.specs.declared.failed.Failed.{Failed}
-use Rattle.outside.specs.Bytes.{AreTold, Prints, bytes_at}
-use Rattle.outside.specs.Causes.{Rose}
+use Rattle.outside.specs.Bytes.{AreTold, Prints}
 use Rattle.outside.specs.Durable.{IsSure}
 use Rattle.outside.specs.Runs.{OnlyAsks, FewerLater, held_of}
 use Rattle.outside.proofs.Prints.{prints_broken, prints_on, prints_stop, prints_same}
@@ -141,9 +140,6 @@ prints_front old new first second prints = prints_stop old new first second brok
 module _ {W : Type 0} (G : Ghosts W) (fewer_later : FewerLater G) (store : KeptStore) (at offset done part count : ℕ) (old mid new : W)
     (whole : done % 16 ≡ 0) (inside : done + part ≤ count) (full : done + part < count → part ≡ 2048)
     (before : PutsBytes G store at offset done old mid (Ok tt)) (long : Tracks G store old → length (bytes_in (stands (held_of G old)) at done) ≡ done) where
-  rows : ℕ
-  rows = done / 16
-
   rows-are : done ≡ 16 * (done / 16)
   rows-are = omega (arith, whole)
 

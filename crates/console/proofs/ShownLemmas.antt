@@ -1,6 +1,6 @@
 -- What printing a range of a store did.
-use Rattle.std.proofs.Common.{◌≡◌, ◌+◌, inl, inr, ℕ, List, [], refl, sym, ◌∙◌, ap, subst, arith}
-use Rattle.std.specs.Prelude.{Option, None, Some, IsSome, IsTrue, Result, Ok, Err, fold, unwrap_or}
+use Rattle.std.proofs.Common.{◌≡◌, ◌+◌, inl, inr, ℕ, List, [], refl, sym, ◌∙◌, ap, subst}
+use Rattle.std.specs.Prelude.{Option, IsSome, IsTrue, Result, Ok, Err}
 use Rattle.std.specs.Int.{div_ceil}
 use Rattle.outside.specs.declared.world.Outside.{Ghosts}
 use Rattle.outside.specs.Bytes.{Prints, bytes_at}
@@ -9,9 +9,6 @@ use Rattle.line_geometry.specs.Directory.{Layout, start_of}
 use Rattle.line_geometry.specs.FlatStore.{FlatStore}
 use Rattle.store_format.specs.Stands.{Stands, stands}
 use Rattle.store_format.proofs.Stores.{stands_is}
-use Rattle.redo_journal.specs.declared.fault.OpenFault.{OpenFault}
-use Rattle.redo_journal.specs.declared.fault.OpenFault.TheVariants as opening
-use Rattle.restart.specs.Faults.{IsOpenFault}
 use Rattle.restart.specs.Kept.{KeptStore}
 use Rattle.restart.specs.Shows.{Shows, Tracks}
 use Rattle.restart.proofs.ShowLemmas.{shown_store}
@@ -19,8 +16,7 @@ use Rattle.listing.specs.Listing.{row_lines}
 use Rattle.console.specs.declared.status.Status.{Status}
 use Rattle.console.specs.declared.status.Status.TheVariants as status
 use Rattle.console.specs.declared.show.Range.{Range}
-use Rattle.console.specs.Statuses.{status_of_open}
-use Rattle.console.specs.Show.{HasNoRange, HasRange, IsInside, OnlyShows, PrintsBy, PrintsRows, PutsBytes, PutsDone, Shown, ShownBy, StopsBy, bytes_in, rows_of}
+use Rattle.console.specs.Show.{HasRange, IsInside, OnlyShows, PutsBytes, PutsDone, Shown, ShownBy, StopsBy, bytes_in, rows_of}
 use Rattle.console.proofs.ShowLemmas.{held_same, prints_none, shows_asks, shows_on}
 
 -- bytes that a store shows stand for one with its directory
@@ -34,16 +30,6 @@ same_directory held store shows number flat is =
     ap (λ (those : FlatStore). those.directory) (sym same) ∙ has
 
 module _ {W : Type 0} (G : Ghosts W) (fewer_later : FewerLater G) (range : Range) (before start : W) (asks : OnlyAsks G before start) where
-  -- a store that wasn't opened
-  pub not_opened : (fault : OpenFault) → IsOpenFault G before start fault → Shown G range before start [] (status_of_open fault)
-  not_opened fault is = record { no_order = refl; only = shows_asks G fewer_later before start asks; by_status = by fault is }
-    where
-      by : (fault : OpenFault) → IsOpenFault G before start fault → ShownBy G range before start (status_of_open fault)
-      by (opening.NotAStore offset) is = (asks, λ told. inl (is told))
-      by (opening.Damaged offset) is = (asks, λ told. inr (is told))
-      by opening.DiskFault is = λ honest told number store stood. prints_none (G.printed before) (G.printed start) (rows_of store range) asks.calls.quiet.same
-      by opening.Memory is = asks
-
   module _ (store : KeptStore) (shows : IsSome (G.held before) → Shows (held_of G before) store) where
     -- the range isn't there
     pub no_range : (IsInside store.header.directory range → ⊥) → Shown G range before start [] status.NoRange

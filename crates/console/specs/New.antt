@@ -1,9 +1,8 @@
 -- What making a store did.
-use Rattle.std.specs.Prelude.{◌≡◌, ℕ, ◌+◌, ◌<◌, ◌≤◌, List, [], ◌++◌, codes, decimal, length, Option, Some, IsSome, IsTrue, Result, Ok, Err}
+use Rattle.std.specs.Prelude.{◌≡◌, ℕ, ◌+◌, ◌<◌, List, [], ◌++◌, codes, decimal, length, Some, IsSome, IsTrue}
 use Rattle.std.specs.Option.{option_map}
 use Rattle.outside.specs.declared.world.Outside.{Ghosts}
-use Rattle.outside.specs.declared.failed.Failed.{Failed}
-use Rattle.outside.specs.Bytes.{Prints, Torn}
+use Rattle.outside.specs.Bytes.{Torn}
 use Rattle.outside.specs.Durable.{IsSure}
 use Rattle.outside.specs.Moments.{Elapses}
 use Rattle.outside.specs.Runs.{OnlyAsks, Leaves, held_of}

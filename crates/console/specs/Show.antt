@@ -2,7 +2,6 @@
 use Rattle.std.specs.Prelude.{◌≡◌, ◌⊎◌, ℕ, ◌+◌, ◌≤◌, List, [], length, Option, Some, IsSome, IsTrue, Result, Ok, Err, OnOk, IfErr}
 use Rattle.std.specs.Int.{div_ceil}
 use Rattle.outside.specs.declared.world.Outside.{Ghosts}
-use Rattle.outside.specs.declared.failed.Failed.{Failed}
 use Rattle.outside.specs.Bytes.{Prints, bytes_at}
 use Rattle.outside.specs.Causes.{Rose}
 use Rattle.outside.specs.Moments.{Elapses}
@@ -48,7 +47,7 @@ pub record OnlyShows {W : Type 0} (G : Ghosts W) (old new : W) : Type 0 where
   pub told : IsSome (G.printed old) → IsSome (G.printed new)
   pub images : IsSome (G.held old) → (image seen : List ℕ) → G.left_since new (G.moment old) image seen → (start : List ℕ) × G.left_since old (G.moment old) image start
 
--- how puts of these bytes went, by the result: all are printed; or, where the screen's count rose, a prefix; or where the disk's count rose
+-- how puts of these bytes went, by the result: all are printed, or a prefix of them
 abbrev pub PutsDone : {W : Type 0} → Ghosts W → List ℕ → W → W → Result (Unit {0}) Status → Type 0
 PutsDone G bytes old new (Ok done) = Prints {T = Unit {0}} (G.printed old) (G.printed new) bytes (Ok tt)
 PutsDone G bytes old new (Err status) = Prints {T = Unit {0}} (G.printed old) (G.printed new) bytes (Err (record {}))

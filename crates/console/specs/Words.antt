@@ -4,7 +4,7 @@ use Rattle.std.specs.List.{flat_map}
 use Rattle.std.specs.declared.alloc.Global.{Global}
 use Rattle.asm_parse.specs.Number.{number_in}
 use Rattle.line_geometry.specs.Legal.{IsLegal}
-use Rattle.store_format.specs.Header.{Header, HasRanges}
+use Rattle.store_format.specs.Header.{HasRanges}
 use Rattle.console.specs.declared.words.Command.{Command}
 use Rattle.console.specs.declared.words.Command.TheVariants as command
 

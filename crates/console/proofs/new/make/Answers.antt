@@ -1,4 +1,4 @@
-use Rattle.std.proofs.Common.{◌≡◌, ◌∙◌, arith}
+use Rattle.std.proofs.Common.{◌∙◌, arith}
 use Rattle.console.proofs.MadeLemmas.{made_put, made_torn}
 use Rattle.console.proofs.new.make.Goals as goal
 

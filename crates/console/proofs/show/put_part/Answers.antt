@@ -1,4 +1,4 @@
-use Rattle.std.proofs.Common.{◌≡◌, length, arith}
+use Rattle.std.proofs.Common.{length, arith}
 use Rattle.console.proofs.ShowLemmas.{part_put, part_failed}
 use Rattle.console.proofs.show.put_part.Goals as goal
 

@@ -1,8 +1,7 @@
-use Rattle.std.proofs.Common.{◌≡◌, ◌≤◌, ◌+◌, ◌<◌, length, arith, sym, subst, ap}
-use Rattle.std.specs.Prelude.{Result, Ok, Err}
+use Rattle.std.proofs.Common.{◌≡◌, ◌≤◌, ◌+◌, ◌<◌, length, arith, subst, ap}
+use Rattle.std.specs.Prelude.{Ok}
 use Rattle.outside.specs.Runs.{held_of}
 use Rattle.store_format.specs.Stands.{stands}
-use Rattle.console.specs.declared.status.Status.{Status}
 use Rattle.console.specs.Show.{PutsBytes}
 use Rattle.console.proofs.ShowLemmas.{none_in, nothing_put, parts_on, parts-long, parts_stop}
 use Rattle.console.proofs.show.put_range.Goals as goal

@@ -1,5 +1,5 @@
-use Rattle.std.proofs.Common.{◌≡◌, ℕ, ◌<◌, ◌≤◌, ◌-◌, ◌%◌, length}
-use Rattle.std.specs.Prelude.{Result, Ok}
+use Rattle.std.proofs.Common.{◌≡◌, ◌<◌, ◌≤◌, ◌-◌, ◌%◌, length}
+use Rattle.std.specs.Prelude.{Ok}
 use Rattle.outside.specs.Runs.{held_of}
 use Rattle.store_format.specs.Stands.{stands}
 use Rattle.restart.specs.Shows.{Tracks}

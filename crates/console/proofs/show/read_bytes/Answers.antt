@@ -1,4 +1,4 @@
-use Rattle.std.proofs.Common.{◌≡◌, ◌+◌, Bool, true, List, ℕ, [], ◌∷◌, refl, length, ap, ◌∙◌, sym, subst, arith}
+use Rattle.std.proofs.Common.{◌≡◌, ◌+◌, Bool, true, List, ℕ, [], ◌∷◌, refl, length, ap, ◌∙◌, sym, arith}
 use Rattle.std.specs.Prelude.{Result, Ok, Err, OnOk, ◌==◌}
 use Rattle.std.proofs.lemmas.Bool.Decides.{nat_tests}
 use Rattle.outside.proofs.Runs.{asks_on}

@@ -1,4 +1,4 @@
-use Rattle.std.proofs.Common.{◌≡◌, ◌+◌, ◌-◌, ◌%◌, List, ℕ, length, take, drop, ap, ◌∙◌}
+use Rattle.std.proofs.Common.{◌+◌, ◌-◌, ◌%◌, List, ℕ, length, take, drop, ap, ◌∙◌}
 use Rattle.outside.specs.Runs.{held_of}
 use Rattle.store_format.specs.Stands.{stands}
 use Rattle.console.proofs.ShowLemmas.{in_page}

@@ -1,4 +1,4 @@
-use Rattle.std.proofs.Common.{◌≡◌, ◌+◌, ◌∙◌, ap, subst, sym}
+use Rattle.std.proofs.Common.{◌+◌, ◌∙◌, ap, subst, sym}
 use Rattle.line_geometry.specs.Directory.{start_of}
 use Rattle.store_format.specs.Header.{Header}
 use Rattle.console.specs.Show.{IsInside}

@@ -1,5 +1,5 @@
-use Rattle.std.proofs.Common.{◌≡◌, ℕ, suc, ◌+◌, ◌≤◌, ◌-◌, List, [], ◌∷◌, length, take, drop, arith, sym, ◌∙◌, ap}
-use Rattle.std.specs.Prelude.{All, false, true, Result, Ok, Err, OnOk, is_ok}
+use Rattle.std.proofs.Common.{◌≡◌, ℕ, suc, ◌+◌, ◌≤◌, ◌-◌, List, [], ◌∷◌, length, take, drop, arith, sym, ap}
+use Rattle.std.specs.Prelude.{All, true, Result, Ok, Err, OnOk, is_ok}
 use Rattle.line_geometry.specs.Legal.{IsInRange}
 use Rattle.console.specs.Words.{spread}
 use Rattle.console.proofs.WordLemmas.{first_in_range, behind_first}

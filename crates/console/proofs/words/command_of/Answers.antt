@@ -1,4 +1,4 @@
-use Rattle.std.proofs.Common.{◌≡◌, ◌≢◌, [], ℕ, ◌-◌, List, length, map, take, drop, sym, subst}
+use Rattle.std.proofs.Common.{◌≢◌, [], ℕ, ◌-◌, List, length, map, take, drop, sym, subst}
 use Rattle.std.specs.Prelude.{string_bytes}
 use Rattle.console.specs.Words.{AreNumbers}
 use Rattle.console.proofs.WordLemmas.{alone, not_empty, with_store, without_numbers}

@@ -1,4 +1,4 @@
-use Rattle.std.proofs.Common.{◌≡◌, ap, ◌∙◌, sym}
+use Rattle.std.proofs.Common.{ap, ◌∙◌, sym}
 use Rattle.console.specs.Words.{number_of}
 use Rattle.console.proofs.WordLemmas.{no_number}
 use Rattle.console.proofs.words.numbers_of.Goals as goal
