@@ -1,5 +1,5 @@
 -- How a call ended, and why.
-use Rattle.std.specs.Prelude.{◌≡◌, ◌≢◌, ◌≤◌, ◌⊎◌, ℕ, List, length, Option, Some, Result, Ok, Err, String, IsSome, IsTrue}
+use Rattle.std.specs.Prelude.{◌≡◌, ◌≢◌, ◌≤◌, ◌⊎◌, ℕ, List, [], length, Option, Some, Result, Ok, Err, String, IsSome, IsTrue}
 use Rattle.std.specs.declared.alloc.Global.{Global}
 use Rattle.outside.specs.Causes.{Rose}
 use Rattle.outside.specs.declared.world.Outside.{Ghosts}
@@ -8,8 +8,10 @@ use Rattle.job_text.specs.Grammar.{Content, job_of}
 use Rattle.console.specs.declared.status.Status.{Status}
 use Rattle.console.specs.declared.status.Status.TheVariants as status
 use Rattle.console.specs.declared.words.Command.{Command}
+use Rattle.console.specs.declared.words.Command.TheVariants as command
 use Rattle.console.specs.Opening.{IsStanding, IsFaultAt, IsFaultSince}
 use Rattle.console.specs.SourceText.{HasRead, IsWhole}
+use Rattle.console.specs.Show.{HasRange}
 use Rattle.console.specs.Words.{IsForm}
 
 -- the status of a command that went to its end, or didn't
@@ -69,12 +71,64 @@ pub record OpensBy {W : Type 0} (G : Ghosts W) (before now : W) (status : Status
   pub store : IsPastOpening status → IsSome (G.held before) → IsStanding (held_of G before)
   pub never : IsTrue (G.is_honest before) → IsSome (G.held before) → IsStanding (held_of G before) → (offset : ℕ) → status ≢ Status.Store offset
 
--- the words are a command, the source has the text of a job, and for `try` the disk is honest and its bytes stand for a store
-pub record IsComplete {W : Type 0} (G : Ghosts W) (words : List (String Global)) (left : Option (List ℕ)) (outside : W) : Type 0 where
-  pub form : Command
-  pub asks : IsForm form words
+-- the source has the text of a job, whole
+pub record HasJob (left : Option (List ℕ)) : Type 0 where
   pub text : List ℕ
   pub has_text : left ≡ Some text
   pub few : length text ≤ 1048576
   pub is_job : IsSomeJob text
-  pub store : form ≡ Command.Try → IsTrue (G.is_honest outside) × IsSome (G.held outside) × IsStanding (held_of G outside)
+
+-- the disk is honest and tells its bytes, which stand for a store
+abbrev pub HasStore : {W : Type 0} → Ghosts W → W → Type 0
+HasStore G outside = IsTrue (G.is_honest outside) × IsSome (G.held outside) × IsStanding (held_of G outside)
+
+-- what a command needs: the text of a job and a store to run it on, or to list it; bytes that stand for a store with a range; an empty disk
+abbrev pub HasAll : {W : Type 0} → Ghosts W → Command → Option (List ℕ) → W → Type 0
+HasAll G command.Try left outside = HasJob left × HasStore G outside
+HasAll G command.Run left outside = HasJob left × HasStore G outside
+HasAll G command.List left outside = HasJob left
+HasAll G (command.Show range) left outside = IsSome (G.held outside) × HasRange G range outside
+HasAll G (command.New header) left outside = G.held outside ≡ Some []
+
+-- the words are a command that has what it needs
+pub record IsComplete {W : Type 0} (G : Ghosts W) (words : List (String Global)) (left : Option (List ℕ)) (outside : W) : Type 0 where
+  pub form : Command
+  pub asks : IsForm form words
+  pub has : HasAll G form left outside
+
+-- a status of a command that runs a job
+abbrev pub IsOfRun : Status → Type 0
+IsOfRun status.Usage = ⊥
+IsOfRun status.Exists = ⊥
+IsOfRun status.NoRange = ⊥
+IsOfRun _ = Unit {0}
+
+-- a status of a listing
+abbrev pub IsOfList : Status → Type 0
+IsOfList status.Done = Unit {0}
+IsOfList status.PutFault = Unit {0}
+IsOfList other = IsOfReading other
+
+-- a status of printing bytes of a store
+abbrev pub IsOfShow : Status → Type 0
+IsOfShow status.Done = Unit {0}
+IsOfShow status.PutFault = Unit {0}
+IsOfShow status.NoRange = Unit {0}
+IsOfShow other = IsOfOpening other
+
+-- a status of making a store
+abbrev pub IsOfNew : Status → Type 0
+IsOfNew status.Done = Unit {0}
+IsOfNew status.PutFault = Unit {0}
+IsOfNew status.DiskFault = Unit {0}
+IsOfNew status.Exists = Unit {0}
+IsOfNew status.NoMemory = Unit {0}
+IsOfNew _ = ⊥
+
+-- a status of a command, by its own list
+abbrev pub IsOf : Command → Status → Type 0
+IsOf command.Try = IsOfRun
+IsOf command.Run = IsOfRun
+IsOf command.List = IsOfList
+IsOf (command.Show range) = IsOfShow
+IsOf (command.New header) = IsOfNew

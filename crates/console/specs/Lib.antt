@@ -5,3 +5,5 @@ pub mod Opening
 pub mod Causes
 pub mod Headline
 pub mod Listed
+pub mod Show
+pub mod New

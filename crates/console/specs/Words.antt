@@ -1,18 +1,78 @@
 -- The words of the command line.
-use Rattle.std.specs.Prelude.{◌≡◌, ℕ, List, [], ◌∷◌, map, codes, String, string_bytes}
+use Rattle.std.specs.Prelude.{◌≡◌, ◌≢◌, ◌⊎◌, ℕ, ◌≤◌, nat_le, if◌then◌else◌, List, [], ◌∷◌, map, length, codes, Option, Some, None, String, string_bytes}
+use Rattle.std.specs.List.{flat_map}
 use Rattle.std.specs.declared.alloc.Global.{Global}
+use Rattle.asm_parse.specs.Number.{number_in}
+use Rattle.line_geometry.specs.Legal.{IsLegal}
+use Rattle.store_format.specs.Header.{HasRanges}
 use Rattle.console.specs.declared.words.Command.{Command}
 use Rattle.console.specs.declared.words.Command.TheVariants as command
 
 -- the word of a command
 abbrev pub word_of : Command → List ℕ
 word_of command.Try = codes "try"
+word_of command.Run = codes "run"
 word_of command.List = codes "list"
+word_of (command.Show range) = codes "show"
+word_of (command.New header) = codes "new"
 
--- the words are a command: its word alone
-abbrev pub IsForm : Command → List (String Global) → Type 0
-IsForm form words = map string_bytes words ≡ word_of form ∷ []
+-- the number of a word: one to ten decimal digits, which write at most 4,294,967,295
+abbrev pub number_of : List ℕ → Option ℕ
+number_of word = if nat_le (length word) 10 then number_in 10 word else None
+
+-- these words are these numbers
+abbrev pub AreNumbers : List (List ℕ) → List ℕ → Type 0
+AreNumbers words numbers = map number_of words ≡ map (λ number. Some number) numbers
+
+-- the numbers of segments: the identifier of each, and its pages
+abbrev pub spread : List (ℕ × ℕ) → List ℕ
+spread segments = flat_map (λ segment. segment.0 ∷ segment.1 ∷ []) segments
+
+-- the numbers of a command: a range's segment, first offset and number of bytes, or a bank's bytes and the segments of a new store
+abbrev pub numbers_of : Command → List ℕ
+numbers_of (command.Show range) = range.segment ∷ range.from ∷ range.count ∷ []
+numbers_of (command.New header) = header.bank_bytes ∷ spread header.directory.segments
+numbers_of _ = []
+
+-- they are within their bounds: at most 65,536 bytes are shown, and a new store has a header
+abbrev pub AreWithin : Command → Type 0
+AreWithin (command.Show range) = range.count ≤ 65536
+AreWithin (command.New header) = HasRanges header × IsLegal header.directory.segments
+AreWithin _ = Unit {0}
+
+-- a command whose word stands alone
+abbrev pub IsAlone : Command → Type 0
+IsAlone command.Try = Unit {0}
+IsAlone command.List = Unit {0}
+IsAlone _ = ⊥
+
+-- the words are a command's word, a store, which is any word that isn't empty, and the command's numbers
+pub record NamesStore (form : Command) (words : List (List ℕ)) : Type 0 where
+  pub store : List ℕ
+  pub some : store ≢ []
+  pub numbers : List (List ℕ)
+  pub are : words ≡ word_of form ∷ store ∷ numbers
+  pub say : AreNumbers numbers (numbers_of form)
+
+-- the words say a command: its word alone, or with a store and its numbers
+abbrev pub Says : Command → List (List ℕ) → Type 0
+Says command.Try words = words ≡ word_of command.Try ∷ []
+Says command.List words = words ≡ word_of command.List ∷ []
+Says form words = NamesStore form words
+
+-- the words are a command
+pub record IsForm (form : Command) (words : List (String Global)) : Type 0 where
+  pub says : Says form (map string_bytes words)
+  pub within : AreWithin form
 
 -- the words are no command
 abbrev pub IsNoForm : List (String Global) → Type 0
 IsNoForm words = (form : Command) → IsForm form words → ⊥
+
+-- the words ask for a job to be run: `try`, or `run` with a store
+abbrev pub RunsJob : List (String Global) → Type 0
+RunsJob words = IsForm command.Try words ⊎ IsForm command.Run words
+
+-- and for one to be read: those, or `list`
+abbrev pub ReadsJob : List (String Global) → Type 0
+ReadsJob words = RunsJob words ⊎ IsForm command.List words

@@ -1,16 +1,21 @@
-ghost use Rattle.std.specs.Prelude.{◌≡◌, ◌≢◌, ◌<◌, ◌≤◌, ◌⊎◌, ◌↔◌, ◌-◌, ◌^◌, ℕ, List, length, IfOk, IfErr, OnOk, Ok};
+ghost use Rattle.std.specs.Prelude.{◌≡◌, ◌≢◌, ◌≤◌, ◌⊎◌, ◌↔◌, ℕ, List, [], length, IfOk, IfErr, OnOk, Ok};
 ghost use Rattle.outside.specs.Causes.{Rose};
 ghost use Rattle.desk.specs.Answers.{order_told};
 ghost use Rattle.job_text.specs.Grammar.{job_of, content_of};
 ghost use Rattle.job_text.specs.Ready.{IsReady};
 ghost use Rattle.schedule_replay.specs.Asked.{begins_in};
 ghost use Rattle.console.specs.SourceText.{IsWhole};
-ghost use Rattle.console.specs.Causes.{IsComplete, ReadsBy, OpensBy, IsPastJob, IsOfReading, status_of};
+ghost use Rattle.store_format.specs.Header.{Header};
+ghost use Rattle.console.specs.Causes.{IsComplete, ReadsBy, OpensBy, IsOf, IsPastJob, IsOfReading, status_of};
 ghost use Rattle.console.specs.Headline.{Happened, HappenedTo};
 ghost use Rattle.console.specs.Listed.{Listed};
-ghost use Rattle.console.specs.Words.{IsForm, IsNoForm};
+ghost use Rattle.console.specs.New.{Made};
+ghost use Rattle.console.specs.Show.{Shown};
+ghost use Rattle.console.specs.Words.{IsForm, IsNoForm, ReadsJob, RunsJob};
 
 use super::list::list_job;
+use super::new::make;
+use super::show::{Range, show};
 use super::source_text::read_text;
 use super::status::{Ended, Status};
 use super::words::{Command, command_of};
@@ -22,10 +27,12 @@ use schedule_replay::replay;
 use std::alloc::Global;
 
 /// All that the program does: it takes the words of the command line, without the program's name, and the source, disk
-/// and screen that are handed in, and answers how it ended (docs/FORMATS.md, "Statuses").
+/// and screen that are handed in, and answers how it ended (docs/FORMATS.md, "Words" and "Statuses").
 ///
-/// The words `try`: the job of the source runs on the disk's store, and its report is put, a line at a time. The words
-/// `list`: the programs of the job are listed, a line at a time, and the disk is left alone.
+/// The words `try` and `run STORE`: the job of the source runs on the disk's store, and its report is put, a line at a
+/// time. The words `list`: the programs of the job are listed, a line at a time, and the disk is left alone. The words
+/// `show STORE S FROM COUNT`: bytes of the disk's store are put, a row at a time. The words `new STORE BANK S P ..`: an
+/// empty disk becomes a store with nothing in it. A file that the word STORE names is opened by whoever makes the disk.
 pub fn console<S: Source, W: Outside>(
     alloc: Global,
     words: &[String],
@@ -33,26 +40,34 @@ pub fn console<S: Source, W: Outside>(
     outside: &mut W,
 ) -> Ended
     ensures usage { result.status ≡ Status.Usage ↔ IsNoForm words.now }
-    ensures unasked { result.status ≡ Status.Usage → (job.new ≡ job.old) × (outside.new ≡ outside.old) }
-    ensures read { ReadsBy (S.left job.old) (S.left job.new) (S.faults job.old) (S.faults job.new) result.status }
+    ensures unasked { result.status ≡ Status.Usage → (job.new ≡ job.old) × (outside.new ≡ outside.old) × (order_told result.order.items ≡ []) }
+    ensures only { (form : Command) → IsForm form words.now → IsOf form result.status }
+    ensures read { ReadsJob words.now → ReadsBy (S.left job.old) (S.left job.new) (S.faults job.old) (S.faults job.new) result.status }
+    ensures unread { (ReadsJob words.now → ⊥) → job.new ≡ job.old }
     ensures unfailed { result.status ≡ Status.Done → (S.faults job.new ≡ S.faults job.old) × (W.put_faults outside.new ≡ W.put_faults outside.old) }
-    ensures opened { IsForm Command.Try words.now → OpensBy W.Outside outside.old outside.new result.status }
+    ensures opened { RunsJob words.now → OpensBy W.Outside outside.old outside.new result.status }
     ensures put { result.status ≡ Status.PutFault → Rose (W.put_faults outside.old) (W.put_faults outside.new) }
     ensures disk { result.status ≡ Status.DiskFault → Rose (W.disk_faults outside.old) (W.disk_faults outside.new) }
-    ensures happened { (IsForm Command.List words.now → ⊥) → Happened W.Outside (S.left job.old) (S.left job.new) outside.old outside.new (order_told result.order.items) result.status }
+    ensures happened { RunsJob words.now → Happened W.Outside (S.left job.old) (S.left job.new) outside.old outside.new (order_told result.order.items) result.status }
     ensures listed { IsForm Command.List words.now → Listed W.Outside (S.left job.old) (S.left job.new) outside.old outside.new (order_told result.order.items) result.status }
+    ensures shown { (range : Range) → IsForm (Command.Show range) words.now → Shown W.Outside range outside.old outside.new (order_told result.order.items) result.status }
+    ensures made { (header : Header) → IsForm (Command.New header) words.now → Made W.Outside header outside.old outside.new (order_told result.order.items) result.status }
     ensures complete { IsComplete W.Outside words.now (S.left job.old) outside.old → (Rose (S.faults job.old) (S.faults job.new) → ⊥) → (Rose (W.disk_faults outside.old) (W.disk_faults outside.new) → ⊥) → (Rose (W.put_faults outside.old) (W.put_faults outside.new) → ⊥) → (result.status ≡ Status.Done) ⊎ (result.status ≡ Status.NoMemory) }
-    ensures never { (result.status ≢ Status.Exists) × (result.status ≢ Status.NoRange) }
 {
     let Some(command) = command_of(words) else {
         return Ended::without_events(alloc, Status::Usage);
     };
-    match read(alloc, job) {
-        Err(status) => Ended::without_events(alloc, status),
-        Ok(job) => match command {
-            Command::Try => try_job(alloc, job, outside),
-            Command::List => list_job(alloc, &job, outside),
+    match command {
+        Command::Try | Command::Run => match read(alloc, job) {
+            Err(status) => Ended::without_events(alloc, status),
+            Ok(job) => try_job(alloc, job, outside),
         },
+        Command::List => match read(alloc, job) {
+            Err(status) => Ended::without_events(alloc, status),
+            Ok(job) => list_job(alloc, &job, outside),
+        },
+        Command::Show(range) => Ended::without_events(alloc, show(alloc, range, outside)),
+        Command::New(header) => Ended::without_events(alloc, make(alloc, &header, outside)),
     }
 }
 

@@ -166,24 +166,6 @@ fn a_disk_that_stopped_opens_as_the_commits_before(rt: HostRuntime) -> Result<()
 }
 
 #[test]
-fn a_record_that_fills_its_bank_is_followed_by_a_checkpoint(rt: HostRuntime) -> Result<(), Fail> {
-    let alloc = rt.alloc();
-    let left = run(alloc, small_store(alloc)?, None, FILLED)?;
-    assert_eq!(rt; left.status, Status::Done);
-    let report =
-        "open 0\nbegin 1 fill\nturn 1 ran 126 page 2 lock 31\ncommit 1 number 1 steps 126 out -\n\
-        begin 2 null\nturn 2 ran 1 page 0 lock 0\ncommit 2 number 2 steps 1 out -\nend 2\n";
-    assert!(rt; left.printed.as_slice() == report.as_bytes());
-    assert_eq!(rt; left.held.len(), 16_672);
-    assert_eq!(rt; left.held.get(128), Some(&1));
-    let bank = [
-        0, 0, 0, 0, 0, 0, 0, 1, 0xa5, 0, 0, 0, 0, 0, 0, 0, 0, 0, 2, 0,
-    ];
-    assert!(rt; left.held.as_slice().get(4368..4388) == Some(&bank));
-    Ok(())
-}
-
-#[test]
 fn a_damaged_store_is_told_and_left_alone(rt: HostRuntime) -> Result<(), Fail> {
     let alloc = rt.alloc();
     for (length, at, bytes, offset) in &DAMAGES {

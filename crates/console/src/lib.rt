@@ -3,7 +3,9 @@
 
 mod commands;
 mod list;
+mod new;
 mod opening;
+mod show;
 mod source_text;
 mod status;
 mod words;

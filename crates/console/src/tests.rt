@@ -441,3 +441,213 @@ fn a_status_says_itself(rt: HostRuntime) {
     assert_eq!(rt; status_text(&Status::Job(4, 5)).as_str(), "job 4 5");
     assert_eq!(rt; status_text(&Status::Done).as_str(), "");
 }
+
+/// A program that stores a number that falls into one line after another, and one that does nothing.
+const FILL: &str =
+    "frames 2\nprogram fill\n.window 1, 1, rw\ncau r6, r0, 0x1000\nloop: st r2, 0(r6)\nai r6, r6, 128\n\
+    sis r2, 1\njnb eq, loop\nsvc 0\nend\nprogram null\nsvc 0\nend\nschedule\n";
+
+/// One call on a disk in memory: the words, the schedule behind those programs, what fails, and what it comes to.
+#[derive(Clone, Copy)]
+struct Step {
+    words: &'static [&'static str],
+    events: &'static str,
+    /// Whether the disk is the one of the steps before, which is kept.
+    kept: bool,
+    /// A call of this kind that is refused, among these bytes, after so many.
+    refusal: Option<(Call, u64, u64, u32)>,
+    failing_put: Option<u32>,
+    status: Status,
+    printed: &'static str,
+}
+
+/// A call on the kept disk, without failures.
+const STEP: Step = Step {
+    words: &[],
+    events: "",
+    kept: true,
+    refusal: None,
+    failing_put: None,
+    status: Status::Done,
+    printed: "",
+};
+
+const STEPS: [Step; 22] = [
+    Step {
+        words: &["new", "s", "4104", "1", "4"],
+        kept: false,
+        refusal: Some((Call::Length, 0, 0, 0)),
+        status: Status::DiskFault,
+        ..STEP
+    },
+    Step {
+        words: &["new", "s", "4104", "1", "4"],
+        kept: false,
+        refusal: Some((Call::Write, 0, 1, 0)),
+        status: Status::DiskFault,
+        ..STEP
+    },
+    Step {
+        words: &["new", "s", "4104", "1", "4"],
+        kept: false,
+        refusal: Some((Call::Sync, 0, 0, 0)),
+        status: Status::DiskFault,
+        ..STEP
+    },
+    Step {
+        words: &["new", "s", "4104", "1", "4"],
+        kept: false,
+        failing_put: Some(1),
+        status: Status::PutFault,
+        ..STEP
+    },
+    Step {
+        words: &["new", "s", "4103", "1", "4", "2"],
+        kept: false,
+        status: Status::Usage,
+        ..STEP
+    },
+    Step {
+        words: &["run", "s"],
+        kept: false,
+        events: "",
+        status: Status::Store(0),
+        ..STEP
+    },
+    Step {
+        words: &["new", "s", "4104", "1", "4"],
+        printed: "new 16672\n",
+        ..STEP
+    },
+    Step {
+        words: &["new", "s", "4104", "1", "4"],
+        status: Status::Exists,
+        ..STEP
+    },
+    Step {
+        words: &["run", "s"],
+        events: "begin null\nturn 1 9\n",
+        refusal: Some((Call::Sync, 0, 0, 1)),
+        status: Status::DiskFault,
+        printed: "open 0\nbegin 1 null\nturn 1 ran 0 page 0 lock 0\nclosed\n",
+        ..STEP
+    },
+    Step {
+        words: &["run", "s"],
+        events: "begin fill 31\nturn 1 999\nbegin null\nturn 2 9\n",
+        printed: "open 0\nbegin 1 fill\nturn 1 ran 126 page 2 lock 31\ncommit 1 number 1 steps 126 out -\nbegin 2 null\n\
+            turn 2 ran 1 page 0 lock 0\ncommit 2 number 2 steps 1 out -\nend 2\n",
+        ..STEP
+    },
+    Step {
+        words: &["show", "s", "1", "0", "20"],
+        printed: "00000000 0000001f000000000000000000000000\n00000010 00000000\n",
+        ..STEP
+    },
+    Step {
+        words: &["show", "s", "1", "124", "20"],
+        printed: "0000007c 000000000000001e0000000000000000\n0000008c 00000000\n",
+        ..STEP
+    },
+    Step {
+        words: &["show", "s", "1", "2046", "6"],
+        printed: "000007fe 00000000000f\n",
+        ..STEP
+    },
+    Step {
+        words: &["show", "s", "1", "0", "20"],
+        failing_put: Some(2),
+        status: Status::PutFault,
+        printed: "00000000 0000001f000000000000000000000000\n",
+        ..STEP
+    },
+    Step {
+        words: &["show", "s", "1", "2046", "6"],
+        refusal: Some((Call::Read, 10528, 12576, 0)),
+        status: Status::DiskFault,
+        ..STEP
+    },
+    Step {
+        words: &["show", "s", "1", "0", "4"],
+        refusal: Some((Call::Sync, 0, 0, 0)),
+        status: Status::DiskFault,
+        ..STEP
+    },
+    Step {
+        words: &["show", "s", "1", "8192", "0"],
+        ..STEP
+    },
+    Step {
+        words: &["show", "s", "1", "8191", "2"],
+        status: Status::NoRange,
+        ..STEP
+    },
+    Step {
+        words: &["show", "s", "2", "0", "1"],
+        status: Status::NoRange,
+        ..STEP
+    },
+    Step {
+        words: &["show", "s", "1", "0", "65537"],
+        status: Status::Usage,
+        ..STEP
+    },
+    Step {
+        words: &["show", "s", "1", "0", "4294967296"],
+        status: Status::Usage,
+        ..STEP
+    },
+    Step {
+        words: &["run", "s"],
+        events: "begin null\nturn 1 9\n",
+        refusal: Some((Call::Sync, 0, 0, 2)),
+        status: Status::DiskFault,
+        printed: "open 2\nbegin 1 null\nturn 1 ran 0 page 0 lock 0\ndoubt 1 number 3\nclosed\n",
+        ..STEP
+    },
+];
+
+#[test]
+fn a_store_is_made_run_on_and_shown(rt: HostRuntime) -> Result<(), Fail> {
+    let alloc = rt.alloc();
+    let mut held = Vec::new(alloc);
+    for step in &STEPS {
+        let job = format!(in alloc; "{FILL}{}end\n", step.events)?;
+        let mut source = MemorySource::new(
+            Vec::from_slice(alloc, job.as_bytes())?,
+            Vec::new(alloc),
+        );
+        let bytes = if step.kept {
+            held.clone()?
+        } else {
+            Vec::new(alloc)
+        };
+        let mut refusals = Vec::new(alloc);
+        if let Some((call, from, to, skip)) = step.refusal {
+            refusals.push(Refusal {
+                call,
+                from,
+                to,
+                skip,
+            })?;
+        }
+        let mut fails = Vec::new(alloc);
+        if let Some(put) = step.failing_put {
+            fails.push((put, 0))?;
+        }
+        let mut outside = Joint::new(
+            MemoryDisk::new(alloc, bytes, refusals),
+            MemoryScreen::new(alloc, fails),
+        );
+        let words = words_of(alloc, step.words)?;
+        let ended = console(alloc, &words, &mut source, &mut outside);
+        let (disk, screen) = outside.into_parts();
+        assert_eq!(rt; ended.status, step.status, "{}", job);
+        assert!(rt; screen.bytes() == step.printed.as_bytes(), "{}", job);
+        if step.kept {
+            held = disk.into_bytes();
+        }
+    }
+    assert_eq!(rt; held.len(), 16_672);
+    Ok(())
+}

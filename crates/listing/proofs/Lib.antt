@@ -1,2 +1,3 @@
 pub mod PutsLemmas
+pub mod RowLemmas
 mod Worked

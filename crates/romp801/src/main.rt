@@ -2,8 +2,10 @@
 #![tactic(auto)]
 
 use console::{Ended, Status, console, status_text, try_store};
-use outside::{Joint, MemoryDisk, StdScreen, StdSource};
+use outside::{Disk, FileDisk, Joint, MemoryDisk, StdScreen, StdSource};
+use std::fs::OpenOptions;
 use std::process::ExitCode;
+use std::rt::Files;
 use std::{env, io};
 
 fn main(rt: HostRuntime) -> ExitCode {
@@ -17,14 +19,55 @@ fn main(rt: HostRuntime) -> ExitCode {
     ExitCode::from(status.number())
 }
 
-/// The console on the real source and screen, and a disk in memory that holds the store of `try`.
+/// The console on the real source and screen, and the disk that the words name: a file, which `new` alone makes, or one
+/// in memory, which for `try` holds the store of `try`.
 fn run(rt: &HostRuntime) -> Result<Ended, Status> {
     let alloc = rt.alloc();
     let words = words_of(rt)?;
-    let disk = MemoryDisk::new(alloc, try_store(alloc)?, Vec::new(alloc));
-    let mut outside = Joint::new(disk, StdScreen::new(rt.clone()?));
+    match words.as_slice() {
+        [word, store, ..] if names_store(word.as_str()) => {
+            let path = String::from_str(alloc, store.as_str())?;
+            let _streams = [taken(rt)?, taken(rt)?, taken(rt)?];
+            call(
+                rt,
+                &words,
+                FileDisk::new(rt.clone()?, path, word.as_str() == "new"),
+            )
+        }
+        [word] if word.as_str() == "try" => {
+            call(
+                rt,
+                &words,
+                MemoryDisk::new(alloc, try_store(alloc)?, Vec::new(alloc)),
+            )
+        }
+        _ => call(
+            rt,
+            &words,
+            MemoryDisk::new(alloc, Vec::new(alloc), Vec::new(alloc)),
+        ),
+    }
+}
+
+/// A file that can be neither read nor written. Three of them take the places of the standard streams that are closed,
+/// so that a store's file gets none of these: a line that is put would be written into it.
+fn taken(rt: &HostRuntime) -> Result<<HostRuntime as Files>::File, Status> {
+    let mut how = OpenOptions::new();
+    how.read(true);
+    rt.open_file(&how, "/").map_err(|_| Status::DiskFault)
+}
+
+/// Whether a store stands behind this word.
+fn names_store(word: &str) -> bool {
+    matches!(word, "new" | "run" | "show")
+}
+
+/// The console on this disk.
+fn call<D: Disk + Drop>(rt: &HostRuntime, words: &[String], disk: D) -> Result<Ended, Status> {
+    let screen = StdScreen::new(rt.clone()?);
+    let mut outside = Joint::new(disk, screen);
     let mut job = StdSource::new(rt.stdin());
-    Ok(console(alloc, words.as_slice(), &mut job, &mut outside))
+    Ok(console(rt.alloc(), words, &mut job, &mut outside))
 }
 
 /// The words of the command line, without the program's name: no command line where one is not UTF-8.

@@ -1,13 +1,52 @@
+use Rattle.std.proofs.Common.{◌≡◌, List, [], subst, sym}
 use Rattle.desk.specs.Answers.{order_told}
+use Rattle.desk.specs.declared.answers.Committed.{Committed}
+use Rattle.store_format.specs.Header.{Header}
+use Rattle.console.specs.declared.show.Range.{Range}
+use Rattle.console.specs.declared.status.Status.{Status}
 use Rattle.console.specs.declared.words.Command.{Command}
+use Rattle.console.specs.New.{Made}
+use Rattle.console.specs.Show.{Shown}
+use Rattle.console.specs.Words.{IsForm}
 use Rattle.console.proofs.RunLemmas.{happens}
+use Rattle.console.proofs.WordLemmas.{one_header, one_range}
 use Rattle.console.proofs.commands.console.Goals as goal
 
 pub returns-in_default-clause-listed : goal.returns-in_default-clause-listed
 returns-in_default-clause-listed g c = λ lists. absurd (c.in_default.ensures Command.List lists)
 
-pub returns-in-Try-clause-happened : goal.returns-in-Try-clause-happened
-returns-in-Try-clause-happened g c = λ other.
+pub returns-in_default-clause-shown : goal.returns-in_default-clause-shown
+returns-in_default-clause-shown g c = λ range shows. absurd (c.in_default.ensures (Command.Show range) shows)
+
+pub returns-in_default-clause-made : goal.returns-in_default-clause-made
+returns-in_default-clause-made g c = λ header makes. absurd (c.in_default.ensures (Command.New header) makes)
+
+pub returns-in-Ok-clause-happened : goal.returns-in-Ok-clause-happened
+returns-in-Ok-clause-happened g c = λ runs.
     let (text, whole, means) = c.in-Ok.ensures.means in
     happens g.W.Outside (g.S.Source.left c.args.job.now) (g.S.Source.left c.read.new.source) c.args.outside.now c.try_job.new.outside text c.in-Ok.job
     (order_told c.try_job.result.order.items) c.try_job.result.status whole means c.try_job.ensures.happened
+
+pub returns-in-Show-clause-shown : goal.returns-in-Show-clause-shown
+returns-in-Show-clause-shown g c = λ range shows.
+    let G = g.W.Outside in
+    let before = c.args.outside.now in
+    let after = c.show.new.outside in
+    let asked : IsForm (Command.Show c.in-Show.range) c.args.words.now = subst (λ (form : Command). IsForm form c.args.words.now) c.in-Show.is c.in-Some.ensures in
+    let same : c.in-Show.range ≡ range = one_range c.args.words.now c.in-Show.range range asked shows in
+    let ended = c.without_events-in-Show.ensures in
+    subst (λ (status : Status). Shown G range before after (order_told c.without_events-in-Show.result.order.items) status) (sym ended.status)
+    (subst (λ (order : List Committed). Shown G range before after (order_told order) c.show.result) (sym ended.order)
+    (subst (λ (these : Range). Shown G these before after [] c.show.result) same c.show.ensures.shown))
+
+pub returns-in-New-clause-made : goal.returns-in-New-clause-made
+returns-in-New-clause-made g c = λ header makes.
+    let G = g.W.Outside in
+    let before = c.args.outside.now in
+    let after = c.make.new.outside in
+    let asked : IsForm (Command.New c.in-New.header) c.args.words.now = subst (λ (form : Command). IsForm form c.args.words.now) c.in-New.is c.in-Some.ensures in
+    let same : c.in-New.header ≡ header = one_header c.args.words.now c.in-New.header header asked makes in
+    let ended = c.without_events-in-New.ensures in
+    subst (λ (status : Status). Made G header before after (order_told c.without_events-in-New.result.order.items) status) (sym ended.status)
+    (subst (λ (order : List Committed). Made G header before after (order_told order) c.make.result) (sym ended.order)
+    (subst (λ (these : Header). Made G these before after [] c.make.result) same c.make.ensures.made))

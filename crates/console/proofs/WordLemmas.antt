@@ -1,0 +1,195 @@
+-- The words of a command line.
+use Rattle.std.proofs.Common.{◌≡◌, ◌≢◌, ℕ, zero, suc, ◌-◌, ◌*◌, ◌^◌, ◌<◌, ◌≤◌, Bool, false, List, [], ◌∷◌, length, get_or, map, take, drop, refl, sym, ◌∙◌, ap, subst, arith, Option, Some, None}
+use Rattle.std.specs.Prelude.{Result, Ok, Err, MatchResult, MatchOption, String, string_bytes, All, slice_index, ◌==◌}
+use Rattle.std.specs.declared.alloc.Global.{Global}
+use Rattle.std.specs.Str.Parse.{ParsesUnsigned, IsNumeral, digits_value, without_leading_plus}
+use Rattle.std.specs.Result.{OkIff}
+use Rattle.std.proofs.lemmas.Bool.{le-leb}
+use Rattle.std.proofs.lemmas.Bool.Decides.{nat_tests}
+use Rattle.std.proofs.lemmas.List.{take_all}
+use Rattle.asm_parse.specs.Number.{number_in}
+use Rattle.asm_parse.proofs.NumberLemmas.{as_number}
+use Rattle.line_geometry.specs.Legal.{IsInRange}
+use Rattle.store_format.specs.Header.{Header}
+use Rattle.console.specs.declared.show.Range.{Range}
+use Rattle.console.specs.declared.words.Command.{Command}
+use Rattle.console.specs.declared.words.Command.TheVariants as command
+use Rattle.console.specs.Words.{AreNumbers, AreWithin, IsAlone, IsForm, IsNoForm, NamesStore, number_of, numbers_of, spread, word_of}
+
+-- a word of at most ten bytes
+short : (word : List ℕ) → length word ≤ 10 → number_of word ≡ number_in 10 word
+short word few = rw (le-leb (length word) 10 few) refl
+
+same_none : (one two : ℕ) → one ≢ two → (one == two) ≡ false
+same_none one two other = grind (arith, nat_tests)
+
+-- what `parse` answers for a word without a sign
+pub parsed : {E : Type 0} (word : List ℕ) (result : Result ℕ E) → 0 < length word → length word ≤ 10 → slice_index word 0 ≢ 43 → ParsesUnsigned 32 10 word result
+    → MatchResult result (λ number. Some number ≡ number_of word) (λ fault. None ≡ number_of word)
+parsed {E} word result some few plain gives =
+    let whole : without_leading_plus word ≡ word = rw (same_none (slice_index word 0) 43 plain) refl in
+    answered result (subst (λ (digits : List ℕ). OkIff result (IsNumeral 10 digits × (digits_value 10 digits < 2 ^ 32)) (digits_value 10 digits)) whole gives)
+  where
+    answered : (result : Result ℕ E) → OkIff result (IsNumeral 10 word × (digits_value 10 word < 2 ^ 32)) (digits_value 10 word) → MatchResult result (λ number. Some number ≡ number_of word) (λ fault. None ≡ number_of word)
+    answered (Ok number) is = as_number 10 word (Some number) some ((is.0.0.1, is.0.1), is.1) ∙ sym (short word few)
+    answered (Err fault) is = as_number 10 word None some (λ told. is ((some, told.0), told.1)) ∙ sym (short word few)
+
+-- a word that is no number
+pub no_number : (words : List (String Global)) (i : ℕ) (word : String Global) → i < length words → word ≡ get_or words i word → None ≡ number_of (string_bytes word)
+    → (numbers : List ℕ) → AreNumbers (map string_bytes words) numbers → ⊥
+no_number [] i word here is none numbers are = omega arith
+no_number (first ∷ words) zero word here is none [] are = cc
+no_number (first ∷ words) zero word here is none (number ∷ numbers) are = cc
+no_number (first ∷ words) (suc i) word here is none [] are = cc
+no_number (first ∷ words) (suc i) word here is none (number ∷ numbers) are = no_number words i word (omega arith) is none numbers (cc)
+
+-- words are one list of numbers
+same_numbers : (one two : List ℕ) → map (λ number. Some number) one ≡ map (λ number. Some number) two → one ≡ two
+same_numbers [] [] same = refl
+same_numbers [] (second ∷ two) same = cc
+same_numbers (first ∷ one) [] same = cc
+same_numbers (first ∷ one) (second ∷ two) same =
+    let head : first ≡ second = cc in
+    let tail = same_numbers one two (cc) in
+    cc
+
+pub one_list : (words : List (List ℕ)) (one two : List ℕ) → AreNumbers words one → AreNumbers words two → one ≡ two
+one_list words one two first second = same_numbers one two (sym first ∙ second)
+
+-- numbers are those of one list of segments
+pub one_spread : (one two : List (ℕ × ℕ)) → spread one ≡ spread two → one ≡ two
+one_spread [] [] same = refl
+one_spread [] (second ∷ two) same = cc
+one_spread (first ∷ one) [] same = cc
+one_spread ((a, b) ∷ one) ((c, d) ∷ two) same =
+    let tail = one_spread one two (cc) in
+    cc
+
+pub length-spread : (segments : List (ℕ × ℕ)) → length (spread segments) ≡ 2 * length segments
+length-spread [] = refl
+length-spread (segment ∷ segments) = let rest = length-spread segments in omega (arith, rest)
+
+-- what follows the first two
+behind_two : {A : Type 0} (first second : A) (rest : List A) → take (length (first ∷ second ∷ rest) - 2) (drop 2 (first ∷ second ∷ rest)) ≡ rest
+behind_two first second rest = take_all (length (first ∷ second ∷ rest) - 2) rest (omega arith)
+
+-- numbers of segments begin with those of one
+pub first_in_range : (numbers : List ℕ) (more : List (ℕ × ℕ)) → 2 ≤ length numbers → numbers ≡ spread more → All IsInRange more → IsInRange (get_or numbers 0 0, get_or numbers 1 0)
+first_in_range numbers [] two is range = absurd (let none : length numbers ≡ 0 = ap length is in omega arith)
+first_in_range numbers ((a, b) ∷ more) two is range = rw is (range 0 (a, b) (omega arith))
+
+pub behind_first : (numbers : List ℕ) (segment : ℕ × ℕ) (more : List (ℕ × ℕ)) → numbers ≡ spread (segment ∷ more) → take (length numbers - 2) (drop 2 numbers) ≡ spread more
+behind_first numbers segment more is = rw is (behind_two segment.0 segment.1 (spread more))
+
+-- one word alone
+pub alone : (words : List (String Global)) (word : String Global) (bytes : List ℕ) (result : Option Command) → 1 ≤ length words → length words < 2 → word ≡ get_or words 0 word → bytes ≡ string_bytes word
+    → MatchOption result ((form : Command) → IsAlone form → bytes ≢ word_of form) (λ command. IsAlone command × (bytes ≡ word_of command))
+    → MatchOption result (IsNoForm words) (λ command. IsForm command words)
+alone [] word bytes result some one is same given = absurd (omega arith)
+alone (first ∷ second ∷ more) word bytes result some one is same given = absurd (omega arith)
+alone (first ∷ []) word bytes None some one is same given = no
+  where
+    no : (form : Command) → IsForm form (first ∷ []) → ⊥
+    no command.Try form = let says = form.says in given command.Try tt (cc)
+    no command.List form = let says = form.says in given command.List tt (cc)
+    no command.Run form = let are = form.says.are in cc
+    no (command.Show range) form = let are = form.says.are in cc
+    no (command.New header) form = let are = form.says.are in cc
+alone (first ∷ []) word bytes (Some command.Try) some one is same given = let said = given.1 in record { says = cc; within = tt }
+alone (first ∷ []) word bytes (Some command.List) some one is same given = let said = given.1 in record { says = cc; within = tt }
+alone (first ∷ []) word bytes (Some command.Run) some one is same given = absurd given.0
+alone (first ∷ []) word bytes (Some (command.Show range)) some one is same given = absurd given.0
+alone (first ∷ []) word bytes (Some (command.New header)) some one is same given = absurd given.0
+
+-- a word that isn't empty
+pub not_empty : (bytes : List ℕ) (empty : Bool) → empty ≡ (length bytes == 0) → empty ≡ false → bytes ≢ []
+not_empty [] empty is not none = cc
+not_empty (byte ∷ bytes) empty is not none = cc
+
+-- a word, a store and numbers
+pub with_store : (words : List (String Global)) (word store : String Global) (bytes : List ℕ) (numbers : List ℕ) (result : Option Command) → 2 ≤ length words
+    → word ≡ get_or words 0 word → store ≡ get_or words 1 store → bytes ≡ string_bytes word → string_bytes store ≢ []
+    → AreNumbers (map string_bytes (take (length words - 2) (drop 2 words))) numbers
+    → MatchOption result ((form : Command) → (IsAlone form → ⊥) → bytes ≡ word_of form → numbers ≡ numbers_of form → AreWithin form → ⊥)
+    (λ command. (IsAlone command → ⊥) × (bytes ≡ word_of command) × (numbers ≡ numbers_of command) × AreWithin command)
+    → MatchOption result (IsNoForm words) (λ command. IsForm command words)
+with_store [] word store bytes numbers result two is there same some are given = absurd (omega arith)
+with_store (first ∷ []) word store bytes numbers result two is there same some are given = absurd (omega arith)
+with_store (first ∷ second ∷ rest) word store bytes numbers result two is there same some are given = answered result given
+  where
+    these : AreNumbers (map string_bytes rest) numbers
+    these = subst (λ (behind : List (String Global)). AreNumbers (map string_bytes behind) numbers) (behind_two first second rest) are
+
+    named : (form : Command) → bytes ≡ word_of form → numbers ≡ numbers_of form → NamesStore form (map string_bytes (first ∷ second ∷ rest))
+    named form said said_numbers = record {
+      store = string_bytes store;
+      some = some;
+      numbers = map string_bytes rest;
+      are = cc;
+      say = subst (λ (those : List ℕ). AreNumbers (map string_bytes rest) those) said_numbers these;
+    }
+
+    unnamed : (form : Command) → ((form : Command) → (IsAlone form → ⊥) → bytes ≡ word_of form → numbers ≡ numbers_of form → AreWithin form → ⊥) → (IsAlone form → ⊥) → AreWithin form → NamesStore form (map string_bytes (first ∷ second ∷ rest)) → ⊥
+    unnamed form none apart within names =
+        let behind : names.numbers ≡ map string_bytes rest = let said = names.are in cc in
+        let said : bytes ≡ word_of form = let said = names.are in cc in
+        none form apart said (one_list (map string_bytes rest) numbers (numbers_of form) these (subst (λ (those : List (List ℕ)). AreNumbers those (numbers_of form)) behind names.say)) within
+
+    no : ((form : Command) → (IsAlone form → ⊥) → bytes ≡ word_of form → numbers ≡ numbers_of form → AreWithin form → ⊥) → (form : Command) → IsForm form (first ∷ second ∷ rest) → ⊥
+    no none command.Try form = let says = form.says in cc
+    no none command.List form = let says = form.says in cc
+    no none command.Run form = unnamed command.Run none (λ alone. alone) form.within form.says
+    no none (command.Show range) form = unnamed (command.Show range) none (λ alone. alone) form.within form.says
+    no none (command.New header) form = unnamed (command.New header) none (λ alone. alone) form.within form.says
+
+    answered : (result : Option Command)
+        → MatchOption result ((form : Command) → (IsAlone form → ⊥) → bytes ≡ word_of form → numbers ≡ numbers_of form → AreWithin form → ⊥)
+        (λ command. (IsAlone command → ⊥) × (bytes ≡ word_of command) × (numbers ≡ numbers_of command) × AreWithin command)
+        → MatchOption result (IsNoForm (first ∷ second ∷ rest)) (λ command. IsForm command (first ∷ second ∷ rest))
+    answered None given = no given
+    answered (Some command.Try) given = absurd (given.0 tt)
+    answered (Some command.List) given = absurd (given.0 tt)
+    answered (Some command.Run) given = record { says = named command.Run given.1 given.2; within = given.3 }
+    answered (Some (command.Show range)) given = record { says = named (command.Show range) given.1 given.2; within = given.3 }
+    answered (Some (command.New header)) given = record { says = named (command.New header) given.1 given.2; within = given.3 }
+
+-- behind a store there are words that aren't numbers, or too many
+pub without_numbers : (words : List (String Global)) → 2 ≤ length words → ((numbers : List ℕ) → length numbers ≤ 31 → AreNumbers (map string_bytes (take (length words - 2) (drop 2 words))) numbers → ⊥) → IsNoForm words
+without_numbers [] two none form is = omega arith
+without_numbers (first ∷ []) two none form is = omega arith
+without_numbers (first ∷ second ∷ rest) two none form is = no form is
+  where
+    unnamed : (form : Command) → length (numbers_of form) ≤ 31 → NamesStore form (map string_bytes (first ∷ second ∷ rest)) → ⊥
+    unnamed form few names =
+        let behind : names.numbers ≡ map string_bytes (take (length (first ∷ second ∷ rest) - 2) (drop 2 (first ∷ second ∷ rest))) = let said = names.are in let same = behind_two first second rest in cc in
+        none (numbers_of form) few (subst (λ (those : List (List ℕ)). AreNumbers those (numbers_of form)) behind names.say)
+
+    no : (form : Command) → IsForm form (first ∷ second ∷ rest) → ⊥
+    no command.Try form = let says = form.says in cc
+    no command.List form = let says = form.says in cc
+    no command.Run form = unnamed command.Run (omega arith) form.says
+    no (command.Show range) form = unnamed (command.Show range) (omega arith) form.says
+    no (command.New header) form = unnamed (command.New header) (let few = form.within.1.few in omega (arith, few, length-spread header.directory.segments)) form.says
+
+-- words that name a store have one list of numbers
+same_words : (one two : Command) (words : List (List ℕ)) → NamesStore one words → NamesStore two words → numbers_of one ≡ numbers_of two
+same_words one two words first second =
+    let behind : second.numbers ≡ first.numbers = let here = first.are in let there = second.are in cc in
+    one_list first.numbers (numbers_of one) (numbers_of two) first.say (subst (λ (those : List (List ℕ)). AreNumbers those (numbers_of two)) behind second.say)
+
+-- and so one range, or one header
+pub one_range : (words : List (String Global)) (one two : Range) → IsForm (command.Show one) words → IsForm (command.Show two) words → one ≡ two
+one_range words one two first second =
+    let same : one.segment ∷ one.from ∷ one.count ∷ [] ≡ two.segment ∷ two.from ∷ two.count ∷ [] = same_words (command.Show one) (command.Show two) (map string_bytes words) first.says second.says in
+    let segment : one.segment ≡ two.segment = cc in
+    let from : one.from ≡ two.from = cc in
+    let count : one.count ≡ two.count = cc in
+    λ i. record { segment = segment i; from = from i; count = count i }
+
+pub one_header : (words : List (String Global)) (one two : Header) → IsForm (command.New one) words → IsForm (command.New two) words → one ≡ two
+one_header words one two first second =
+    let same : one.bank_bytes ∷ spread one.directory.segments ≡ two.bank_bytes ∷ spread two.directory.segments = same_words (command.New one) (command.New two) (map string_bytes words) first.says second.says in
+    let bank : one.bank_bytes ≡ two.bank_bytes = cc in
+    let segments : one.directory.segments ≡ two.directory.segments = one_spread one.directory.segments two.directory.segments (cc) in
+    let page : one.directory.page ≡ two.directory.page = first.within.0.page ∙ sym second.within.0.page in
+    λ i. record { directory = record { page = page i; segments = segments i }; bank_bytes = bank i }
