@@ -1,0 +1,13 @@
+pub mod Orderly
+pub mod Entries
+pub mod Others
+pub mod Walks
+pub mod Waiting
+pub mod Holding
+pub mod Contest
+pub mod GoesOn
+pub mod Endings
+pub mod ResidentPages
+pub mod TurnsStay
+pub mod ResidentTurns
+pub mod ConsistentLaw
