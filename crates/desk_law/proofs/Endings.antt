@@ -19,15 +19,16 @@ use Rattle.desk.specs.Desk.{Desk, Entry, Authority, nobody, opened, rolled_back}
 use Rattle.desk.specs.Holdings.{wanted, request, conflicts_with, numbers, waits_for}
 use Rattle.desk.specs.Instruction.{Attempt}
 use Rattle.desk.specs.Run.{absent_segment}
+use Rattle.desk_law.specs.Changes.{committed_at, gone_on, left_by}
 use Rattle.desk_law.specs.Consistent.{IsAmong, Ascend, due_to, IsLive, AreApart, AreConsistent, IsCovered, IsOwned, IsHeld}
 use Rattle.desk_law.proofs.Orderly.{IsOrderly}
 use Rattle.desk_law.proofs.Entries.{among-filter, among-push, push-among, ascend-push, between, one-entry, among-replaced, replaced-among, new-among}
 use Rattle.desk_law.proofs.Walks.{except, no-cycle-fewer, no-cycle-leaves, first-step, one-step}
-use Rattle.desk_law.proofs.Others.{touched_of, left_by, another-stays, commit-leaves, rollback-leaves}
-use Rattle.desk_law.proofs.Waiting.{waits-by, waits-from, has-number, fewer-numbers, rollback-waits, commit-waits, committed_at}
+use Rattle.desk_law.proofs.Others.{touched_of, another-stays, commit-leaves, rollback-leaves}
+use Rattle.desk_law.proofs.Waiting.{waits-by, waits-from, has-number, fewer-numbers, rollback-waits, commit-waits}
 use Rattle.desk_law.proofs.Holding.{freed, held-others, other-covers}
 use Rattle.desk_law.proofs.Contest.{gone-consistent, filter-short}
-use Rattle.desk_law.proofs.GoesOn.{gone_on, IsGranted, others-replaced, due-more, nobody-conflicts}
+use Rattle.desk_law.proofs.GoesOn.{IsGranted, others-replaced, due-more, nobody-conflicts}
 
 -- a rollback after the pages were granted
 pub granted-rolled : (desk : Desk) (attempt : Attempt) → IsGranted attempt desk → IsOrderly (rolled_back desk attempt.entry)

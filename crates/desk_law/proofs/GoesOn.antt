@@ -15,6 +15,7 @@ use Rattle.flat_machine.specs.Agreement.{all_of}
 use Rattle.desk.specs.Desk.{Desk, Entry, nobody, with_entry}
 use Rattle.desk.specs.Holdings.{wanted, held, request, conflicts_with, conflicts_of, numbers, waits_for}
 use Rattle.desk.specs.Instruction.{Attempt, granted, with_grants}
+use Rattle.desk_law.specs.Changes.{gone_on}
 use Rattle.desk_law.specs.Consistent.{IsAmong, due_to, IsLive, AreApart, AreConsistent, IsCovered, IsHeld, HasNoCycle}
 use Rattle.desk_law.proofs.Orderly.{IsOrderly}
 use Rattle.desk_law.proofs.Entries.{replaced, among-replaced, new-among, ascend-replaced, numbers-replaced}
@@ -23,10 +24,6 @@ use Rattle.desk_law.proofs.Others.{touched_of, others}
 use Rattle.desk_law.proofs.Waiting.{marked-waits, gone-on}
 use Rattle.desk_law.proofs.Holding.{covered-more, held-replaced, held-granted}
 use Rattle.desk_law.proofs.Contest.{IsContending}
-
--- the entry once its row has gone on
-abbrev pub gone_on : Entry → Entry
-gone_on entry = record entry { rows = entry.rows + 1; waiting = false }
 
 -- no conflict keeps two apart
 pub apart-still : (mine new theirs : Lines) → AreApart (with_whole_pages mine) theirs → conflicts (with_whole_pages new) theirs ≡ false

@@ -8,6 +8,10 @@ pub mod Contest
 pub mod GoesOn
 pub mod Endings
 pub mod ResidentPages
+pub mod Instructions
 pub mod TurnsStay
 pub mod ResidentTurns
 pub mod ConsistentLaw
+pub mod CurrentLines
+pub mod SharedBytes
+pub mod Granted

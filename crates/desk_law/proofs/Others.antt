@@ -12,16 +12,13 @@ use Rattle.flat_machine.specs.Due.{touched_within, touched_next}
 use Rattle.flat_machine.specs.Agreement.{all_of, DoesTheSame}
 use Rattle.flat_machine.proofs.Agreement.{agreement-enough, after-whole, after-kept}
 use Rattle.desk.specs.Desk.{Entry}
+use Rattle.desk_law.specs.Changes.{left_by}
 use Rattle.desk_law.specs.Consistent.{IsAmong, due_to, IsLive, AreApart, AreConsistent}
 use Rattle.desk_law.proofs.Entries.{among-filter, ascend-filter}
 
 -- the lines that were touched
 abbrev pub touched_of : FlatStore → Entry → Lines
 touched_of store entry = touched_within entry.runs.program entry.runs.args store entry.rows
-
--- the store once an entry has committed at a state
-abbrev pub left_by : FlatStore → Plain → FlatStore
-left_by store now = record store { bytes = now.store }
 
 -- touched lines are held
 pub touched-held : (lines : Lines) (line : ℕ) → has (all_of lines) line ≡ true → has (all_of (with_whole_pages lines)) line ≡ true

@@ -10,10 +10,11 @@ use Rattle.flat_machine.specs.declared.machine.Plain.{Plain}
 use Rattle.flat_machine.specs.After.{after}
 use Rattle.desk.specs.Desk.{Desk, Entry, with_entry, ended, rolled_back}
 use Rattle.desk.specs.Holdings.{conflicts_with, waits_for}
+use Rattle.desk_law.specs.Changes.{committed_at, left_by}
 use Rattle.desk_law.specs.Consistent.{IsAmong, AreConsistent}
 use Rattle.desk_law.proofs.Entries.{among-filter, among-replaced}
 use Rattle.desk_law.proofs.Walks.{except, Leaves}
-use Rattle.desk_law.proofs.Others.{left_by, another-stays, StaysSame}
+use Rattle.desk_law.proofs.Others.{another-stays, StaysSame}
 
 -- an entry that passes a test settles it
 pub any-among : (test : Entry → Bool) (entries : List Entry) → list_any test entries ≡ true → (entry : Entry) × IsAmong entries entry × (test entry ≡ true)
@@ -102,10 +103,6 @@ rollback-waits desk gone from to waits =
       is_to = by.is_to;
       conflict = by.conflict;
     })
-
--- the desk after a commit at a state
-abbrev pub committed_at : Desk → Entry → Plain → Desk
-committed_at desk entry now = record (ended desk entry.number) { committed = left_by desk.committed now }
 
 -- and after a commit
 pub commit-waits : (desk : Desk) (entry : Entry) (now : Plain) (from to : ℕ) → IsWhole desk.committed

@@ -1,2 +1,4 @@
 pub mod Consistent
 pub mod Laws
+pub mod Changes
+pub mod Current
