@@ -199,48 +199,57 @@ grants-held desk attempt refused ready none = record {
         (ready.contending.held.covered page (record attempt.entry { waiting = ready.mark }) ready.here)))
         ready.contending.held
 
+-- the entries once a row has gone on while nobody conflicted
+pub gone-on-active :
+    (desk : Desk) (most : ℕ) (entry : Entry) (mark : Bool) (now next : Plain) → AreConsistent desk.committed most desk.next desk.active
+    → IsAmong desk.active (record entry { waiting = mark }) → after entry.runs.program entry.runs.args desk.committed entry.rows ≡ Some now
+    → row entry.runs.program desk.committed.directory now ≡ On next → conflicts_of desk entry ≡ []
+    → size ((touched_of desk.committed entry).writes ++ (wanted desk entry).writes) ≤ most
+    → AreConsistent desk.committed most desk.next (replaced (gone_on entry) desk.active)
+gone-on-active desk most entry mark now next are here at went none short =
+    replaced-consistent desk.committed most desk.next desk.active (gone_on entry) are live
+    (λ other among differ.
+    subst (λ (l : Lines). AreApart l (due_to desk.committed other)) (sym due)
+    (apart-still (touched_of desk.committed entry) (wanted desk entry) (due_to desk.committed other)
+    (apart-turned (due_to desk.committed other) (due_to desk.committed entry) (are.apart other (record entry { waiting = mark }) among here differ))
+    (free other among differ)))
+  where
+    due : due_to desk.committed (gone_on entry) ≡ with_whole_pages (both (touched_of desk.committed entry) (wanted desk entry))
+    due = due-more desk.committed entry
+
+    live : IsLive desk.committed most (gone_on entry)
+    live = record {
+      state = next;
+      is =
+          (let more : entry.rows + 1 ≡ suc entry.rows = omega arith in
+          ap (λ (rows : ℕ). after entry.runs.program entry.runs.args desk.committed rows) more
+          ∙ ap (λ (state : Option Plain). option_and_then (λ (s : Plain). next_state (row entry.runs.program desk.committed.directory s)) state) at
+          ∙ ap next_state went);
+      few = omega (arith, short, ap (λ (l : Lines). size l.writes) due);
+      present = (are.live (record entry { waiting = mark }) here).present;
+    }
+
+    free : (other : Entry) → IsAmong desk.active other → (other.number == entry.number) ≡ false → conflicts (request desk entry) (held desk other) ≡ false
+    free other among differ =
+        elim (and_cases (not (other.number == entry.number)) (conflicts (request desk entry) (held desk other))
+        (nobody-conflicts (conflicts_with desk entry) desk.active none other among)) [
+          | inl same ↦ absurd (both_ways (not (other.number == entry.number)) same (not_from_false (other.number == entry.number) differ))
+          | inr fine ↦ fine
+        ]
+
 -- the row goes on
 pub row-goes-on : (desk : Desk) (attempt : Attempt) (next : Plain) → IsGranted attempt desk → attempt.outcome ≡ On next
     → IsOrderly (with_entry desk (gone_on attempt.entry))
 row-goes-on desk attempt next is went = record {
   whole = is.whole;
   few = omega (arith, is.few, length-replaced (gone_on attempt.entry) desk.active);
-  active =
-      replaced-consistent desk.committed desk.most_lines desk.next desk.active (gone_on attempt.entry) is.active live
-      (λ other among differ.
-      subst (λ (l : Lines). AreApart l (due_to desk.committed other)) (sym due)
-      (apart-still (touched_of desk.committed attempt.entry) (wanted desk attempt.entry) (due_to desk.committed other)
-      (apart-turned (due_to desk.committed other) (due_to desk.committed attempt.entry) (is.active.apart other (record attempt.entry { waiting = is.mark }) among is.here differ))
-      (free other among differ)));
+  active = gone-on-active desk desk.most_lines attempt.entry is.mark attempt.now next is.active is.here is.now (is.went ∙ went) is.none is.short;
   held = is.held;
   no_cycle =
       subst (HasNoCycle (waits_for (with_entry desk (gone_on attempt.entry)))) (sym (numbers-replaced (gone_on attempt.entry) desk.active))
       (no-cycle-leaves attempt.entry.number (waits_for (with_entry desk (gone_on attempt.entry))) (waits_for desk) (numbers desk)
       (gone-on desk attempt.entry (gone_on attempt.entry) refl refl) is.no_cycle);
 }
-  where
-    due : due_to desk.committed (gone_on attempt.entry) ≡ with_whole_pages (both (touched_of desk.committed attempt.entry) (wanted desk attempt.entry))
-    due = due-more desk.committed attempt.entry
-
-    live : IsLive desk.committed desk.most_lines (gone_on attempt.entry)
-    live = record {
-      state = next;
-      is =
-          (let more : attempt.entry.rows + 1 ≡ suc attempt.entry.rows = omega arith in
-          ap (λ (rows : ℕ). after attempt.entry.runs.program attempt.entry.runs.args desk.committed rows) more
-          ∙ ap (λ (state : Option Plain). option_and_then (λ (s : Plain). next_state (row attempt.entry.runs.program desk.committed.directory s)) state) is.now
-          ∙ ap next_state (is.went ∙ went));
-      few = omega (arith, is.short, ap (λ (l : Lines). size l.writes) due);
-      present = (is.active.live (record attempt.entry { waiting = is.mark }) is.here).present;
-    }
-
-    free : (other : Entry) → IsAmong desk.active other → (other.number == attempt.entry.number) ≡ false → conflicts (request desk attempt.entry) (held desk other) ≡ false
-    free other among differ =
-        elim (and_cases (not (other.number == attempt.entry.number)) (conflicts (request desk attempt.entry) (held desk other))
-        (nobody-conflicts (conflicts_with desk attempt.entry) desk.active is.none other among)) [
-          | inl same ↦ absurd (both_ways (not (other.number == attempt.entry.number)) same (not_from_false (other.number == attempt.entry.number) differ))
-          | inr fine ↦ fine
-        ]
 
 -- those that are left are so whatever replaced one
 pub others-replaced : (gone new : Entry) (entries : List Entry) → new.number ≡ gone.number → others gone (replaced new entries) ≡ others gone entries

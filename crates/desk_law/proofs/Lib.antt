@@ -13,5 +13,7 @@ pub mod TurnsStay
 pub mod ResidentTurns
 pub mod ConsistentLaw
 pub mod CurrentLines
+pub mod CurrentBytes
 pub mod SharedBytes
+pub mod CurrentLaw
 pub mod Granted

@@ -51,13 +51,13 @@ current-seen store most_lines next entries entry state line whole are here is fr
 
 -- (a') where nobody conflicts, the next row's lines are seen as they are now
 pub current-wanted :
-    (desk : Desk) (entry : Entry) (state : Plain) (line : ℕ) → IsWhole desk.committed
-    → AreConsistent desk.committed desk.most_lines desk.next desk.active → IsAmong desk.active entry
+    (desk : Desk) (most : ℕ) (entry : Entry) (state : Plain) (line : ℕ) → IsWhole desk.committed
+    → AreConsistent desk.committed most desk.next desk.active → IsAmong desk.active entry
     → after entry.runs.program entry.runs.args desk.committed entry.rows ≡ Some state
     → conflicts_of desk entry ≡ [] → has (all_of (wanted desk entry)) line ≡ true
     → current desk line ≡ line_in desk.committed.directory state.store line
-current-wanted desk entry state line whole are here is none wants =
-    current-seen desk.committed desk.most_lines desk.next desk.active entry state line whole are here is (λ other there differ. free other there differ)
+current-wanted desk most entry state line whole are here is none wants =
+    current-seen desk.committed most desk.next desk.active entry state line whole are here is (λ other there differ. free other there differ)
   where
     free : (other : Entry) → IsAmong desk.active other → (other.number == entry.number) ≡ false → has (touched_of desk.committed other).writes line ≡ false
     free other there differ =
@@ -87,14 +87,14 @@ pub record RunsOn (store : FlatStore) (entries : List Entry) (entry : Entry) (no
 
 -- Where nobody conflicts, the row does to the bytes of all what it does to the entry's own.
 pub row-on-current :
-    (desk : Desk) (entry : Entry) (now next : Plain) (bytes : List ℕ) → IsWhole desk.committed
-    → AreConsistent desk.committed desk.most_lines desk.next desk.active
-    → AreConsistent desk.committed desk.most_lines desk.next (replaced (gone_on entry) desk.active) → IsAmong desk.active entry
+    (desk : Desk) (most : ℕ) (entry : Entry) (now next : Plain) (bytes : List ℕ) → IsWhole desk.committed
+    → AreConsistent desk.committed most desk.next desk.active
+    → AreConsistent desk.committed most desk.next (replaced (gone_on entry) desk.active) → IsAmong desk.active entry
     → after entry.runs.program entry.runs.args desk.committed entry.rows ≡ Some now
     → row entry.runs.program desk.committed.directory now ≡ On next
     → conflicts_of desk entry ≡ [] → IsCurrent desk.committed desk.active bytes
     → RunsOn desk.committed desk.active entry now next bytes
-row-on-current desk entry now next bytes whole are later here is went none current_now =
+row-on-current desk most entry now next bytes whole are later here is went none current_now =
     let (other, second, keeps) = stepped in
     record {
       other = other;
@@ -104,11 +104,11 @@ row-on-current desk entry now next bytes whole are later here is went none curre
         lines = λ line. elim (cases_Bool (has (wanted desk entry).writes line)) [
           | inl wrote ↦
               sym (keeps.equal_stay line (sees line (has_right (wanted desk entry).reads (wanted desk entry).writes line wrote)))
-              ∙ sym (row-writes desk.committed desk.most_lines desk.next desk.active entry next line later here after_next wrote)
+              ∙ sym (row-writes desk.committed most desk.next desk.active entry next line later here after_next wrote)
           | inr didn't ↦
               sym (keeps.kept_on_other line (sym (ap (λ (l : Lines). has l.writes line) lines) ∙ didn't))
               ∙ current_now.lines line
-              ∙ sym (row-leaves desk.committed desk.most_lines desk.next desk.active entry now next line whole are later here is went after_next didn't)
+              ∙ sym (row-leaves desk.committed most desk.next desk.active entry now next line whole are later here is went after_next didn't)
         ];
       };
     }
@@ -134,7 +134,7 @@ row-on-current desk entry now next bytes whole are later here is went none curre
     own = after-whole entry.runs.program entry.runs.args desk.committed entry.rows now whole is
 
     sees : (line : ℕ) → has (all_of (wanted desk entry)) line ≡ true → line_in desk.committed.directory now.store line ≡ line_in desk.committed.directory bytes line
-    sees line wants = sym (current_now.lines line ∙ current-wanted desk entry now line whole are here is none wants)
+    sees line wants = sym (current_now.lines line ∙ current-wanted desk most entry now line whole are here is none wants)
 
     stepped : (other : List ℕ) × (row entry.runs.program desk.committed.directory (on now bytes) ≡ On (on next other)) × Keeps desk.committed.directory (lines_of_plan entry.runs.program desk.committed.directory (plan_at now)).writes now.store bytes next.store other
     stepped =

@@ -2,3 +2,4 @@ pub mod Consistent
 pub mod Laws
 pub mod Changes
 pub mod Current
+pub mod CurrentLaws
