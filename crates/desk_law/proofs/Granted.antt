@@ -125,7 +125,7 @@ granted-permits attempt locks before later keeps reads writes below = record {
             let quiet = or_parts (reads_refused line) (writes_refused line) (not_refused line there wasn't) in
             let may : permitted (slice_index_or before (page_of_line line) nobody) attempt.entry.number line false ≡ true =
             not-false (permitted (slice_index_or before (page_of_line line) nobody) attempt.entry.number line false)
-                (none-there (λ l. not (permitted (slice_index_or before (page_of_line line) nobody) attempt.entry.number l false)) (within_page (page_of_line line) attempt.lines.reads) line quiet.0 (inside-page attempt.lines.reads line inside)) in
+            (none-there (λ l. not (permitted (slice_index_or before (page_of_line line) nobody) attempt.entry.number l false)) (within_page (page_of_line line) attempt.lines.reads) line quiet.0 (inside-page attempt.lines.reads line inside)) in
             ap (λ (a : Authority). permitted a attempt.entry.number line false)
             (granted-not attempt locks refused later (page_of_line line) wasn't
             ∙ keeps (page_of_line line) (owns ((slice_index_or before (page_of_line line) nobody).owner == attempt.entry.number) (slice_index_or before (page_of_line line) nobody).write (has (slice_index_or before (page_of_line line) nobody).lines line) false may))
@@ -141,7 +141,7 @@ granted-permits attempt locks before later keeps reads writes below = record {
             let quiet = or_parts (reads_refused line) (writes_refused line) (not_refused line there wasn't) in
             let may : permitted (slice_index_or before (page_of_line line) nobody) attempt.entry.number line true ≡ true =
             not-false (permitted (slice_index_or before (page_of_line line) nobody) attempt.entry.number line true)
-                (none-there (λ l. not (permitted (slice_index_or before (page_of_line line) nobody) attempt.entry.number l true)) (within_page (page_of_line line) attempt.lines.writes) line quiet.1 (inside-page attempt.lines.writes line inside)) in
+            (none-there (λ l. not (permitted (slice_index_or before (page_of_line line) nobody) attempt.entry.number l true)) (within_page (page_of_line line) attempt.lines.writes) line quiet.1 (inside-page attempt.lines.writes line inside)) in
             ap (λ (a : Authority). permitted a attempt.entry.number line true)
             (granted-not attempt locks refused later (page_of_line line) wasn't
             ∙ keeps (page_of_line line) (owns ((slice_index_or before (page_of_line line) nobody).owner == attempt.entry.number) (slice_index_or before (page_of_line line) nobody).write (has (slice_index_or before (page_of_line line) nobody).lines line) true may))

@@ -4,6 +4,8 @@ use Rattle.std.proofs.Common.{ap, sym, ◌∙◌, subst, inl, inr}
 use Rattle.std.proofs.lemmas.Bool.{eqb-true, eq-eqb, both_ways, not-true, ne_eqb, false_from_ne_true}
 use Rattle.line_geometry.specs.FlatStore.{FlatStore}
 use Rattle.lock_rules.specs.Waits.{shown_cycle, victim_of}
+use Rattle.flat_machine.specs.declared.machine.Plain.{Plain}
+use Rattle.flat_machine.specs.Row.{On}
 use Rattle.desk.specs.Desk.{Desk, Entry, with_entry, rolled_back}
 use Rattle.desk.specs.Holdings.{numbers, waits_for}
 use Rattle.desk.specs.Instruction.{Counts, Turning, Going, Over, Ending, Committed, Attempt, Contest, Contested, Settled, Lost, breaks_cycle, breaks_cycles}
@@ -29,6 +31,8 @@ IsAsBefore entry desk = (other : Entry) → IsAmong desk.active other → (other
 -- the row took effect: nobody conflicted at the moment before it, and only the entry went on
 pub record RowDone (old : Desk) (attempt : Attempt) (desk : Desk) : Type 0 where
   pub moment : Desk
+  pub next : Plain
+  pub went : attempt.outcome ≡ On next
   pub is : desk ≡ with_entry moment (gone_on attempt.entry)
   pub granted : IsGranted attempt moment
   pub from : From attempt.entry.number old moment

@@ -16,4 +16,6 @@ pub mod CurrentLines
 pub mod CurrentBytes
 pub mod SharedBytes
 pub mod CurrentLaw
+pub mod Machines
+pub mod IsolationLaw
 pub mod Granted

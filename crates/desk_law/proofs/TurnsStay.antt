@@ -70,8 +70,7 @@ module _ (word : Word) (attempt : Attempt) (most : ℕ) (old : Desk) where
       (record counts { ran = counts.ran + 1 })
       (Committed (attempt.entry.rows + 1) attempt.now.out))
   goes-done desk counts fits from is =
-      let done = granted-commits desk attempt is in
-      (
+      let done = granted-commits desk attempt is in (
         (record { whole = done.whole; few = done.few; active = done.active; held = done.held; no_cycle = done.no_cycle }, tt, omega (arith, fits)),
         record {
           committed = ap (λ (store : FlatStore). left_by store attempt.now) from.committed;
@@ -109,15 +108,14 @@ module _ (word : Word) (attempt : Attempt) (most : ℕ) (old : Desk) where
       (gone_on attempt.entry, new-among (gone_on attempt.entry) desk.active (record attempt.entry { waiting = is.mark }) is.here refl, refl),
       omega (arith, fits, length-replaced (gone_on attempt.entry) desk.active),
     ),
-    record { moment = desk; is = refl; granted = is; from = from },
+    record { moment = desk; next = next; went = went; is = refl; granted = is; from = from },
   )
   goes-effect desk counts Commit fits from went is = goes-commit word desk counts fits from went is
   goes-effect desk counts (Check code) fits from went is = ((granted-rolled desk attempt is, tt, omega (arith, fits)), rolled-done old attempt desk from)
 
   goes-broken : (desk : Desk) (counts : Counts) (counted : ℕ) → Room desk counts → From attempt.entry.number old desk → IsOrderly (rolled_back desk attempt.entry) → Goes old attempt most (breaks attempt desk counts counted)
   goes-broken desk counts counted fits from is =
-      let rolled = rolled-done old attempt desk from in
-      (
+      let rolled = rolled-done old attempt desk from in (
         (resident-consistent (rolled_back desk attempt.entry) [] is, tt, omega (arith, fits)),
         record { from = record { committed = from.committed; others = rolled.from.others }; own = rolled.own },
       )

@@ -3,3 +3,4 @@ pub mod Laws
 pub mod Changes
 pub mod Current
 pub mod CurrentLaws
+pub mod Isolation
