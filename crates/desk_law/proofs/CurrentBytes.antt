@@ -1,5 +1,5 @@
 -- All lines as they are now, end to end.
-use Rattle.std.specs.Prelude.{◌≡◌, refl, ℕ, zero, suc, ◌+◌, ◌-◌, ◌*◌, ◌/◌, ◌<◌, ◌≤◌, nat_lt, Bool, true, false, List, [], ◌∷◌, ◌++◌, length, take, drop, slice_range, slice_index, min, Option, Some, None}
+use Rattle.std.specs.Prelude.{◌≡◌, refl, ℕ, zero, suc, ◌+◌, ◌-◌, ◌*◌, ◌/◌, ◌<◌, ◌≤◌, List, [], ◌++◌, length, take, drop, slice_range, min, Option, Some, None}
 use Rattle.std.specs.List.{flat_map, range_with_len}
 use Rattle.std.specs.Option.{option_map_or}
 use Rattle.std.proofs.Common.{arith, ap, sym, ◌∙◌, inl, inr, length-append}
@@ -19,7 +19,7 @@ use Rattle.flat_machine.specs.Agreement.{line_in}
 use Rattle.flat_machine.proofs.Agreement.{after-whole}
 use Rattle.flat_machine.proofs.Ranges.{in_line}
 use Rattle.desk.specs.Desk.{Desk, Entry}
-use Rattle.desk_law.specs.Current.{bytes_of, writer, current_of, current, IsCurrent, current_bytes}
+use Rattle.desk_law.specs.Current.{bytes_of, writer, current, IsCurrent, current_bytes}
 
 -- a line of a list of bytes
 line-part : (lb line : ℕ) (xs : List ℕ) → slice_range xs (line * lb) (line * lb + lb) ≡ take lb (drop (line * lb) xs)

@@ -1,5 +1,5 @@
 -- The laws of the bytes as they are now.
-use Rattle.std.specs.Prelude.{◌≡◌, refl, ℕ, ◌+◌, ◌≤◌, ◌==◌, if◌then◌else◌, Bool, true, false, List, [], ◌++◌, Some, option_and_then, Option, suc}
+use Rattle.std.specs.Prelude.{◌≡◌, refl, ℕ, ◌+◌, if◌then◌else◌, Bool, true, false, List, [], ◌++◌, Some, option_and_then, Option, suc}
 use Rattle.std.proofs.Common.{arith, ap, sym, ◌∙◌}
 use Rattle.lock_rules.specs.Sets.{has, size}
 use Rattle.flat_machine.specs.declared.machine.Plain.{Plain}
@@ -11,7 +11,7 @@ use Rattle.desk.specs.Holdings.{wanted, held, conflicts_of}
 use Rattle.line_geometry.specs.FlatStore.{FlatStore, IsWhole}
 use Rattle.desk_law.specs.Changes.{gone_on}
 use Rattle.desk_law.specs.Consistent.{IsAmong, AreConsistent}
-use Rattle.desk_law.specs.Current.{current, current_bytes, IsCurrent}
+use Rattle.desk_law.specs.Current.{current, current_bytes}
 use Rattle.desk_law.specs.CurrentLaws.{OneListIsCurrent, HoldersSeeCurrent, RowsChangeTheirLines, RowsRunOnCurrent, CommitsChangeNoLine, RollbacksGiveBack, CommitsLeaveOthers}
 use Rattle.desk_law.proofs.Entries.{replaced}
 use Rattle.desk_law.proofs.Others.{touched_of, another-same}

@@ -12,12 +12,8 @@ use Rattle.flat_machine.specs.Agreement.{all_of}
 use Rattle.desk.specs.Desk.{Authority, nobody}
 use Rattle.desk.specs.Instruction.{Attempt, authority_by, granted, refuses, lines_within, touched_pages}
 use Rattle.desk_law.specs.Consistent.{permitted}
+use Rattle.desk_law.specs.Laws.{ArePermitted}
 use Rattle.desk_law.proofs.Contest.{KeepsPages}
-
--- every line is permitted
-pub record Permits (authority : List Authority) (number : ℕ) (lines : Lines) : Type 0 where
-  pub reads : (line : ℕ) → has lines.reads line ≡ true → permitted (slice_index_or authority (page_of_line line) nobody) number line false ≡ true
-  pub writes : (line : ℕ) → has lines.writes line ≡ true → permitted (slice_index_or authority (page_of_line line) nobody) number line true ≡ true
 
 set-same : (authority : List Authority) (page : ℕ) (new : Authority) → page < length authority → slice_index_or (slice_set authority page new) page nobody ≡ new
 set-same [] page new below = absurd (omega arith)
@@ -110,7 +106,7 @@ pub granted-permits :
     (attempt : Attempt) (locks : Lines) (before later : List Authority) → KeepsPages attempt.entry.number before later
     → ((line : ℕ) → has attempt.lines.reads line ≡ true → has locks.reads line ≡ true) → ((line : ℕ) → has attempt.lines.writes line ≡ true → has locks.writes line ≡ true)
     → ((line : ℕ) → has (all_of attempt.lines) line ≡ true → page_of_line line < length later)
-    → Permits
+    → ArePermitted
     (granted attempt locks
     (filter (λ page. refuses (slice_index_or before page nobody) attempt.entry.number (lines_within page attempt.lines)) (touched_pages attempt)) later)
     attempt.entry.number attempt.lines

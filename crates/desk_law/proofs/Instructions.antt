@@ -1,18 +1,17 @@
 -- What an instruction of an entry does to the entries and to what is committed.
 use Rattle.std.specs.Prelude.{◌≡◌, refl, ℕ, zero, suc, ◌+◌, ◌==◌, not, Bool, true, false, List, [], ◌∷◌, ◌++◌, find, Option, Some, None}
-use Rattle.std.proofs.Common.{ap, sym, ◌∙◌, subst, inl, inr}
-use Rattle.std.proofs.lemmas.Bool.{eqb-true, eq-eqb, both_ways, not-true, ne_eqb, false_from_ne_true}
-use Rattle.line_geometry.specs.FlatStore.{FlatStore}
+use Rattle.std.proofs.Common.{ap, sym, ◌∙◌, inl, inr}
+use Rattle.std.proofs.lemmas.Bool.{eqb-true, eq-eqb, both_ways, not-true}
 use Rattle.lock_rules.specs.Waits.{shown_cycle, victim_of}
 use Rattle.flat_machine.specs.declared.machine.Plain.{Plain}
 use Rattle.flat_machine.specs.Row.{On}
 use Rattle.desk.specs.Desk.{Desk, Entry, with_entry, rolled_back}
 use Rattle.desk.specs.Holdings.{numbers, waits_for}
-use Rattle.desk.specs.Instruction.{Counts, Turning, Going, Over, Ending, Committed, Attempt, Contest, Contested, Settled, Lost, breaks_cycle, breaks_cycles}
+use Rattle.desk.specs.Instruction.{Counts, Turning, Going, Over, Committed, Attempt, Contest, Contested, Settled, Lost, breaks_cycle, breaks_cycles}
 use Rattle.desk_law.specs.Changes.{gone_on, left_by}
 use Rattle.desk_law.specs.Consistent.{IsAmong, AreConsistent}
 use Rattle.desk_law.proofs.Entries.{among-filter, among-found, none-found, among-replaced, one-entry}
-use Rattle.desk_law.proofs.Contest.{without, left_over}
+use Rattle.desk_law.proofs.Contest.{left_over}
 use Rattle.desk_law.proofs.GoesOn.{IsGranted}
 
 -- what is committed is as it was, and the entries of other numbers were active before

@@ -1,23 +1,22 @@
 -- The law of isolation.
-use Rattle.std.specs.Prelude.{◌≡◌, refl, ℕ, ◌+◌, ◌<◌, ◌≤◌, ◌==◌, nat_lt, if◌then◌else◌, Bool, true, false, List, [], ◌∷◌, ◌++◌, length, find, Option, Some, None, option_map, slice_get}
+use Rattle.std.specs.Prelude.{◌≡◌, refl, ℕ, ◌+◌, ◌==◌, nat_lt, if◌then◌else◌, Bool, true, false, List, [], ◌∷◌, ◌++◌, length, find, Option, Some, None, option_map, slice_get}
 use Rattle.std.proofs.Common.{arith, ap, sym, ◌∙◌, subst, inl, inr}
 use Rattle.std.proofs.lemmas.Bool.{eqb-true, eq-eqb, ne_eqb, both_ways}
-use Rattle.line_geometry.specs.FlatStore.{FlatStore}
 use Rattle.flat_machine.specs.declared.machine.Plain.{Plain}
 use Rattle.flat_machine.specs.declared.machine.Program.{Program}
 use Rattle.flat_machine.specs.After.{start}
 use Rattle.desk.specs.declared.event.Event.{Event}
 use Rattle.desk.specs.declared.event.Event.TheVariants.{Begin, Turn, Checkpoint, Crash}
 use Rattle.desk.specs.Desk.{Desk, Entry, opened}
-use Rattle.desk.specs.Instruction.{Word, Fine, ReadFailed, Unwritten, Doubt, Failed, Counts, Turning, Going, Over, Ending, Idle, Limit, Checked, Journal, Disk, Victim, Waits, Committed, CommitUnwritten, CommitDoubted, turns, turn_of, no_counts}
-use Rattle.desk.specs.Run.{Step, Turned, Busy, Nothing, turned, begin_if, begins, absent_segment, event_of, step, run}
+use Rattle.desk.specs.Instruction.{Word, Fine, ReadFailed, Unwritten, Doubt, Failed, Counts, Turning, Going, Over, Idle, Limit, Checked, Journal, Disk, Victim, Waits, Committed, CommitUnwritten, CommitDoubted, turns, turn_of, no_counts}
+use Rattle.desk.specs.Run.{Turned, Busy, Nothing, turned, begin_if, begins, absent_segment, event_of, step, run}
 use Rattle.desk_law.specs.Consistent.{IsAmong, IsConsistent}
 use Rattle.desk_law.specs.Isolation.{after_turns, after_event, machine_of, IsAlone, RunsAreIsolated, CommitsAreIsolated}
 use Rattle.desk_law.proofs.Orderly.{orderly}
 use Rattle.desk_law.proofs.Entries.{among-found, none-found, among-push, between}
 use Rattle.desk_law.proofs.TurnsStay.{Stays}
 use Rattle.desk_law.proofs.Machines.{Follows, TurnFollows, desk_of, own-turns, other-turns}
-use Rattle.desk_law.proofs.ConsistentLaw.{stays-consistent, run-consistent, runs-consistent}
+use Rattle.desk_law.proofs.ConsistentLaw.{stays-consistent, runs-consistent}
 
 -- a number that is active is below the next one
 not-next : (desk : Desk) (number : ℕ) (entry : Entry) → IsConsistent desk → IsAmong desk.active entry → entry.number ≡ number → (desk.next == number) ≡ false

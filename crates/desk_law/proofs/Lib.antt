@@ -18,4 +18,7 @@ pub mod SharedBytes
 pub mod CurrentLaw
 pub mod Machines
 pub mod IsolationLaw
+pub mod Permitted
+pub mod CyclesBroken
+pub mod SomebodyGoesOn
 pub mod Granted

@@ -1,23 +1,22 @@
 -- A plain machine runs beside a desk: what each instruction and event does to it.
-use Rattle.std.specs.Prelude.{◌≡◌, refl, ℕ, zero, suc, ◌+◌, ◌-◌, ◌≤◌, ◌==◌, nat_lt, not, if◌then◌else◌, Bool, true, false, List, [], ◌∷◌, ◌++◌, length, find, Option, Some, None, option_map, option_and_then, slice_get}
+use Rattle.std.specs.Prelude.{◌≡◌, refl, ℕ, zero, suc, ◌+◌, ◌-◌, ◌==◌, if◌then◌else◌, Bool, true, false, List, [], ◌∷◌, find, Option, Some, None, option_and_then}
 use Rattle.std.specs.List.{flat_map, range_with_len}
 use Rattle.std.specs.Option.{option_map_or}
 use Rattle.std.proofs.Common.{arith, ap, sym, ◌∙◌, subst, inl, inr}
-use Rattle.std.proofs.lemmas.Bool.{eqb-true, eq-eqb, both_ways, false_from_ne_true}
+use Rattle.std.proofs.lemmas.Bool.{eqb-true, eq-eqb, both_ways}
 use Rattle.std.proofs.lemmas.Option.{same_Some}
 use Rattle.line_geometry.specs.FlatStore.{FlatStore}
 use Rattle.line_geometry.specs.Lines.{line_count}
 use Rattle.lock_rules.specs.Sets.{has}
 use Rattle.flat_machine.specs.declared.machine.Plain.{Plain}
-use Rattle.flat_machine.specs.Row.{Outcome, On, row}
+use Rattle.flat_machine.specs.Row.{row}
 use Rattle.flat_machine.specs.After.{after, next_state}
 use Rattle.flat_machine.specs.Agreement.{line_in}
 use Rattle.desk.specs.Desk.{Desk, Entry, with_entry}
-use Rattle.desk.specs.Instruction.{Word, Counts, Turning, Going, Over, Ending, Idle, Limit, Checked, Journal, Disk, Victim, Waits, Committed, CommitUnwritten, CommitDoubted, Attempt, instruction, turns}
-use Rattle.desk_law.specs.Changes.{gone_on, left_by}
+use Rattle.desk.specs.Instruction.{Word, Counts, Turning, Going, Over, Idle, Limit, Checked, Journal, Disk, Victim, Waits, Committed, CommitUnwritten, CommitDoubted, Attempt, instruction, turns}
+use Rattle.desk_law.specs.Changes.{gone_on}
 use Rattle.desk_law.specs.Consistent.{IsAmong, due_to}
 use Rattle.desk_law.specs.Current.{bytes_of, current_of, current, current_bytes}
-use Rattle.desk_law.specs.Laws.{IsActive}
 use Rattle.desk_law.specs.Isolation.{before_row, does_row, after_instruction, after_turns, IsAlone}
 use Rattle.desk_law.proofs.Orderly.{IsOrderly}
 use Rattle.desk_law.proofs.Entries.{replaced, among-found, none-found, among-replaced, new-among, one-entry}

@@ -8,7 +8,7 @@ use Rattle.lock_rules.specs.Sets.{has}
 use Rattle.lock_rules.specs.Lines.{conflicts, with_whole_pages}
 use Rattle.flat_machine.specs.declared.machine.Plain.{Plain}
 use Rattle.flat_machine.specs.After.{after}
-use Rattle.desk.specs.Desk.{Desk, Entry, with_entry, ended, rolled_back}
+use Rattle.desk.specs.Desk.{Desk, Entry, with_entry, rolled_back}
 use Rattle.desk.specs.Holdings.{conflicts_with, waits_for}
 use Rattle.desk_law.specs.Changes.{committed_at, left_by}
 use Rattle.desk_law.specs.Consistent.{IsAmong, AreConsistent}

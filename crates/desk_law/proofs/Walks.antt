@@ -193,7 +193,7 @@ count-le test wider (x ∷ xs) wide = by_test (test x) (wider x) refl refl (coun
     by_test false true e f rest = omega (arith, rest)
     by_test false false e f rest = rest
 
-count-lt : (test wider : ℕ → Bool) (xs : List ℕ) → ((x : ℕ) → test x ≡ true → wider x ≡ true)
+pub count-lt : (test wider : ℕ → Bool) (xs : List ℕ) → ((x : ℕ) → test x ≡ true → wider x ≡ true)
     → list_any (λ x. wider x && not (test x)) xs ≡ true → length (filter test xs) < length (filter wider xs)
 count-lt test wider [] wide some = absurd (cc)
 count-lt test wider (x ∷ xs) wide some = by_test (test x) (wider x) refl refl (count-le test wider xs wide) (count-lt test wider xs wide) some

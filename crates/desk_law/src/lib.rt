@@ -2,6 +2,16 @@
 //! half-done work. The crate has definitions (docs/MODEL.md), lemmas, and laws that call nothing.
 #![tactic(auto)]
 
-mod law;
+mod consistency;
+mod current;
+mod isolation;
 
-pub use law::{desks_stay_consistent, idle_where_inactive, runs_stay_consistent};
+pub use consistency::{
+    broken_cycles_were, desks_stay_consistent, idle_where_inactive, permitted_is_free,
+    runs_stay_consistent, somebody_can_go_on,
+};
+pub use current::{
+    commits_change_no_line, commits_leave_others, holders_see_current, one_list_is_current,
+    rollbacks_give_back, rows_change_their_lines, rows_run_on_current,
+};
+pub use isolation::{commits_are_isolated, runs_are_isolated};

@@ -1,5 +1,5 @@
 use Rattle.desk_law.proofs.ConsistentLaw.{runs-consistent}
-use Rattle.desk_law.proofs.law.runs_stay_consistent.Goals as goal
+use Rattle.desk_law.proofs.consistency.runs_stay_consistent.Goals as goal
 
 pub returns : goal.returns
 returns c = runs-consistent

@@ -1,5 +1,5 @@
 use Rattle.desk_law.proofs.ConsistentLaw.{stays-consistent}
-use Rattle.desk_law.proofs.law.desks_stay_consistent.Goals as goal
+use Rattle.desk_law.proofs.consistency.desks_stay_consistent.Goals as goal
 
 pub returns : goal.returns
 returns c = stays-consistent
