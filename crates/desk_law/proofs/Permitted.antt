@@ -11,8 +11,9 @@ use Rattle.lock_rules.proofs.Lines.{ArePart, has-whole_pages, has-pages_of}
 use Rattle.flat_machine.specs.Agreement.{all_of}
 use Rattle.desk.specs.Desk.{Desk, Entry}
 use Rattle.desk.specs.Holdings.{wanted, request, held, conflicts_with, conflicts_of}
-use Rattle.desk_law.specs.Consistent.{IsAmong, due_to, AreApart, IsConsistent}
+use Rattle.desk_law.specs.Consistent.{IsAmong, due_to, AreApart}
 use Rattle.desk_law.specs.Laws.{ArePermitted, PermittedIsFree}
+use Rattle.desk_law.proofs.Orderly.{IsOrderly, orderly}
 use Rattle.desk_law.proofs.Others.{touched_of}
 
 -- where none passes
@@ -22,7 +23,7 @@ any-none test xs none =
     (λ some. let (x, inside, passes) = any-some test xs some in both_ways (test x) (none x inside) passes)
 
 -- what is permitted is held: the request of a row whose lines are there is among the locks due already
-pub permitted-held : (desk : Desk) (entry : Entry) → IsConsistent desk → IsAmong desk.active entry → ArePermitted desk.authority entry.number (wanted desk entry)
+pub permitted-held : (desk : Desk) (entry : Entry) → IsOrderly desk → IsAmong desk.active entry → ArePermitted desk.authority entry.number (wanted desk entry)
     → ArePart (request desk entry) (due_to desk.committed entry)
 permitted-held desk entry is here are = record { reads = record { among = reads }; writes = record { among = writes } }
   where
@@ -62,7 +63,7 @@ nobody-else test (one ∷ entries) none = by_test (test one) (none one (inl refl
     by_test false e rest = rest
 
 -- a request that is held already conflicts with nobody
-pub held-free : (desk : Desk) (entry : Entry) → IsConsistent desk → IsAmong desk.active entry → ArePart (request desk entry) (due_to desk.committed entry)
+pub held-free : (desk : Desk) (entry : Entry) → IsOrderly desk → IsAmong desk.active entry → ArePart (request desk entry) (due_to desk.committed entry)
     → conflicts_of desk entry ≡ []
 held-free desk entry is here part =
     nobody-else (conflicts_with desk entry) desk.active
@@ -89,4 +90,4 @@ held-written desk entry part =
     (record { among = λ x inside. has_left (touched_of desk.committed entry).writes (wanted desk entry).writes x inside })
 
 pub permitted-is-free : PermittedIsFree
-permitted-is-free desk entry is here are = held-free desk entry is here (permitted-held desk entry is here are)
+permitted-is-free desk entry is here are = held-free desk entry (orderly desk is) here (permitted-held desk entry (orderly desk is) here are)

@@ -4,3 +4,4 @@ pub mod Changes
 pub mod Current
 pub mod CurrentLaws
 pub mod Isolation
+pub mod Beside
