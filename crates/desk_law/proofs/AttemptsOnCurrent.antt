@@ -1,9 +1,8 @@
 -- What an attempt over the bytes of all says of the entry's own row, and what follows where its lines were there.
-use Rattle.std.specs.Prelude.{nat_lt, ◌≡◌, refl, ℕ, suc, ◌+◌, false, List, length, Option, Some, None, option_and_then}
+use Rattle.std.specs.Prelude.{◌≡◌, refl, ℕ, ◌+◌, List, length, Option, Some}
 use Rattle.std.specs.Option.{option_map_or}
 use Rattle.std.proofs.Common.{arith, ap, sym, ◌∙◌, subst}
 use Rattle.line_geometry.specs.Directory.{Layout}
-use Rattle.lock_rules.specs.Sets.{size}
 use Rattle.lock_rules.specs.Lines.{no_lines}
 use Rattle.lock_rules.proofs.Lines.{ArePart}
 use Rattle.flat_machine.specs.declared.machine.Plain.{Plain}
@@ -12,7 +11,7 @@ use Rattle.flat_machine.specs.declared.machine.Plan.TheVariants.{Does, Fails}
 use Rattle.flat_machine.specs.declared.machine.Program.{Program}
 use Rattle.flat_machine.specs.Row.{Outcome, On, Commit, Check, plan_at, row}
 use Rattle.flat_machine.specs.Touched.{touched, touched_by}
-use Rattle.flat_machine.specs.After.{after, next_state}
+use Rattle.flat_machine.specs.After.{after}
 use Rattle.flat_machine.specs.Agreement.{SameWay}
 use Rattle.flat_machine.proofs.SameWay.{row-way}
 use Rattle.flat_machine.proofs.Steps.{lines_of_plan}
@@ -23,13 +22,14 @@ use Rattle.desk_law.specs.Beside.{AreThere, over_all}
 use Rattle.desk_law.specs.Changes.{gone_on}
 use Rattle.desk_law.specs.Consistent.{IsAmong, due_to}
 use Rattle.desk_law.specs.Current.{IsCurrent}
-use Rattle.desk_law.proofs.Entries.{replaced}
+use Rattle.desk_law.proofs.Entries.{replaced, found-among}
 use Rattle.desk_law.proofs.LinesThere.{there-held}
 use Rattle.desk_law.proofs.Orderly.{IsOrderly}
 use Rattle.desk_law.proofs.Permitted.{held-free}
-use Rattle.desk_law.proofs.RowsThere.{found-among, open-row}
+use Rattle.desk_law.proofs.RowsThere.{open-row}
 use Rattle.desk_law.proofs.SharedBytes.{RunsOn, row-on-current}
 use Rattle.desk_law.proofs.TurnsStay.{Stays, stays-instruction}
+use Rattle.desk_law.proofs.Others.{after-row}
 
 -- a row over the bytes of all that goes on is one of the entry's own, which touches the same lines
 pub record IsOwnRow (program : Program) (directory : Layout) (now : Plain) (bytes : List ℕ) : Type 0 where
@@ -95,16 +95,6 @@ ends-consistent word desk next counts more ending entry is here comes =
     (ap (λ (one : Option Entry). instruction word one desk counts) (found-among desk.next desk.active entry is.active.ascend here) ∙ comes)
     (stays-instruction word entry.number (length counts.cycles + length desk.active) desk counts is (entry, here, refl) (omega arith))).0
 
--- the state after the row
-pub after-next : (desk : Desk) (entry : Entry) (now next : Plain) → after entry.runs.program entry.runs.args desk.committed entry.rows ≡ Some now
-    → row entry.runs.program desk.committed.directory now ≡ On next
-    → after entry.runs.program entry.runs.args desk.committed (entry.rows + 1) ≡ Some next
-after-next desk entry now next at went =
-    let more : entry.rows + 1 ≡ suc entry.rows = omega arith in
-    ap (λ (rows : ℕ). after entry.runs.program entry.runs.args desk.committed rows) more
-    ∙ ap (λ (state : Option Plain). option_and_then (λ (s : Plain). next_state (row entry.runs.program desk.committed.directory s)) state) at
-    ∙ ap next_state went
-
 -- what an attempt that went leaves, with the state that the storage shows after it
 pub record HasGone (desk : Desk) (counts : Counts) (entry : Entry) (shown : Plain) : Type 0 where
   pub next : Plain
@@ -141,7 +131,7 @@ attempt-goes desk counts entry now shown bytes is here at current_now went there
       next = own.next;
       shows = left.0;
       is_instruction = λ word. goes word counts;
-      at = after-next desk entry now own.next at own.went;
+      at = after-row desk.committed entry now own.next at own.went;
       held = held;
       consistent = later;
       is_current = left.1;

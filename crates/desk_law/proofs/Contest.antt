@@ -11,7 +11,7 @@ use Rattle.desk.specs.Holdings.{numbers, waits_for}
 use Rattle.desk.specs.Instruction.{Counts, Contest, Contested, Settled, Lost, breaks_cycle, breaks_cycles}
 use Rattle.desk_law.specs.Consistent.{IsAmong, AreConsistent, IsHeld, HasNoCycle}
 use Rattle.desk_law.proofs.Orderly.{IsOrderly}
-use Rattle.desk_law.proofs.Entries.{among-filter, filter-among, among-found, none-found}
+use Rattle.desk_law.proofs.Entries.{among-filter, filter-among, among-found, none-found, filter-short}
 use Rattle.desk_law.proofs.Walks.{except, no-cycle-fewer, no-cycle-from, no-cycle-leaves, walk-short}
 use Rattle.desk_law.proofs.Others.{rollback-leaves}
 use Rattle.desk_law.proofs.Waiting.{number-of, has-number, fewer-numbers, rollback-waits, waits-by}
@@ -45,14 +45,6 @@ settled one desk is not_back = record {
   held = is.held;
   no_cycle = no-cycle-from (waits_for desk) (numbers desk) one is.no_cycle not_back;
 }
-
-pub filter-short : (test : Entry → Bool) (entries : List Entry) → length (filter test entries) ≤ length entries
-filter-short test [] = omega arith
-filter-short test (one ∷ entries) = by_test (test one) (filter-short test entries)
-  where
-    by_test : (keeps : Bool) → length (filter test entries) ≤ length entries → length (if keeps then one ∷ filter test entries else filter test entries) ≤ suc (length entries)
-    by_test true rest = omega (arith, rest)
-    by_test false rest = omega (arith, rest)
 
 pub filter-shorter : (test : Entry → Bool) (entries : List Entry) (entry : Entry) → IsAmong entries entry → test entry ≡ false → length (filter test entries) < length entries
 filter-shorter test [] entry among out = absurd among

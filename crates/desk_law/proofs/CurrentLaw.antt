@@ -1,10 +1,10 @@
 -- The laws of the bytes as they are now.
-use Rattle.std.specs.Prelude.{◌≡◌, refl, ℕ, ◌+◌, if◌then◌else◌, Bool, true, false, List, [], ◌++◌, Some, option_and_then, Option, suc}
+use Rattle.std.specs.Prelude.{◌≡◌, refl, ℕ, ◌+◌, if◌then◌else◌, Bool, true, false, List, [], ◌++◌, Some}
 use Rattle.std.proofs.Common.{arith, ap, sym, ◌∙◌}
 use Rattle.lock_rules.specs.Sets.{has, size}
 use Rattle.flat_machine.specs.declared.machine.Plain.{Plain}
 use Rattle.flat_machine.specs.Row.{On, row}
-use Rattle.flat_machine.specs.After.{after, next_state}
+use Rattle.flat_machine.specs.After.{after}
 use Rattle.flat_machine.specs.Agreement.{line_in}
 use Rattle.desk.specs.Desk.{Desk, Entry, with_entry, rolled_back}
 use Rattle.desk.specs.Holdings.{wanted, held, conflicts_of}
@@ -14,7 +14,7 @@ use Rattle.desk_law.specs.Consistent.{IsAmong, AreConsistent}
 use Rattle.desk_law.specs.Current.{current, current_bytes}
 use Rattle.desk_law.specs.CurrentLaws.{OneListIsCurrent, HoldersSeeCurrent, RowsChangeTheirLines, RowsRunOnCurrent, CommitsChangeNoLine, RollbacksGiveBack, CommitsLeaveOthers}
 use Rattle.desk_law.proofs.Entries.{replaced}
-use Rattle.desk_law.proofs.Others.{touched_of, another-same}
+use Rattle.desk_law.proofs.Others.{touched_of, another-same, after-row}
 use Rattle.desk_law.proofs.GoesOn.{gone-on-active}
 use Rattle.desk_law.proofs.CurrentLines.{current-held, row-writes, row-leaves, commit-current, rollback-written, rollback-others}
 use Rattle.desk_law.proofs.CurrentBytes.{bytes-current, one-current}
@@ -29,15 +29,6 @@ more-lines store most more next entries are = record {
       record { state = live.state; is = live.is; few = omega (arith, live.few); present = live.present };
   apart = are.apart;
 }
-
--- the state after a row more
-pub after-row : (store : FlatStore) (entry : Entry) (now next : Plain) → after entry.runs.program entry.runs.args store entry.rows ≡ Some now
-    → row entry.runs.program store.directory now ≡ On next → after entry.runs.program entry.runs.args store (entry.rows + 1) ≡ Some next
-after-row store entry now next at went =
-    let more : entry.rows + 1 ≡ suc entry.rows = omega arith in
-    ap (λ (rows : ℕ). after entry.runs.program entry.runs.args store rows) more
-    ∙ ap (λ (state : Option Plain). option_and_then (λ (s : Plain). next_state (row entry.runs.program store.directory s)) state) at
-    ∙ ap next_state went
 
 -- a row of an entry, whose mark may be another one than it has
 module _ (desk : Desk) (most : ℕ) (entry : Entry) (mark : Bool) (now next : Plain) (whole : IsWhole desk.committed)

@@ -1,5 +1,5 @@
 -- A commit, a begin and a crash leave the desk consistent.
-use Rattle.std.specs.Prelude.{◌≡◌, refl, ℕ, zero, suc, ◌+◌, ◌<◌, ◌==◌, not, Bool, true, false, List, [], ◌∷◌, ◌++◌, length, map, replicate, slice_index_or, Option, None}
+use Rattle.std.specs.Prelude.{Some, ◌≡◌, refl, ℕ, zero, suc, ◌+◌, ◌<◌, ◌==◌, not, Bool, true, false, List, [], ◌∷◌, ◌++◌, length, map, replicate, slice_index_or, Option, None}
 use Rattle.std.specs.Option.{option_map_or}
 use Rattle.std.proofs.Common.{arith, ap, sym, ◌∙◌, subst, inl, inr}
 use Rattle.std.proofs.lemmas.Bool.{eqb-true, ne_eqb, both_ways, and_parts, and_from, or_from, and_right, not-true, false_from_ne_true}
@@ -11,8 +11,8 @@ use Rattle.std.proofs.lemmas.List.{append-nil}
 use Rattle.lock_rules.specs.Waits.{leads}
 use Rattle.flat_machine.specs.Serial.{Activation}
 use Rattle.flat_machine.specs.declared.machine.Plain.{Plain}
-use Rattle.flat_machine.specs.After.{start}
-use Rattle.flat_machine.specs.Row.{Outcome, Commit, plan_at}
+use Rattle.flat_machine.specs.After.{start, after}
+use Rattle.flat_machine.specs.Row.{Outcome, Commit, plan_at, row}
 use Rattle.flat_machine.specs.Touched.{touched, touched_by}
 use Rattle.flat_machine.proofs.Agreement.{after-whole}
 use Rattle.desk.specs.Desk.{Desk, Entry, Authority, nobody, opened, rolled_back}
@@ -22,12 +22,12 @@ use Rattle.desk.specs.Run.{absent_segment}
 use Rattle.desk_law.specs.Changes.{committed_at, gone_on, left_by}
 use Rattle.desk_law.specs.Consistent.{IsAmong, Ascend, due_to, IsLive, AreApart, AreConsistent, IsCovered, IsOwned, IsHeld}
 use Rattle.desk_law.proofs.Orderly.{IsOrderly}
-use Rattle.desk_law.proofs.Entries.{among-filter, among-push, push-among, ascend-push, between, one-entry, among-replaced, replaced-among, new-among}
+use Rattle.desk_law.proofs.Entries.{among-filter, among-push, push-among, ascend-push, between, one-entry, among-replaced, replaced-among, new-among, filter-short}
 use Rattle.desk_law.proofs.Walks.{except, no-cycle-fewer, no-cycle-leaves, first-step, one-step}
 use Rattle.desk_law.proofs.Others.{touched_of, another-stays, commit-leaves, rollback-leaves}
 use Rattle.desk_law.proofs.Waiting.{waits-by, waits-from, has-number, fewer-numbers, rollback-waits, commit-waits}
 use Rattle.desk_law.proofs.Holding.{freed, held-others, other-covers}
-use Rattle.desk_law.proofs.Contest.{gone-consistent, filter-short}
+use Rattle.desk_law.proofs.Contest.{gone-consistent}
 use Rattle.desk_law.proofs.GoesOn.{IsGranted, others-replaced, due-more, nobody-conflicts}
 
 -- a rollback after the pages were granted
@@ -80,11 +80,12 @@ granted-commits desk attempt is =
     })
     (λ other among. not-true (other.number == attempt.entry.number) (among-filter (λ (other : Entry). not (other.number == attempt.entry.number)) desk.active other among).1)
 
--- the commit call touches no line
-pub commit-touches : (desk : Desk) (attempt : Attempt) → IsGranted attempt desk → attempt.outcome ≡ Commit → wanted desk attempt.entry ≡ no_lines
-commit-touches desk attempt is went =
-    ap (λ (state : Option Plain). option_map_or (touched attempt.entry.runs.program desk.committed.directory) state no_lines) is.now
-    ∙ ap (λ (outcome : Outcome). touched_by attempt.entry.runs.program desk.committed.directory outcome (plan_at attempt.now)) (is.went ∙ went)
+-- the commit call touches nothing
+pub wanted-commit : (desk : Desk) (entry : Entry) (now : Plain) → after entry.runs.program entry.runs.args desk.committed entry.rows ≡ Some now
+    → row entry.runs.program desk.committed.directory now ≡ Commit → wanted desk entry ≡ no_lines
+wanted-commit desk entry now at is =
+    ap (λ (state : Option Plain). option_map_or (touched entry.runs.program desk.committed.directory) state no_lines) at
+    ∙ ap (λ (outcome : Outcome). touched_by entry.runs.program desk.committed.directory outcome (plan_at now)) is
 
 -- a commit that isn't done leaves entries and authority
 pub granted-closes : (desk : Desk) (attempt : Attempt) → IsGranted attempt desk → attempt.outcome ≡ Commit → IsOrderly desk
@@ -105,7 +106,7 @@ granted-closes desk attempt is went = record {
     due : due_to desk.committed (gone_on attempt.entry) ≡ due_to desk.committed attempt.entry
     due =
         due-more desk.committed attempt.entry
-        ∙ ap (λ (lines : Lines). with_whole_pages (both (touched_of desk.committed attempt.entry) lines)) (commit-touches desk attempt is went)
+        ∙ ap (λ (lines : Lines). with_whole_pages (both (touched_of desk.committed attempt.entry) lines)) (wanted-commit desk attempt.entry attempt.now is.now (is.went ∙ went))
         ∙ (λ i. with_whole_pages (record {
           reads = append-nil (touched_of desk.committed attempt.entry).reads i;
           writes = append-nil (touched_of desk.committed attempt.entry).writes i;

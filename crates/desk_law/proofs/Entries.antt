@@ -1,9 +1,18 @@
 -- Entries among entries, and their numbers.
-use Rattle.std.specs.Prelude.{◌≡◌, refl, ℕ, ◌+◌, ◌<◌, ◌≤◌, ◌==◌, ◌⊎◌, if◌then◌else◌, Bool, true, false, List, [], ◌∷◌, ◌++◌, map, filter, find, Some, None}
+use Rattle.std.specs.Prelude.{Option, suc, length, ◌≡◌, refl, ℕ, ◌+◌, ◌<◌, ◌≤◌, ◌==◌, ◌⊎◌, if◌then◌else◌, Bool, true, false, List, [], ◌∷◌, ◌++◌, map, filter, find, Some, None}
 use Rattle.std.proofs.Common.{arith, ap, sym, ◌∙◌, subst, inl, inr}
 use Rattle.std.proofs.lemmas.Bool.{eqb-true, eq-eqb, both_ways}
 use Rattle.desk.specs.Desk.{Entry}
 use Rattle.desk_law.specs.Consistent.{IsAmong, Ascend}
+
+-- a filter keeps no more than there are
+pub filter-short : {A : Type 0} (test : A → Bool) (xs : List A) → length (filter test xs) ≤ length xs
+filter-short test [] = omega arith
+filter-short test (one ∷ xs) = by_test (test one) (filter-short test xs)
+  where
+    by_test : (keeps : Bool) → length (filter test xs) ≤ length xs → length (if keeps then one ∷ filter test xs else filter test xs) ≤ suc (length xs)
+    by_test true rest = omega (arith, rest)
+    by_test false rest = omega (arith, rest)
 
 -- one found passes the test, and is among them
 pub among-found : (test : Entry → Bool) (entries : List Entry) (entry : Entry) → find test entries ≡ Some entry → IsAmong entries entry × (test entry ≡ true)
@@ -169,3 +178,14 @@ one-entry above below (one ∷ entries) entry other up (inr first) (inl that) sa
     let (low, high) = between one.number below entries entry up.1 first in
     absurd (omega (arith, low, same, ap (λ (x : Entry). x.number) that))
 one-entry above below (one ∷ entries) entry other up (inr first) (inr second) same = one-entry one.number below entries entry other up.1 first second same
+
+-- an active entry is found by its number
+pub found-among : (below : ℕ) (entries : List Entry) (entry : Entry) → Ascend 0 entries below → IsAmong entries entry
+    → find (λ (other : Entry). other.number == entry.number) entries ≡ Some entry
+found-among below entries entry up here = by_found (find (λ (other : Entry). other.number == entry.number) entries) refl
+  where
+    by_found : (found : Option Entry) → find (λ (other : Entry). other.number == entry.number) entries ≡ found → found ≡ Some entry
+    by_found None none = absurd (both_ways (entry.number == entry.number) (none-found (λ (other : Entry). other.number == entry.number) entries none entry here) (eq-eqb entry.number entry.number refl))
+    by_found (Some other) found =
+        let (there, passes) = among-found (λ (other : Entry). other.number == entry.number) entries other found in
+        ap Some (one-entry 0 below entries other entry up there here (eqb-true other.number entry.number passes))

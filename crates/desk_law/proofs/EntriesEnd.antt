@@ -1,5 +1,5 @@
 -- The ends of an entry, from what an attempt over the bytes of all tells: its commit call, its program check, and any rollback.
-use Rattle.std.specs.Prelude.{nat_lt, ◌≡◌, ℕ, ◌+◌, false, List, Some, None}
+use Rattle.std.specs.Prelude.{◌≡◌, ℕ, ◌+◌, List, Some}
 use Rattle.lock_rules.specs.Sets.{size}
 use Rattle.lock_rules.specs.Lines.{Lines}
 use Rattle.flat_machine.specs.declared.machine.Plain.{Plain}

@@ -1,5 +1,5 @@
 -- A row that goes on leaves the desk consistent.
-use Rattle.std.specs.Prelude.{◌≡◌, refl, ℕ, suc, ◌+◌, ◌≤◌, ◌==◌, not, if◌then◌else◌, Bool, true, false, List, [], ◌∷◌, ◌++◌, length, filter, map, Option, Some, option_and_then, slice_index_or}
+use Rattle.std.specs.Prelude.{◌≡◌, refl, ℕ, suc, ◌+◌, ◌≤◌, ◌==◌, not, if◌then◌else◌, Bool, true, false, List, [], ◌∷◌, ◌++◌, length, filter, map, Some, slice_index_or}
 use Rattle.std.proofs.Common.{arith, ap, sym, ◌∙◌, subst, inl, inr}
 use Rattle.std.proofs.lemmas.Bool.{eqb-true, eq-eqb, both_ways, or_cases, or_left, or_right, or_parts, and_cases, not_from_false, false_from_ne_true}
 use Rattle.line_geometry.specs.FlatStore.{FlatStore, IsWhole}
@@ -9,7 +9,7 @@ use Rattle.lock_rules.proofs.Sets.{has-append, has_left, has_right, any-at, any-
 use Rattle.lock_rules.proofs.Lines.{part-both, part-whole_pages, has-whole_pages, has-pages_of, meets-at}
 use Rattle.flat_machine.specs.declared.machine.Plain.{Plain}
 use Rattle.flat_machine.specs.Row.{On, row}
-use Rattle.flat_machine.specs.After.{after, next_state}
+use Rattle.flat_machine.specs.After.{after}
 use Rattle.flat_machine.specs.Due.{touched_next, touched_within}
 use Rattle.flat_machine.specs.Agreement.{all_of}
 use Rattle.desk.specs.Desk.{Desk, Entry, nobody, with_entry}
@@ -20,7 +20,7 @@ use Rattle.desk_law.specs.Consistent.{IsAmong, due_to, IsLive, AreApart, AreCons
 use Rattle.desk_law.proofs.Orderly.{IsOrderly}
 use Rattle.desk_law.proofs.Entries.{replaced, among-replaced, new-among, ascend-replaced, numbers-replaced}
 use Rattle.desk_law.proofs.Walks.{except, no-cycle-fewer, no-cycle-leaves}
-use Rattle.desk_law.proofs.Others.{touched_of, others}
+use Rattle.desk_law.proofs.Others.{touched_of, others, after-row}
 use Rattle.desk_law.proofs.Waiting.{marked-waits, gone-on}
 use Rattle.desk_law.proofs.Holding.{covered-more, held-replaced, held-granted}
 use Rattle.desk_law.proofs.Contest.{IsContending}
@@ -154,6 +154,21 @@ pub record IsReady (attempt : Attempt) (desk : Desk) : Type 0 where
   pub lines : attempt.lines ≡ wanted desk attempt.entry
   pub short : size ((touched_of desk.committed attempt.entry).writes ++ (wanted desk attempt.entry).writes) ≤ desk.most_lines
 
+-- It may go on at another desk too, which has the same store and limit.
+pub ready-again : (attempt : Attempt) (old desk : Desk) (mark : Bool) → IsReady attempt old → IsContending attempt.entry.number desk → IsAmong desk.active (record attempt.entry { waiting = mark })
+    → desk.committed ≡ old.committed → desk.most_lines ≡ old.most_lines → IsReady attempt desk
+ready-again attempt old desk mark ready contends here store limit = record {
+  contending = contends;
+  mark = mark;
+  here = here;
+  now = ap (λ (store : FlatStore). after attempt.entry.runs.program attempt.entry.runs.args store attempt.entry.rows) store ∙ ready.now;
+  went = ap (λ (store : FlatStore). row attempt.entry.runs.program store.directory attempt.now) store ∙ ready.went;
+  lines = ready.lines ∙ sym (ap (λ (store : FlatStore). touched_next attempt.entry.runs.program attempt.entry.runs.args store attempt.entry.rows) store);
+  short =
+      subst (λ (most : ℕ). size ((touched_of desk.committed attempt.entry).writes ++ (wanted desk attempt.entry).writes) ≤ most) (sym limit)
+      (subst (λ (store : FlatStore). size ((touched_of store attempt.entry).writes ++ (touched_next attempt.entry.runs.program attempt.entry.runs.args store attempt.entry.rows).writes) ≤ old.most_lines) (sym store) ready.short);
+}
+
 -- the same where nobody conflicts and the pages are granted: what is permitted is held once the row has gone on
 pub record IsGranted (attempt : Attempt) (desk : Desk) : Type 0 where
   pub whole : IsWhole desk.committed
@@ -220,11 +235,7 @@ gone-on-active desk most entry mark now next are here at went none short =
     live : IsLive desk.committed most (gone_on entry)
     live = record {
       state = next;
-      is =
-          (let more : entry.rows + 1 ≡ suc entry.rows = omega arith in
-          ap (λ (rows : ℕ). after entry.runs.program entry.runs.args desk.committed rows) more
-          ∙ ap (λ (state : Option Plain). option_and_then (λ (s : Plain). next_state (row entry.runs.program desk.committed.directory s)) state) at
-          ∙ ap next_state went);
+      is = after-row desk.committed entry now next at went;
       few = omega (arith, short, ap (λ (l : Lines). size l.writes) due);
       present = (are.live (record entry { waiting = mark }) here).present;
     }

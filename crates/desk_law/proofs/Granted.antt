@@ -1,7 +1,8 @@
 -- Once the refused pages are granted, every line of the row is permitted.
-use Rattle.std.specs.Prelude.{◌≡◌, refl, ℕ, zero, suc, ◌<◌, ◌==◌, not, Bool, true, false, List, [], ◌∷◌, length, filter, slice_index_or, slice_set}
+use Rattle.std.specs.Prelude.{◌≡◌, refl, ℕ, ◌<◌, ◌==◌, not, Bool, true, false, List, [], ◌∷◌, length, filter, slice_index_or, slice_set}
 use Rattle.std.specs.List.{list_any}
-use Rattle.std.proofs.Common.{arith, ap, ◌∙◌, subst, inl, inr}
+use Rattle.std.proofs.lemmas.List.{length-set, get_or-set_same, get_or-set_other}
+use Rattle.std.proofs.Common.{arith, ap, sym, ◌∙◌, subst, inl, inr}
 use Rattle.std.proofs.lemmas.Bool.{eqb-true, eq-eqb, both_ways, and_from, or_cases, or_parts, cases_Bool, not-false, false_from_ne_true}
 use Rattle.lock_rules.specs.Sets.{has}
 use Rattle.lock_rules.specs.Access.{permits}
@@ -15,23 +16,6 @@ use Rattle.desk_law.specs.Consistent.{permitted}
 use Rattle.desk_law.specs.Laws.{ArePermitted}
 use Rattle.desk_law.proofs.Contest.{KeepsPages}
 
-set-same : (authority : List Authority) (page : ℕ) (new : Authority) → page < length authority → slice_index_or (slice_set authority page new) page nobody ≡ new
-set-same [] page new below = absurd (omega arith)
-set-same (one ∷ authority) zero new below = refl
-set-same (one ∷ authority) (suc page) new below = set-same authority page new (omega arith)
-
-set-other : (authority : List Authority) (page at : ℕ) (new : Authority) → (page ≡ at → ⊥) → slice_index_or (slice_set authority page new) at nobody ≡ slice_index_or authority at nobody
-set-other [] page at new differ = refl
-set-other (one ∷ authority) zero zero new differ = absurd (differ refl)
-set-other (one ∷ authority) zero (suc at) new differ = refl
-set-other (one ∷ authority) (suc page) zero new differ = refl
-set-other (one ∷ authority) (suc page) (suc at) new differ = set-other authority page at new (λ same. differ (ap suc same))
-
-length-set : (authority : List Authority) (page : ℕ) (new : Authority) → length (slice_set authority page new) ≡ length authority
-length-set [] page new = refl
-length-set (one ∷ authority) zero new = refl
-length-set (one ∷ authority) (suc page) new = ap suc (length-set authority page new)
-
 -- what a page is granted
 abbrev pub given : Attempt → Lines → ℕ → Authority
 given attempt locks page = authority_by attempt.entry.number (within_page page locks.reads) (within_page page locks.writes)
@@ -42,7 +26,7 @@ granted-not attempt locks [] authority page out = refl
 granted-not attempt locks (one ∷ pages) authority page out =
     let parts = or_parts (one == page) (has pages page) out in
     granted-not attempt locks pages (slice_set authority one (given attempt locks one)) page parts.1
-    ∙ set-other authority one page (given attempt locks one) (λ same. both_ways (one == page) parts.0 (eq-eqb one page same))
+    ∙ get_or-set_other authority one page (given attempt locks one) nobody (λ same. both_ways (one == page) parts.0 (eq-eqb one page (sym same)))
 
 granted-is : (attempt : Attempt) (locks : Lines) (pages : List ℕ) (authority : List Authority) (page : ℕ) → page < length authority → has pages page ≡ true
     → slice_index_or (granted attempt locks pages authority) page nobody ≡ given attempt locks page
@@ -56,7 +40,7 @@ granted-is attempt locks (one ∷ pages) authority page below inside =
                 let same : one ≡ page = eqb-true one page here in
                 granted-not attempt locks pages (slice_set authority one (given attempt locks one)) page not_later
                 ∙ subst (λ (p : ℕ). slice_index_or (slice_set authority one (given attempt locks one)) p nobody ≡ given attempt locks p) same
-                (set-same authority one (given attempt locks one) (omega (arith, below, same)))
+                (get_or-set_same authority one (given attempt locks one) nobody (omega (arith, below, same)))
             | inr later ↦ absurd (both_ways (has pages page) not_later later)
           ]
     ]

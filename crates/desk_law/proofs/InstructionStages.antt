@@ -1,5 +1,5 @@
 -- An instruction stage by stage, as one that serves a fault goes through them.
-use Rattle.std.specs.Prelude.{◌≡◌, refl, ℕ, ◌+◌, if◌then◌else◌, Bool, true, false, List, [], ◌∷◌, length, Option, Some, None}
+use Rattle.std.specs.Prelude.{◌≡◌, refl, ℕ, ◌+◌, if◌then◌else◌, Bool, true, false, List, [], ◌∷◌, length, Option, Some}
 use Rattle.std.proofs.Common.{arith, ap, ◌∙◌}
 use Rattle.std.proofs.lemmas.Bool.Decides.{nat_tests}
 use Rattle.lock_rules.specs.Sets.{has}
@@ -9,7 +9,7 @@ use Rattle.flat_machine.specs.Row.{Outcome, On, Commit, Check, row}
 use Rattle.flat_machine.specs.After.{after}
 use Rattle.desk.specs.Desk.{Desk, Entry, with_entry, rolled_back}
 use Rattle.desk.specs.Holdings.{wanted, conflicts_of}
-use Rattle.desk.specs.Instruction.{Word, Fine, ReadFailed, Counts, Going, Over, Checked, Victim, Waits, Attempt, Fetching, Fetched, Broken, Settled, Lost, can't_be_read, fetches, instruction, attempts, attempts_at, limited, is_over_limit, lines_written, fetched_first, fetches_touched, asks, gets, goes_on, takes_effect, touched_pages, refused_pages, granted, with_grants, locks_with, commits, breaks, contest_ends, waits_or_gets}
+use Rattle.desk.specs.Instruction.{Word, Fine, ReadFailed, Counts, Going, Over, Checked, Victim, Waits, Attempt, Fetching, Fetched, Broken, Settled, Lost, can't_be_read, fetches, instruction, attempts, attempts_at, limited, is_over_limit, fetched_first, fetches_touched, asks, gets, goes_on, takes_effect, touched_pages, refused_pages, granted, with_grants, locks_with, commits, breaks, contest_ends, waits_or_gets}
 use Rattle.desk_law.specs.Beside.{Reads}
 use Rattle.desk_law.specs.Changes.{gone_on}
 

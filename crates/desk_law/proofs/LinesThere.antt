@@ -1,23 +1,20 @@
 -- An instruction all of whose lines are on resident pages that permit them: it takes effect at once.
-use Rattle.std.specs.Prelude.{◌≡◌, refl, ℕ, ◌+◌, ◌==◌, ◌&&◌, not, if◌then◌else◌, Bool, true, false, List, [], ◌∷◌, ◌++◌, map, filter, slice_index_or}
+use Rattle.std.specs.Prelude.{◌≡◌, refl, ℕ, ◌+◌, ◌==◌, not, if◌then◌else◌, Bool, true, false, List, [], ◌∷◌, ◌++◌, filter, slice_index_or}
 use Rattle.std.specs.List.{list_any}
 use Rattle.std.proofs.Common.{sym, ◌∙◌, subst, inl, inr}
-use Rattle.std.proofs.lemmas.Bool.{eqb-true, eq-eqb, both_ways, and_parts, or_cases, or_left, or_right, or_from, not_from_true, false_from_ne_true}
-use Rattle.lock_rules.specs.Sets.{has, size, meets}
-use Rattle.lock_rules.specs.Lines.{Lines, conflicts, within_page, page_of_line, pages_of}
-use Rattle.lock_rules.proofs.Sets.{has-append, has_left, any-at, any-some}
-use Rattle.lock_rules.proofs.Sizes.{size-alike}
-use Rattle.lock_rules.proofs.Lines.{ArePart, has-within_page, has-whole_pages, has-pages_of}
-use Rattle.flat_machine.specs.Agreement.{all_of}
+use Rattle.std.proofs.lemmas.Bool.{eqb-true, eq-eqb, and_parts, or_cases, or_left, or_right, or_from, not_from_true}
+use Rattle.lock_rules.specs.Sets.{has}
+use Rattle.lock_rules.specs.Lines.{Lines, within_page, page_of_line, pages_of}
+use Rattle.lock_rules.proofs.Sets.{has-append, any-some}
+use Rattle.lock_rules.proofs.Lines.{ArePart, has-within_page, has-pages_of}
 use Rattle.desk.specs.Desk.{Desk, Entry, nobody}
-use Rattle.desk.specs.Holdings.{wanted, request, held, conflicts_with, conflicts_of}
+use Rattle.desk.specs.Holdings.{wanted, request}
 use Rattle.desk.specs.Instruction.{Word, Fetched, Broken, can't_be_read, fetches, refuses, lines_within}
 use Rattle.lock_rules.specs.Resident.{brought}
 use Rattle.desk_law.proofs.Permitted.{any-none, permitted-held}
 use Rattle.desk_law.specs.Beside.{AreThere}
-use Rattle.desk_law.specs.Consistent.{IsAmong, due_to, AreApart, permitted}
+use Rattle.desk_law.specs.Consistent.{IsAmong, due_to, permitted}
 use Rattle.desk_law.proofs.Orderly.{IsOrderly}
-use Rattle.desk_law.proofs.Others.{touched_of}
 
 -- where none passes
 pub filter-none : (test : ℕ → Bool) (xs : List ℕ) → ((x : ℕ) → test x ≡ false) → filter test xs ≡ []

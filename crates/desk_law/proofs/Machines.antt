@@ -1,5 +1,5 @@
 -- A plain machine runs beside a desk: what each instruction and event does to it.
-use Rattle.std.specs.Prelude.{◌≡◌, refl, ℕ, zero, suc, ◌+◌, ◌-◌, ◌==◌, if◌then◌else◌, Bool, true, false, List, [], ◌∷◌, find, Option, Some, None, option_and_then}
+use Rattle.std.specs.Prelude.{◌≡◌, refl, ℕ, zero, suc, ◌+◌, ◌-◌, ◌==◌, if◌then◌else◌, Bool, true, false, List, [], ◌∷◌, find, Option, Some, option_and_then}
 use Rattle.std.specs.List.{flat_map, range_with_len}
 use Rattle.std.specs.Option.{option_map_or}
 use Rattle.std.proofs.Common.{arith, ap, sym, ◌∙◌, subst, inl, inr}
@@ -19,26 +19,17 @@ use Rattle.desk_law.specs.Consistent.{IsAmong, due_to}
 use Rattle.desk_law.specs.Current.{bytes_of, current_of, current, current_bytes}
 use Rattle.desk_law.specs.Isolation.{before_row, does_row, after_instruction, after_turns, IsAlone}
 use Rattle.desk_law.proofs.Orderly.{IsOrderly}
-use Rattle.desk_law.proofs.Entries.{replaced, among-found, none-found, among-replaced, new-among, one-entry}
-use Rattle.desk_law.proofs.Others.{another-same}
+use Rattle.desk_law.proofs.Entries.{replaced, among-replaced, new-among, one-entry, found-among}
+use Rattle.desk_law.proofs.Others.{another-same, after-row}
 use Rattle.desk_law.proofs.GoesOn.{IsGranted}
 use Rattle.desk_law.proofs.Instructions.{Did, RowDone, CommitDone, NoRowDone}
-use Rattle.desk_law.proofs.CurrentLaw.{row-runs, after-row}
-use Rattle.desk_law.proofs.TurnsStay.{Stays, Instructed, attempt_at, instructed}
+use Rattle.desk_law.proofs.CurrentLaw.{row-runs}
+use Rattle.desk_law.proofs.TurnsStay.{Stays, Instructed, instructed}
+use Rattle.desk_law.proofs.InstructionStages.{attempt_of}
 
 -- the machine of a number is where its entry is, if the number is active
 abbrev pub Follows : Desk → (number : ℕ) → Option Plain → Type 0
 Follows desk number machine = (entry : Entry) → IsAmong desk.active entry → entry.number ≡ number → IsAlone desk.committed entry machine
-
--- the entry of a number is found
-pub found-is : (desk : Desk) (entry : Entry) → IsOrderly desk → IsAmong desk.active entry → find (λ (one : Entry). one.number == entry.number) desk.active ≡ Some entry
-found-is desk entry is here = by_found (find (λ (one : Entry). one.number == entry.number) desk.active) refl
-  where
-    by_found : (found : Option Entry) → find (λ (one : Entry). one.number == entry.number) desk.active ≡ found → found ≡ Some entry
-    by_found None none = absurd (both_ways (entry.number == entry.number) (none-found (λ (one : Entry). one.number == entry.number) desk.active none entry here) (eq-eqb entry.number entry.number refl))
-    by_found (Some other) found =
-        let (there, passes) = among-found (λ (one : Entry). one.number == entry.number) desk.active other found in
-        ap Some (one-entry 0 desk.next desk.active other entry is.active.ascend there here (eqb-true other.number entry.number passes))
 
 -- one that replaces what replaced it before
 replaced-twice : (new last : Entry) (entries : List Entry) → last.number ≡ new.number → replaced last (replaced new entries) ≡ replaced last entries
@@ -124,7 +115,7 @@ own-row old desk attempt counts machine is alone at done entry among own = recor
   state = then_state;
   is =
       ap (λ (one : Option Entry). option_and_then (λ (e : Entry). option_and_then (does_row desk e) machine) one)
-      (ap (λ (n : ℕ). find (λ (one : Entry). one.number == n) desk.active) (sym own) ∙ found-is desk entry is among)
+      (ap (λ (n : ℕ). find (λ (one : Entry). one.number == n) desk.active) (sym own) ∙ found-among desk.next desk.active entry is.active.ascend among)
       ∙ ap (option_and_then (does_row desk entry)) alone.is
       ∙ ap (λ (e : Entry). does_row desk e alone.state) it
       ∙ ap (λ (d : Desk). does_row d (gone_on attempt.entry) alone.state) done.is
@@ -247,7 +238,7 @@ own-turns word number most (suc left) (Going desk counts) machine stays follows 
     own-turns word number most left next (after_instruction number next machine)
     (subst (λ (n : ℕ). Stays n most next) by.own by.goes.0)
     (subst (λ (n : ℕ). TurnFollows n next (after_instruction n next machine)) by.own
-    (own-instruction desk (attempt_at desk by.entry by.now) stays.0 by.here by.at most machine next by.goes.0 by.goes.1
+    (own-instruction desk (attempt_of desk by.entry by.now) stays.0 by.here by.at most machine next by.goes.0 by.goes.1
     (λ entry among own. follows entry among (own ∙ by.own))))
 
 -- so many instructions of another activation
@@ -262,4 +253,4 @@ other-turns word number other most (suc left) (Going desk counts) machine differ
     let by : Instructed other most desk next = instructed word other most desk counts stays.0 stays.1 stays.2 in
     other-turns word number other most left next machine differ
     (subst (λ (n : ℕ). Stays n most next) by.own by.goes.0)
-    (other-instruction desk (attempt_at desk by.entry by.now) stays.0 by.here by.at number machine next (ap (λ (n : ℕ). n == number) by.own ∙ differ) by.goes.1 follows)
+    (other-instruction desk (attempt_of desk by.entry by.now) stays.0 by.here by.at number machine next (ap (λ (n : ℕ). n == number) by.own ∙ differ) by.goes.1 follows)

@@ -1,5 +1,5 @@
 -- A commit of one activation leaves the others as they were.
-use Rattle.std.specs.Prelude.{◌≡◌, refl, ℕ, ◌==◌, not, true, false, List, filter, Some}
+use Rattle.std.specs.Prelude.{suc, ◌+◌, Option, option_and_then, ◌≡◌, refl, ℕ, ◌==◌, not, true, false, List, filter, Some}
 use Rattle.std.proofs.Common.{arith, ap, sym, ◌∙◌, subst, inl, inr}
 use Rattle.std.proofs.lemmas.Bool.{both_ways, false_from_ne_true, or_cases, not-true}
 use Rattle.line_geometry.specs.FlatStore.{FlatStore, IsWhole}
@@ -7,7 +7,8 @@ use Rattle.lock_rules.specs.Sets.{has, size}
 use Rattle.lock_rules.specs.Lines.{Lines, with_whole_pages}
 use Rattle.lock_rules.proofs.Sets.{has-append, has_left, has_right}
 use Rattle.flat_machine.specs.declared.machine.Plain.{Plain}
-use Rattle.flat_machine.specs.After.{after}
+use Rattle.flat_machine.specs.After.{after, next_state}
+use Rattle.flat_machine.specs.Row.{On, row}
 use Rattle.flat_machine.specs.Due.{touched_within, touched_next}
 use Rattle.flat_machine.specs.Agreement.{all_of, DoesTheSame}
 use Rattle.flat_machine.proofs.Agreement.{agreement-enough, after-whole, after-kept}
@@ -15,6 +16,15 @@ use Rattle.desk.specs.Desk.{Entry}
 use Rattle.desk_law.specs.Changes.{left_by}
 use Rattle.desk_law.specs.Consistent.{IsAmong, due_to, IsLive, AreApart, AreConsistent}
 use Rattle.desk_law.proofs.Entries.{among-filter, ascend-filter}
+
+-- the state after a row more
+pub after-row : (store : FlatStore) (entry : Entry) (now next : Plain) → after entry.runs.program entry.runs.args store entry.rows ≡ Some now
+    → row entry.runs.program store.directory now ≡ On next → after entry.runs.program entry.runs.args store (entry.rows + 1) ≡ Some next
+after-row store entry now next at went =
+    let more : entry.rows + 1 ≡ suc entry.rows = omega arith in
+    ap (λ (rows : ℕ). after entry.runs.program entry.runs.args store rows) more
+    ∙ ap (λ (state : Option Plain). option_and_then (λ (s : Plain). next_state (row entry.runs.program store.directory s)) state) at
+    ∙ ap next_state went
 
 -- the lines that were touched
 abbrev pub touched_of : FlatStore → Entry → Lines

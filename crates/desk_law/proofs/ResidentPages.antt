@@ -8,6 +8,7 @@ use Rattle.lock_rules.specs.Resident.{first_out, brought, taken_out}
 use Rattle.lock_rules.proofs.Sets.{has-append, has-filter}
 use Rattle.desk.specs.Instruction.{Word, Fetching, Fetched, Broken, can't_be_read, fetches}
 use Rattle.desk_law.specs.Consistent.{AreDistinct, AreResident}
+use Rattle.desk_law.proofs.Entries.{filter-short}
 
 -- one page more, which isn't there
 push-distinct : (pages : List ℕ) (page : ℕ) → AreDistinct pages → has pages page ≡ false → AreDistinct (pages ++ page ∷ [])
@@ -31,14 +32,6 @@ filter-distinct test (one ∷ pages) once = by_test (test one) (filter-distinct 
       rest,
     )
     by_test false rest = rest
-
-filter-fewer : (test : ℕ → Bool) (pages : List ℕ) → length (filter test pages) ≤ length pages
-filter-fewer test [] = omega arith
-filter-fewer test (one ∷ pages) = by_test (test one) (filter-fewer test pages)
-  where
-    by_test : (keeps : Bool) → length (filter test pages) ≤ length pages → length (if keeps then one ∷ filter test pages else filter test pages) ≤ suc (length pages)
-    by_test true rest = omega (arith, rest)
-    by_test false rest = omega (arith, rest)
 
 -- without the page at a place
 remove-has : (pages : List ℕ) (at page : ℕ) → has (remove pages at) page ≡ true → has pages page ≡ true
@@ -102,7 +95,7 @@ brought-resident frames pages kept resident page some are new below = by_room (n
 -- pages that are taken out
 pub taken-resident : (frames pages : ℕ) (gone resident : List ℕ) → AreResident frames pages resident → AreResident frames pages (taken_out gone resident)
 taken-resident frames pages gone resident are = record {
-  few = omega (arith, are.few, filter-fewer (λ page. not (has gone page)) resident);
+  few = omega (arith, are.few, filter-short (λ page. not (has gone page)) resident);
   once = filter-distinct (λ page. not (has gone page)) resident are.once;
   within = λ x inside. are.within x (and_parts (has resident x) (not (has gone x)) (sym (has-filter (λ page. not (has gone page)) resident x) ∙ inside)).0;
 }

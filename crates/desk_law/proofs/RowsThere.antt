@@ -1,15 +1,13 @@
 -- An instruction of a consistent desk whose lines are all there: nothing is counted but the row, and nothing else changes.
-use Rattle.std.specs.Prelude.{nat_lt, ◌≡◌, refl, ℕ, ◌+◌, ◌==◌, Bool, true, false, List, [], ◌++◌, length, filter, find, Option, Some, None, slice_index_or}
-use Rattle.std.specs.Option.{option_map_or}
+use Rattle.std.specs.Prelude.{nat_lt, ◌≡◌, refl, ℕ, ◌+◌, ◌==◌, Bool, true, false, List, [], ◌++◌, length, filter, Some, slice_index_or}
 use Rattle.std.proofs.Common.{arith, ap, sym, ◌∙◌, subst, inl, inr}
-use Rattle.std.proofs.lemmas.Bool.{eqb-true, eq-eqb, both_ways, or_cases, or_right}
+use Rattle.std.proofs.lemmas.Bool.{or_cases, or_right}
 use Rattle.lock_rules.specs.Sets.{has, size}
-use Rattle.lock_rules.specs.Lines.{Lines, no_lines, both, with_whole_pages, page_of_line, pages_of}
+use Rattle.lock_rules.specs.Lines.{Lines, both, with_whole_pages, page_of_line, pages_of}
 use Rattle.lock_rules.proofs.Sets.{has-append, has_left, any-at, any-some}
 use Rattle.lock_rules.proofs.Lines.{ArePart, part-both, part-whole_pages, has-whole_pages, has-pages_of}
 use Rattle.flat_machine.specs.declared.machine.Plain.{Plain}
-use Rattle.flat_machine.specs.Row.{Outcome, On, Commit, Check, plan_at, row}
-use Rattle.flat_machine.specs.Touched.{touched, touched_by}
+use Rattle.flat_machine.specs.Row.{On, Commit, Check, row}
 use Rattle.flat_machine.specs.After.{after}
 use Rattle.desk.specs.Desk.{Desk, Entry, nobody, with_entry, rolled_back}
 use Rattle.desk.specs.Holdings.{wanted, request, conflicts_of}
@@ -17,25 +15,14 @@ use Rattle.desk.specs.Instruction.{Word, Counts, Going, Over, Checked, Attempt, 
 use Rattle.std.proofs.lemmas.Bool.Decides.{nat_tests}
 use Rattle.desk_law.specs.Beside.{AreThere, AreAlike}
 use Rattle.desk_law.specs.Changes.{gone_on}
-use Rattle.desk_law.specs.Consistent.{IsAmong, Ascend, due_to}
-use Rattle.desk_law.proofs.Entries.{among-found, none-found, one-entry}
+use Rattle.desk_law.specs.Consistent.{IsAmong, due_to}
 use Rattle.desk_law.proofs.GoesOn.{due-more}
 use Rattle.desk_law.proofs.InstructionStages.{attempt_of, GoesOn, instruction-at, stage-check, stage-limit, stage-fetched, stage-gets, stage-on, stage-commit}
 use Rattle.desk_law.proofs.LinesThere.{filter-none, fetches-none, there-resident, there-unrefused, there-held}
 use Rattle.desk_law.proofs.Orderly.{IsOrderly}
 use Rattle.desk_law.proofs.Others.{touched_of}
 use Rattle.desk_law.proofs.Permitted.{held-free, held-written}
-
--- an active entry is found by its number
-pub found-among : (below : ℕ) (entries : List Entry) (entry : Entry) → Ascend 0 entries below → IsAmong entries entry
-    → find (λ (other : Entry). other.number == entry.number) entries ≡ Some entry
-found-among below entries entry up here = by_found (find (λ (other : Entry). other.number == entry.number) entries) refl
-  where
-    by_found : (found : Option Entry) → find (λ (other : Entry). other.number == entry.number) entries ≡ found → found ≡ Some entry
-    by_found None none = absurd (both_ways (entry.number == entry.number) (none-found (λ (other : Entry). other.number == entry.number) entries none entry here) (eq-eqb entry.number entry.number refl))
-    by_found (Some other) found =
-        let (there, passes) = among-found (λ (other : Entry). other.number == entry.number) entries other found in
-        ap Some (one-entry 0 below entries other entry up there here (eqb-true other.number entry.number passes))
+use Rattle.desk_law.proofs.Endings.{wanted-commit}
 
 -- What an instruction comes to that goes through with nothing fetched, refused or met.
 pub effect-there :
@@ -133,13 +120,6 @@ open-due desk entry part = record { reads = reads; writes = writes }
     writes line =
         ap (λ (l : Lines). has l.writes line) due
         ∙ alike (has ((touched_of desk.committed entry).writes ++ (wanted desk entry).writes) line) (has (due_to desk.committed entry).writes line) (writes_part line) (old.writes.among line)
-
--- the commit call touches nothing
-pub wanted-commit : (desk : Desk) (entry : Entry) (now : Plain) → after entry.runs.program entry.runs.args desk.committed entry.rows ≡ Some now
-    → row entry.runs.program desk.committed.directory now ≡ Commit → wanted desk entry ≡ no_lines
-wanted-commit desk entry now at is =
-    ap (λ (state : Option Plain). option_map_or (touched entry.runs.program desk.committed.directory) state no_lines) at
-    ∙ ap (λ (outcome : Outcome). touched_by entry.runs.program desk.committed.directory outcome (plan_at now)) is
 
 -- The commit call of an active entry comes to its disk at once.
 pub commit-row :

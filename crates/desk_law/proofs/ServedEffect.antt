@@ -1,11 +1,10 @@
 -- The end of an instruction that was served: its pages are granted and there, and its row goes on over the bytes of all.
-use Rattle.std.specs.Prelude.{false, nat_lt, ◌≡◌, refl, ℕ, ◌+◌, ◌<◌, ◌≤◌, true, List, [], ◌++◌, length, filter, slice_index_or, Option, Some, None}
+use Rattle.std.specs.Prelude.{false, nat_lt, ◌≡◌, refl, ℕ, ◌+◌, ◌<◌, true, List, [], ◌++◌, length, filter, slice_index_or, Option, Some}
 use Rattle.std.specs.Option.{option_map_or}
 use Rattle.std.proofs.lemmas.Bool.{ltb-false}
-use Rattle.std.proofs.Common.{arith, ap, sym, ◌∙◌, subst}
-use Rattle.line_geometry.specs.FlatStore.{FlatStore}
+use Rattle.std.proofs.Common.{arith, ap, sym, ◌∙◌}
 use Rattle.line_geometry.specs.Lines.{line_count}
-use Rattle.lock_rules.specs.Sets.{has, size}
+use Rattle.lock_rules.specs.Sets.{has}
 use Rattle.lock_rules.specs.Lines.{Lines, no_lines, both, with_whole_pages, page_of_line}
 use Rattle.lock_rules.proofs.Sets.{has_left, has_right}
 use Rattle.lock_rules.proofs.Lines.{pages_of-line}
@@ -13,11 +12,10 @@ use Rattle.flat_machine.specs.declared.machine.Plain.{Plain}
 use Rattle.flat_machine.specs.Row.{On, row}
 use Rattle.flat_machine.specs.Touched.{touched}
 use Rattle.flat_machine.specs.After.{after}
-use Rattle.flat_machine.specs.Due.{touched_next}
 use Rattle.flat_machine.specs.Agreement.{all_of}
 use Rattle.flat_machine.proofs.Below.{touched-below}
 use Rattle.desk.specs.Desk.{Desk, Entry, Authority, nobody, with_entry}
-use Rattle.desk.specs.Holdings.{wanted, conflicts_of}
+use Rattle.desk.specs.Holdings.{conflicts_of}
 use Rattle.desk.specs.Instruction.{Word, Counts, Going, Attempt, Fetched, fetches, lines_written, touched_pages, refuses, lines_within, granted, locks_with, with_grants, gets}
 use Rattle.desk_law.specs.Beside.{AreThere, over_all}
 use Rattle.desk_law.specs.Changes.{gone_on}
@@ -28,7 +26,7 @@ use Rattle.desk_law.proofs.AttemptsOnCurrent.{shown-current}
 use Rattle.desk_law.proofs.Contest.{KeepsPages, contending}
 use Rattle.desk_law.proofs.ContestRounds.{IsUnderWay}
 use Rattle.desk_law.proofs.Entries.{replaced}
-use Rattle.desk_law.proofs.GoesOn.{IsReady, grants-held, row-goes-on}
+use Rattle.desk_law.proofs.GoesOn.{IsReady, ready-again, grants-held, row-goes-on}
 use Rattle.desk_law.proofs.Granted.{granted-permits}
 use Rattle.desk_law.proofs.InstructionStages.{attempt_of, stage-gets, stage-on}
 use Rattle.desk_law.proofs.Orderly.{IsOrderly}
@@ -54,17 +52,7 @@ ready-first desk entry now next resident is here at within = record {
 -- and once a contest is settled
 pub ready-settled : (attempt : Attempt) (old desk : Desk) → IsReady attempt old → IsUnderWay old desk (record attempt.entry { waiting = true }) → IsOrderly desk
     → IsReady attempt desk
-ready-settled attempt old desk ready under_way is = record {
-  contending = under_way.contending;
-  mark = true;
-  here = under_way.here;
-  now = ap (λ (store : FlatStore). after attempt.entry.runs.program attempt.entry.runs.args store attempt.entry.rows) under_way.store ∙ ready.now;
-  went = ap (λ (store : FlatStore). row attempt.entry.runs.program store.directory attempt.now) under_way.store ∙ ready.went;
-  lines = ready.lines ∙ sym (ap (λ (store : FlatStore). touched_next attempt.entry.runs.program attempt.entry.runs.args store attempt.entry.rows) under_way.store);
-  short =
-      subst (λ (limit : ℕ). size ((touched_of desk.committed attempt.entry).writes ++ (wanted desk attempt.entry).writes) ≤ limit) (sym under_way.limit)
-      (subst (λ (store : FlatStore). size ((touched_of store attempt.entry).writes ++ (touched_next attempt.entry.runs.program attempt.entry.runs.args store attempt.entry.rows).writes) ≤ old.most_lines) (sym under_way.store) ready.short);
-}
+ready-settled attempt old desk ready under_way is = ready-again attempt old desk true ready under_way.contending under_way.here under_way.store under_way.limit
 
 -- the desk before the row takes effect
 abbrev pub got : Attempt → List ℕ → List ℕ → Desk → Desk

@@ -1,6 +1,6 @@
 -- The first half of serving a fault: the limit, the pages, the refused pages and the conflicts, from what an attempt over the
 -- bytes of all tells.
-use Rattle.std.specs.Prelude.{Bool, true, false, nat_lt, ◌≡◌, refl, ℕ, ◌+◌, ◌≤◌, List, [], ◌++◌, length, filter, map, Option, Some, None}
+use Rattle.std.specs.Prelude.{Bool, true, false, nat_lt, ◌≡◌, refl, ℕ, ◌+◌, ◌≤◌, List, [], ◌++◌, length, filter, map, Some}
 use Rattle.std.proofs.lemmas.Bool.{ltb-false}
 use Rattle.std.proofs.Common.{arith, ap, sym, ◌∙◌, subst}
 use Rattle.lock_rules.specs.Sets.{size}

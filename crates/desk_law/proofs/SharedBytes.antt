@@ -1,7 +1,7 @@
 -- One store of bytes for all entries: it holds every line as it is now, and each row may run over it.
-use Rattle.std.specs.Prelude.{◌≡◌, refl, ℕ, suc, ◌+◌, ◌==◌, not, true, false, List, [], ◌++◌, length, Option, Some, option_and_then}
+use Rattle.std.specs.Prelude.{◌≡◌, refl, ℕ, ◌+◌, ◌==◌, not, true, false, List, [], ◌++◌, length, Option, Some}
 use Rattle.std.specs.Option.{option_map_or}
-use Rattle.std.proofs.Common.{arith, ap, sym, ◌∙◌, subst, inl, inr}
+use Rattle.std.proofs.Common.{ap, sym, ◌∙◌, subst, inl, inr}
 use Rattle.std.proofs.lemmas.Bool.{eqb-true, both_ways, or_cases, or_left, or_parts, and_cases, cases_Bool, not_from_false, false_from_ne_true}
 use Rattle.line_geometry.specs.Directory.{Layout, byte_count}
 use Rattle.line_geometry.specs.FlatStore.{FlatStore, IsWhole}
@@ -15,7 +15,7 @@ use Rattle.flat_machine.specs.declared.machine.Plan.TheVariants.{Does, Fails}
 use Rattle.flat_machine.specs.declared.machine.Program.{Program}
 use Rattle.flat_machine.specs.Row.{Outcome, On, plan_at, row}
 use Rattle.flat_machine.specs.Touched.{touched, touched_by}
-use Rattle.flat_machine.specs.After.{after, next_state}
+use Rattle.flat_machine.specs.After.{after}
 use Rattle.flat_machine.specs.Agreement.{line_in, all_of, SameWay}
 use Rattle.flat_machine.proofs.Agreement.{after-whole, after-kept}
 use Rattle.flat_machine.proofs.SameWay.{on, row-way}
@@ -26,7 +26,7 @@ use Rattle.desk_law.specs.Changes.{gone_on}
 use Rattle.desk_law.specs.Consistent.{IsAmong, AreConsistent}
 use Rattle.desk_law.specs.Current.{current_of, current, IsCurrent}
 use Rattle.desk_law.proofs.Entries.{replaced, one-entry}
-use Rattle.desk_law.proofs.Others.{touched_of}
+use Rattle.desk_law.proofs.Others.{touched_of, after-row}
 use Rattle.desk_law.proofs.GoesOn.{nobody-conflicts}
 use Rattle.desk_law.proofs.CurrentLines.{current-written, current-unwritten, row-writes, row-leaves}
 
@@ -114,11 +114,7 @@ row-on-current desk most entry now next bytes whole are later here is went none 
     }
   where
     after_next : after entry.runs.program entry.runs.args desk.committed (entry.rows + 1) ≡ Some next
-    after_next =
-        let more : entry.rows + 1 ≡ suc entry.rows = omega arith in
-        ap (λ (rows : ℕ). after entry.runs.program entry.runs.args desk.committed rows) more
-        ∙ ap (λ (state : Option Plain). option_and_then (λ (s : Plain). next_state (row entry.runs.program desk.committed.directory s)) state) is
-        ∙ ap next_state went
+    after_next = after-row desk.committed entry now next is went
 
     by_plan : (plan : Plan) → touched_by entry.runs.program desk.committed.directory (On next) plan ≡ lines_of_plan entry.runs.program desk.committed.directory plan
     by_plan (Does registers status act address link) = refl

@@ -1,10 +1,9 @@
 -- What a supervisor keeps beside a desk: locks and requests by number, states but for their store, and one list of bytes for
 -- all; and what each step does to it.
-use Rattle.std.specs.Prelude.{nat_lt, ◌≡◌, ℕ, ◌+◌, ◌==◌, not, Bool, true, false, List, [], ◌∷◌, ◌++◌, Some, None}
+use Rattle.std.specs.Prelude.{◌≡◌, ℕ, ◌+◌, ◌==◌, not, Bool, true, false, List, [], ◌∷◌, ◌++◌, Some}
 use Rattle.std.proofs.Common.{ap, sym, ◌∙◌, subst, inl, inr}
 use Rattle.std.proofs.lemmas.Bool.{not-true}
 use Rattle.line_geometry.specs.FlatStore.{FlatStore, IsWhole}
-use Rattle.lock_rules.specs.Sets.{size}
 use Rattle.lock_rules.specs.Lines.{Lines, no_lines}
 use Rattle.flat_machine.specs.declared.machine.Plain.{Plain}
 use Rattle.flat_machine.specs.Row.{On, row}
@@ -17,13 +16,13 @@ use Rattle.desk.specs.Instruction.{Word, Counts, Going, Attempt, Fetched, instru
 use Rattle.desk_law.specs.Beside.{IsLaid, AreThere, AreAlike, over_all, requested, IsTableBut, IsState, AreStates, AreStatesBut, IsTold}
 use Rattle.desk_law.specs.Changes.{left_by, gone_on}
 use Rattle.desk_law.specs.Consistent.{IsAmong, due_to, AreConsistent}
-use Rattle.desk_law.proofs.AttemptsOnCurrent.{HasGone, attempt-goes, after-next}
+use Rattle.desk_law.proofs.AttemptsOnCurrent.{HasGone, attempt-goes}
 use Rattle.desk_law.proofs.CurrentSteps.{current-rolled, current-committed, commit-laid, current-marked, current-begun, current-quiet}
 use Rattle.desk_law.proofs.Entries.{replaced, among-replaced, among-filter, among-push}
 use Rattle.desk_law.proofs.GoesOn.{apart-turned, IsReady}
 use Rattle.desk_law.proofs.KeptTables.{kept-row, kept-mark, kept-rollback, kept-commit, kept-begin, kept-open_row}
 use Rattle.desk_law.proofs.Orderly.{IsOrderly}
-use Rattle.desk_law.proofs.Others.{others, another-same}
+use Rattle.desk_law.proofs.Others.{others, another-same, after-row}
 use Rattle.desk_law.proofs.ServedEffect.{got, WasServed, served-goes}
 
 module _ (store : FlatStore) (entries : List Entry) (states : ℕ → Plain) (are : AreStates store entries states) where
@@ -187,7 +186,7 @@ told-served attempt refused resident desk counts counted locks more requests sta
         kept = kept-row desk.committed desk.active locks requests told.kept attempt.entry more alike but_locks;
         stand =
             states-row desk.committed desk.active states told.stand attempt.entry next shown new
-            (after-next desk attempt.entry attempt.now next ready.now (ready.went ∙ goes)) (served.shows next goes) new_is but;
+            (after-row desk.committed attempt.entry attempt.now next ready.now (ready.went ∙ goes)) (served.shows next goes) new_is but;
         is_current = served.is_current;
       };
     }

@@ -6,7 +6,7 @@ use Rattle.desk.specs.Instruction.{Word, Fine, ReadFailed, Unwritten, Doubt, Fai
 use Rattle.desk_law.specs.Beside.{Reads}
 use Rattle.desk_law.specs.Consistent.{IsAmong}
 use Rattle.desk_law.proofs.Orderly.{IsOrderly}
-use Rattle.desk_law.proofs.RowsThere.{found-among}
+use Rattle.desk_law.proofs.Entries.{found-among}
 
 -- a turn, from wherever it began, is one of so many instructions from here
 pub record IsTurning (begins : Word → Turning) (number left : ℕ) (desk : Desk) (counts : Counts) : Type 0 where

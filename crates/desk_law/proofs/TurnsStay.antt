@@ -9,7 +9,6 @@ use Rattle.lock_rules.specs.Lines.{Lines}
 use Rattle.flat_machine.specs.declared.machine.Plain.{Plain}
 use Rattle.flat_machine.specs.Row.{Outcome, On, Commit, Check, row}
 use Rattle.flat_machine.specs.After.{after}
-use Rattle.flat_machine.specs.Due.{touched_next}
 use Rattle.desk.specs.Desk.{Desk, Entry, with_entry, ended, rolled_back}
 use Rattle.desk.specs.Holdings.{wanted, conflicts_of}
 use Rattle.desk.specs.Instruction.{Word, Fine, ReadFailed, Unwritten, Doubt, Failed, Counts, Turning, Going, Over, Ending, Idle, Committed, Attempt, Fetching, Fetched, Broken, Contest, Contested, Settled, Lost, attempts, attempts_at, instruction, turns, limited, is_over_limit, lines_written, fetched_first, fetches_touched, asks, gets, goes_on, breaks, ordered, takes_effect, commits, contest_ends, waits_or_gets, with_grants, refused_pages}
@@ -20,9 +19,10 @@ use Rattle.desk_law.proofs.Orderly.{IsOrderly}
 use Rattle.desk_law.proofs.Entries.{among-found, none-found, among-filter, new-among}
 use Rattle.desk_law.proofs.Others.{touched_of}
 use Rattle.desk_law.proofs.Contest.{contending, rolled-consistent, breaks-all, Came}
-use Rattle.desk_law.proofs.GoesOn.{IsReady, IsGranted, grants-held, row-goes-on, marked-contending, length-replaced}
+use Rattle.desk_law.proofs.GoesOn.{IsReady, ready-again, IsGranted, grants-held, row-goes-on, marked-contending, length-replaced}
 use Rattle.desk_law.proofs.Endings.{granted-rolled, granted-commits, granted-closes}
 use Rattle.desk_law.proofs.Instructions.{From, NoRowDone, Did, ContestDid, rolled-left, left-before, rolled-done, marked-before, marked-from, breaks-did}
+use Rattle.desk_law.proofs.InstructionStages.{attempt_of}
 
 -- an ending that isn't idle
 abbrev pub WasBusy : Ending → Type 0
@@ -142,17 +142,7 @@ module _ (word : Word) (attempt : Attempt) (most : ℕ) (old : Desk) where
   goes-contest refused mark before (Contested desk counts) ready came did = absurd came
   goes-contest refused mark before (Settled desk counts) ready came did =
       goes-wait refused (conflicts_of desk attempt.entry) desk counts came.5 did refl
-      (record {
-        contending = contending attempt.entry.number desk came.0;
-        mark = mark;
-        here = came.1;
-        now = ap (λ (store : FlatStore). after attempt.entry.runs.program attempt.entry.runs.args store attempt.entry.rows) came.2 ∙ ready.now;
-        went = ap (λ (store : FlatStore). row attempt.entry.runs.program store.directory attempt.now) came.2 ∙ ready.went;
-        lines = ready.lines ∙ sym (ap (λ (store : FlatStore). touched_next attempt.entry.runs.program attempt.entry.runs.args store attempt.entry.rows) came.2);
-        short =
-            subst (λ (limit : ℕ). size ((touched_of desk.committed attempt.entry).writes ++ (wanted desk attempt.entry).writes) ≤ limit) (sym came.3)
-            (subst (λ (store : FlatStore). size ((touched_of store attempt.entry).writes ++ (touched_next attempt.entry.runs.program attempt.entry.runs.args store attempt.entry.rows).writes) ≤ before.most_lines) (sym came.2) ready.short);
-      })
+      (ready-again attempt before desk mark ready (contending attempt.entry.number desk came.0) came.1 came.2 came.3)
       came.0
 
   goes-ask : (refused holders : List ℕ) (desk : Desk) (counts : Counts) → Room desk counts → From attempt.entry.number old desk → conflicts_of desk attempt.entry ≡ holders → IsReady attempt desk → IsAmong desk.active attempt.entry
@@ -209,10 +199,6 @@ module _ (word : Word) (attempt : Attempt) (most : ℕ) (old : Desk) where
   goes-attempt (On next) desk counts fits from is here now went lines = goes-limit (is_over_limit attempt desk) desk counts fits from refl is here now went lines
   goes-attempt Commit desk counts fits from is here now went lines = goes-limit (is_over_limit attempt desk) desk counts fits from refl is here now went lines
 
--- the attempt of an entry at its state
-abbrev pub attempt_at : Desk → Entry → Plain → Attempt
-attempt_at desk entry now = record { entry = entry; now = now; outcome = row entry.runs.program desk.committed.directory now; lines = wanted desk entry }
-
 -- what the instruction of an active number does
 pub record Instructed (number most : ℕ) (old : Desk) (turning : Turning) : Type 0 where
   pub entry : Entry
@@ -220,7 +206,7 @@ pub record Instructed (number most : ℕ) (old : Desk) (turning : Turning) : Typ
   pub own : entry.number ≡ number
   pub now : Plain
   pub at : after entry.runs.program entry.runs.args old.committed entry.rows ≡ Some now
-  pub goes : Goes old (attempt_at old entry now) most turning
+  pub goes : Goes old (attempt_of old entry now) most turning
 
 -- an instruction of the entry with a number
 pub instructed : (word : Word) (number most : ℕ) (desk : Desk) (counts : Counts) → IsOrderly desk → IsActive desk number → length counts.cycles + length desk.active ≤ most
@@ -238,7 +224,7 @@ instructed word number most desk counts is active fits = by_entry (find (λ (ent
       now = now;
       at = at;
       goes =
-          goes-attempt word (attempt_at desk entry now) most desk (row entry.runs.program desk.committed.directory now) desk counts fits
+          goes-attempt word (attempt_of desk entry now) most desk (row entry.runs.program desk.committed.directory now) desk counts fits
           (record { committed = refl; others = λ other among differ. among }) is here at refl refl;
     }
 

@@ -7,6 +7,7 @@ use Rattle.lock_rules.specs.Sets.{has}
 use Rattle.lock_rules.specs.Waits.{leads}
 use Rattle.lock_rules.proofs.Sets.{any-at, any-some}
 use Rattle.desk_law.specs.Consistent.{HasNoCycle}
+use Rattle.desk_law.proofs.Entries.{filter-short}
 
 -- the first step of a walk
 pub record Steps (waits : ℕ → ℕ → Bool) (all : List ℕ) (steps from to : ℕ) : Type 0 where
@@ -207,14 +208,6 @@ count-lt test wider (x ∷ xs) wide some = by_test (test x) (wider x) refl refl 
     by_test true false e f le rest some = absurd (both_ways (wider x) f (wide x e))
     by_test false true e f le rest some = omega (arith, le)
     by_test false false e f le rest some = rest some
-
-filter-short : (test : ℕ → Bool) (xs : List ℕ) → length (filter test xs) ≤ length xs
-filter-short test [] = omega arith
-filter-short test (x ∷ xs) = by_test (test x) (filter-short test xs)
-  where
-    by_test : (one : Bool) → length (filter test xs) ≤ length xs → length (if one then x ∷ filter test xs else filter test xs) ≤ suc (length xs)
-    by_test true rest = omega (arith, rest)
-    by_test false rest = omega (arith, rest)
 
 all-pass : (test : ℕ → Bool) (xs : List ℕ) → length xs ≤ length (filter test xs) → (x : ℕ) → has xs x ≡ true → test x ≡ true
 all-pass test [] full x inside = absurd (cc)

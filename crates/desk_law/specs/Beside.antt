@@ -2,7 +2,6 @@
 use Rattle.std.specs.Prelude.{◌≡◌, ℕ, ◌≤◌, ◌==◌, ◌&&◌, not, Bool, true, false, List, map, find, length, slice_index_or, Some}
 use Rattle.std.specs.List.{list_any}
 use Rattle.std.specs.Option.{option_map_or}
-use Rattle.line_geometry.specs.Directory.{byte_count}
 use Rattle.line_geometry.specs.FlatStore.{FlatStore}
 use Rattle.lock_rules.specs.Sets.{has}
 use Rattle.lock_rules.specs.Lines.{Lines, conflicts, with_whole_pages, page_of_line}
