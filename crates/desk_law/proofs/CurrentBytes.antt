@@ -1,5 +1,5 @@
 -- All lines as they are now, end to end.
-use Rattle.std.specs.Prelude.{◌≡◌, refl, ℕ, zero, suc, ◌+◌, ◌-◌, ◌*◌, ◌/◌, ◌<◌, ◌≤◌, List, [], ◌++◌, length, take, drop, slice_range, min, Option, Some, None}
+use Rattle.std.specs.Prelude.{Bool, true, false, if◌then◌else◌, ◌≡◌, refl, ℕ, zero, suc, ◌+◌, ◌-◌, ◌*◌, ◌/◌, ◌<◌, ◌≤◌, List, [], ◌++◌, length, take, drop, slice_range, min, Option, Some, None}
 use Rattle.std.specs.List.{flat_map, range_with_len}
 use Rattle.std.specs.Option.{option_map_or}
 use Rattle.std.proofs.Common.{arith, ap, sym, ◌∙◌, inl, inr, length-append}
@@ -19,6 +19,8 @@ use Rattle.flat_machine.specs.Agreement.{line_in}
 use Rattle.flat_machine.proofs.Agreement.{after-whole}
 use Rattle.flat_machine.proofs.Ranges.{in_line}
 use Rattle.desk.specs.Desk.{Desk, Entry}
+use Rattle.lock_rules.specs.Sets.{has}
+use Rattle.desk_law.specs.Memory.{laid}
 use Rattle.desk_law.specs.Current.{bytes_of, writer, current, IsCurrent, current_bytes}
 
 -- a line of a list of bytes
@@ -80,35 +82,60 @@ writer-whole store (Some entry) whole = by_state (after entry.runs.program entry
     by_state None at = whole
     by_state (Some state) at = after-whole entry.runs.program entry.runs.args store entry.rows state whole at
 
-pub bytes-current : (desk : Desk) → IsWhole desk.committed → IsCurrent desk.committed desk.active (current_bytes desk)
-bytes-current desk whole = record {
-  long = long;
-  lines = λ line. elim (cases_lt line (line_count desk.committed.directory)) [
+-- pieces that are lines, end to end
+pub lines-joined : (d : Layout) (f : ℕ → List ℕ) → ((line : ℕ) → line < line_count d → length (f line) ≡ line_bytes d) → ((line : ℕ) → line_count d ≤ line → f line ≡ [])
+    → (length (flat_map f (range_with_len 0 (line_count d))) ≡ byte_count d) × ((line : ℕ) → line_in d (flat_map f (range_with_len 0 (line_count d))) line ≡ f line)
+lines-joined d f full none = (
+  long,
+  λ line. elim (cases_lt line (line_count d)) [
     | inl below ↦
-        line-part (line_bytes desk.committed.directory) line (current_bytes desk)
-        ∙ piece-at (line_bytes desk.committed.directory) (current desk) 0 (line_count desk.committed.directory) line each below
-        ∙ ap (current desk) (the line)
-    | inr beyond ↦
-        line-beyond desk.committed.directory (current_bytes desk) line long beyond
-        ∙ sym (line-beyond desk.committed.directory (option_map_or (bytes_of desk.committed) (writer desk.committed desk.active line) desk.committed.bytes) line (writer-whole desk.committed (writer desk.committed desk.active line) whole) beyond)
-  ];
-}
+        let here : 0 + line ≡ line = omega arith in
+        line-part (line_bytes d) line (flat_map f (range_with_len 0 (line_count d)))
+        ∙ piece-at (line_bytes d) f 0 (line_count d) line each below
+        ∙ ap f here
+    | inr beyond ↦ line-beyond d (flat_map f (range_with_len 0 (line_count d))) line long beyond ∙ sym (none line beyond)
+  ],
+)
   where
-    the : (line : ℕ) → 0 + line ≡ line
-    the line = omega arith
+    each : (line : ℕ) → 0 ≤ line → line < 0 + line_count d → length (f line) ≡ line_bytes d
+    each line above below = full line (omega (arith, below))
 
-    each : (line : ℕ) → 0 ≤ line → line < 0 + line_count desk.committed.directory → length (current desk line) ≡ line_bytes desk.committed.directory
-    each line above below =
-        line-long desk.committed.directory (option_map_or (bytes_of desk.committed) (writer desk.committed desk.active line) desk.committed.bytes) line
-        (writer-whole desk.committed (writer desk.committed desk.active line) whole) (omega (arith, below))
+    long : length (flat_map f (range_with_len 0 (line_count d))) ≡ byte_count d
+    long = pieces-long (line_bytes d) f 0 (line_count d) each ∙ sym (byte_count-lines d)
 
-    long : length (current_bytes desk) ≡ byte_count desk.committed.directory
-    long = pieces-long (line_bytes desk.committed.directory) (current desk) 0 (line_count desk.committed.directory) each ∙ sym (byte_count-lines desk.committed.directory)
+-- bytes of a store that have the same lines are the same
+pub same-lines : (d : Layout) (bytes other : List ℕ) → length bytes ≡ byte_count d → length other ≡ byte_count d → ((line : ℕ) → line_in d bytes line ≡ line_in d other line) → bytes ≡ other
+same-lines d bytes other long also same =
+    same_number_lists bytes other (long ∙ sym also)
+    (λ k below. in_line (line_bytes d) (k / line_bytes d) k bytes other refl (line-bytes-pos d) (same (k / line_bytes d)))
+
+pub bytes-current : (desk : Desk) → IsWhole desk.committed → IsCurrent desk.committed desk.active (current_bytes desk)
+bytes-current desk whole =
+    let (long, lines) =
+    lines-joined desk.committed.directory (current desk) (λ line below. line-long desk.committed.directory (its line) line (its_whole line) below)
+    (λ line beyond. line-beyond desk.committed.directory (its line) line (its_whole line) beyond) in
+    record { long = long; lines = lines }
+  where
+    its : ℕ → List ℕ
+    its line = option_map_or (bytes_of desk.committed) (writer desk.committed desk.active line) desk.committed.bytes
+
+    its_whole : (line : ℕ) → length (option_map_or (bytes_of desk.committed) (writer desk.committed desk.active line) desk.committed.bytes) ≡ byte_count desk.committed.directory
+    its_whole line = writer-whole desk.committed (writer desk.committed desk.active line) whole
 
 -- two lists of bytes that are current are one
 pub one-current : (store : FlatStore) (entries : List Entry) (bytes other : List ℕ) → IsCurrent store entries bytes → IsCurrent store entries other → bytes ≡ other
-one-current store entries bytes other is also =
-    same_number_lists bytes other (is.long ∙ sym also.long)
-    (λ k below.
-    in_line (line_bytes store.directory) (k / line_bytes store.directory) k bytes other refl (line-bytes-pos store.directory)
-    (is.lines (k / line_bytes store.directory) ∙ sym (also.lines (k / line_bytes store.directory))))
+one-current store entries bytes other is also = same-lines store.directory bytes other is.long also.long (λ line. is.lines line ∙ sym (also.lines line))
+
+-- bytes with some lines from others
+pub laid-is : (d : Layout) (lines from onto new : List ℕ) → length from ≡ byte_count d → length onto ≡ byte_count d → length new ≡ byte_count d
+    → ((line : ℕ) → line_in d new line ≡ (if has lines line then line_in d from line else line_in d onto line)) → laid d lines from onto ≡ new
+laid-is d lines from onto new from_long onto_long long each =
+    let (joined_long, joined) =
+    lines-joined d (λ line. if has lines line then line_in d from line else line_in d onto line)
+    (λ line below. by_test (λ (part : List ℕ). length part ≡ line_bytes d) (has lines line) (line_in d from line) (line_in d onto line) (line-long d from line from_long below) (line-long d onto line onto_long below))
+    (λ line beyond. by_test (λ (part : List ℕ). part ≡ []) (has lines line) (line_in d from line) (line_in d onto line) (line-beyond d from line from_long beyond) (line-beyond d onto line onto_long beyond)) in
+    same-lines d (laid d lines from onto) new joined_long long (λ line. joined line ∙ sym (each line))
+  where
+    by_test : (P : List ℕ → Type 0) (b : Bool) (x y : List ℕ) → P x → P y → P (if b then x else y)
+    by_test P true x y p q = p
+    by_test P false x y p q = q

@@ -11,6 +11,7 @@ use Rattle.desk.specs.Instruction.{Counts, Turning, Going, Over, Committed, Atte
 use Rattle.desk_law.specs.Changes.{gone_on, left_by}
 use Rattle.desk_law.specs.Consistent.{IsAmong, AreConsistent}
 use Rattle.desk_law.proofs.Entries.{among-filter, among-found, none-found, among-replaced, one-entry}
+use Rattle.desk_law.proofs.Others.{others}
 use Rattle.desk_law.proofs.Contest.{left_over}
 use Rattle.desk_law.proofs.GoesOn.{IsGranted}
 
@@ -36,11 +37,13 @@ pub record RowDone (old : Desk) (attempt : Attempt) (desk : Desk) : Type 0 where
   pub granted : IsGranted attempt moment
   pub from : From attempt.entry.number old moment
 
--- the commit was done
+-- the commit was done: the entry ended, and its store is committed
 pub record CommitDone (old : Desk) (attempt : Attempt) (desk : Desk) (steps : ℕ) (printed : List ℕ) : Type 0 where
-  pub committed : desk.committed ≡ left_by old.committed attempt.now
-  pub others : (other : Entry) → IsAmong desk.active other → IsAmong old.active other
-  pub left : HasLeft attempt.entry.number desk
+  pub moment : Desk
+  pub granted : IsGranted attempt moment
+  pub from : From attempt.entry.number old moment
+  pub committed : desk.committed ≡ left_by moment.committed attempt.now
+  pub active : desk.active ≡ others attempt.entry moment.active
   pub steps_are : steps ≡ attempt.entry.rows + 1
   pub printed_is : printed ≡ attempt.now.out
 

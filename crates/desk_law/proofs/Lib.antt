@@ -16,8 +16,6 @@ pub mod CurrentLines
 pub mod CurrentBytes
 pub mod SharedBytes
 pub mod CurrentLaw
-pub mod Machines
-pub mod IsolationLaw
 pub mod Permitted
 pub mod CyclesBroken
 pub mod SomebodyGoesOn
@@ -44,3 +42,5 @@ pub mod ServesToLocks
 pub mod ServesConflicts
 pub mod ServedRows
 pub mod TurnLoop
+pub mod MemorySteps
+pub mod MemoryLaw

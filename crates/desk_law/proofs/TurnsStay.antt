@@ -1,9 +1,8 @@
 -- A turn leaves a desk orderly.
-use Rattle.std.specs.Prelude.{◌≡◌, refl, not, ℕ, zero, suc, ◌+◌, ◌≤◌, ◌==◌, Bool, true, false, List, [], ◌∷◌, ◌++◌, length, find, Option, Some, None}
-use Rattle.std.proofs.Common.{arith, ap, sym, ◌∙◌, subst}
+use Rattle.std.specs.Prelude.{◌≡◌, refl, ℕ, zero, suc, ◌+◌, ◌≤◌, ◌==◌, Bool, true, false, List, [], ◌∷◌, ◌++◌, length, find, Option, Some, None}
+use Rattle.std.proofs.Common.{arith, sym, ◌∙◌, subst}
 use Rattle.std.proofs.lemmas.Bool.{eqb-true, eq-eqb, both_ways, ltb-false}
 use Rattle.std.proofs.lemmas.Option.{none-some}
-use Rattle.line_geometry.specs.FlatStore.{FlatStore}
 use Rattle.lock_rules.specs.Sets.{size}
 use Rattle.lock_rules.specs.Lines.{Lines}
 use Rattle.flat_machine.specs.declared.machine.Plain.{Plain}
@@ -12,16 +11,16 @@ use Rattle.flat_machine.specs.After.{after}
 use Rattle.desk.specs.Desk.{Desk, Entry, with_entry, ended, rolled_back}
 use Rattle.desk.specs.Holdings.{wanted, conflicts_of}
 use Rattle.desk.specs.Instruction.{Word, Fine, ReadFailed, Unwritten, Doubt, Failed, Counts, Turning, Going, Over, Ending, Idle, Committed, Attempt, Fetching, Fetched, Broken, Contest, Contested, Settled, Lost, attempts, attempts_at, instruction, turns, limited, is_over_limit, lines_written, fetched_first, fetches_touched, asks, gets, goes_on, breaks, ordered, takes_effect, commits, contest_ends, waits_or_gets, with_grants, refused_pages}
-use Rattle.desk_law.specs.Changes.{gone_on, left_by}
+use Rattle.desk_law.specs.Changes.{gone_on}
 use Rattle.desk_law.specs.Consistent.{IsAmong}
 use Rattle.desk_law.specs.Laws.{IsActive}
 use Rattle.desk_law.proofs.Orderly.{IsOrderly}
-use Rattle.desk_law.proofs.Entries.{among-found, none-found, among-filter, new-among}
+use Rattle.desk_law.proofs.Entries.{among-found, none-found, new-among}
 use Rattle.desk_law.proofs.Others.{touched_of}
 use Rattle.desk_law.proofs.Contest.{contending, rolled-consistent, breaks-all, Came}
 use Rattle.desk_law.proofs.GoesOn.{IsReady, ready-again, IsGranted, grants-held, row-goes-on, marked-contending, length-replaced}
 use Rattle.desk_law.proofs.Endings.{granted-rolled, granted-commits, granted-closes}
-use Rattle.desk_law.proofs.Instructions.{From, NoRowDone, Did, ContestDid, rolled-left, left-before, rolled-done, marked-before, marked-from, breaks-did}
+use Rattle.desk_law.proofs.Instructions.{From, NoRowDone, Did, ContestDid, left-before, rolled-done, marked-before, marked-from, breaks-did}
 use Rattle.desk_law.proofs.InstructionStages.{attempt_of}
 
 -- an ending that isn't idle
@@ -72,13 +71,7 @@ module _ (word : Word) (attempt : Attempt) (most : ℕ) (old : Desk) where
   goes-done desk counts fits from is =
       let done = granted-commits desk attempt is in (
         (record { whole = done.whole; few = done.few; active = done.active; held = done.held; no_cycle = done.no_cycle }, tt, omega (arith, fits)),
-        record {
-          committed = ap (λ (store : FlatStore). left_by store attempt.now) from.committed;
-          others = λ other among. from.others other (among-filter (λ (other : Entry). not (other.number == attempt.entry.number)) desk.active other among).0 (rolled-left desk attempt.entry other among);
-          left = rolled-left desk attempt.entry;
-          steps_are = refl;
-          printed_is = refl;
-        },
+        record { moment = desk; granted = is; from = from; committed = refl; active = refl; steps_are = refl; printed_is = refl },
       )
 
   goes-closed : (desk : Desk) → IsGranted attempt desk → attempt.outcome ≡ Commit → (order : List (ℕ × ℕ)) → IsOrderly (record desk { order = order; closed = true })

@@ -3,5 +3,5 @@ pub mod Laws
 pub mod Changes
 pub mod Current
 pub mod CurrentLaws
-pub mod Isolation
 pub mod Beside
+pub mod Memory

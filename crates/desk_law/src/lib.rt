@@ -14,4 +14,4 @@ pub use current::{
     commits_change_no_line, commits_leave_others, holders_see_current, one_list_is_current,
     rollbacks_give_back, rows_change_their_lines, rows_run_on_current,
 };
-pub use isolation::{commits_are_isolated, runs_are_isolated};
+pub use isolation::{commits_tell_the_machine, runs_are_isolated, side_by_side_is_serial};
