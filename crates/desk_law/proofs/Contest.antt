@@ -89,7 +89,7 @@ rolled-consistent desk gone is = record {
 }
 
 -- the members of a shown cycle
-found-has : (test : ℕ → Bool) (all : List ℕ) (x : ℕ) → find test all ≡ Some x → has all x ≡ true
+pub found-has : (test : ℕ → Bool) (all : List ℕ) (x : ℕ) → find test all ≡ Some x → has all x ≡ true
 found-has test [] x is = absurd (cc)
 found-has test (y ∷ all) x is = by_test (test y) (found-has test all x) is
   where

@@ -11,7 +11,7 @@ use Rattle.desk_law.specs.Laws.{EachWaits, counts_of, BrokenCyclesWere}
 use Rattle.desk_law.proofs.Contest.{left_over}
 
 -- a number that is found passes
-found-passes : (test : ℕ → Bool) (all : List ℕ) (x : ℕ) → find test all ≡ Some x → test x ≡ true
+pub found-passes : (test : ℕ → Bool) (all : List ℕ) (x : ℕ) → find test all ≡ Some x → test x ≡ true
 found-passes test [] x is = absurd (cc)
 found-passes test (y ∷ all) x is = by_test (test y) refl is (found-passes test all x)
   where

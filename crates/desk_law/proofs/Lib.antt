@@ -44,3 +44,4 @@ pub mod ServedRows
 pub mod TurnLoop
 pub mod MemorySteps
 pub mod MemoryLaw
+pub mod CyclesClose

@@ -13,11 +13,11 @@ use Rattle.desk_law.proofs.Walks.{one-step, walk-short, count-lt}
 use Rattle.desk_law.proofs.Waiting.{waits-by, number-of, has-number}
 
 -- the numbers to which waits lead from one
-abbrev reached : (ℕ → ℕ → Bool) → List ℕ → ℕ → ℕ → Bool
+abbrev pub reached : (ℕ → ℕ → Bool) → List ℕ → ℕ → ℕ → Bool
 reached waits all from to = leads waits all (length all) from to
 
 -- one that is waited for leads to fewer
-leads-to-fewer : (waits : ℕ → ℕ → Bool) (all : List ℕ) → HasNoCycle waits all → (from next : ℕ) → has all from ≡ true → has all next ≡ true → waits from next ≡ true
+pub leads-to-fewer : (waits : ℕ → ℕ → Bool) (all : List ℕ) → HasNoCycle waits all → (from next : ℕ) → has all from ≡ true → has all next ≡ true → waits from next ≡ true
     → length (filter (reached waits all next) all) < length (filter (reached waits all from) all)
 leads-to-fewer waits all none from next inside there step =
     count-lt (reached waits all next) (reached waits all from) all

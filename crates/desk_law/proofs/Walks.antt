@@ -209,7 +209,7 @@ count-lt test wider (x ∷ xs) wide some = by_test (test x) (wider x) refl refl 
     by_test false true e f le rest some = omega (arith, le)
     by_test false false e f le rest some = rest some
 
-all-pass : (test : ℕ → Bool) (xs : List ℕ) → length xs ≤ length (filter test xs) → (x : ℕ) → has xs x ≡ true → test x ≡ true
+pub all-pass : (test : ℕ → Bool) (xs : List ℕ) → length xs ≤ length (filter test xs) → (x : ℕ) → has xs x ≡ true → test x ≡ true
 all-pass test [] full x inside = absurd (cc)
 all-pass test (y ∷ ys) full x inside = by_test (test y) refl full (all-pass test ys) inside
   where

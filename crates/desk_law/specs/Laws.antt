@@ -6,9 +6,9 @@ use Rattle.lock_rules.specs.Lines.{Lines, page_of_line}
 use Rattle.lock_rules.specs.Waits.{shown_cycle}
 use Rattle.flat_machine.specs.declared.machine.Program.{Program}
 use Rattle.desk.specs.declared.event.Event.{Event}
-use Rattle.desk.specs.Desk.{Desk, Entry, Authority, nobody, opened}
+use Rattle.desk.specs.Desk.{Desk, Entry, Authority, nobody, opened, with_entry}
 use Rattle.desk.specs.Holdings.{wanted, conflicts_of, numbers, waits_for}
-use Rattle.desk.specs.Instruction.{Word, Counts, Idle, Turning, Over, turn, no_counts, Contest, Contested, Settled, Lost, breaks_cycle}
+use Rattle.desk.specs.Instruction.{Word, Counts, Idle, Turning, Over, turn, no_counts, Contest, Contested, Settled, Lost, breaks_cycle, breaks_cycles}
 use Rattle.desk.specs.Run.{step, run}
 use Rattle.desk_law.specs.Consistent.{IsAmong, permitted, IsConsistent}
 
@@ -79,3 +79,17 @@ BrokenCyclesWere =
     → ((counts_of (breaks_cycle number (Some cycle) desk counts)).cycles ≡ counts.cycles ++ cycle ∷ [])
     × ((rest : List ℕ) × (cycle ≡ number ∷ rest)) × EachWaits (waits_for desk) cycle)
     × (counts_of (breaks_cycle number None desk counts) ≡ counts)
+
+-- the last of a list is this number
+abbrev pub EndsWith : ℕ → List ℕ → Type 0
+EndsWith number [] = ⊥
+EndsWith number (one ∷ []) = one ≡ number
+EndsWith number (one ∷ other ∷ rest) = EndsWith number (other ∷ rest)
+
+-- The law: in whatever round of the contest of an entry of a consistent desk, a cycle that is found ends with the number with which it begins.
+abbrev pub ContestedCyclesClose : Type 0
+ContestedCyclesClose =
+    (desk met : Desk) (entry : Entry) (counts counted : Counts) (rounds : ℕ) (cycle : List ℕ) → IsConsistent desk → IsAmong desk.active entry
+    → breaks_cycles rounds entry.number (Contested (with_entry desk (record entry { waiting = true })) counts) ≡ Contested met counted
+    → shown_cycle (waits_for met) (numbers met) entry.number ≡ Some cycle
+    → EndsWith entry.number cycle

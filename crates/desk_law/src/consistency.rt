@@ -1,4 +1,4 @@
-ghost use Rattle.desk_law.specs.Laws.{BrokenCyclesWere, IdleWhereInactive, PermittedIsFree};
+ghost use Rattle.desk_law.specs.Laws.{BrokenCyclesWere, ContestedCyclesClose, IdleWhereInactive, PermittedIsFree};
 ghost use Rattle.desk_law.specs.Laws.{RunsStayConsistent, SomebodyCanGoOn, StaysConsistent};
 
 /// A desk that is consistent is so after every event with every word (docs/MODEL.md). It calls nothing.
@@ -29,4 +29,9 @@ pub fn somebody_can_go_on()
 /// Each member of a cycle that is broken waited for the next at the desk at which it was found. It calls nothing.
 pub fn broken_cycles_were()
     ensures { BrokenCyclesWere }
+{}
+
+/// A cycle that is found in the contest of an entry ends with the number with which it begins. It calls nothing.
+pub fn contested_cycles_close()
+    ensures { ContestedCyclesClose }
 {}
