@@ -2,11 +2,11 @@
 use Rattle.std.specs.Prelude.{◌≡◌, refl, ℕ, zero, suc, ◌<◌, ◌≤◌, ◌==◌, ◌&&◌, ◌||◌, not, if◌then◌else◌, Bool, true, false, List, [], ◌∷◌, ◌++◌, length, filter, find, Option, Some, None}
 use Rattle.std.specs.Option.{option_map_or}
 use Rattle.std.proofs.Common.{arith, ap, sym, ◌∙◌, subst, inl, inr}
-use Rattle.std.proofs.lemmas.Bool.{eqb-true, eq-eqb, both_ways, and_parts, and_from, or_left, or_right, cases_Bool, not_from_false, false_from_ne_true, cases_lt}
+use Rattle.std.proofs.lemmas.Bool.{eqb-true, both_ways, and_parts, and_from, cases_Bool, not_from_false, cases_lt}
 use Rattle.std.proofs.lemmas.Option.{none-some}
 use Rattle.lock_rules.specs.Sets.{has}
 use Rattle.lock_rules.specs.Waits.{leads, next_shown, shown_after, shown_cycle, victim_of}
-use Rattle.lock_rules.proofs.Sets.{any-at, has-filter}
+use Rattle.lock_rules.proofs.Sets.{has-filter}
 use Rattle.desk.specs.Desk.{Desk, Entry, with_entry, rolled_back}
 use Rattle.desk.specs.Holdings.{numbers, waits_for}
 use Rattle.desk.specs.Instruction.{Counts, Contested, Settled, Lost, breaks_cycle, breaks_cycles}

@@ -45,3 +45,4 @@ pub mod TurnLoop
 pub mod MemorySteps
 pub mod MemoryLaw
 pub mod CyclesClose
+pub mod EndsCaused

@@ -22,6 +22,7 @@ use Rattle.desk.proofs.SerialLaw.{run-serial}
 use Rattle.desk_law.specs.Changes.{gone_on}
 use Rattle.desk_law.specs.Consistent.{IsAmong, IsConsistent}
 use Rattle.desk_law.specs.Current.{current_of, current_bytes}
+use Rattle.desk_law.specs.Laws.{desk_of}
 use Rattle.desk_law.specs.Memory.{Machine, Memory, first_machine, with_machine, given_back, row_of, after_instruction, after_turns, after_event, memory_after, memory_of, IsAlone, IsMemory, RunsAreIsolated, CommitsTellTheMachine, SideBySideIsSerial}
 use Rattle.desk_law.proofs.Orderly.{IsOrderly, orderly}
 use Rattle.desk_law.proofs.Entries.{among-found, among-filter, filter-among, new-among, among-push, between, found-among, one-entry, numbers-replaced}
@@ -37,11 +38,6 @@ use Rattle.desk_law.proofs.KeptTables.{both-imply}
 use Rattle.desk_law.proofs.CurrentBytes.{bytes-current, one-current}
 use Rattle.desk_law.proofs.CurrentSteps.{current-begun, current-quiet}
 use Rattle.desk_law.proofs.MemorySteps.{AreFewer, memory-current, given-back, at-own, row-done, commit-done}
-
--- the desk of a turn
-abbrev pub desk_of : Turning → Desk
-desk_of (Going desk counts) = desk
-desk_of (Over desk counts ending) = desk
 
 module _ (old : Desk) (attempt : Attempt) (is : IsOrderly old) (here : IsAmong old.active attempt.entry)
     (at : after attempt.entry.runs.program attempt.entry.runs.args old.committed attempt.entry.rows ≡ Some attempt.now) where
