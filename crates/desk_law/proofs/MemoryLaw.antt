@@ -1,5 +1,5 @@
 -- The law of isolation.
-use Rattle.std.specs.Prelude.{◌≡◌, refl, ℕ, zero, suc, ◌+◌, ◌<◌, ◌==◌, ◌||◌, nat_lt, not, if◌then◌else◌, Bool, true, false, List, [], ◌∷◌, ◌++◌, length, map, find, Option, Some, None, slice_get}
+use Rattle.std.specs.Prelude.{◌≤◌, ◌≡◌, refl, ℕ, zero, suc, ◌+◌, ◌<◌, ◌==◌, ◌||◌, nat_lt, not, if◌then◌else◌, Bool, true, false, List, [], ◌∷◌, ◌++◌, length, map, find, Option, Some, None, slice_get}
 use Rattle.std.specs.List.{flat_map, range_with_len}
 use Rattle.std.proofs.Common.{arith, ap, sym, ◌∙◌, subst, inl, inr}
 use Rattle.std.proofs.lemmas.Bool.{eqb-true, eq-eqb, ne_eqb, ltb-true, or_cases, or_left, or_right, not_from_false, cond-false}
@@ -23,7 +23,7 @@ use Rattle.desk_law.specs.Changes.{gone_on}
 use Rattle.desk_law.specs.Consistent.{IsAmong, IsConsistent}
 use Rattle.desk_law.specs.Current.{current_of, current_bytes}
 use Rattle.desk_law.specs.Laws.{desk_of}
-use Rattle.desk_law.specs.Memory.{Machine, Memory, first_machine, with_machine, given_back, row_of, after_instruction, after_turns, after_event, memory_after, memory_of, IsAlone, IsMemory, RunsAreIsolated, CommitsTellTheMachine, SideBySideIsSerial}
+use Rattle.desk_law.specs.Memory.{Machine, Memory, first_machine, with_machine, given_back, row_of, after_instruction, after_turns, after_event, memory_after, memory_of, IsAlone, IsMemory, FindTheirOwn, RunsAreIsolated, CommitsTellTheMachine, SideBySideIsSerial}
 use Rattle.desk_law.proofs.Orderly.{IsOrderly, orderly}
 use Rattle.desk_law.proofs.Entries.{among-found, among-filter, filter-among, new-among, among-push, between, found-among, one-entry, numbers-replaced}
 use Rattle.desk_law.proofs.Others.{others}
@@ -36,6 +36,7 @@ use Rattle.desk_law.proofs.TurnsStay.{Stays, Instructed, instructed}
 use Rattle.desk_law.proofs.ConsistentLaw.{stays-consistent, runs-consistent}
 use Rattle.desk_law.proofs.KeptTables.{both-imply}
 use Rattle.desk_law.proofs.CurrentBytes.{bytes-current, one-current}
+use Rattle.desk_law.proofs.CurrentLaw.{holders-see-current}
 use Rattle.desk_law.proofs.CurrentSteps.{current-begun, current-quiet}
 use Rattle.desk_law.proofs.MemorySteps.{AreFewer, memory-current, given-back, at-own, row-done, commit-done}
 
@@ -345,10 +346,21 @@ opened-memory frames most_active most_lines store whole = record {
   alone = λ entry among. absurd among;
 }
 
-pub runs-are-isolated : RunsAreIsolated
-runs-are-isolated programs frames most_active most_lines store events whole two =
+memory-runs : (programs : List Program) (frames most_active most_lines : ℕ) (store : FlatStore) (events : List (Event × Word)) → IsWhole store → 2 ≤ frames
+    → IsMemory (run programs events (opened frames most_active most_lines store)) (memory_after programs events (opened frames most_active most_lines store) (memory_of store))
+memory-runs programs frames most_active most_lines store events whole two =
     memory-run programs events (opened frames most_active most_lines store) (memory_of store)
     (runs-consistent programs frames most_active most_lines store [] whole two) (opened-memory frames most_active most_lines store whole)
+
+-- an entry's own lines are in the bytes of all
+own-found : (desk : Desk) (memory : Memory) → IsConsistent desk → IsMemory desk memory → FindTheirOwn desk memory
+own-found desk memory is of entry state here at line holds =
+    (memory-current desk memory is.whole of).lines line ∙ sym (holders-see-current desk entry state line is here at holds)
+
+pub runs-are-isolated : RunsAreIsolated
+runs-are-isolated programs frames most_active most_lines store events whole two =
+    let is = memory-runs programs frames most_active most_lines store events whole two in
+    (is, own-found _ _ (runs-consistent programs frames most_active most_lines store events whole two) is)
 
 -- one event more
 memory-more : (programs : List Program) (events : List (Event × Word)) (event : Event × Word) (desk : Desk) (memory : Memory)
@@ -403,7 +415,7 @@ commits-tell-the-machine programs frames most_active most_lines store events num
     let (machine, is, told) =
     commit-told programs (run programs events start_desk) (memory_after programs events start_desk (memory_of store)) number limit word counts steps printed
     (runs-consistent programs frames most_active most_lines store events whole two)
-    (runs-are-isolated programs frames most_active most_lines store events whole two) happened in
+    (memory-runs programs frames most_active most_lines store events whole two) happened in
     (machine, ap (λ (memory : Memory). memory.machines number) (memory-more programs events (Turn number limit, word) start_desk (memory_of store)) ∙ is, told)
 
 pub side-by-side-is-serial : SideBySideIsSerial
@@ -422,7 +434,7 @@ side-by-side-is-serial names programs number frames most_active most_lines store
     one_directory = (serial-whole (begun programs events) serial.done store (run programs taken (opened frames most_active most_lines store)).committed whole serial.leaves).1
 
     bytes : (memory_after programs taken (opened frames most_active most_lines store) (memory_of store)).committed ≡ (run programs taken (opened frames most_active most_lines store)).committed.bytes
-    bytes = (runs-are-isolated programs frames most_active most_lines store taken whole two).committed
+    bytes = (memory-runs programs frames most_active most_lines store taken whole two).committed
 
     same : (run programs taken (opened frames most_active most_lines store)).committed ≡ record store { bytes = (memory_after programs taken (opened frames most_active most_lines store) (memory_of store)).committed }
     same = λ i. record { directory = one_directory i; bytes = sym bytes i }

@@ -12,7 +12,7 @@ use Rattle.flat_machine.specs.declared.machine.Program.{Program}
 use Rattle.flat_machine.specs.Row.{Outcome, On, row}
 use Rattle.flat_machine.specs.Touched.{touched}
 use Rattle.flat_machine.specs.After.{start, after}
-use Rattle.flat_machine.specs.Agreement.{line_in}
+use Rattle.flat_machine.specs.Agreement.{line_in, all_of, AgreeOn}
 use Rattle.desk.specs.declared.event.Event.{Event}
 use Rattle.desk.specs.declared.event.Event.TheVariants.{Begin, Turn, Checkpoint, Crash}
 use Rattle.desk.specs.Commits.{begun, IsSerial}
@@ -131,11 +131,20 @@ pub record IsMemory (desk : Desk) (memory : Memory) : Type 0 where
   pub bytes : memory.bytes ≡ current_bytes desk
   pub alone : (entry : Entry) → IsAmong desk.active entry → IsAlone desk.committed entry (memory.machines entry.number)
 
+-- each active entry finds on each line that it holds, in the bytes of all, what it has there when it runs alone
+abbrev pub FindTheirOwn : Desk → Memory → Type 0
+FindTheirOwn desk memory =
+    (entry : Entry) (state : Plain) → IsAmong desk.active entry
+    → after entry.runs.program entry.runs.args desk.committed entry.rows ≡ Some state
+    → AgreeOn desk.committed.directory (all_of (due_to desk.committed entry)) memory.bytes state.store
+
 -- The law of isolation: after every run, what the machines did side by side on one memory is what the desk says of each by itself.
 abbrev pub RunsAreIsolated : Type 0
 RunsAreIsolated =
     (programs : List Program) (frames most_active most_lines : ℕ) (store : FlatStore) (events : List (Event × Word)) → IsWhole store → 2 ≤ frames
     → IsMemory (run programs events (opened frames most_active most_lines store))
+    (memory_after programs events (opened frames most_active most_lines store) (memory_of store))
+    × FindTheirOwn (run programs events (opened frames most_active most_lines store))
     (memory_after programs events (opened frames most_active most_lines store) (memory_of store))
 
 -- The law: a commit tells the bytes that the machine of its activation printed.
