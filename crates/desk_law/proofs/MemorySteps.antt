@@ -44,7 +44,7 @@ pub record AreFewer (old desk : Desk) : Type 0 where
   pub committed : desk.committed ≡ old.committed
   pub was : (entry : Entry) → IsAmong desk.active entry → (before : Entry) × IsAmong old.active before × (before.number ≡ entry.number) × (before.runs ≡ entry.runs) × (before.rows ≡ entry.rows)
 
-has-joined : (f : ℕ → List ℕ) (xs : List ℕ) (line : ℕ) → has (flat_map f xs) line ≡ list_any (λ x. has (f x) line) xs
+pub has-joined : (f : ℕ → List ℕ) (xs : List ℕ) (line : ℕ) → has (flat_map f xs) line ≡ list_any (λ x. has (f x) line) xs
 has-joined f [] line = refl
 has-joined f (x ∷ xs) line = has-append (f x) (flat_map f xs) line ∙ ap (λ (b : Bool). has (f x) line || b) (has-joined f xs line)
 
