@@ -1,12 +1,13 @@
 -- A page that comes in, as a pool brings it that is told of at most one page to keep.
-use Rattle.std.specs.Prelude.{◌≡◌, refl, ℕ, suc, ◌+◌, ◌<◌, ◌==◌, ◌||◌, nat_lt, not, cond, if◌then◌else◌, Bool, true, false, List, [], ◌∷◌, ◌++◌, length, remove, position, unwrap_or, Option, Some, None}
+use Rattle.std.specs.Prelude.{◌≡◌, refl, ℕ, suc, ◌+◌, ◌<◌, ◌≤◌, ◌==◌, ◌||◌, nat_lt, not, cond, if◌then◌else◌, Bool, true, false, List, [], ◌∷◌, ◌++◌, length, remove, position, unwrap_or, Option, Some, None}
 use Rattle.std.specs.List.{position_or_len}
 use Rattle.std.specs.Option.{option_map_or}
 use Rattle.std.proofs.Common.{arith, ap, sym, ◌∙◌}
-use Rattle.std.proofs.lemmas.Bool.{eqb-true, eq-eqb, both_ways, or_left, or_right}
+use Rattle.std.proofs.lemmas.Bool.{eqb-true, eq-eqb, both_ways, ne_eqb, or_parts, or_left, or_right}
 use Rattle.std.proofs.lemmas.Bool.Decides.{nat_tests}
 use Rattle.lock_rules.specs.Sets.{has}
 use Rattle.lock_rules.specs.Resident.{brought}
+use Rattle.desk_law.specs.Consistent.{AreResident}
 
 -- the first that passes is the same for tests that say the same of each
 place-same : (p q : ℕ → Bool) (xs : List ℕ) → ((x : ℕ) → has xs x ≡ true → p x ≡ q x) → position_or_len p xs ≡ position_or_len q xs
@@ -61,6 +62,15 @@ one-goes (Some stays) first second rest differ none = by_tests (stays == first) 
     by_tests false b e f none = is-place 0 (suc (suc (length rest))) (omega arith) none
     by_tests true false e f none = is-place (1 + 0) (suc (suc (length rest))) (omega arith) none
     by_tests true true e f none = both_ways (first == second) differ (eq-eqb first second (sym (eqb-true stays first e) ∙ eqb-true stays second f))
+
+-- So of a consistent desk's resident pages one can go out where the list is full.
+pub resident-goes : (keep : Option ℕ) (frames pages : ℕ) (resident : List ℕ) → 2 ≤ frames → AreResident frames pages resident
+    → position (λ page. not (option_map_or (λ stays. stays == page) keep false)) resident ≡ None → length resident < frames
+resident-goes keep frames pages [] two are none = omega (arith, two)
+resident-goes keep frames pages (one ∷ []) two are none = omega (arith, two)
+resident-goes keep frames pages (first ∷ second ∷ rest) two are none =
+    let apart = or_parts (second == first) (has rest first) are.once.0 in
+    absurd (one-goes keep first second rest (ne_eqb first second (λ same. both_ways (second == first) apart.0 (eq-eqb second first (sym same)))) none)
 
 -- what stays of one page, and of two
 pub stays-one : (page : ℕ) (resident : List ℕ) → has resident page ≡ false → (x : ℕ) → has resident x ≡ true → has (page ∷ []) x ≡ false

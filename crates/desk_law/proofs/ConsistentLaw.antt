@@ -1,22 +1,22 @@
 -- A consistent desk stays so.
 use Rattle.std.specs.Prelude.{◌≡◌, refl, ℕ, ◌+◌, ◌<◌, ◌==◌, nat_lt, if◌then◌else◌, Bool, true, false, List, [], ◌∷◌, length, find, Option, Some, None, slice_get}
-use Rattle.std.proofs.Common.{arith, ap}
+use Rattle.std.proofs.Common.{arith, ap, subst}
 use Rattle.std.proofs.lemmas.Bool.{eqb-true, eq-eqb, both_ways, ltb-true}
 use Rattle.line_geometry.specs.Directory.{page_count}
 use Rattle.flat_machine.specs.declared.machine.Program.{Program}
 use Rattle.desk.specs.declared.event.Event.{Event}
 use Rattle.desk.specs.declared.event.Event.TheVariants.{Begin, Turn, Checkpoint, Crash}
 use Rattle.desk.specs.Desk.{Desk, Entry, opened}
-use Rattle.desk.specs.Instruction.{Word, Fine, ReadFailed, Unwritten, Doubt, Failed, Turning, Going, Over, Idle, turns, turn, turn_of, no_counts}
+use Rattle.desk.specs.Instruction.{Word, Fine, ReadFailed, Unwritten, Doubt, Failed, Counts, Turning, Going, Over, Idle, instruction, turns, turn, turn_of, no_counts}
 use Rattle.desk.specs.Run.{turned, begin_if, begins, absent_segment, restarted, event_of, step, run, Busy, Nothing}
-use Rattle.desk_law.specs.Consistent.{Ascend, IsConsistent}
-use Rattle.desk_law.specs.Laws.{StaysConsistent, IsActive, IsNotIdle, IdleWhereInactive, RunsStayConsistent}
+use Rattle.desk_law.specs.Consistent.{IsAmong, Ascend, IsConsistent}
+use Rattle.desk_law.specs.Laws.{desk_of, StaysConsistent, IsActive, IsNotIdle, IdleWhereInactive, RunsStayConsistent}
 use Rattle.desk_law.proofs.Orderly.{IsOrderly, orderly}
-use Rattle.desk_law.proofs.Entries.{among-found, none-found}
+use Rattle.desk_law.proofs.Entries.{among-found, none-found, found-among}
 use Rattle.desk_law.proofs.Endings.{begins-consistent, refused-consistent, quiet-consistent, opened-consistent}
-use Rattle.desk_law.proofs.TurnsStay.{Stays, stays-turns}
+use Rattle.desk_law.proofs.TurnsStay.{Stays, stays-turns, stays-instruction}
 use Rattle.desk_law.proofs.ResidentPages.{none-resident}
-use Rattle.desk_law.proofs.ResidentTurns.{Fits, TurnFits, fits-turns}
+use Rattle.desk_law.proofs.ResidentTurns.{Fits, TurnFits, fits-turns, fits-instruction}
 
 fits : (desk : Desk) → IsConsistent desk → Fits desk
 fits desk is = record { frames = is.frames; resident = is.resident }
@@ -76,6 +76,18 @@ stays-turn word activation limit desk is = by_entry (find (λ (entry : Entry). e
         stays-turned activation (length desk.active) (turns word activation limit (Going desk no_counts))
         (turn-stays word activation limit desk (orderly desk is) (entry, here, eqb-true entry.number activation passes))
         (fits-turns word activation limit (Going desk no_counts) (fits desk is))
+
+-- an instruction of an active entry leaves a consistent desk, whatever it comes to
+pub instruction-consistent : (word : Word) (desk : Desk) (counts : Counts) (entry : Entry) → IsConsistent desk → IsAmong desk.active entry → IsConsistent (desk_of (instruction word (Some entry) desk counts))
+instruction-consistent word desk counts entry is here =
+    by_turning (instruction word (Some entry) desk counts)
+    (subst (λ (one : Option Entry). Stays entry.number (length counts.cycles + length desk.active) (instruction word one desk counts)) (found-among desk.next desk.active entry is.active.ascend here)
+    (stays-instruction word entry.number (length counts.cycles + length desk.active) desk counts (orderly desk is) (entry, here, refl) (omega arith)))
+    (fits-instruction word (Some entry) desk counts (fits desk is))
+  where
+    by_turning : (turning : Turning) → Stays entry.number (length counts.cycles + length desk.active) turning → TurnFits turning → IsConsistent (desk_of turning)
+    by_turning (Going next more) stays fit = consistent next stays.0 fit
+    by_turning (Over next more ending) stays fit = consistent next stays.0 fit
 
 -- a begin
 refused : (desk : Desk) → IsConsistent desk → IsConsistent (record desk { next = desk.next + 1 })

@@ -142,7 +142,7 @@ module _ (word : Word) (attempt : Attempt) (directory : Layout) (below : (page :
   fits-attempt Commit desk counts same is = fits-limit (is_over_limit attempt desk) desk counts same is
 
 -- an instruction
-fits-instruction : (word : Word) (one : Option Entry) (desk : Desk) (counts : Counts) → Fits desk → TurnFits (instruction word one desk counts)
+pub fits-instruction : (word : Word) (one : Option Entry) (desk : Desk) (counts : Counts) → Fits desk → TurnFits (instruction word one desk counts)
 unfolding instruction
 fits-instruction word None desk counts is = is
 fits-instruction word (Some entry) desk counts is = by_state (after entry.runs.program entry.runs.args desk.committed entry.rows) refl
