@@ -10,7 +10,8 @@ use Rattle.desk.specs.Desk.{Desk, Entry, opened}
 use Rattle.desk.specs.Instruction.{Word, Fine, ReadFailed, Unwritten, Doubt, Failed, Counts, Turning, Going, Over, Idle, instruction, turns, turn, turn_of, no_counts}
 use Rattle.desk.specs.Run.{turned, begin_if, begins, absent_segment, restarted, event_of, step, run, Busy, Nothing}
 use Rattle.desk_law.specs.Consistent.{IsAmong, Ascend, IsConsistent}
-use Rattle.desk_law.specs.Laws.{desk_of, StaysConsistent, IsActive, IsNotIdle, IdleWhereInactive, RunsStayConsistent}
+use Rattle.desk_law.specs.Causes.{desk_of}
+use Rattle.desk_law.specs.Laws.{StaysConsistent, IsActive, IsNotIdle, IdleWhereInactive, RunsStayConsistent}
 use Rattle.desk_law.proofs.Orderly.{IsOrderly, orderly}
 use Rattle.desk_law.proofs.Entries.{among-found, none-found, found-among}
 use Rattle.desk_law.proofs.Endings.{begins-consistent, refused-consistent, quiet-consistent, opened-consistent}

@@ -11,7 +11,7 @@ use Rattle.desk.specs.Desk.{Desk, Entry, with_entry}
 use Rattle.desk.specs.Holdings.{wanted, conflicts_of, numbers, waits_for}
 use Rattle.desk.specs.Instruction.{Word, Fine, ReadFailed, Unwritten, Doubt, Failed, Counts, Turning, Going, Over, Limit, Attempt, Fetching, Fetched, Broken, Contest, Contested, Settled, Lost, attempts, attempts_at, instruction, turns, turn_of, no_counts, limited, is_over_limit, fetched_first, fetches_touched, asks, gets, goes_on, takes_effect, commits, contest_ends, waits_or_gets, with_grants, refused_pages, breaks_cycle, breaks_cycles}
 use Rattle.desk_law.specs.Changes.{gone_on}
-use Rattle.desk_law.specs.Laws.{desk_of, turn_counts, ends_own, IsAccounted, EndsHaveCauses}
+use Rattle.desk_law.specs.Causes.{desk_of, turn_counts, ends_own, IsAccounted, EndsHaveCauses}
 use Rattle.desk_law.proofs.Entries.{among-found, filter-among, numbers-replaced}
 use Rattle.desk_law.proofs.Waiting.{number-of, has-number}
 use Rattle.desk_law.proofs.Contest.{left_over, without}

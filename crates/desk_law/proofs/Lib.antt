@@ -47,3 +47,4 @@ pub mod MemoryLaw
 pub mod LaidPages
 pub mod CyclesClose
 pub mod EndsCaused
+pub mod TurnCauses

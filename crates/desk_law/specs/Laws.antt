@@ -1,14 +1,14 @@
 -- The laws of a desk at every moment.
-use Rattle.std.specs.Prelude.{◌≡◌, ℕ, ◌≤◌, ◌==◌, ◌⊎◌, map, Bool, true, false, IsTrue, IsFalse, List, [], ◌∷◌, ◌++◌, slice_index_or, Some, None}
+use Rattle.std.specs.Prelude.{◌≡◌, ℕ, ◌≤◌, Bool, true, false, IsTrue, IsFalse, List, [], ◌∷◌, ◌++◌, slice_index_or, Some, None}
 use Rattle.line_geometry.specs.FlatStore.{FlatStore, IsWhole}
 use Rattle.lock_rules.specs.Sets.{has}
 use Rattle.lock_rules.specs.Lines.{Lines, page_of_line}
-use Rattle.lock_rules.specs.Waits.{shown_cycle, victim_of}
+use Rattle.lock_rules.specs.Waits.{shown_cycle}
 use Rattle.flat_machine.specs.declared.machine.Program.{Program}
 use Rattle.desk.specs.declared.event.Event.{Event}
 use Rattle.desk.specs.Desk.{Desk, Entry, Authority, nobody, opened, with_entry}
 use Rattle.desk.specs.Holdings.{wanted, conflicts_of, numbers, waits_for}
-use Rattle.desk.specs.Instruction.{Word, Counts, Idle, Checked, Journal, Disk, Committed, Turning, Going, Over, turn, no_counts, Contest, Contested, Settled, Lost, breaks_cycle, breaks_cycles}
+use Rattle.desk.specs.Instruction.{Word, Counts, Idle, Turning, Over, turn, no_counts, Contest, Contested, Settled, Lost, breaks_cycle, breaks_cycles}
 use Rattle.desk.specs.Run.{step, run}
 use Rattle.desk_law.specs.Consistent.{IsAmong, permitted, IsConsistent}
 
@@ -93,33 +93,3 @@ ContestedCyclesClose =
     → breaks_cycles rounds entry.number (Contested (with_entry desk (record entry { waiting = true })) counts) ≡ Contested met counted
     → shown_cycle (waits_for met) (numbers met) entry.number ≡ Some cycle
     → EndsWith entry.number cycle
-
--- the desk and the counts of a turn, and whether it is over by an end of its own activation
-abbrev pub desk_of : Turning → Desk
-desk_of (Going desk counts) = desk
-desk_of (Over desk counts ending) = desk
-
-abbrev pub turn_counts : Turning → Counts
-turn_counts (Going desk counts) = counts
-turn_counts (Over desk counts ending) = counts
-
-abbrev pub ends_own : Turning → Bool
-ends_own (Over desk counts (Checked code address)) = true
-ends_own (Over desk counts (Journal lines limit)) = true
-ends_own (Over desk counts Disk) = true
-ends_own (Over desk counts (Committed steps printed)) = true
-ends_own _ = false
-
--- a number is that of an active entry still, or of the victim of a cycle that the turn recorded, or it is the turn's own, which ended itself
-abbrev pub IsAccounted : (number : ℕ) → Turning → ℕ → Type 0
-IsAccounted number turning other =
-    IsTrue (has (numbers (desk_of turning)) other)
-    ⊎ (IsTrue (has (map victim_of (turn_counts turning).cycles) other)
-    ⊎ (IsTrue (other == number) × IsTrue (ends_own turning)))
-
--- The law: who is active before a turn and not after it was the victim of a cycle that the turn recorded, or has the turn's number, and the turn
--- ended by its check, the limit on lines, a page that can't be read, or its commit.
-abbrev pub EndsHaveCauses : Type 0
-EndsHaveCauses =
-    (word : Word) (number limit : ℕ) (desk : Desk) (entry : Entry) → IsAmong desk.active entry
-    → IsAccounted number (turn word number limit desk) entry.number

@@ -5,3 +5,4 @@ pub mod Current
 pub mod CurrentLaws
 pub mod Beside
 pub mod Memory
+pub mod Causes

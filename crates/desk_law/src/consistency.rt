@@ -1,4 +1,4 @@
-ghost use Rattle.desk_law.specs.Laws.{BrokenCyclesWere, ContestedCyclesClose, EndsHaveCauses, IdleWhereInactive, PermittedIsFree};
+ghost use Rattle.desk_law.specs.Laws.{BrokenCyclesWere, ContestedCyclesClose, IdleWhereInactive, PermittedIsFree};
 ghost use Rattle.desk_law.specs.Laws.{RunsStayConsistent, SomebodyCanGoOn, StaysConsistent};
 
 /// A desk that is consistent is so after every event with every word (docs/MODEL.md). It calls nothing.
@@ -34,11 +34,4 @@ pub fn broken_cycles_were()
 /// A cycle that is found in the contest of an entry ends with the number with which it begins. It calls nothing.
 pub fn contested_cycles_close()
     ensures { ContestedCyclesClose }
-{}
-
-/// Who is active before a turn and not after it was the victim of a cycle that the turn recorded, or is its own
-/// activation, and the turn ended by its check, the limit on lines, a page that can't be read, or its commit. It calls
-/// nothing.
-pub fn ends_have_causes()
-    ensures { EndsHaveCauses }
 {}
