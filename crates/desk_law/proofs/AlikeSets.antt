@@ -1,0 +1,59 @@
+-- What depends on sets of lines as sets alone: pages taken out, grants, and how many lines are written.
+use Rattle.std.specs.Prelude.{◌≡◌, refl, ℕ, ◌==◌, ◌||◌, not, if◌then◌else◌, Bool, true, List, [], ◌∷◌, ◌++◌, filter, slice_set}
+use Rattle.std.proofs.Common.{ap, sym, ◌∙◌}
+use Rattle.lock_rules.specs.Sets.{has, size}
+use Rattle.lock_rules.specs.Lines.{Lines, within_page, lines_of_page, page_of_line, pages_of}
+use Rattle.lock_rules.specs.Resident.{taken_out}
+use Rattle.lock_rules.proofs.Sets.{has-append, any-some, any-at}
+use Rattle.lock_rules.proofs.Sizes.{size-alike}
+use Rattle.lock_rules.proofs.Lines.{has-pages_of}
+use Rattle.desk.specs.Desk.{Desk, Entry, Authority, written_pages}
+use Rattle.desk.specs.Instruction.{Attempt, authority_by, granted}
+use Rattle.desk_law.specs.Beside.{AreAlike}
+use Rattle.desk_law.specs.Consistent.{due_to}
+use Rattle.desk_law.proofs.KeptTables.{both-imply}
+
+pub filter-same : (p q : ℕ → Bool) (xs : List ℕ) → ((x : ℕ) → p x ≡ q x) → filter p xs ≡ filter q xs
+filter-same p q [] same = refl
+filter-same p q (x ∷ xs) same = λ i. if same x i then x ∷ filter-same p q xs same i else filter-same p q xs same i
+
+pub pages-alike : (xs ys : List ℕ) → ((x : ℕ) → has xs x ≡ has ys x) → (page : ℕ) → has (pages_of xs) page ≡ has (pages_of ys) page
+pages-alike xs ys same page = both-imply (has (pages_of xs) page) (has (pages_of ys) page) there back
+  where
+    there : has (pages_of xs) page ≡ true → has (pages_of ys) page ≡ true
+    there inside =
+        let (x, among, at) = any-some (λ l. page_of_line l == page) xs (sym (has-pages_of xs page) ∙ inside) in
+        has-pages_of ys page ∙ any-at (λ l. page_of_line l == page) ys x (sym (same x) ∙ among) at
+
+    back : has (pages_of ys) page ≡ true → has (pages_of xs) page ≡ true
+    back inside =
+        let (x, among, at) = any-some (λ l. page_of_line l == page) ys (sym (has-pages_of ys page) ∙ inside) in
+        has-pages_of xs page ∙ any-at (λ l. page_of_line l == page) xs x (same x ∙ among) at
+
+-- The pages that a rollback takes out are those of the kept locks.
+pub taken-alike : (locks : Lines) (desk : Desk) (entry : Entry) (resident : List ℕ) → AreAlike locks (due_to desk.committed entry)
+    → taken_out (pages_of locks.writes) resident ≡ taken_out (written_pages desk.committed entry) resident
+taken-alike locks desk entry resident alike =
+    filter-same (λ page. not (has (pages_of locks.writes) page)) (λ page. not (has (written_pages desk.committed entry) page)) resident
+    (λ page. ap not (pages-alike locks.writes (due_to desk.committed entry).writes alike.writes page))
+
+within-alike : (page : ℕ) (xs ys : List ℕ) → ((x : ℕ) → has xs x ≡ has ys x) → within_page page xs ≡ within_page page ys
+within-alike page xs ys same = filter-same (has xs) (has ys) (lines_of_page page) same
+
+-- Grants by the kept locks are the desk's.
+pub granted-alike : (attempt : Attempt) (locks due : Lines) (pages : List ℕ) (authority : List Authority) → AreAlike locks due
+    → granted attempt locks pages authority ≡ granted attempt due pages authority
+granted-alike attempt locks due [] authority alike = refl
+granted-alike attempt locks due (page ∷ pages) authority alike =
+    ap (λ (one : Authority). granted attempt locks pages (slice_set authority page one))
+    (λ i. authority_by attempt.entry.number (within-alike page locks.reads due.reads alike.reads i) (within-alike page locks.writes due.writes alike.writes i))
+    ∙ granted-alike attempt locks due pages (slice_set authority page (authority_by attempt.entry.number (within_page page due.reads) (within_page page due.writes))) alike
+
+-- The lines written with those of a row are so many by the kept locks.
+pub written-alike : (locks due more : Lines) → AreAlike locks due → size (locks.writes ++ more.writes) ≡ size (due.writes ++ more.writes)
+written-alike locks due more alike =
+    size-alike (locks.writes ++ more.writes) (due.writes ++ more.writes)
+    (record { among = λ x inside. sym (same x) ∙ inside }) (record { among = λ x inside. same x ∙ inside })
+  where
+    same : (x : ℕ) → has (locks.writes ++ more.writes) x ≡ has (due.writes ++ more.writes) x
+    same x = has-append locks.writes more.writes x ∙ ap (λ (b : Bool). b || has more.writes x) (alike.writes x) ∙ sym (has-append due.writes more.writes x)

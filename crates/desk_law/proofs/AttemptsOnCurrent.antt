@@ -1,0 +1,159 @@
+-- What an attempt over the bytes of all says of the entry's own row, and what follows where its lines were there.
+use Rattle.std.specs.Prelude.{◌≡◌, refl, ℕ, ◌+◌, List, length, Option, Some}
+use Rattle.std.specs.Option.{option_map_or}
+use Rattle.std.proofs.Common.{arith, ap, sym, ◌∙◌, subst}
+use Rattle.line_geometry.specs.Directory.{Layout}
+use Rattle.lock_rules.specs.Lines.{no_lines}
+use Rattle.lock_rules.proofs.Lines.{ArePart}
+use Rattle.flat_machine.specs.declared.machine.Plain.{Plain}
+use Rattle.flat_machine.specs.declared.machine.Plan.{Plan}
+use Rattle.flat_machine.specs.declared.machine.Plan.TheVariants.{Does, Fails}
+use Rattle.flat_machine.specs.declared.machine.Program.{Program}
+use Rattle.flat_machine.specs.Row.{Outcome, On, Commit, Check, plan_at, row}
+use Rattle.flat_machine.specs.Touched.{touched, touched_by}
+use Rattle.flat_machine.specs.After.{after}
+use Rattle.flat_machine.specs.Agreement.{SameWay}
+use Rattle.flat_machine.proofs.SameWay.{row-way}
+use Rattle.flat_machine.proofs.Steps.{lines_of_plan}
+use Rattle.desk.specs.Desk.{Desk, Entry, with_entry}
+use Rattle.desk.specs.Holdings.{wanted, request}
+use Rattle.desk.specs.Instruction.{Word, Fine, Counts, Going, Over, instruction}
+use Rattle.desk_law.specs.Beside.{AreThere, over_all}
+use Rattle.desk_law.specs.Changes.{gone_on}
+use Rattle.desk_law.specs.Consistent.{IsAmong, due_to}
+use Rattle.desk_law.specs.Current.{IsCurrent}
+use Rattle.desk_law.proofs.Entries.{replaced, found-among}
+use Rattle.desk_law.proofs.LinesThere.{there-held}
+use Rattle.desk_law.proofs.Orderly.{IsOrderly}
+use Rattle.desk_law.proofs.Permitted.{held-free}
+use Rattle.desk_law.proofs.RowsThere.{open-row}
+use Rattle.desk_law.proofs.SharedBytes.{RunsOn, row-on-current}
+use Rattle.desk_law.proofs.TurnsStay.{Stays, stays-instruction}
+use Rattle.desk_law.proofs.Others.{after-row}
+
+-- a row over the bytes of all that goes on is one of the entry's own, which touches the same lines
+pub record IsOwnRow (program : Program) (directory : Layout) (now : Plain) (bytes : List ℕ) : Type 0 where
+  pub next : Plain
+  pub went : row program directory now ≡ On next
+  pub lines : touched program directory now ≡ touched program directory (over_all now bytes)
+
+lines-of : (p : Program) (d : Layout) (s next : Plain) → row p d s ≡ On next → touched p d s ≡ lines_of_plan p d (plan_at s)
+lines-of p d s next went = ap (λ (outcome : Outcome). touched_by p d outcome (plan_at s)) went ∙ by_plan (plan_at s)
+  where
+    by_plan : (plan : Plan) → touched_by p d (On next) plan ≡ lines_of_plan p d plan
+    by_plan (Does registers status act address link) = refl
+    by_plan (Fails code) = refl
+
+pub own-row : (program : Program) (directory : Layout) (now shown : Plain) (bytes : List ℕ) → row program directory (over_all now bytes) ≡ On shown → IsOwnRow program directory now bytes
+own-row program directory now shown bytes went = by_way (row program directory now) refl (subst (SameWay (row program directory now)) went (row-way program directory now bytes))
+  where
+    by_way : (outcome : Outcome) → row program directory now ≡ outcome → SameWay outcome (On shown) → IsOwnRow program directory now bytes
+    by_way (On next) is way = record {
+      next = next;
+      went = is;
+      lines = lines-of program directory now next is ∙ sym (lines-of program directory (over_all now bytes) shown went);
+    }
+    by_way Commit is way = absurd way
+    by_way (Check code) is way = absurd way
+
+pub own-commit : (program : Program) (directory : Layout) (now : Plain) (bytes : List ℕ) → row program directory (over_all now bytes) ≡ Commit → row program directory now ≡ Commit
+own-commit program directory now bytes went = by_way (row program directory now) (subst (SameWay (row program directory now)) went (row-way program directory now bytes))
+  where
+    by_way : (outcome : Outcome) → SameWay outcome Commit → outcome ≡ Commit
+    by_way (On next) way = absurd way
+    by_way Commit way = refl
+    by_way (Check code) way = absurd way
+
+pub own-check : (program : Program) (directory : Layout) (now : Plain) (bytes : List ℕ) (code : ℕ) → row program directory (over_all now bytes) ≡ Check code → row program directory now ≡ Check code
+own-check program directory now bytes code went = by_way (row program directory now) (subst (SameWay (row program directory now)) went (row-way program directory now bytes))
+  where
+    by_way : (outcome : Outcome) → SameWay outcome (Check code) → outcome ≡ Check code
+    by_way (On next) way = absurd way
+    by_way Commit way = absurd way
+    by_way (Check other) way = ap Check way
+
+-- what the next row touches is what the attempt touched
+pub wanted-is : (desk : Desk) (entry : Entry) (now shown : Plain) (bytes : List ℕ) → after entry.runs.program entry.runs.args desk.committed entry.rows ≡ Some now
+    → row entry.runs.program desk.committed.directory (over_all now bytes) ≡ On shown
+    → wanted desk entry ≡ touched entry.runs.program desk.committed.directory (over_all now bytes)
+wanted-is desk entry now shown bytes at went =
+    ap (λ (state : Option Plain). option_map_or (touched entry.runs.program desk.committed.directory) state no_lines) at
+    ∙ (own-row entry.runs.program desk.committed.directory now shown bytes went).lines
+
+-- an instruction leaves a consistent desk
+pub goes-consistent : (word : Word) (desk next : Desk) (counts more : Counts) (entry : Entry) → IsOrderly desk → IsAmong desk.active entry
+    → instruction word (Some entry) desk counts ≡ Going next more → IsOrderly next
+goes-consistent word desk next counts more entry is here comes =
+    (subst (Stays entry.number (length counts.cycles + length desk.active))
+    (ap (λ (one : Option Entry). instruction word one desk counts) (found-among desk.next desk.active entry is.active.ascend here) ∙ comes)
+    (stays-instruction word entry.number (length counts.cycles + length desk.active) desk counts is (entry, here, refl) (omega arith))).0
+
+pub ends-consistent : (word : Word) (desk next : Desk) (counts more : Counts) (ending : _) (entry : Entry) → IsOrderly desk → IsAmong desk.active entry
+    → instruction word (Some entry) desk counts ≡ Over next more ending → IsOrderly next
+ends-consistent word desk next counts more ending entry is here comes =
+    (subst (Stays entry.number (length counts.cycles + length desk.active))
+    (ap (λ (one : Option Entry). instruction word one desk counts) (found-among desk.next desk.active entry is.active.ascend here) ∙ comes)
+    (stays-instruction word entry.number (length counts.cycles + length desk.active) desk counts is (entry, here, refl) (omega arith))).0
+
+-- what an attempt that went leaves, with the state that the storage shows after it
+pub record HasGone (desk : Desk) (counts : Counts) (entry : Entry) (shown : Plain) : Type 0 where
+  pub next : Plain
+  pub shows : shown ≡ over_all next shown.store
+  pub is_instruction : (word : Word) → instruction word (Some entry) desk counts ≡ Going (with_entry desk (gone_on entry)) (record counts { ran = counts.ran + 1 })
+  pub at : after entry.runs.program entry.runs.args desk.committed (entry.rows + 1) ≡ Some next
+  pub held : ArePart (request desk entry) (due_to desk.committed entry)
+  pub consistent : IsOrderly (with_entry desk (gone_on entry))
+  pub is_current : IsCurrent desk.committed (replaced (gone_on entry) desk.active) shown.store
+
+-- the bytes that a row over the bytes of all leaves
+pub shown-current : (desk : Desk) (entry : Entry) (now next shown : Plain) (bytes : List ℕ) → RunsOn desk.committed desk.active entry now next bytes
+    → row entry.runs.program desk.committed.directory (over_all now bytes) ≡ On shown
+    → (shown ≡ over_all next shown.store) × IsCurrent desk.committed (replaced (gone_on entry) desk.active) shown.store
+shown-current desk entry now next shown bytes runs went =
+    let same : shown ≡ over_all next runs.other = on-same shown (over_all next runs.other) (sym went ∙ runs.went) in (
+      same ∙ ap (over_all next) (sym (ap (λ (s : Plain). s.store) same)),
+      subst (IsCurrent desk.committed (replaced (gone_on entry) desk.active)) (sym (ap (λ (s : Plain). s.store) same)) runs.is_current,
+    )
+  where
+    on-same : (one other : Plain) → On one ≡ On other → one ≡ other
+    on-same one other is = cc
+
+-- An attempt that went over the bytes of all, on lines that are there, is the instruction of the desk.
+pub attempt-goes :
+    (desk : Desk) (counts : Counts) (entry : Entry) (now shown : Plain) (bytes : List ℕ) → IsOrderly desk → IsAmong desk.active entry
+    → after entry.runs.program entry.runs.args desk.committed entry.rows ≡ Some now
+    → IsCurrent desk.committed desk.active bytes
+    → row entry.runs.program desk.committed.directory (over_all now bytes) ≡ On shown
+    → AreThere desk entry.number (touched entry.runs.program desk.committed.directory (over_all now bytes))
+    → HasGone desk counts entry shown
+attempt-goes desk counts entry now shown bytes is here at current_now went there =
+    record {
+      next = own.next;
+      shows = left.0;
+      is_instruction = λ word. goes word counts;
+      at = after-row desk.committed entry now own.next at own.went;
+      held = held;
+      consistent = later;
+      is_current = left.1;
+    }
+  where
+    own : IsOwnRow entry.runs.program desk.committed.directory now bytes
+    own = own-row entry.runs.program desk.committed.directory now shown bytes went
+
+    wanted_there : AreThere desk entry.number (wanted desk entry)
+    wanted_there = subst (AreThere desk entry.number) (sym (wanted-is desk entry now shown bytes at went)) there
+
+    held : ArePart (request desk entry) (due_to desk.committed entry)
+    held = there-held desk entry is here wanted_there
+
+    goes : (word : Word) (some : Counts) → instruction word (Some entry) desk some ≡ Going (with_entry desk (gone_on entry)) (record some { ran = some.ran + 1 })
+    goes word some = open-row word desk some entry now own.next is here at own.went wanted_there
+
+    later : IsOrderly (with_entry desk (gone_on entry))
+    later = goes-consistent Fine desk (with_entry desk (gone_on entry)) counts (record counts { ran = counts.ran + 1 }) entry is here (goes Fine counts)
+
+    left : (shown ≡ over_all own.next shown.store) × IsCurrent desk.committed (replaced (gone_on entry) desk.active) shown.store
+    left =
+        shown-current desk entry now own.next shown bytes
+        (row-on-current desk desk.most_lines entry now own.next bytes is.whole is.active later.active here at own.went (held-free desk entry is here held) current_now)
+        went

@@ -1,0 +1,160 @@
+-- A consistent desk stays so.
+use Rattle.std.specs.Prelude.{◌≡◌, refl, ℕ, ◌+◌, ◌<◌, ◌==◌, nat_lt, if◌then◌else◌, Bool, true, false, List, [], ◌∷◌, length, find, Option, Some, None, slice_get}
+use Rattle.std.proofs.Common.{arith, ap, subst}
+use Rattle.std.proofs.lemmas.Bool.{eqb-true, eq-eqb, both_ways, ltb-true}
+use Rattle.line_geometry.specs.Directory.{page_count}
+use Rattle.flat_machine.specs.declared.machine.Program.{Program}
+use Rattle.desk.specs.declared.event.Event.{Event}
+use Rattle.desk.specs.declared.event.Event.TheVariants.{Begin, Turn, Checkpoint, Crash}
+use Rattle.desk.specs.Desk.{Desk, Entry, opened}
+use Rattle.desk.specs.Instruction.{Word, Fine, ReadFailed, Unwritten, Doubt, Failed, Counts, Turning, Going, Over, Idle, instruction, turns, turn, turn_of, no_counts}
+use Rattle.desk.specs.Run.{turned, begin_if, begins, absent_segment, restarted, event_of, step, run, Busy, Nothing}
+use Rattle.desk_law.specs.Consistent.{IsAmong, Ascend, IsConsistent}
+use Rattle.desk_law.specs.Causes.{desk_of}
+use Rattle.desk_law.specs.Laws.{StaysConsistent, IsActive, IsNotIdle, IdleWhereInactive, RunsStayConsistent}
+use Rattle.desk_law.proofs.Orderly.{IsOrderly, orderly}
+use Rattle.desk_law.proofs.Entries.{among-found, none-found, found-among}
+use Rattle.desk_law.proofs.Endings.{begins-consistent, refused-consistent, quiet-consistent, opened-consistent}
+use Rattle.desk_law.proofs.TurnsStay.{Stays, stays-turns, stays-instruction}
+use Rattle.desk_law.proofs.ResidentPages.{none-resident}
+use Rattle.desk_law.proofs.ResidentTurns.{Fits, TurnFits, fits-turns, fits-instruction}
+
+fits : (desk : Desk) → IsConsistent desk → Fits desk
+fits desk is = record { frames = is.frames; resident = is.resident }
+
+-- both parts of it
+pub consistent : (desk : Desk) → IsOrderly desk → Fits desk → IsConsistent desk
+consistent desk is fit = record {
+  whole = is.whole;
+  frames = fit.frames;
+  resident = fit.resident;
+  few = is.few;
+  active = is.active;
+  held = is.held;
+  no_cycle = is.no_cycle;
+}
+
+-- a number has no entry where it isn't active
+pub inactive-none : (desk : Desk) (number : ℕ) → (IsActive desk number → ⊥) → find (λ (entry : Entry). entry.number == number) desk.active ≡ None
+inactive-none desk number inactive = by_entry (find (λ (entry : Entry). entry.number == number) desk.active) refl
+  where
+    by_entry : (one : Option Entry) → find (λ (entry : Entry). entry.number == number) desk.active ≡ one → one ≡ None
+    by_entry None found = refl
+    by_entry (Some entry) found =
+        let (here, passes) = among-found (λ (entry : Entry). entry.number == number) desk.active entry found in
+        absurd (inactive (entry, here, eqb-true entry.number number passes))
+
+-- a turn of an active number
+turn-stays : (word : Word) (number limit : ℕ) (desk : Desk) → IsOrderly desk → IsActive desk number → Stays number (length desk.active) (turns word number limit (Going desk no_counts))
+turn-stays word number limit desk is active = stays-turns word number (length desk.active) limit (Going desk no_counts) (is, active, omega arith)
+
+not-idle : (number most : ℕ) (turning : Turning) → Stays number most turning → IsNotIdle turning
+not-idle number most (Going desk counts) is = tt
+not-idle number most (Over desk counts Idle) is = is.1
+not-idle number most (Over desk counts ending) is = tt
+
+pub idle-where-inactive : IdleWhereInactive
+idle-where-inactive word number limit desk is = (
+  λ active. by_entry active (find (λ (entry : Entry). entry.number == number) desk.active) refl,
+  λ inactive. ap (λ (one : Option Entry). turn_of one word number limit desk) (inactive-none desk number inactive),
+)
+  where
+    by_entry : IsActive desk number → (one : Option Entry) → find (λ (entry : Entry). entry.number == number) desk.active ≡ one → IsNotIdle (turn_of one word number limit desk)
+    by_entry active None found = absurd (both_ways (active.0.number == number) (none-found (λ (entry : Entry). entry.number == number) desk.active found active.0 active.1) (eq-eqb active.0.number number active.2))
+    by_entry active (Some entry) found = not-idle number (length desk.active) (turns word number limit (Going desk no_counts)) (turn-stays word number limit desk (orderly desk is) active)
+
+stays-turned : (activation most : ℕ) (turning : Turning) → Stays activation most turning → TurnFits turning → IsConsistent (turned activation turning).desk
+stays-turned activation most (Over desk counts ending) is fit = consistent desk is.0 fit
+stays-turned activation most (Going desk counts) is fit = consistent desk is.0 fit
+
+stays-turn : (word : Word) (activation limit : ℕ) (desk : Desk) → IsConsistent desk → IsConsistent (turned activation (turn word activation limit desk)).desk
+stays-turn word activation limit desk is = by_entry (find (λ (entry : Entry). entry.number == activation) desk.active) refl
+  where
+    by_entry : (one : Option Entry) → find (λ (entry : Entry). entry.number == activation) desk.active ≡ one → IsConsistent (turned activation (turn_of one word activation limit desk)).desk
+    by_entry None found = is
+    by_entry (Some entry) found =
+        let (here, passes) = among-found (λ (entry : Entry). entry.number == activation) desk.active entry found in
+        stays-turned activation (length desk.active) (turns word activation limit (Going desk no_counts))
+        (turn-stays word activation limit desk (orderly desk is) (entry, here, eqb-true entry.number activation passes))
+        (fits-turns word activation limit (Going desk no_counts) (fits desk is))
+
+-- an instruction of an active entry leaves a consistent desk, whatever it comes to
+pub instruction-consistent : (word : Word) (desk : Desk) (counts : Counts) (entry : Entry) → IsConsistent desk → IsAmong desk.active entry → IsConsistent (desk_of (instruction word (Some entry) desk counts))
+instruction-consistent word desk counts entry is here =
+    by_turning (instruction word (Some entry) desk counts)
+    (subst (λ (one : Option Entry). Stays entry.number (length counts.cycles + length desk.active) (instruction word one desk counts)) (found-among desk.next desk.active entry is.active.ascend here)
+    (stays-instruction word entry.number (length counts.cycles + length desk.active) desk counts (orderly desk is) (entry, here, refl) (omega arith)))
+    (fits-instruction word (Some entry) desk counts (fits desk is))
+  where
+    by_turning : (turning : Turning) → Stays entry.number (length counts.cycles + length desk.active) turning → TurnFits turning → IsConsistent (desk_of turning)
+    by_turning (Going next more) stays fit = consistent next stays.0 fit
+    by_turning (Over next more ending) stays fit = consistent next stays.0 fit
+
+-- a begin
+refused : (desk : Desk) → IsConsistent desk → IsConsistent (record desk { next = desk.next + 1 })
+refused desk is = consistent (record desk { next = desk.next + 1 }) (refused-consistent desk (orderly desk is)) (record { frames = is.frames; resident = is.resident })
+
+stays-begin : (program : ℕ) (args : List ℕ) (code : Option Program) (desk : Desk) → IsConsistent desk → IsConsistent (begin_if program args code desk).desk
+stays-begin program args None desk is = is
+stays-begin program args (Some code) desk is = by_room (nat_lt (length desk.active) desk.most_active) refl
+  where
+    by_segment : length desk.active < desk.most_active → (absent : Option ℕ) → absent_segment desk.committed.directory code.windows ≡ absent
+        → IsConsistent (begins absent program (record { program = code; args = args }) desk).desk
+    by_segment room None present =
+        consistent _ (begins-consistent desk (record { program = code; args = args }) (orderly desk is) room present) (record { frames = is.frames; resident = is.resident })
+    by_segment room (Some segment) absent = refused desk is
+
+    by_room : (room : Bool) → nat_lt (length desk.active) desk.most_active ≡ room
+        → IsConsistent (if room then begins (absent_segment desk.committed.directory code.windows) program (record { program = code; args = args }) desk
+        else record { desk = record desk { next = desk.next + 1 }; happening = Busy desk.next program }).desk
+    by_room true e = by_segment (ltb-true (length desk.active) desk.most_active e) (absent_segment desk.committed.directory code.windows) refl
+    by_room false e = refused desk is
+
+-- a crash
+stays-crash : (desk : Desk) → IsConsistent desk → IsConsistent (restarted desk)
+stays-crash desk is =
+    consistent (restarted desk) (quiet-consistent (restarted desk) is.whole (positive 0 desk.active is.active.ascend) refl refl)
+    (record { frames = is.frames; resident = none-resident desk.frames (page_count desk.committed.directory) })
+  where
+    positive : (low : ℕ) (entries : List Entry) → Ascend low entries desk.next → 0 < desk.next
+    positive low [] up = omega (arith, up)
+    positive low (entry ∷ entries) up = positive entry.number entries up.1
+
+-- a desk that closes
+shut-consistent : (desk : Desk) → IsConsistent desk → IsConsistent (record desk { closed = true })
+shut-consistent desk is = record { whole = is.whole; frames = is.frames; resident = is.resident; few = is.few; active = is.active; held = is.held; no_cycle = is.no_cycle }
+
+-- an event of an open desk
+stays-event : (programs : List Program) (event : Event) (word : Word) (desk : Desk) → IsConsistent desk → IsConsistent (event_of programs event word desk).desk
+stays-event programs (Begin program args) word desk is = stays-begin program args (slice_get programs program) desk is
+stays-event programs (Turn activation limit) word desk is = stays-turn word activation limit desk is
+stays-event programs Checkpoint Failed desk is = shut-consistent desk is
+stays-event programs Checkpoint Fine desk is = is
+stays-event programs Checkpoint (ReadFailed page) desk is = is
+stays-event programs Checkpoint Unwritten desk is = is
+stays-event programs Checkpoint Doubt desk is = is
+stays-event programs Crash Failed desk is = shut-consistent (restarted desk) (stays-crash desk is)
+stays-event programs Crash Fine desk is = stays-crash desk is
+stays-event programs Crash (ReadFailed page) desk is = stays-crash desk is
+stays-event programs Crash Unwritten desk is = stays-crash desk is
+stays-event programs Crash Doubt desk is = stays-crash desk is
+
+-- the law
+pub stays-consistent : StaysConsistent
+stays-consistent programs event word desk is = by_closed desk.closed
+  where
+    by_closed : (closed : Bool) → IsConsistent (if closed then record { desk = desk; happening = Nothing } else event_of programs event word desk).desk
+    by_closed true = is
+    by_closed false = stays-event programs event word desk is
+
+-- a run of a consistent desk
+pub run-consistent : (programs : List Program) (events : List (Event × Word)) (desk : Desk) → IsConsistent desk → IsConsistent (run programs events desk)
+run-consistent programs [] desk is = is
+run-consistent programs (event ∷ events) desk is =
+    run-consistent programs events (step programs event.0 event.1 desk).desk (stays-consistent programs event.0 event.1 desk is)
+
+pub runs-consistent : RunsStayConsistent
+runs-consistent programs frames most most_lines store events whole two =
+    run-consistent programs events (opened frames most most_lines store)
+    (consistent (opened frames most most_lines store) (opened-consistent frames most most_lines store whole)
+    (record { frames = two; resident = none-resident frames (page_count store.directory) }))

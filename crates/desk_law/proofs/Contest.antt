@@ -1,0 +1,312 @@
+-- Cycles of waits and their victims.
+use Rattle.std.specs.Prelude.{◌≡◌, refl, ℕ, zero, suc, ◌+◌, ◌<◌, ◌≤◌, ◌==◌, ◌&&◌, ◌||◌, ◌⊎◌, not, max, if◌then◌else◌, Bool, true, false, List, [], ◌∷◌, ◌++◌, length, filter, map, find, fold, Option, Some, None, slice_index_or}
+use Rattle.std.specs.Option.{option_map_or}
+use Rattle.std.proofs.Common.{arith, ap, sym, ◌∙◌, subst, inl, inr, length-append}
+use Rattle.std.proofs.lemmas.Bool.{eqb-true, eq-eqb, ne_eqb, both_ways, and_parts, and_from, or_cases, or_left, or_right, not_from_false, not-true, false_from_ne_true, cases_lt, not_from_true, cond-false}
+use Rattle.lock_rules.specs.Sets.{has}
+use Rattle.lock_rules.specs.Waits.{leads, next_shown, shown_after, shown_cycle, victim_of}
+use Rattle.line_geometry.specs.FlatStore.{IsWhole}
+use Rattle.desk.specs.Desk.{Desk, Entry, Authority, nobody, rolled_back}
+use Rattle.desk.specs.Holdings.{numbers, waits_for}
+use Rattle.desk.specs.Instruction.{Counts, Contest, Contested, Settled, Lost, breaks_cycle, breaks_cycles}
+use Rattle.desk_law.specs.Consistent.{IsAmong, AreConsistent, IsHeld, HasNoCycle}
+use Rattle.desk_law.proofs.Orderly.{IsOrderly}
+use Rattle.desk_law.proofs.Entries.{among-filter, filter-among, among-found, none-found, filter-short}
+use Rattle.desk_law.proofs.Walks.{except, no-cycle-fewer, no-cycle-from, no-cycle-leaves, walk-short}
+use Rattle.desk_law.proofs.Others.{rollback-leaves}
+use Rattle.desk_law.proofs.Waiting.{number-of, has-number, fewer-numbers, rollback-waits, waits-by}
+use Rattle.desk_law.proofs.Holding.{held-others, freed, freed-at}
+
+-- consistent, but for cycles through one number
+pub record IsContending (one : ℕ) (desk : Desk) : Type 0 where
+  pub whole : IsWhole desk.committed
+  pub few : length desk.active ≤ desk.most_active
+  pub active : AreConsistent desk.committed desk.most_lines desk.next desk.active
+  pub held : IsHeld desk.committed desk.active desk.authority
+  pub no_cycle : HasNoCycle (except one (waits_for desk)) (numbers desk)
+
+except-waits : (one : ℕ) (waits : ℕ → ℕ → Bool) (from to : ℕ) → except one waits from to ≡ true → waits from to ≡ true
+except-waits one waits from to both = (and_parts (not (from == one)) (waits from to) both).1
+
+pub contending : (one : ℕ) (desk : Desk) → IsOrderly desk → IsContending one desk
+contending one desk is = record {
+  whole = is.whole;
+  few = is.few;
+  active = is.active;
+  held = is.held;
+  no_cycle = no-cycle-fewer (except one (waits_for desk)) (waits_for desk) (numbers desk) (numbers desk) (λ from to waits. except-waits one (waits_for desk) from to waits) (λ x inside. inside) is.no_cycle;
+}
+
+pub settled : (one : ℕ) (desk : Desk) → IsContending one desk → ((steps : ℕ) → leads (waits_for desk) (numbers desk) steps one one ≡ false) → IsOrderly desk
+settled one desk is not_back = record {
+  whole = is.whole;
+  few = is.few;
+  active = is.active;
+  held = is.held;
+  no_cycle = no-cycle-from (waits_for desk) (numbers desk) one is.no_cycle not_back;
+}
+
+pub filter-shorter : (test : Entry → Bool) (entries : List Entry) (entry : Entry) → IsAmong entries entry → test entry ≡ false → length (filter test entries) < length entries
+filter-shorter test [] entry among out = absurd among
+filter-shorter test (one ∷ entries) entry among out = by_test (test one) refl (filter-short test entries) (filter-shorter test entries entry) among
+  where
+    by_test :
+        (keeps : Bool) → test one ≡ keeps → length (filter test entries) ≤ length entries
+        → (IsAmong entries entry → test entry ≡ false → length (filter test entries) < length entries)
+        → IsAmong (one ∷ entries) entry
+        → length (if keeps then one ∷ filter test entries else filter test entries) < suc (length entries)
+    by_test true e short rest (inl same) = absurd (both_ways (test one) (ap test same ∙ out) e)
+    by_test true e short rest (inr among) = omega (arith, rest among out)
+    by_test false e short rest among = omega (arith, short)
+
+-- a rollback leaves it so
+pub rolled-contending : (one : ℕ) (desk : Desk) (gone : Entry) → IsContending one desk → IsContending one (rolled_back desk gone)
+rolled-contending one desk gone is = record {
+  whole = is.whole;
+  few = omega (arith, is.few, filter-short (λ (other : Entry). not (other.number == gone.number)) desk.active);
+  active = rollback-leaves desk.committed desk.most_lines desk.next desk.active gone is.active;
+  held = held-others desk.committed desk.committed desk.active desk.authority gone refl (λ other among. refl) is.held;
+  no_cycle =
+      no-cycle-fewer (except one (waits_for (rolled_back desk gone))) (except one (waits_for desk)) (numbers (rolled_back desk gone)) (numbers desk)
+      (λ from to waits.
+      let parts = and_parts (not (from == one)) (waits_for (rolled_back desk gone) from to) waits in
+      and_from (not (from == one)) (waits_for desk from to) parts.0 (rollback-waits desk gone from to parts.1))
+      (λ x inside. fewer-numbers (λ (other : Entry). not (other.number == gone.number)) desk.active x inside)
+      is.no_cycle;
+}
+
+pub rolled-consistent : (desk : Desk) (gone : Entry) → IsOrderly desk → IsOrderly (rolled_back desk gone)
+rolled-consistent desk gone is = record {
+  whole = is.whole;
+  few = omega (arith, is.few, filter-short (λ (other : Entry). not (other.number == gone.number)) desk.active);
+  active = rollback-leaves desk.committed desk.most_lines desk.next desk.active gone is.active;
+  held = held-others desk.committed desk.committed desk.active desk.authority gone refl (λ other among. refl) is.held;
+  no_cycle =
+      no-cycle-fewer (waits_for (rolled_back desk gone)) (waits_for desk) (numbers (rolled_back desk gone)) (numbers desk)
+      (λ from to waits. rollback-waits desk gone from to waits)
+      (λ x inside. fewer-numbers (λ (other : Entry). not (other.number == gone.number)) desk.active x inside)
+      is.no_cycle;
+}
+
+-- the members of a shown cycle
+pub found-has : (test : ℕ → Bool) (all : List ℕ) (x : ℕ) → find test all ≡ Some x → has all x ≡ true
+found-has test [] x is = absurd (cc)
+found-has test (y ∷ all) x is = by_test (test y) (found-has test all x) is
+  where
+    by_test : (passes : Bool) → (find test all ≡ Some x → has all x ≡ true) → (if passes then Some y else find test all) ≡ Some x → (y == x || has all x) ≡ true
+    by_test true later is = or_left (y == x) (has all x) (eq-eqb y x (cc))
+    by_test false later is = or_right (y == x) (has all x) (later is)
+
+after-has : (waits : ℕ → ℕ → Bool) (all : List ℕ) (steps first last x : ℕ) → has (shown_after waits all steps first last) x ≡ true → has all x ≡ true
+after-has waits all zero first last x inside = absurd (cc)
+after-has waits all (suc steps) first last x inside = by_next (next_shown waits all first last) refl inside (λ next. after-has waits all steps first next x)
+  where
+    by_next :
+        (next : Option ℕ) → next_shown waits all first last ≡ next
+        → has (option_map_or (λ next. next ∷ (if next == first then [] else shown_after waits all steps first next)) next []) x ≡ true
+        → ((next : ℕ) → has (shown_after waits all steps first next) x ≡ true → has all x ≡ true)
+        → has all x ≡ true
+    by_next None is inside later = absurd (cc)
+    by_next (Some next) is inside later =
+        elim (or_cases (next == x) (has (if next == first then [] else shown_after waits all steps first next) x) inside) [
+          | inl here ↦ ap (has all) (sym (eqb-true next x here)) ∙ found-has (λ next. waits last next && leads waits all (length all) next first) all next is
+          | inr rest ↦ by_test (next == first) rest
+        ]
+      where
+        by_test : (round : Bool) → has (if round then [] else shown_after waits all steps first next) x ≡ true → has all x ≡ true
+        by_test true rest = absurd (cc)
+        by_test false rest = later next rest
+
+greatest-in : (xs : List ℕ) (least : ℕ) → (fold max least xs ≡ least) ⊎ (has xs (fold max least xs) ≡ true)
+greatest-in [] least = inl refl
+greatest-in (x ∷ xs) least = elim (greatest-in xs (max least x)) [
+  | inl same ↦ elim (either least x) [
+    | inl one ↦ inl (same ∙ one)
+    | inr two ↦ inr (or_left (x == fold max (max least x) xs) (has xs (fold max (max least x) xs)) (eq-eqb x (fold max (max least x) xs) (sym (same ∙ two))))
+  ]
+  | inr later ↦ inr (or_right (x == fold max (max least x) xs) (has xs (fold max (max least x) xs)) later)
+]
+  where
+    either : (a b : ℕ) → (max a b ≡ a) ⊎ (max a b ≡ b)
+    either a b = elim (cases_lt a b) [
+      | inl low ↦ inr (omega arith)
+      | inr high ↦ inl (omega arith)
+    ]
+
+pub shown-victim : (waits : ℕ → ℕ → Bool) (all : List ℕ) (first : ℕ) (cycle : List ℕ) → has all first ≡ true → shown_cycle waits all first ≡ Some cycle → has all (victim_of cycle) ≡ true
+shown-victim waits all first cycle here is = by_test (leads waits all (length all) first first) is
+  where
+    by_test : (round : Bool) → (if round then Some (first ∷ shown_after waits all (length all) first first) else None) ≡ Some cycle → has all (victim_of cycle) ≡ true
+    by_test true is =
+        let it : first ∷ shown_after waits all (length all) first first ≡ cycle = cc in
+        subst (λ (c : List ℕ). has all (victim_of c) ≡ true) it
+        (elim (greatest-in (shown_after waits all (length all) first first) (max 0 first)) [
+          | inl same ↦ ap (has all) (same ∙ least) ∙ here
+          | inr inside ↦ after-has waits all (length all) first first (victim_of (first ∷ shown_after waits all (length all) first first)) inside
+        ])
+      where
+        least : max 0 first ≡ first
+        least = omega arith
+    by_test false is = absurd (cc)
+
+pub shown-none : (waits : ℕ → ℕ → Bool) (all : List ℕ) (first : ℕ) → shown_cycle waits all first ≡ None → leads waits all (length all) first first ≡ false
+shown-none waits all first is = by_test (leads waits all (length all) first first) is
+  where
+    by_test : (round : Bool) → (if round then Some (first ∷ shown_after waits all (length all) first first) else None) ≡ None → round ≡ false
+    by_test true is = absurd (cc)
+    by_test false is = refl
+
+-- a number keeps the pages that it owns
+abbrev pub KeepsPages : ℕ → (old new : List Authority) → Type 0
+KeepsPages one old new = (page : ℕ) → ((slice_index_or old page nobody).owner == one) ≡ true → slice_index_or new page nobody ≡ slice_index_or old page nobody
+
+-- pages of others are freed
+pub freed-keeps : (one gone : ℕ) (old new : List Authority) → (gone == one) ≡ false → KeepsPages one old new → KeepsPages one old (map (freed gone) new)
+freed-keeps one gone old new differ keeps page own =
+    freed-at gone new page
+    ∙ cond-false ((slice_index_or new page nobody).owner == gone) nobody (slice_index_or new page nobody)
+    (false_from_ne_true ((slice_index_or new page nobody).owner == gone)
+    (λ is_gone.
+    let same : slice_index_or new page nobody ≡ slice_index_or old page nobody = keeps page own in
+    let owner : (slice_index_or new page nobody).owner ≡ one = ap (λ (a : Authority). a.owner) same ∙ eqb-true (slice_index_or old page nobody).owner one own in
+    both_ways (gone == one) differ (eq-eqb gone one (sym (eqb-true (slice_index_or new page nobody).owner gone is_gone) ∙ owner))))
+    ∙ keeps page own
+
+-- what a contest of an entry came to
+abbrev pub Came : ℕ → (most : ℕ) → Entry → Desk → Contest → Type 0
+Came one most entry old (Contested desk counts) = ⊥
+Came one most entry old (Settled desk counts) = IsOrderly desk × IsAmong desk.active entry × (desk.committed ≡ old.committed) × (desk.most_lines ≡ old.most_lines) × KeepsPages one old.authority desk.authority × (length counts.cycles + length desk.active ≤ most)
+Came one most entry old (Lost desk counts) = IsOrderly desk × (length counts.cycles + length desk.active ≤ most)
+
+-- one that has gone is in no cycle
+pub gone-consistent : (one : ℕ) (desk : Desk) → IsContending one desk → ((entry : Entry) → IsAmong desk.active entry → (entry.number == one) ≡ false) → IsOrderly desk
+gone-consistent one desk is gone = record {
+  whole = is.whole;
+  few = is.few;
+  active = is.active;
+  held = is.held;
+  no_cycle =
+      no-cycle-leaves one (waits_for desk) (waits_for desk) (numbers desk)
+      (record {
+        none = λ to. false_from_ne_true (waits_for desk one to) (λ waits. let by = waits-by desk one to waits in both_ways (by.entry.number == one) (gone by.entry by.entry_among) by.is_from);
+        kept = λ from to other waits. waits;
+      })
+      is.no_cycle;
+}
+
+pub stays-settled : (left one : ℕ) (desk : Desk) (counts : Counts) → breaks_cycles left one (Settled desk counts) ≡ Settled desk counts
+stays-settled zero one desk counts = refl
+stays-settled (suc left) one desk counts = refl
+
+pub stays-lost : (left one : ℕ) (desk : Desk) (counts : Counts) → breaks_cycles left one (Lost desk counts) ≡ Lost desk counts
+stays-lost zero one desk counts = refl
+stays-lost (suc left) one desk counts = refl
+
+-- what is left of a contest by its victim
+abbrev pub without : Desk → Option Entry → Desk
+without desk None = desk
+without desk (Some entry) = rolled_back desk entry
+
+abbrev pub left_over : Desk → Counts → Option Entry → Bool → Contest
+left_over desk counts victim true = Lost (without desk victim) counts
+left_over desk counts victim false = Contested (without desk victim) counts
+
+pub some-active : (entries : List Entry) (entry : Entry) → IsAmong entries entry → 1 ≤ length entries
+some-active [] entry among = absurd among
+some-active (one ∷ entries) entry among = omega arith
+
+-- The fuel suffices: each victim takes one entry away, and the one that asks is left.
+pub breaks-all : (left one most : ℕ) (entry : Entry) (old desk : Desk) (counts : Counts) → entry.number ≡ one → IsAmong desk.active entry → IsContending one desk
+    → length desk.active ≤ left → desk.committed ≡ old.committed → desk.most_lines ≡ old.most_lines → KeepsPages one old.authority desk.authority → length counts.cycles + length desk.active ≤ most → Came one most entry old (breaks_cycles left one (Contested desk counts))
+breaks-all zero one most entry old desk counts named among is enough store limit keeps fits_all = absurd (omega (arith, some-active desk.active entry among, enough))
+breaks-all (suc left) one most entry old desk counts named among is enough store limit keeps fits_all =
+    by_cycle (shown_cycle (waits_for desk) (numbers desk) one) refl
+    (λ next more there contends fits same_store same_limit keeps_on fits_on. breaks-all left one most entry old next more named there contends fits same_store same_limit keeps_on fits_on)
+  where
+    here : has (numbers desk) one ≡ true
+    here = subst (λ (n : ℕ). has (numbers desk) n ≡ true) named (has-number desk.active entry among)
+
+    by_cycle : (cycle : Option (List ℕ)) → shown_cycle (waits_for desk) (numbers desk) one ≡ cycle
+        → ((next : Desk) (more : Counts) → IsAmong next.active entry → IsContending one next → length next.active ≤ left
+        → next.committed ≡ old.committed → next.most_lines ≡ old.most_lines → KeepsPages one old.authority next.authority → length more.cycles + length next.active ≤ most → Came one most entry old (breaks_cycles left one (Contested next more)))
+        → Came one most entry old (breaks_cycles left one (breaks_cycle one cycle desk counts))
+    by_cycle None shown later =
+        subst (Came one most entry old) (sym (stays-settled left one desk counts)) (
+          settled one desk is
+              (λ steps.
+              false_from_ne_true (leads (waits_for desk) (numbers desk) steps one one)
+              (λ walk.
+              both_ways (leads (waits_for desk) (numbers desk) (length (numbers desk)) one one)
+              (shown-none (waits_for desk) (numbers desk) one shown)
+              (walk-short (waits_for desk) (numbers desk) one one steps here walk))),
+          among,
+          store,
+          limit,
+          keeps,
+          fits_all,
+        )
+    by_cycle (Some cycle) shown later = by_victim (find (λ (entry : Entry). entry.number == victim_of cycle) desk.active) refl (victim_of cycle == one) refl
+      where
+        one_more : (victim : Entry) → find (λ (entry : Entry). entry.number == victim_of cycle) desk.active ≡ Some victim
+            → length (counts.cycles ++ cycle ∷ []) + length (rolled_back desk victim).active ≤ most
+        one_more victim found =
+            let (at, passes) = among-found (λ (entry : Entry). entry.number == victim_of cycle) desk.active victim found in
+            omega (
+              arith,
+              fits_all,
+              length-append counts.cycles (cycle ∷ []),
+              filter-shorter (λ (other : Entry). not (other.number == victim.number)) desk.active victim at (not_from_true (victim.number == victim.number) (eq-eqb victim.number victim.number refl)),
+            )
+
+        by_victim : (victim : Option Entry) → find (λ (entry : Entry). entry.number == victim_of cycle) desk.active ≡ victim
+            → (lost : Bool) → (victim_of cycle == one) ≡ lost
+            → Came one most entry old (breaks_cycles left one (left_over desk (record counts { cycles = counts.cycles ++ cycle ∷ [] }) victim lost))
+        by_victim None none lost e =
+            let (victim, there, same) = number-of desk.active (victim_of cycle) (shown-victim (waits_for desk) (numbers desk) one cycle here shown) in
+            absurd (both_ways (victim.number == victim_of cycle) (none-found (λ (entry : Entry). entry.number == victim_of cycle) desk.active none victim there) (eq-eqb victim.number (victim_of cycle) same))
+        by_victim (Some victim) found true e =
+            subst (Came one most entry old) (sym (stays-lost left one (rolled_back desk victim) (record counts { cycles = counts.cycles ++ cycle ∷ [] }))) (
+              gone-consistent one (rolled_back desk victim) (rolled-contending one desk victim is)
+                  (λ other there.
+                  let (at, passes) = among-found (λ (entry : Entry). entry.number == victim_of cycle) desk.active victim found in
+                  let victim_is : victim.number ≡ one = eqb-true victim.number (victim_of cycle) passes ∙ eqb-true (victim_of cycle) one e in
+                  ap (λ (n : ℕ). other.number == n) (sym victim_is)
+                  ∙ not-true (other.number == victim.number) (among-filter (λ (other : Entry). not (other.number == victim.number)) desk.active other there).1),
+              one_more victim found,
+            )
+        by_victim (Some victim) found false e =
+            let (at, passes) = among-found (λ (entry : Entry). entry.number == victim_of cycle) desk.active victim found in
+            let victim_is : victim.number ≡ victim_of cycle = eqb-true victim.number (victim_of cycle) passes in
+            let apart : (entry.number == victim.number) ≡ false =
+            ne_eqb entry.number victim.number (λ same. both_ways (victim_of cycle == one) e (eq-eqb (victim_of cycle) one (sym victim_is ∙ sym same ∙ named))) in
+            later (rolled_back desk victim) (record counts { cycles = counts.cycles ++ cycle ∷ [] })
+            (filter-among (λ (other : Entry). not (other.number == victim.number)) desk.active entry among (not_from_false (entry.number == victim.number) apart))
+            (rolled-contending one desk victim is)
+            (omega (arith, enough, filter-shorter (λ (other : Entry). not (other.number == victim.number)) desk.active victim at (not_from_true (victim.number == victim.number) (eq-eqb victim.number victim.number refl))))
+            store limit
+            (freed-keeps one victim.number old.authority desk.authority (ap (λ (n : ℕ). n == one) victim_is ∙ e) keeps)
+            (one_more victim found)
+
+-- A shown cycle has no more members than there are numbers, and the first once more.
+shown-short : (waits : ℕ → ℕ → Bool) (all : List ℕ) (steps first last : ℕ) → length (shown_after waits all steps first last) ≤ steps
+shown-short waits all zero first last = omega arith
+shown-short waits all (suc steps) first last = by_next (next_shown waits all first last) (λ next. shown-short waits all steps first next)
+  where
+    by_next :
+        (next : Option ℕ) → ((next : ℕ) → length (shown_after waits all steps first next) ≤ steps)
+        → length (option_map_or (λ next. next ∷ (if next == first then [] else shown_after waits all steps first next)) next []) ≤ suc steps
+    by_next None rest = omega arith
+    by_next (Some next) rest = by_test (next == first)
+      where
+        by_test : (round : Bool) → suc (length (if round then [] else shown_after waits all steps first next)) ≤ suc steps
+        by_test true = omega arith
+        by_test false = omega (arith, rest next)
+
+pub cycle-short : (waits : ℕ → ℕ → Bool) (all : List ℕ) (first : ℕ) (cycle : List ℕ) → shown_cycle waits all first ≡ Some cycle → length cycle ≤ suc (length all)
+cycle-short waits all first cycle is = by_test (leads waits all (length all) first first) is
+  where
+    by_test : (round : Bool) → (if round then Some (first ∷ shown_after waits all (length all) first first) else None) ≡ Some cycle → length cycle ≤ suc (length all)
+    by_test true is =
+        let it : first ∷ shown_after waits all (length all) first first ≡ cycle = cc in
+        omega (arith, ap (λ (c : List ℕ). length c) it, shown-short waits all (length all) first first)
+    by_test false is = absurd (cc)

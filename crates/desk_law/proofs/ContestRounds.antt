@@ -1,0 +1,183 @@
+-- A contest round by round: a loop that looks for one cycle at a time goes through the same desks as the definition.
+use Rattle.std.specs.Prelude.{◌≡◌, refl, ℕ, zero, suc, ◌≤◌, ◌<◌, ◌==◌, not, Bool, true, false, List, [], ◌∷◌, ◌++◌, length, find, Option, Some, None}
+use Rattle.std.proofs.Common.{arith, ap, sym, ◌∙◌}
+use Rattle.std.proofs.lemmas.Bool.{eqb-true, eq-eqb, ne_eqb, both_ways, not_from_false, not_from_true, not-true, false_from_ne_true}
+use Rattle.lock_rules.specs.Waits.{leads, shown_cycle, victim_of}
+use Rattle.desk.specs.Desk.{Desk, Entry, with_entry, rolled_back}
+use Rattle.desk.specs.Holdings.{numbers, waits_for}
+use Rattle.desk.specs.Instruction.{Word, Counts, Attempt, Contest, Contested, Settled, Lost, breaks_cycle, breaks_cycles, contest_ends, asks}
+use Rattle.desk_law.specs.Consistent.{IsAmong}
+use Rattle.desk_law.proofs.Contest.{IsContending, KeepsPages, contending, settled, rolled-contending, gone-consistent, freed-keeps, stays-settled, stays-lost, filter-shorter, some-active, shown-victim, shown-none, without, left_over}
+use Rattle.desk_law.proofs.Entries.{among-found, none-found, filter-among, among-filter, new-among}
+use Rattle.desk_law.proofs.GoesOn.{length-replaced, marked-contending}
+use Rattle.desk_law.proofs.Orderly.{IsOrderly}
+use Rattle.desk_law.proofs.Waiting.{number-of, has-number}
+use Rattle.desk_law.proofs.Walks.{walk-short}
+
+-- what a contest of a number comes to from a desk
+abbrev pub contest : ℕ → Desk → Counts → Contest
+contest number desk counts = breaks_cycles (length desk.active) number (Contested desk counts)
+
+-- the counts with one cycle more
+abbrev pub with_cycle : Counts → List ℕ → Counts
+with_cycle counts cycle = record counts { cycles = counts.cycles ++ cycle ∷ [] }
+
+-- the entry with a number
+abbrev pub entry_with : ℕ → Desk → Option Entry
+entry_with number desk = find (λ entry. entry.number == number) desk.active
+
+-- there is one, and it is the victim of a shown cycle
+pub victim-there : (desk : Desk) (entry : Entry) (cycle : List ℕ) → IsAmong desk.active entry → shown_cycle (waits_for desk) (numbers desk) entry.number ≡ Some cycle
+    → (victim : Entry) × (entry_with (victim_of cycle) desk ≡ Some victim)
+victim-there desk entry cycle here shown = by_found (entry_with (victim_of cycle) desk) refl
+  where
+    by_found : (found : Option Entry) → entry_with (victim_of cycle) desk ≡ found → (victim : Entry) × (entry_with (victim_of cycle) desk ≡ Some victim)
+    by_found (Some victim) found = (victim, found)
+    by_found None none =
+        let (victim, there, same) = number-of desk.active (victim_of cycle) (shown-victim (waits_for desk) (numbers desk) entry.number cycle (has-number desk.active entry here) shown) in
+        absurd (both_ways (victim.number == victim_of cycle) (none-found (λ (entry : Entry). entry.number == victim_of cycle) desk.active none victim there) (eq-eqb victim.number (victim_of cycle) same))
+
+-- a victim that isn't the one that asks leaves it
+pub asker-left : (desk : Desk) (entry victim : Entry) (cycle : List ℕ) → IsAmong desk.active entry → entry_with (victim_of cycle) desk ≡ Some victim → (victim_of cycle == entry.number) ≡ false
+    → IsAmong (rolled_back desk victim).active entry
+asker-left desk entry victim cycle here found other =
+    let (at, passes) = among-found (λ (entry : Entry). entry.number == victim_of cycle) desk.active victim found in
+    filter-among (λ (other : Entry). not (other.number == victim.number)) desk.active entry here
+    (not_from_false (entry.number == victim.number)
+    (ne_eqb entry.number victim.number (λ same. both_ways (victim_of cycle == entry.number) other (eq-eqb (victim_of cycle) entry.number (sym (eqb-true victim.number (victim_of cycle) passes) ∙ sym same)))))
+
+-- fewer are left
+pub fewer-left : (desk : Desk) (victim : Entry) (number : ℕ) → entry_with number desk ≡ Some victim → length (rolled_back desk victim).active < length desk.active
+fewer-left desk victim number found =
+    let (at, passes) = among-found (λ (entry : Entry). entry.number == number) desk.active victim found in
+    filter-shorter (λ (other : Entry). not (other.number == victim.number)) desk.active victim at (not_from_true (victim.number == victim.number) (eq-eqb victim.number victim.number refl))
+
+-- Steps enough are steps enough: with more of them a contest comes to the same.
+pub enough : (left right : ℕ) (entry : Entry) (desk : Desk) (counts : Counts) → IsAmong desk.active entry → length desk.active ≤ left → length desk.active ≤ right
+    → breaks_cycles left entry.number (Contested desk counts) ≡ breaks_cycles right entry.number (Contested desk counts)
+enough zero right entry desk counts here few also = absurd (omega (arith, some-active desk.active entry here, few))
+enough (suc left) zero entry desk counts here few also = absurd (omega (arith, some-active desk.active entry here, also))
+enough (suc left) (suc right) entry desk counts here few also =
+    by_cycle (shown_cycle (waits_for desk) (numbers desk) entry.number) refl
+    (λ next more there few_left few_right. enough left right entry next more there few_left few_right)
+  where
+    by_cycle : (cycle : Option (List ℕ)) → shown_cycle (waits_for desk) (numbers desk) entry.number ≡ cycle
+        → ((next : Desk) (more : Counts) → IsAmong next.active entry → length next.active ≤ left → length next.active ≤ right
+        → breaks_cycles left entry.number (Contested next more) ≡ breaks_cycles right entry.number (Contested next more))
+        → breaks_cycles left entry.number (breaks_cycle entry.number cycle desk counts) ≡ breaks_cycles right entry.number (breaks_cycle entry.number cycle desk counts)
+    by_cycle None shown later = stays-settled left entry.number desk counts ∙ sym (stays-settled right entry.number desk counts)
+    by_cycle (Some cycle) shown later = by_victim (entry_with (victim_of cycle) desk) refl (victim_of cycle == entry.number) refl
+      where
+        by_victim : (victim : Option Entry) → entry_with (victim_of cycle) desk ≡ victim → (lost : Bool) → (victim_of cycle == entry.number) ≡ lost
+            → breaks_cycles left entry.number (left_over desk (with_cycle counts cycle) victim lost) ≡ breaks_cycles right entry.number (left_over desk (with_cycle counts cycle) victim lost)
+        by_victim victim found true e = stays-lost left entry.number (without desk victim) (with_cycle counts cycle) ∙ sym (stays-lost right entry.number (without desk victim) (with_cycle counts cycle))
+        by_victim None none false e =
+            let (victim, found) = victim-there desk entry cycle here shown in absurd (cc)
+        by_victim (Some victim) found false e =
+            let fewer = fewer-left desk victim (victim_of cycle) found in
+            later (rolled_back desk victim) (with_cycle counts cycle) (asker-left desk entry victim cycle here found e) (omega (arith, fewer, few)) (omega (arith, fewer, also))
+
+module _ (desk : Desk) (counts : Counts) (entry : Entry) (here : IsAmong desk.active entry) where
+  first-step : (m : ℕ) × (length desk.active ≡ suc m)
+  first-step = by_length (length desk.active) (some-active desk.active entry here)
+    where
+      by_length : (n : ℕ) → 1 ≤ n → (m : ℕ) × (n ≡ suc m)
+      by_length zero some = absurd (omega arith)
+      by_length (suc m) some = (m, refl)
+
+  -- no cycle is shown: the contest is settled
+  pub round-settles : shown_cycle (waits_for desk) (numbers desk) entry.number ≡ None → contest entry.number desk counts ≡ Settled desk counts
+  round-settles shown =
+      let (m, is) = first-step in
+      ap (λ (n : ℕ). breaks_cycles n entry.number (Contested desk counts)) is
+      ∙ ap (λ (cycle : Option (List ℕ)). breaks_cycles m entry.number (breaks_cycle entry.number cycle desk counts)) shown
+      ∙ stays-settled m entry.number desk counts
+
+  module _ (cycle : List ℕ) (victim : Entry) (shown : shown_cycle (waits_for desk) (numbers desk) entry.number ≡ Some cycle)
+      (found : find (λ (other : Entry). other.number == victim_of cycle) desk.active ≡ Some victim) where
+    to-victim : (m : ℕ) (lost : Bool) → length desk.active ≡ suc m → (victim_of cycle == entry.number) ≡ lost
+        → contest entry.number desk counts ≡ breaks_cycles m entry.number (left_over desk (with_cycle counts cycle) (Some victim) lost)
+    to-victim m lost is e =
+        ap (λ (n : ℕ). breaks_cycles n entry.number (Contested desk counts)) is
+        ∙ ap (λ (cycle : Option (List ℕ)). breaks_cycles m entry.number (breaks_cycle entry.number cycle desk counts)) shown
+        ∙ ap (λ (one : Option Entry). breaks_cycles m entry.number (left_over desk (with_cycle counts cycle) one (victim_of cycle == entry.number))) found
+        ∙ ap (λ (b : Bool). breaks_cycles m entry.number (left_over desk (with_cycle counts cycle) (Some victim) b)) e
+
+    -- another is its victim: one round
+    pub round-breaks : (victim_of cycle == entry.number) ≡ false
+        → contest entry.number desk counts ≡ contest entry.number (rolled_back desk victim) (with_cycle counts cycle)
+    round-breaks other =
+        let (m, is) = first-step in
+        to-victim m false is other
+        ∙ enough m (length (rolled_back desk victim).active) entry (rolled_back desk victim) (with_cycle counts cycle)
+        (asker-left desk entry victim cycle here found other)
+        (omega (arith, is, fewer-left desk victim (victim_of cycle) found)) (omega arith)
+
+    -- the one that asks is its victim: it lost
+    pub round-loses : (victim_of cycle == entry.number) ≡ true
+        → contest entry.number desk counts ≡ Lost (rolled_back desk victim) (with_cycle counts cycle)
+    round-loses it =
+        let (m, is) = first-step in
+        to-victim m true is it ∙ stays-lost m entry.number (rolled_back desk victim) (with_cycle counts cycle)
+
+-- The contest begins with the entry's mark.
+pub asks-contest : (word : Word) (attempt : Attempt) (refused : List ℕ) (holder : ℕ) (holders : List ℕ) (desk : Desk) (counts : Counts)
+    → asks word attempt refused (holder ∷ holders) desk counts
+    ≡ contest_ends word attempt refused (contest attempt.entry.number (with_entry desk (record attempt.entry { waiting = true })) counts)
+asks-contest word attempt refused holder holders desk counts =
+    ap (λ (n : ℕ). contest_ends word attempt refused (breaks_cycles n attempt.entry.number (Contested (with_entry desk (record attempt.entry { waiting = true })) counts)))
+    (sym (length-replaced (record attempt.entry { waiting = true }) desk.active))
+
+-- A contest under way, of an entry that is marked: what the loop keeps beside the value of the contest.
+pub record IsUnderWay (old desk : Desk) (entry : Entry) : Type 0 where
+  pub contending : IsContending entry.number desk
+  pub here : IsAmong desk.active entry
+  pub store : desk.committed ≡ old.committed
+  pub limit : desk.most_lines ≡ old.most_lines
+  pub keeps : KeepsPages entry.number old.authority desk.authority
+
+-- as it begins
+pub under-way : (desk : Desk) (entry : Entry) → IsOrderly desk → IsAmong desk.active entry
+    → IsUnderWay desk (with_entry desk (record entry { waiting = true })) (record entry { waiting = true })
+under-way desk entry is here = record {
+  contending = marked-contending desk entry true here (contending entry.number desk is);
+  here = new-among (record entry { waiting = true }) desk.active entry here refl;
+  store = refl;
+  limit = refl;
+  keeps = λ page own. refl;
+}
+
+-- after a round
+pub round-under_way : (old desk : Desk) (entry victim : Entry) (cycle : List ℕ) → IsUnderWay old desk entry → entry_with (victim_of cycle) desk ≡ Some victim → (victim_of cycle == entry.number) ≡ false
+    → IsUnderWay old (rolled_back desk victim) entry
+round-under_way old desk entry victim cycle is found other =
+    let (at, passes) = among-found (λ (entry : Entry). entry.number == victim_of cycle) desk.active victim found in
+    record {
+      contending = rolled-contending entry.number desk victim is.contending;
+      here = asker-left desk entry victim cycle is.here found other;
+      store = is.store;
+      limit = is.limit;
+      keeps = freed-keeps entry.number victim.number old.authority desk.authority (ap (λ (n : ℕ). n == entry.number) (eqb-true victim.number (victim_of cycle) passes) ∙ other) is.keeps;
+    }
+
+-- where it is settled the desk is consistent, with the mark on
+pub settled-consistent : (old desk : Desk) (entry : Entry) → IsUnderWay old desk entry → shown_cycle (waits_for desk) (numbers desk) entry.number ≡ None → IsOrderly desk
+settled-consistent old desk entry is shown =
+    settled entry.number desk is.contending
+    (λ steps.
+    false_from_ne_true (leads (waits_for desk) (numbers desk) steps entry.number entry.number)
+    (λ walk.
+    both_ways (leads (waits_for desk) (numbers desk) (length (numbers desk)) entry.number entry.number)
+    (shown-none (waits_for desk) (numbers desk) entry.number shown)
+    (walk-short (waits_for desk) (numbers desk) entry.number entry.number steps (has-number desk.active entry is.here) walk)))
+
+-- and where it is lost
+pub lost-consistent : (old desk : Desk) (entry victim : Entry) (cycle : List ℕ) → IsUnderWay old desk entry → entry_with (victim_of cycle) desk ≡ Some victim → (victim_of cycle == entry.number) ≡ true
+    → IsOrderly (rolled_back desk victim)
+lost-consistent old desk entry victim cycle is found it =
+    let (at, passes) = among-found (λ (entry : Entry). entry.number == victim_of cycle) desk.active victim found in
+    let victim_is : victim.number ≡ entry.number = eqb-true victim.number (victim_of cycle) passes ∙ eqb-true (victim_of cycle) entry.number it in
+    gone-consistent entry.number (rolled_back desk victim) (rolled-contending entry.number desk victim is.contending)
+    (λ other there.
+    ap (λ (n : ℕ). other.number == n) (sym victim_is)
+    ∙ not-true (other.number == victim.number) (among-filter (λ (other : Entry). not (other.number == victim.number)) desk.active other there).1)

@@ -1,0 +1,141 @@
+-- All lines as they are now, end to end.
+use Rattle.std.specs.Prelude.{Bool, true, false, if◌then◌else◌, ◌≡◌, refl, ℕ, zero, suc, ◌+◌, ◌-◌, ◌*◌, ◌/◌, ◌<◌, ◌≤◌, List, [], ◌++◌, length, take, drop, slice_range, min, Option, Some, None}
+use Rattle.std.specs.List.{flat_map, range_with_len}
+use Rattle.std.specs.Option.{option_map_or}
+use Rattle.std.proofs.Common.{arith, ap, sym, ◌∙◌, inl, inr, length-append}
+use Rattle.std.proofs.Math.ListN.{drop_of_length-le}
+use Rattle.std.proofs.Math.Nat.{mul-le-mul_right}
+use Rattle.std.proofs.Math.Seq.{drop-append-add, take-nil}
+use Rattle.std.proofs.lemmas.Bool.{cases_lt}
+use Rattle.std.proofs.lemmas.Grind.{same_number_lists}
+use Rattle.std.proofs.lemmas.List.{length-take, length-drop, take_at}
+use Rattle.line_geometry.specs.Directory.{Layout, byte_count}
+use Rattle.line_geometry.specs.FlatStore.{FlatStore, IsWhole}
+use Rattle.line_geometry.specs.Lines.{line_bytes, line_count}
+use Rattle.line_geometry.proofs.Within.{byte_count-lines, line-bytes-pos}
+use Rattle.flat_machine.specs.declared.machine.Plain.{Plain}
+use Rattle.flat_machine.specs.After.{after}
+use Rattle.flat_machine.specs.Agreement.{line_in}
+use Rattle.flat_machine.proofs.Agreement.{after-whole}
+use Rattle.flat_machine.proofs.Ranges.{in_line}
+use Rattle.desk.specs.Desk.{Desk, Entry}
+use Rattle.lock_rules.specs.Sets.{has}
+use Rattle.desk_law.specs.Memory.{laid}
+use Rattle.desk_law.specs.Current.{bytes_of, writer, current, IsCurrent, current_bytes}
+
+-- a line of a list of bytes
+line-part : (lb line : ℕ) (xs : List ℕ) → slice_range xs (line * lb) (line * lb + lb) ≡ take lb (drop (line * lb) xs)
+line-part lb line xs =
+    let width : line * lb + lb - line * lb ≡ lb = omega arith in
+    ap (λ (n : ℕ). take n (drop (line * lb) xs)) width
+
+-- the length of pieces of one length
+pieces-long : (lb : ℕ) (f : ℕ → List ℕ) (low n : ℕ) → ((line : ℕ) → low ≤ line → line < low + n → length (f line) ≡ lb) → length (flat_map f (range_with_len low n)) ≡ n * lb
+pieces-long lb f low zero each = omega arith
+pieces-long lb f low (suc n) each =
+    length-append (f low) (flat_map f (range_with_len (low + 1) n))
+    ∙ (λ i. each low (omega arith) (omega arith) i + pieces-long lb f (low + 1) n (λ line above below. each line (omega (arith, above)) (omega (arith, below))) i)
+    ∙ omega arith
+
+-- one of the pieces
+piece-at : (lb : ℕ) (f : ℕ → List ℕ) (low n k : ℕ) → ((line : ℕ) → low ≤ line → line < low + n → length (f line) ≡ lb) → k < n
+    → take lb (drop (k * lb) (flat_map f (range_with_len low n))) ≡ f (low + k)
+piece-at lb f low zero k each below = absurd (omega (arith, below))
+piece-at lb f low (suc n) zero each below =
+    let none : 0 * lb ≡ 0 = omega arith in
+    let here : low + 0 ≡ low = omega arith in
+    ap (λ (m : ℕ). take lb (drop m (f low ++ flat_map f (range_with_len (low + 1) n)))) none
+    ∙ take_at (f low) (flat_map f (range_with_len (low + 1) n)) lb (each low (omega arith) (omega arith))
+    ∙ ap f (sym here)
+piece-at lb f low (suc n) (suc k) each below =
+    let long : length (f low) ≡ lb = each low (omega arith) (omega arith) in
+    let place : suc k * lb ≡ length (f low) + k * lb = omega (arith, long) in
+    let next : low + 1 + k ≡ low + suc k = omega arith in
+    ap (λ (m : ℕ). take lb (drop m (f low ++ flat_map f (range_with_len (low + 1) n)))) place
+    ∙ ap (take lb) (drop-append-add (f low) (flat_map f (range_with_len (low + 1) n)) (k * lb))
+    ∙ piece-at lb f (low + 1) n k (λ line above under. each line (omega (arith, above)) (omega (arith, under))) (omega (arith, below))
+    ∙ ap f next
+
+-- a line within has all its bytes, and one beyond has none
+line-long : (d : Layout) (xs : List ℕ) (line : ℕ) → length xs ≡ byte_count d → line < line_count d → length (line_in d xs line) ≡ line_bytes d
+line-long d xs line whole below =
+    let fits : suc line * line_bytes d ≤ line_count d * line_bytes d = mul-le-mul_right (line_bytes d) (omega (arith, below)) in
+    ap (λ (part : List ℕ). length part) (line-part (line_bytes d) line xs)
+    ∙ length-take (line_bytes d) (drop (line * line_bytes d) xs)
+    ∙ ap (min (line_bytes d)) (length-drop (line * line_bytes d) xs)
+    ∙ omega (arith, fits, whole, byte_count-lines d)
+
+line-beyond : (d : Layout) (xs : List ℕ) (line : ℕ) → length xs ≡ byte_count d → line_count d ≤ line → line_in d xs line ≡ []
+line-beyond d xs line whole beyond =
+    let fits : line_count d * line_bytes d ≤ line * line_bytes d = mul-le-mul_right (line_bytes d) beyond in
+    line-part (line_bytes d) line xs
+    ∙ ap (take (line_bytes d)) (drop_of_length-le xs (omega (arith, fits, whole, byte_count-lines d)))
+    ∙ take-nil (line_bytes d)
+
+-- whoever wrote a line has a whole store
+writer-whole : (store : FlatStore) (one : Option Entry) → IsWhole store → length (option_map_or (bytes_of store) one store.bytes) ≡ byte_count store.directory
+writer-whole store None whole = whole
+writer-whole store (Some entry) whole = by_state (after entry.runs.program entry.runs.args store entry.rows) refl
+  where
+    by_state : (state : Option Plain) → after entry.runs.program entry.runs.args store entry.rows ≡ state
+        → length (option_map_or (λ (state : Plain). state.store) state store.bytes) ≡ byte_count store.directory
+    by_state None at = whole
+    by_state (Some state) at = after-whole entry.runs.program entry.runs.args store entry.rows state whole at
+
+-- pieces that are lines, end to end
+pub lines-joined : (d : Layout) (f : ℕ → List ℕ) → ((line : ℕ) → line < line_count d → length (f line) ≡ line_bytes d) → ((line : ℕ) → line_count d ≤ line → f line ≡ [])
+    → (length (flat_map f (range_with_len 0 (line_count d))) ≡ byte_count d) × ((line : ℕ) → line_in d (flat_map f (range_with_len 0 (line_count d))) line ≡ f line)
+lines-joined d f full none = (
+  long,
+  λ line. elim (cases_lt line (line_count d)) [
+    | inl below ↦
+        let here : 0 + line ≡ line = omega arith in
+        line-part (line_bytes d) line (flat_map f (range_with_len 0 (line_count d)))
+        ∙ piece-at (line_bytes d) f 0 (line_count d) line each below
+        ∙ ap f here
+    | inr beyond ↦ line-beyond d (flat_map f (range_with_len 0 (line_count d))) line long beyond ∙ sym (none line beyond)
+  ],
+)
+  where
+    each : (line : ℕ) → 0 ≤ line → line < 0 + line_count d → length (f line) ≡ line_bytes d
+    each line above below = full line (omega (arith, below))
+
+    long : length (flat_map f (range_with_len 0 (line_count d))) ≡ byte_count d
+    long = pieces-long (line_bytes d) f 0 (line_count d) each ∙ sym (byte_count-lines d)
+
+-- bytes of a store that have the same lines are the same
+pub same-lines : (d : Layout) (bytes other : List ℕ) → length bytes ≡ byte_count d → length other ≡ byte_count d → ((line : ℕ) → line_in d bytes line ≡ line_in d other line) → bytes ≡ other
+same-lines d bytes other long also same =
+    same_number_lists bytes other (long ∙ sym also)
+    (λ k below. in_line (line_bytes d) (k / line_bytes d) k bytes other refl (line-bytes-pos d) (same (k / line_bytes d)))
+
+pub bytes-current : (desk : Desk) → IsWhole desk.committed → IsCurrent desk.committed desk.active (current_bytes desk)
+bytes-current desk whole =
+    let (long, lines) =
+    lines-joined desk.committed.directory (current desk) (λ line below. line-long desk.committed.directory (its line) line (its_whole line) below)
+    (λ line beyond. line-beyond desk.committed.directory (its line) line (its_whole line) beyond) in
+    record { long = long; lines = lines }
+  where
+    its : ℕ → List ℕ
+    its line = option_map_or (bytes_of desk.committed) (writer desk.committed desk.active line) desk.committed.bytes
+
+    its_whole : (line : ℕ) → length (option_map_or (bytes_of desk.committed) (writer desk.committed desk.active line) desk.committed.bytes) ≡ byte_count desk.committed.directory
+    its_whole line = writer-whole desk.committed (writer desk.committed desk.active line) whole
+
+-- two lists of bytes that are current are one
+pub one-current : (store : FlatStore) (entries : List Entry) (bytes other : List ℕ) → IsCurrent store entries bytes → IsCurrent store entries other → bytes ≡ other
+one-current store entries bytes other is also = same-lines store.directory bytes other is.long also.long (λ line. is.lines line ∙ sym (also.lines line))
+
+-- bytes with some lines from others
+pub laid-is : (d : Layout) (lines from onto new : List ℕ) → length from ≡ byte_count d → length onto ≡ byte_count d → length new ≡ byte_count d
+    → ((line : ℕ) → line_in d new line ≡ (if has lines line then line_in d from line else line_in d onto line)) → laid d lines from onto ≡ new
+laid-is d lines from onto new from_long onto_long long each =
+    let (joined_long, joined) =
+    lines-joined d (λ line. if has lines line then line_in d from line else line_in d onto line)
+    (λ line below. by_test (λ (part : List ℕ). length part ≡ line_bytes d) (has lines line) (line_in d from line) (line_in d onto line) (line-long d from line from_long below) (line-long d onto line onto_long below))
+    (λ line beyond. by_test (λ (part : List ℕ). part ≡ []) (has lines line) (line_in d from line) (line_in d onto line) (line-beyond d from line from_long beyond) (line-beyond d onto line onto_long beyond)) in
+    same-lines d (laid d lines from onto) new joined_long long (λ line. joined line ∙ sym (each line))
+  where
+    by_test : (P : List ℕ → Type 0) (b : Bool) (x y : List ℕ) → P x → P y → P (if b then x else y)
+    by_test P true x y p q = p
+    by_test P false x y p q = q

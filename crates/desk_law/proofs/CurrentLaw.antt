@@ -1,0 +1,97 @@
+-- The laws of the bytes as they are now.
+use Rattle.std.specs.Prelude.{◌≡◌, refl, ℕ, ◌+◌, if◌then◌else◌, Bool, true, false, List, [], ◌++◌, Some}
+use Rattle.std.proofs.Common.{arith, ap, sym, ◌∙◌}
+use Rattle.lock_rules.specs.Sets.{has, size}
+use Rattle.flat_machine.specs.declared.machine.Plain.{Plain}
+use Rattle.flat_machine.specs.Row.{On, row}
+use Rattle.flat_machine.specs.After.{after}
+use Rattle.flat_machine.specs.Agreement.{line_in}
+use Rattle.desk.specs.Desk.{Desk, Entry, with_entry, rolled_back}
+use Rattle.desk.specs.Holdings.{wanted, held, conflicts_of}
+use Rattle.line_geometry.specs.FlatStore.{FlatStore, IsWhole}
+use Rattle.desk_law.specs.Changes.{gone_on}
+use Rattle.desk_law.specs.Consistent.{IsAmong, AreConsistent}
+use Rattle.desk_law.specs.Current.{current, current_bytes}
+use Rattle.desk_law.specs.CurrentLaws.{OneListIsCurrent, HoldersSeeCurrent, RowsChangeTheirLines, RowsRunOnCurrent, CommitsChangeNoLine, RollbacksGiveBack, CommitsLeaveOthers}
+use Rattle.desk_law.proofs.Entries.{replaced}
+use Rattle.desk_law.proofs.Others.{touched_of, another-same, after-row}
+use Rattle.desk_law.proofs.GoesOn.{gone-on-active}
+use Rattle.desk_law.proofs.CurrentLines.{current-held, row-writes, row-leaves, commit-current, rollback-written, rollback-others}
+use Rattle.desk_law.proofs.CurrentBytes.{bytes-current, one-current}
+use Rattle.desk_law.proofs.SharedBytes.{RunsOn, row-on-current}
+
+-- entries that have written fewer lines than a number have written fewer than a greater one
+pub more-lines : (store : FlatStore) (most more next : ℕ) (entries : List Entry) → AreConsistent store most next entries → AreConsistent store (most + more) next entries
+more-lines store most more next entries are = record {
+  ascend = are.ascend;
+  live = λ entry among.
+      let live = are.live entry among in
+      record { state = live.state; is = live.is; few = omega (arith, live.few); present = live.present };
+  apart = are.apart;
+}
+
+-- a row of an entry, whose mark may be another one than it has
+module _ (desk : Desk) (most : ℕ) (entry : Entry) (mark : Bool) (now next : Plain) (whole : IsWhole desk.committed)
+    (are : AreConsistent desk.committed most desk.next desk.active) (here : IsAmong desk.active (record entry { waiting = mark }))
+    (at : after entry.runs.program entry.runs.args desk.committed entry.rows ≡ Some now)
+    (went : row entry.runs.program desk.committed.directory now ≡ On next) (none : conflicts_of desk entry ≡ []) where
+  -- so many lines at most
+  abbrev many : ℕ
+  many = most + size ((touched_of desk.committed entry).writes ++ (wanted desk entry).writes)
+
+  now-active : AreConsistent desk.committed many desk.next desk.active
+  now-active = more-lines desk.committed most (size ((touched_of desk.committed entry).writes ++ (wanted desk entry).writes)) desk.next desk.active are
+
+  then-active : AreConsistent desk.committed many desk.next (replaced (gone_on entry) desk.active)
+  then-active = gone-on-active desk many entry mark now next now-active here at went none (omega arith)
+
+  pub row-changes : (line : ℕ) → current (with_entry desk (gone_on entry)) line
+      ≡ (if has (wanted desk entry).writes line then line_in desk.committed.directory next.store line else current desk line)
+  row-changes line = by_written (has (wanted desk entry).writes line) refl
+    where
+      by_written : (wrote : Bool) → has (wanted desk entry).writes line ≡ wrote
+          → current (with_entry desk (gone_on entry)) line ≡ (if wrote then line_in desk.committed.directory next.store line else current desk line)
+      by_written true e = row-writes desk.committed many desk.next desk.active (record entry { waiting = mark }) next line then-active here (after-row desk.committed entry now next at went) e
+      by_written false e = row-leaves desk.committed many desk.next desk.active (record entry { waiting = mark }) now next line whole now-active then-active here at went (after-row desk.committed entry now next at went) e
+
+  pub row-runs : row entry.runs.program desk.committed.directory (record now { store = current_bytes desk })
+      ≡ On (record next { store = current_bytes (with_entry desk (gone_on entry)) })
+  row-runs =
+      let runs : RunsOn desk.committed desk.active (record entry { waiting = mark }) now next (current_bytes desk) =
+      row-on-current desk many (record entry { waiting = mark }) now next (current_bytes desk) whole now-active then-active here at went none (bytes-current desk whole) in
+      runs.went
+      ∙ ap (λ (bytes : List ℕ). On (record next { store = bytes }))
+      (one-current desk.committed (replaced (gone_on entry) desk.active) runs.other (current_bytes (with_entry desk (gone_on entry))) runs.is_current
+      (bytes-current (with_entry desk (gone_on entry)) whole))
+
+pub one-list-is-current : OneListIsCurrent
+one-list-is-current desk is = (
+  bytes-current desk is.whole,
+  λ bytes current. one-current desk.committed desk.active bytes (current_bytes desk) current (bytes-current desk is.whole),
+)
+
+pub holders-see-current : HoldersSeeCurrent
+holders-see-current desk entry state line is here at holds =
+    sym (current-held desk.committed desk.most_lines desk.next desk.active is.active entry state line is.whole here at holds)
+
+pub rows-change-their-lines : RowsChangeTheirLines
+rows-change-their-lines desk entry now next line is here at went none = row-changes desk desk.most_lines entry entry.waiting now next is.whole is.active here at went none line
+
+pub rows-run-on-current : RowsRunOnCurrent
+rows-run-on-current desk entry now next is here at went none = row-runs desk desk.most_lines entry entry.waiting now next is.whole is.active here at went none
+
+pub commits-change-no-line : CommitsChangeNoLine
+commits-change-no-line desk entry now line is here at = commit-current desk.committed desk.most_lines desk.next desk.active entry now line is.whole is.active here at
+
+pub rollbacks-give-back : RollbacksGiveBack
+rollbacks-give-back desk entry line is here = by_written (has (held desk entry).writes line) refl
+  where
+    by_written : (wrote : Bool) → has (held desk entry).writes line ≡ wrote
+        → current (rolled_back desk entry) line ≡ (if wrote then line_in desk.committed.directory desk.committed.bytes line else current desk line)
+    by_written true e = rollback-written desk.committed desk.most_lines desk.next desk.active entry line is.active here e
+    by_written false e = rollback-others desk.committed desk.most_lines desk.next desk.active entry line is.active here e
+
+pub commits-leave-others : CommitsLeaveOthers
+commits-leave-others desk entry other now state is here there differ at also =
+    let apart = is.active.apart other entry there here differ in
+    another-same desk.committed entry other now state is.whole at also (record { first_writes = apart.second_writes; second_writes = apart.first_writes })

@@ -1,0 +1,67 @@
+-- The members of a shown cycle wait for each other.
+use Rattle.std.specs.Prelude.{◌≡◌, refl, ℕ, zero, suc, ◌==◌, ◌&&◌, if◌then◌else◌, Bool, true, false, List, [], ◌∷◌, ◌++◌, length, find, Option, Some, None}
+use Rattle.std.specs.Option.{option_map_or}
+use Rattle.std.proofs.Common.{ap, sym, ◌∙◌, subst}
+use Rattle.std.proofs.lemmas.Bool.{and_parts}
+use Rattle.lock_rules.specs.Waits.{leads, next_shown, shown_after, shown_cycle, victim_of}
+use Rattle.desk.specs.Desk.{Desk, Entry}
+use Rattle.desk.specs.Holdings.{numbers, waits_for}
+use Rattle.desk.specs.Instruction.{Counts}
+use Rattle.desk_law.specs.Laws.{EachWaits, counts_of, BrokenCyclesWere}
+use Rattle.desk_law.proofs.Contest.{left_over}
+
+-- a number that is found passes
+pub found-passes : (test : ℕ → Bool) (all : List ℕ) (x : ℕ) → find test all ≡ Some x → test x ≡ true
+found-passes test [] x is = absurd (cc)
+found-passes test (y ∷ all) x is = by_test (test y) refl is (found-passes test all x)
+  where
+    by_test : (passes : Bool) → test y ≡ passes → (if passes then Some y else find test all) ≡ Some x → (find test all ≡ Some x → test x ≡ true) → test x ≡ true
+    by_test true e is later =
+        let same : y ≡ x = cc in
+        ap test (sym same) ∙ e
+    by_test false e is later = later is
+
+after-waits : (waits : ℕ → ℕ → Bool) (all : List ℕ) (steps first last : ℕ) → EachWaits waits (last ∷ shown_after waits all steps first last)
+after-waits waits all zero first last = tt
+after-waits waits all (suc steps) first last = by_next (next_shown waits all first last) refl (λ next. after-waits waits all steps first next)
+  where
+    by_next :
+        (next : Option ℕ) → next_shown waits all first last ≡ next → ((next : ℕ) → EachWaits waits (next ∷ shown_after waits all steps first next))
+        → EachWaits waits (last ∷ option_map_or (λ next. next ∷ (if next == first then [] else shown_after waits all steps first next)) next [])
+    by_next None is later = tt
+    by_next (Some next) is later = (
+      (and_parts (waits last next) (leads waits all (length all) next first) (found-passes (λ next. waits last next && leads waits all (length all) next first) all next is)).0,
+      by_round (next == first),
+    )
+      where
+        by_round : (round : Bool) → EachWaits waits (next ∷ (if round then [] else shown_after waits all steps first next))
+        by_round true = tt
+        by_round false = later next
+
+-- a cycle begins with its number, and each member waits for the next
+shown-waits : (waits : ℕ → ℕ → Bool) (all : List ℕ) (first : ℕ) (cycle : List ℕ) → shown_cycle waits all first ≡ Some cycle
+    → ((rest : List ℕ) × (cycle ≡ first ∷ rest)) × EachWaits waits cycle
+shown-waits waits all first cycle is = by_test (leads waits all (length all) first first) is
+  where
+    by_test : (round : Bool) → (if round then Some (first ∷ shown_after waits all (length all) first first) else None) ≡ Some cycle
+        → ((rest : List ℕ) × (cycle ≡ first ∷ rest)) × EachWaits waits cycle
+    by_test true is =
+        let it : first ∷ shown_after waits all (length all) first first ≡ cycle = cc in
+        ((shown_after waits all (length all) first first, sym it), subst (EachWaits waits) it (after-waits waits all (length all) first first))
+    by_test false is = absurd (cc)
+
+left-counts : (desk : Desk) (counts : Counts) (victim : Option Entry) (lost : Bool) → counts_of (left_over desk counts victim lost) ≡ counts
+left-counts desk counts victim true = refl
+left-counts desk counts victim false = refl
+
+pub broken-cycles-were : BrokenCyclesWere
+broken-cycles-were number desk counts = (
+  λ cycle is.
+      let shown = shown-waits (waits_for desk) (numbers desk) number cycle is in (
+        ap (λ (c : Counts). c.cycles)
+            (left-counts desk (record counts { cycles = counts.cycles ++ cycle ∷ [] }) (find (λ (entry : Entry). entry.number == victim_of cycle) desk.active) (victim_of cycle == number)),
+        shown.0,
+        shown.1,
+      ),
+  refl,
+)

@@ -1,0 +1,191 @@
+-- A shown cycle closes, where only the waits of its number close one.
+use Rattle.std.specs.Prelude.{◌≡◌, refl, ℕ, zero, suc, ◌<◌, ◌≤◌, ◌==◌, ◌&&◌, ◌||◌, not, if◌then◌else◌, Bool, true, false, List, [], ◌∷◌, ◌++◌, length, filter, find, Option, Some, None}
+use Rattle.std.specs.Option.{option_map_or}
+use Rattle.std.proofs.Common.{arith, ap, sym, ◌∙◌, subst, inl, inr}
+use Rattle.std.proofs.lemmas.Bool.{eqb-true, both_ways, and_parts, and_from, cases_Bool, not_from_false, cases_lt}
+use Rattle.std.proofs.lemmas.Option.{none-some}
+use Rattle.lock_rules.specs.Sets.{has}
+use Rattle.lock_rules.specs.Waits.{leads, next_shown, shown_after, shown_cycle, victim_of}
+use Rattle.lock_rules.proofs.Sets.{has-filter}
+use Rattle.desk.specs.Desk.{Desk, Entry, with_entry, rolled_back}
+use Rattle.desk.specs.Holdings.{numbers, waits_for}
+use Rattle.desk.specs.Instruction.{Counts, Contested, Settled, Lost, breaks_cycle, breaks_cycles}
+use Rattle.desk_law.specs.Consistent.{IsAmong, HasNoCycle}
+use Rattle.desk_law.specs.Laws.{EndsWith, ContestedCyclesClose}
+use Rattle.desk_law.proofs.Entries.{new-among}
+use Rattle.desk_law.proofs.Orderly.{orderly}
+use Rattle.desk_law.proofs.Walks.{except, first-step, one-step, leads-more, walk-short, all-pass}
+use Rattle.desk_law.proofs.SomebodyGoesOn.{reached, leads-to-fewer}
+use Rattle.desk_law.proofs.CyclesBroken.{found-passes}
+use Rattle.desk_law.proofs.Contest.{IsContending, contending, rolled-contending, found-has, stays-settled, stays-lost, left_over}
+use Rattle.desk_law.proofs.ContestRounds.{victim-there, asker-left}
+use Rattle.desk_law.proofs.GoesOn.{marked-contending}
+use Rattle.desk_law.proofs.Waiting.{has-number}
+
+-- a walk to another comes there first by waits of others than that one
+first-arrival : (waits : ℕ → ℕ → Bool) (all : List ℕ) (to steps from : ℕ) → (from == to) ≡ false → leads waits all steps from to ≡ true → leads (except to waits) all steps from to ≡ true
+first-arrival waits all to zero from apart walk = absurd (cc)
+first-arrival waits all to (suc steps) from apart walk =
+    let first = first-step waits all steps from to walk in
+    let step : except to waits from first.next ≡ true = and_from (not (from == to)) (waits from first.next) (not_from_false (from == to) apart) first.step in
+    one-step (except to waits) all steps from to first.next first.there step
+    (elim first.rest [
+      | inl same ↦ inl same
+      | inr later ↦
+          elim (cases_Bool (first.next == to)) [
+            | inl here ↦ inl (eqb-true first.next to here)
+            | inr away ↦ inr (first-arrival waits all to steps first.next away later)
+          ]
+    ])
+
+-- one that passes is found
+some-found : (test : ℕ → Bool) (all : List ℕ) (x : ℕ) → has all x ≡ true → test x ≡ true → (y : ℕ) × (find test all ≡ Some y)
+some-found test all x inside passes = by_found (find test all) refl
+  where
+    none-there : (all : List ℕ) → find test all ≡ None → has all x ≡ true → ⊥
+    none-there [] none inside = cc
+    none-there (y ∷ all) none inside = by_test (test y) refl none (none-there all)
+      where
+        by_test : (yes : Bool) → test y ≡ yes → (if yes then Some y else find test all) ≡ None → (find test all ≡ None → has all x ≡ true → ⊥) → ⊥
+        by_test true e none later = cc
+        by_test false e none later =
+            elim (cases_Bool (y == x)) [
+              | inl same ↦ both_ways (test y) e (ap test (eqb-true y x same) ∙ passes)
+              | inr apart ↦ later none (sym (ap (λ (b : Bool). b || has all x) apart) ∙ inside)
+            ]
+
+    by_found : (found : Option ℕ) → find test all ≡ found → (y : ℕ) × (find test all ≡ Some y)
+    by_found None none = absurd (none-there all none inside)
+    by_found (Some y) found = (y, found)
+
+module _ (waits : ℕ → ℕ → Bool) (all : List ℕ) (first : ℕ) (none : HasNoCycle (except first waits) all) (here : has all first ≡ true) (round : leads waits all (length all) first first ≡ true) where
+  -- there is a next member as long as waits lead to the first
+  next-there : (last : ℕ) → leads waits all (length all) last first ≡ true → (next : ℕ) × (next_shown waits all first last ≡ Some next)
+  next-there last walk = by_length (length all) walk (λ from to more. leads-more waits all from (length all) to first more)
+    where
+      by_length : (steps : ℕ) → leads waits all steps last first ≡ true → ((from to : ℕ) → from ≤ length all → leads waits all from to first ≡ true → leads waits all (length all) to first ≡ true)
+          → (next : ℕ) × (next_shown waits all first last ≡ Some next)
+      by_length zero walk more = absurd (cc)
+      by_length (suc steps) walk more =
+          let step = first-step waits all steps last first walk in
+          some-found (λ next. waits last next && leads waits all (length all) next first) all step.next step.there
+          (and_from (waits last step.next) (leads waits all (length all) step.next first) step.step
+          (elim step.rest [
+            | inl same ↦ ap (λ (n : ℕ). leads waits all (length all) n first) same ∙ round
+            | inr later ↦ walk-short waits all first step.next steps step.there later
+          ]))
+
+  -- from a member on: so many steps are enough
+  after-closes : (steps last : ℕ) → has all last ≡ true → (last == first) ≡ false → leads waits all (length all) last first ≡ true
+      → length (filter (reached (except first waits) all last) all) ≤ steps → EndsWith first (last ∷ shown_after waits all steps first last)
+  after-closes zero last inside apart walk few = absurd (empty (filter (reached (except first waits) all last) all) few there)
+    where
+      there : has (filter (reached (except first waits) all last) all) first ≡ true
+      there = has-filter (reached (except first waits) all last) all first ∙ and_from (has all first) (reached (except first waits) all last first) here (first-arrival waits all first (length all) last apart walk)
+
+      empty : (xs : List ℕ) → length xs ≤ 0 → has xs first ≡ true → ⊥
+      empty [] few inside = cc
+      empty (x ∷ xs) few inside = omega (arith, few)
+  after-closes (suc steps) last inside apart walk few = by_next (next_shown waits all first last) refl (λ next in_all away leads_on less. after-closes steps next in_all away leads_on (omega (arith, less, few)))
+    where
+      by_next : (next : Option ℕ) → next_shown waits all first last ≡ next
+          → ((next : ℕ) → has all next ≡ true → (next == first) ≡ false → leads waits all (length all) next first ≡ true
+          → length (filter (reached (except first waits) all next) all) < length (filter (reached (except first waits) all last) all) → EndsWith first (next ∷ shown_after waits all steps first next))
+          → EndsWith first (last ∷ option_map_or (λ next. next ∷ (if next == first then [] else shown_after waits all steps first next)) next [])
+      by_next None is later =
+          let (next, found) = next-there last walk in
+          absurd (none-some next (sym is ∙ found))
+      by_next (Some next) is later =
+          let parts = and_parts (waits last next) (leads waits all (length all) next first) (found-passes (λ next. waits last next && leads waits all (length all) next first) all next is) in
+          let in_all : has all next ≡ true = found-has (λ next. waits last next && leads waits all (length all) next first) all next is in
+          by_round (next == first) refl
+          (λ away.
+          later next in_all away parts.1
+          (leads-to-fewer (except first waits) all none last next inside in_all (and_from (not (last == first)) (waits last next) (not_from_false (last == first) apart) parts.0)))
+        where
+          by_round : (closes : Bool) → (next == first) ≡ closes → ((next == first) ≡ false → EndsWith first (next ∷ shown_after waits all steps first next))
+              → EndsWith first (next ∷ (if closes then [] else shown_after waits all steps first next))
+          by_round true e rest = eqb-true next first e
+          by_round false e rest = rest e
+
+  -- and from the first on
+  pub first-closes : (steps : ℕ) → length all ≡ steps → EndsWith first (first ∷ shown_after waits all steps first first)
+  first-closes zero few = absurd (empty all few here)
+    where
+      empty : (xs : List ℕ) → length xs ≡ 0 → has xs first ≡ true → ⊥
+      empty [] few inside = cc
+      empty (x ∷ xs) few inside = omega (arith, few)
+  first-closes (suc steps) few = by_next (next_shown waits all first first) refl
+    where
+      -- a member isn't among those to which it leads
+      fewer : (next : ℕ) → has all next ≡ true → length (filter (reached (except first waits) all next) all) ≤ steps
+      fewer next in_all = elim (cases_lt (length (filter (reached (except first waits) all next) all)) (length all)) [
+        | inl less ↦ omega (arith, less, few)
+        | inr full ↦ absurd (both_ways (reached (except first waits) all next next) (none (length all) next) (all-pass (reached (except first waits) all next) all full next in_all))
+      ]
+
+      by_next : (next : Option ℕ) → next_shown waits all first first ≡ next
+          → EndsWith first (first ∷ option_map_or (λ next. next ∷ (if next == first then [] else shown_after waits all steps first next)) next [])
+      by_next None is =
+          let (next, found) = next-there first round in
+          absurd (none-some next (sym is ∙ found))
+      by_next (Some next) is =
+          let parts = and_parts (waits first next) (leads waits all (length all) next first) (found-passes (λ next. waits first next && leads waits all (length all) next first) all next is) in
+          let in_all : has all next ≡ true = found-has (λ next. waits first next && leads waits all (length all) next first) all next is in
+          by_round (next == first) refl (λ away. after-closes steps next in_all away parts.1 (fewer next in_all))
+        where
+          by_round : (closes : Bool) → (next == first) ≡ closes → ((next == first) ≡ false → EndsWith first (next ∷ shown_after waits all steps first next))
+              → EndsWith first (next ∷ (if closes then [] else shown_after waits all steps first next))
+          by_round true e rest = eqb-true next first e
+          by_round false e rest = rest e
+
+shown-closes : (waits : ℕ → ℕ → Bool) (all : List ℕ) (first : ℕ) (cycle : List ℕ) → HasNoCycle (except first waits) all → has all first ≡ true → shown_cycle waits all first ≡ Some cycle → EndsWith first cycle
+shown-closes waits all first cycle none here is = by_test (leads waits all (length all) first first) refl is
+  where
+    by_test : (round : Bool) → leads waits all (length all) first first ≡ round → (if round then Some (first ∷ shown_after waits all (length all) first first) else None) ≡ Some cycle → EndsWith first cycle
+    by_test true e is =
+        let it : first ∷ shown_after waits all (length all) first first ≡ cycle = cc in
+        subst (EndsWith first) it (first-closes waits all first none here e (length all) refl)
+    by_test false e is = absurd (cc)
+
+-- every round of a contest leaves only cycles by waits of who asks
+contest-rounds : (rounds : ℕ) (entry : Entry) (desk met : Desk) (counts counted : Counts) → IsContending entry.number desk → IsAmong desk.active entry
+    → breaks_cycles rounds entry.number (Contested desk counts) ≡ Contested met counted → IsContending entry.number met × IsAmong met.active entry
+contest-rounds zero entry desk met counts counted is here comes =
+    let same : desk ≡ met = cc in
+    subst (λ (d : Desk). IsContending entry.number d × IsAmong d.active entry) same (is, here)
+contest-rounds (suc rounds) entry desk met counts counted is here comes =
+    by_cycle (shown_cycle (waits_for desk) (numbers desk) entry.number) refl comes
+    (λ next more contends there later. contest-rounds rounds entry next met more counted contends there later)
+  where
+    by_cycle : (cycle : Option (List ℕ)) → shown_cycle (waits_for desk) (numbers desk) entry.number ≡ cycle
+        → breaks_cycles rounds entry.number (breaks_cycle entry.number cycle desk counts) ≡ Contested met counted
+        → ((next : Desk) (more : Counts) → IsContending entry.number next → IsAmong next.active entry → breaks_cycles rounds entry.number (Contested next more) ≡ Contested met counted
+        → IsContending entry.number met × IsAmong met.active entry)
+        → IsContending entry.number met × IsAmong met.active entry
+    by_cycle None shown comes later =
+        let wrong : Settled desk counts ≡ Contested met counted = sym (stays-settled rounds entry.number desk counts) ∙ comes in
+        absurd (cc)
+    by_cycle (Some cycle) shown comes later =
+        let (victim, found) = victim-there desk entry cycle here shown in
+        by_lost victim found (victim_of cycle == entry.number) refl
+        (sym (ap (λ (one : Option Entry). breaks_cycles rounds entry.number (left_over desk (record counts { cycles = counts.cycles ++ cycle ∷ [] }) one (victim_of cycle == entry.number))) found) ∙ comes)
+      where
+        by_lost : (victim : Entry) → find (λ (one : Entry). one.number == victim_of cycle) desk.active ≡ Some victim → (lost : Bool) → (victim_of cycle == entry.number) ≡ lost
+            → breaks_cycles rounds entry.number (left_over desk (record counts { cycles = counts.cycles ++ cycle ∷ [] }) (Some victim) lost) ≡ Contested met counted
+            → IsContending entry.number met × IsAmong met.active entry
+        by_lost victim found true e comes =
+            let wrong : Lost (rolled_back desk victim) (record counts { cycles = counts.cycles ++ cycle ∷ [] }) ≡ Contested met counted =
+            sym (stays-lost rounds entry.number (rolled_back desk victim) (record counts { cycles = counts.cycles ++ cycle ∷ [] })) ∙ comes in
+            absurd (cc)
+        by_lost victim found false e comes =
+            later (rolled_back desk victim) (record counts { cycles = counts.cycles ++ cycle ∷ [] }) (rolled-contending entry.number desk victim is)
+            (asker-left desk entry victim cycle here found e) comes
+
+pub contested-cycles-close : ContestedCyclesClose
+contested-cycles-close desk met entry counts counted rounds cycle is here comes shown =
+    let marked = record entry { waiting = true } in
+    let (contends, there) =
+    contest-rounds rounds marked (with_entry desk marked) met counts counted (marked-contending desk entry true here (contending entry.number desk (orderly desk is)))
+    (new-among marked desk.active entry here refl) comes in
+    shown-closes (waits_for met) (numbers met) entry.number cycle contends.no_cycle (has-number met.active marked there) shown

@@ -1,0 +1,304 @@
+-- A commit, a begin and a crash leave the desk consistent.
+use Rattle.std.specs.Prelude.{Some, ◌≡◌, refl, ℕ, zero, suc, ◌+◌, ◌<◌, ◌==◌, not, Bool, true, false, List, [], ◌∷◌, ◌++◌, length, map, replicate, slice_index_or, Option, None}
+use Rattle.std.specs.Option.{option_map_or}
+use Rattle.std.proofs.Common.{arith, ap, sym, ◌∙◌, subst, inl, inr}
+use Rattle.std.proofs.lemmas.Bool.{eqb-true, ne_eqb, both_ways, and_parts, and_from, or_from, and_right, not-true, false_from_ne_true}
+use Rattle.line_geometry.specs.Directory.{page_count}
+use Rattle.line_geometry.specs.FlatStore.{FlatStore, IsWhole}
+use Rattle.lock_rules.specs.Sets.{has, meets}
+use Rattle.lock_rules.specs.Lines.{Lines, no_lines, conflicts, both, with_whole_pages}
+use Rattle.std.proofs.lemmas.List.{append-nil}
+use Rattle.lock_rules.specs.Waits.{leads}
+use Rattle.flat_machine.specs.Serial.{Activation}
+use Rattle.flat_machine.specs.declared.machine.Plain.{Plain}
+use Rattle.flat_machine.specs.After.{start, after}
+use Rattle.flat_machine.specs.Row.{Outcome, Commit, plan_at, row}
+use Rattle.flat_machine.specs.Touched.{touched, touched_by}
+use Rattle.flat_machine.proofs.Agreement.{after-whole}
+use Rattle.desk.specs.Desk.{Desk, Entry, Authority, nobody, opened, rolled_back}
+use Rattle.desk.specs.Holdings.{wanted, request, conflicts_with, numbers, waits_for}
+use Rattle.desk.specs.Instruction.{Attempt}
+use Rattle.desk.specs.Run.{absent_segment}
+use Rattle.desk_law.specs.Changes.{committed_at, gone_on, left_by}
+use Rattle.desk_law.specs.Consistent.{IsAmong, Ascend, due_to, IsLive, AreApart, AreConsistent, IsCovered, IsOwned, IsHeld}
+use Rattle.desk_law.proofs.Orderly.{IsOrderly}
+use Rattle.desk_law.proofs.Entries.{among-filter, among-push, push-among, ascend-push, between, one-entry, among-replaced, replaced-among, new-among, filter-short}
+use Rattle.desk_law.proofs.Walks.{except, no-cycle-fewer, no-cycle-leaves, first-step, one-step}
+use Rattle.desk_law.proofs.Others.{touched_of, another-stays, commit-leaves, rollback-leaves}
+use Rattle.desk_law.proofs.Waiting.{waits-by, waits-from, has-number, fewer-numbers, rollback-waits, commit-waits}
+use Rattle.desk_law.proofs.Holding.{freed, held-others, other-covers}
+use Rattle.desk_law.proofs.Contest.{gone-consistent}
+use Rattle.desk_law.proofs.GoesOn.{IsGranted, others-replaced, due-more, nobody-conflicts}
+
+-- a rollback after the pages were granted
+pub granted-rolled : (desk : Desk) (attempt : Attempt) → IsGranted attempt desk → IsOrderly (rolled_back desk attempt.entry)
+granted-rolled desk attempt is =
+    gone-consistent attempt.entry.number (rolled_back desk attempt.entry)
+    (record {
+      whole = is.whole;
+      few = omega (arith, is.few, filter-short (λ (other : Entry). not (other.number == attempt.entry.number)) desk.active);
+      active = rollback-leaves desk.committed desk.most_lines desk.next desk.active attempt.entry is.active;
+      held =
+          subst (λ (these : List Entry). IsHeld desk.committed these (map (freed attempt.entry.number) desk.authority))
+          (others-replaced attempt.entry (gone_on attempt.entry) desk.active refl)
+          (held-others desk.committed desk.committed _ desk.authority attempt.entry refl (λ other among. refl) is.held);
+      no_cycle =
+          no-cycle-fewer (except attempt.entry.number (waits_for (rolled_back desk attempt.entry))) (except attempt.entry.number (waits_for desk)) (numbers (rolled_back desk attempt.entry)) (numbers desk)
+          (λ from to waits.
+          let parts = and_parts (not (from == attempt.entry.number)) (waits_for (rolled_back desk attempt.entry) from to) waits in
+          and_from (not (from == attempt.entry.number)) (waits_for desk from to) parts.0 (rollback-waits desk attempt.entry from to parts.1))
+          (λ x inside. fewer-numbers (λ (other : Entry). not (other.number == attempt.entry.number)) desk.active x inside)
+          is.no_cycle;
+    })
+    (λ other among. not-true (other.number == attempt.entry.number) (among-filter (λ (other : Entry). not (other.number == attempt.entry.number)) desk.active other among).1)
+
+-- a commit
+pub granted-commits : (desk : Desk) (attempt : Attempt) → IsGranted attempt desk → IsOrderly (committed_at desk attempt.entry attempt.now)
+granted-commits desk attempt is =
+    gone-consistent attempt.entry.number (committed_at desk attempt.entry attempt.now)
+    (record {
+      whole = after-whole attempt.entry.runs.program attempt.entry.runs.args desk.committed attempt.entry.rows attempt.now is.whole is.now;
+      few = omega (arith, is.few, filter-short (λ (other : Entry). not (other.number == attempt.entry.number)) desk.active);
+      active = commit-leaves desk.committed desk.most_lines desk.next desk.active (record attempt.entry { waiting = is.mark }) attempt.now is.whole is.active is.here is.now;
+      held =
+          subst (λ (these : List Entry). IsHeld (left_by desk.committed attempt.now) these (map (freed attempt.entry.number) desk.authority))
+          (others-replaced attempt.entry (gone_on attempt.entry) desk.active refl)
+          (held-others desk.committed (left_by desk.committed attempt.now) _ desk.authority attempt.entry refl
+          (λ other among.
+          let (there, differ) = among-filter (λ (other : Entry). not (other.number == attempt.entry.number)) desk.active other
+          (subst (λ (these : List Entry). IsAmong these other) (others-replaced attempt.entry (gone_on attempt.entry) desk.active refl) among) in
+          (another-stays desk.committed desk.most_lines desk.next desk.active (record attempt.entry { waiting = is.mark }) other attempt.now is.whole is.active is.here there (not-true (other.number == attempt.entry.number) differ) is.now).due)
+          is.held);
+      no_cycle =
+          no-cycle-fewer (except attempt.entry.number (waits_for (committed_at desk attempt.entry attempt.now))) (except attempt.entry.number (waits_for desk)) (numbers (committed_at desk attempt.entry attempt.now)) (numbers desk)
+          (λ from to waits.
+          let parts = and_parts (not (from == attempt.entry.number)) (waits_for (committed_at desk attempt.entry attempt.now) from to) waits in
+          and_from (not (from == attempt.entry.number)) (waits_for desk from to) parts.0
+          (commit-waits desk (record attempt.entry { waiting = is.mark }) attempt.now from to is.whole is.active is.here is.now parts.1))
+          (λ x inside. fewer-numbers (λ (other : Entry). not (other.number == attempt.entry.number)) desk.active x inside)
+          is.no_cycle;
+    })
+    (λ other among. not-true (other.number == attempt.entry.number) (among-filter (λ (other : Entry). not (other.number == attempt.entry.number)) desk.active other among).1)
+
+-- the commit call touches nothing
+pub wanted-commit : (desk : Desk) (entry : Entry) (now : Plain) → after entry.runs.program entry.runs.args desk.committed entry.rows ≡ Some now
+    → row entry.runs.program desk.committed.directory now ≡ Commit → wanted desk entry ≡ no_lines
+wanted-commit desk entry now at is =
+    ap (λ (state : Option Plain). option_map_or (touched entry.runs.program desk.committed.directory) state no_lines) at
+    ∙ ap (λ (outcome : Outcome). touched_by entry.runs.program desk.committed.directory outcome (plan_at now)) is
+
+-- a commit that isn't done leaves entries and authority
+pub granted-closes : (desk : Desk) (attempt : Attempt) → IsGranted attempt desk → attempt.outcome ≡ Commit → IsOrderly desk
+granted-closes desk attempt is went = record {
+  whole = is.whole;
+  few = is.few;
+  active = is.active;
+  held = record { pages = is.held.pages; owned = owned; covered = covered };
+  no_cycle =
+      no-cycle-leaves attempt.entry.number (waits_for desk) (waits_for desk) (numbers desk)
+      (record { none = waits_for_none; kept = λ from to other waits. waits })
+      is.no_cycle;
+}
+  where
+    it : (entry : Entry) → IsAmong desk.active entry → entry.number ≡ attempt.entry.number → record attempt.entry { waiting = is.mark } ≡ entry
+    it entry among same = one-entry 0 desk.next desk.active (record attempt.entry { waiting = is.mark }) entry is.active.ascend is.here among (sym same)
+
+    due : due_to desk.committed (gone_on attempt.entry) ≡ due_to desk.committed attempt.entry
+    due =
+        due-more desk.committed attempt.entry
+        ∙ ap (λ (lines : Lines). with_whole_pages (both (touched_of desk.committed attempt.entry) lines)) (wanted-commit desk attempt.entry attempt.now is.now (is.went ∙ went))
+        ∙ (λ i. with_whole_pages (record {
+          reads = append-nil (touched_of desk.committed attempt.entry).reads i;
+          writes = append-nil (touched_of desk.committed attempt.entry).writes i;
+        }))
+
+    owned : (page : ℕ) → IsOwned desk.active (slice_index_or desk.authority page nobody)
+    owned page = elim (is.held.owned page) [
+      | inl none ↦ inl none
+      | inr some ↦
+          elim (among-replaced (gone_on attempt.entry) desk.active some.0 some.1) [
+            | inl new ↦ inr (record attempt.entry { waiting = is.mark }, is.here, some.2 ∙ ap (λ (x : Entry). x.number) (sym new))
+            | inr old ↦ inr (some.0, old.0, some.2)
+          ]
+    ]
+
+    covered : (page : ℕ) (entry : Entry) → IsAmong desk.active entry → IsCovered (slice_index_or desk.authority page nobody) page entry.number (due_to desk.committed entry)
+    covered page entry among = by_number (entry.number == attempt.entry.number) refl
+      where
+        by_number : (own : Bool) → (entry.number == attempt.entry.number) ≡ own → IsCovered (slice_index_or desk.authority page nobody) page entry.number (due_to desk.committed entry)
+        by_number true own =
+            subst (λ (x : Entry). IsCovered (slice_index_or desk.authority page nobody) page x.number (due_to desk.committed x))
+            (it entry among (eqb-true entry.number attempt.entry.number own))
+            (subst (IsCovered (slice_index_or desk.authority page nobody) page attempt.entry.number) due
+            (is.held.covered page (gone_on attempt.entry) (new-among (gone_on attempt.entry) desk.active (record attempt.entry { waiting = is.mark }) is.here refl)))
+        by_number false other = is.held.covered page entry (replaced-among (gone_on attempt.entry) desk.active entry among other)
+
+    waits_for_none : (to : ℕ) → waits_for desk attempt.entry.number to ≡ false
+    waits_for_none to =
+        false_from_ne_true (waits_for desk attempt.entry.number to)
+        (λ waits.
+        let by = waits-by desk attempt.entry.number to waits in
+        both_ways (conflicts_with desk by.entry by.other)
+        (ap (λ (x : Entry). conflicts_with desk x by.other) (sym (it by.entry by.entry_among (eqb-true by.entry.number attempt.entry.number by.is_from)))
+        ∙ nobody-conflicts (conflicts_with desk attempt.entry) desk.active is.none by.other by.other_among)
+        by.conflict)
+
+-- an entry that begins
+abbrev pub first_entry : ℕ → Activation → Entry
+first_entry number runs = record { number = number; runs = runs; rows = 0; waiting = false }
+
+-- the desk with it
+abbrev pub with_first : Desk → Activation → Desk
+with_first desk runs = record desk { next = desk.next + 1; active = desk.active ++ first_entry desk.next runs ∷ [] }
+
+meets-nothing : (xs : List ℕ) → meets xs [] ≡ false
+meets-nothing [] = refl
+meets-nothing (x ∷ xs) = meets-nothing xs
+
+-- nobody waits for one that begins
+begin-waits : (desk : Desk) (runs : Activation) (from to : ℕ) → waits_for (with_first desk runs) from to ≡ true → waits_for desk from to ≡ true
+begin-waits desk runs from to waits =
+    let by = waits-by (with_first desk runs) from to waits in
+    elim (among-push desk.active (first_entry desk.next runs) by.entry by.entry_among) [
+      | inr new ↦ absurd (both_ways by.entry.waiting (sym (ap (λ (x : Entry). x.waiting) new)) by.waiting)
+      | inl old ↦
+          elim (among-push desk.active (first_entry desk.next runs) by.other by.other_among) [
+            | inr new ↦
+                absurd (both_ways (conflicts_with desk by.entry by.other)
+                (sym (ap (λ (x : Entry). conflicts_with desk by.entry x) new)
+                ∙ and_right (not (desk.next == by.entry.number)) (conflicts (request desk by.entry) no_lines)
+                (or_from (meets (request desk by.entry).writes []) (meets (request desk by.entry).reads []) (meets-nothing (request desk by.entry).writes) (meets-nothing (request desk by.entry).reads)))
+                by.conflict)
+            | inl also ↦
+                waits-from desk from to
+                (record { entry = by.entry; other = by.other; entry_among = old; other_among = also; is_from = by.is_from; waiting = by.waiting; is_to = by.is_to; conflict = by.conflict })
+          ]
+    ]
+
+-- whoever is waited for is active
+waited-active : (desk : Desk) (from to : ℕ) → waits_for desk from to ≡ true → has (numbers desk) to ≡ true
+waited-active desk from to waits =
+    let by = waits-by desk from to waits in
+    subst (λ (n : ℕ). has (numbers desk) n ≡ true) (eqb-true by.other.number to by.is_to) (has-number desk.active by.other by.other_among)
+
+-- waits that end in a set lead as far among its numbers alone
+leads-among : (waits narrow : ℕ → ℕ → Bool) (all set : List ℕ)
+    → ((from to : ℕ) → waits from to ≡ true → narrow from to ≡ true) → ((from to : ℕ) → narrow from to ≡ true → has set to ≡ true)
+    → (steps from to : ℕ) → leads waits all steps from to ≡ true → leads narrow set steps from to ≡ true
+leads-among waits narrow all set wide among zero from to walk = absurd (cc)
+leads-among waits narrow all set wide among (suc steps) from to walk =
+    let first = first-step waits all steps from to walk in
+    one-step narrow set steps from to first.next (among from first.next (wide from first.next first.step)) (wide from first.next first.step)
+    (elim first.rest [
+      | inl same ↦ inl same
+      | inr later ↦ inr (leads-among waits narrow all set wide among steps first.next to later)
+    ])
+
+-- An activation begins.
+pub begins-consistent : (desk : Desk) (runs : Activation) → IsOrderly desk → length desk.active < desk.most_active
+    → absent_segment desk.committed.directory runs.program.windows ≡ None → IsOrderly (with_first desk runs)
+begins-consistent desk runs is room present = record {
+  whole = is.whole;
+  few = omega (arith, room, length-push desk.active (first_entry desk.next runs));
+  active = record {
+    ascend = ascend-push 0 desk.next desk.active (first_entry desk.next runs) refl is.active.ascend;
+    live = λ entry among. elim (among-push desk.active (first_entry desk.next runs) entry among) [
+      | inl old ↦ is.active.live entry old
+      | inr new ↦
+          subst (IsLive desk.committed desk.most_lines) new
+          (record { state = start runs.program runs.args desk.committed; is = refl; few = omega arith; present = present })
+    ];
+    apart = λ first second among1 among2 differ.
+        elim (among-push desk.active (first_entry desk.next runs) first among1) [
+          | inl old1 ↦
+              elim (among-push desk.active (first_entry desk.next runs) second among2) [
+                | inl old2 ↦ is.active.apart first second old1 old2 differ
+                | inr new2 ↦ subst (λ (x : Entry). AreApart (due_to desk.committed first) (due_to desk.committed x)) new2 (record { first_writes = λ line inside. refl; second_writes = λ line inside. absurd (cc) })
+              ]
+          | inr new1 ↦ subst (λ (x : Entry). AreApart (due_to desk.committed x) (due_to desk.committed second)) new1 (record { first_writes = λ line inside. absurd (cc); second_writes = λ line inside. refl })
+        ];
+  };
+  held = record {
+    pages = is.held.pages;
+    owned = λ page. elim (is.held.owned page) [
+      | inl none ↦ inl none
+      | inr some ↦ inr (some.0, push-among desk.active (first_entry desk.next runs) some.0 some.1, some.2)
+    ];
+    covered = λ page entry among. elim (among-push desk.active (first_entry desk.next runs) entry among) [
+      | inl old ↦ is.held.covered page entry old
+      | inr new ↦
+          subst (λ (x : Entry). IsCovered (slice_index_or desk.authority page nobody) page x.number (due_to desk.committed x)) new
+          (other-covers (slice_index_or desk.authority page nobody) page desk.next (due_to desk.committed (first_entry desk.next runs)) (not_next page))
+    ];
+  };
+  no_cycle = λ steps number.
+      false_from_ne_true (leads (waits_for (with_first desk runs)) (numbers (with_first desk runs)) steps number number)
+      (λ walk.
+      both_ways (leads (waits_for desk) (numbers desk) steps number number) (is.no_cycle steps number)
+      (leads-among (waits_for (with_first desk runs)) (waits_for desk) (numbers (with_first desk runs)) (numbers desk)
+      (λ from to waits. begin-waits desk runs from to waits) (λ from to waits. waited-active desk from to waits) steps number number walk));
+}
+  where
+    length-push : (entries : List Entry) (last : Entry) → length (entries ++ last ∷ []) ≡ suc (length entries)
+    length-push [] last = refl
+    length-push (one ∷ entries) last = ap suc (length-push entries last)
+
+    below : (low : ℕ) (entries : List Entry) → Ascend low entries desk.next → low < desk.next
+    below low [] up = up
+    below low (entry ∷ entries) up = omega (arith, up.0, below entry.number entries up.1)
+
+    not_next : (page : ℕ) → ((slice_index_or desk.authority page nobody).owner == desk.next) ≡ false
+    not_next page = elim (is.held.owned page) [
+      | inl none ↦ ne_eqb (slice_index_or desk.authority page nobody).owner desk.next (λ same. omega (arith, none, same, below 0 desk.active is.active.ascend))
+      | inr some ↦
+          ne_eqb (slice_index_or desk.authority page nobody).owner desk.next
+          (λ same. omega (arith, same, some.2, (between 0 desk.next desk.active some.0 is.active.ascend some.1).1))
+    ]
+
+-- a begin that is refused
+pub refused-consistent : (desk : Desk) → IsOrderly desk → IsOrderly (record desk { next = desk.next + 1 })
+refused-consistent desk is = record {
+  whole = is.whole;
+  few = is.few;
+  active = record { ascend = later 0 desk.active is.active.ascend; live = is.active.live; apart = is.active.apart };
+  held = is.held;
+  no_cycle = is.no_cycle;
+}
+  where
+    later : (low : ℕ) (entries : List Entry) → Ascend low entries desk.next → Ascend low entries (desk.next + 1)
+    later low [] up = omega (arith, up)
+    later low (entry ∷ entries) up = (up.0, later entry.number entries up.1)
+
+-- nobody is active, and every page is nobody's
+pub quiet-consistent : (desk : Desk) → IsWhole desk.committed → 0 < desk.next → desk.active ≡ [] → desk.authority ≡ replicate (page_count desk.committed.directory) nobody → IsOrderly desk
+quiet-consistent desk whole next none free = record {
+  whole = whole;
+  few = omega (arith, ap (λ (these : List Entry). length these) none);
+  active = subst (AreConsistent desk.committed desk.most_lines desk.next) (sym none) (record { ascend = next; live = λ entry among. absurd among; apart = λ first second among1 among2 differ. absurd among1 });
+  held =
+      subst (λ (these : List Entry). IsHeld desk.committed these desk.authority) (sym none)
+      (subst (IsHeld desk.committed []) (sym free)
+      (record {
+        pages = length-same (page_count desk.committed.directory);
+        owned = λ page. inl (ap (λ (a : Authority). a.owner) (at (page_count desk.committed.directory) page));
+        covered = λ page entry among. absurd among;
+      }));
+  no_cycle = λ steps number. subst (λ (these : List ℕ). leads (waits_for desk) these steps number number ≡ false) (sym (ap (λ (these : List Entry). map (λ (entry : Entry). entry.number) these) none)) (nowhere steps number);
+}
+  where
+    length-same : (n : ℕ) → length (replicate n nobody) ≡ n
+    length-same zero = refl
+    length-same (suc n) = ap suc (length-same n)
+
+    at : (n page : ℕ) → slice_index_or (replicate n nobody) page nobody ≡ nobody
+    at zero page = refl
+    at (suc n) zero = refl
+    at (suc n) (suc page) = at n page
+
+    nowhere : (steps number : ℕ) → leads (waits_for desk) [] steps number number ≡ false
+    nowhere zero number = refl
+    nowhere (suc steps) number = refl
+
+-- the desk as it opens
+pub opened-consistent : (frames most most_lines : ℕ) (store : FlatStore) → IsWhole store → IsOrderly (opened frames most most_lines store)
+opened-consistent frames most most_lines store whole = quiet-consistent (opened frames most most_lines store) whole (omega arith) refl refl

@@ -1,0 +1,226 @@
+-- Who ends in a turn: victims, and the turn's own activation.
+use Rattle.std.specs.Prelude.{◌≡◌, refl, ℕ, zero, suc, ◌+◌, ◌==◌, ◌⊎◌, not, Bool, true, false, List, [], ◌∷◌, ◌++◌, length, map, filter, find, Option, Some, None}
+use Rattle.std.proofs.Common.{ap, sym, ◌∙◌, subst, inl, inr}
+use Rattle.std.proofs.lemmas.Bool.{eqb-true, eq-eqb, or_cases, or_left, or_right, not_from_false, cases_Bool}
+use Rattle.lock_rules.specs.Sets.{has}
+use Rattle.lock_rules.specs.Waits.{shown_cycle, victim_of}
+use Rattle.flat_machine.specs.declared.machine.Plain.{Plain}
+use Rattle.flat_machine.specs.Row.{Outcome, On, Commit, Check, row}
+use Rattle.flat_machine.specs.After.{after}
+use Rattle.desk.specs.Desk.{Desk, Entry, with_entry}
+use Rattle.desk.specs.Holdings.{wanted, conflicts_of, numbers, waits_for}
+use Rattle.desk.specs.Instruction.{Word, Fine, ReadFailed, Unwritten, Doubt, Failed, Counts, Turning, Going, Over, Limit, Attempt, Fetching, Fetched, Broken, Contest, Contested, Settled, Lost, attempts, attempts_at, instruction, turns, turn_of, no_counts, limited, is_over_limit, fetched_first, fetches_touched, asks, gets, goes_on, takes_effect, commits, contest_ends, waits_or_gets, with_grants, refused_pages, breaks_cycle, breaks_cycles}
+use Rattle.desk_law.specs.Changes.{gone_on}
+use Rattle.desk_law.specs.Causes.{desk_of, turn_counts, ends_own, IsAccounted, EndsHaveCauses}
+use Rattle.desk_law.proofs.Entries.{among-found, filter-among, numbers-replaced}
+use Rattle.desk_law.proofs.Waiting.{number-of, has-number}
+use Rattle.desk_law.proofs.Contest.{left_over, without}
+
+-- a number is active, or a victim's
+abbrev IsKept : Desk → Counts → ℕ → Type 0
+IsKept desk counts other = (has (numbers desk) other ≡ true) ⊎ (has (map victim_of counts.cycles) other ≡ true)
+
+-- each number that was active is
+abbrev AreKept : List ℕ → Desk → Counts → Type 0
+AreKept before desk counts = (other : ℕ) → has before other ≡ true → IsKept desk counts other
+
+abbrev AreAccounted : List ℕ → ℕ → Turning → Type 0
+AreAccounted before number turning = (other : ℕ) → has before other ≡ true → IsAccounted number turning other
+
+abbrev ContestKept : List ℕ → Contest → Type 0
+ContestKept before (Contested desk counts) = AreKept before desk counts
+ContestKept before (Settled desk counts) = AreKept before desk counts
+ContestKept before (Lost desk counts) = AreKept before desk counts
+
+-- after an end of one, the others are active
+left-active : (desk : Desk) (gone other : ℕ) → has (numbers desk) other ≡ true
+    → (has (map (λ (entry : Entry). entry.number) (filter (λ (entry : Entry). not (entry.number == gone)) desk.active)) other ≡ true) ⊎ ((other == gone) ≡ true)
+left-active desk gone other inside =
+    let (entry, among, own) = number-of desk.active other inside in
+    elim (cases_Bool (entry.number == gone)) [
+      | inl same ↦ inr (eq-eqb other gone (sym own ∙ eqb-true entry.number gone same))
+      | inr apart ↦
+          inl
+          (subst (λ (n : ℕ). has (map (λ (entry : Entry). entry.number) (filter (λ (entry : Entry). not (entry.number == gone)) desk.active)) n ≡ true) own
+          (has-number (filter (λ (entry : Entry). not (entry.number == gone)) desk.active) entry
+          (filter-among (λ (entry : Entry). not (entry.number == gone)) desk.active entry among (not_from_false (entry.number == gone) apart))))
+    ]
+
+-- one that ended itself
+own-ended : (before : List ℕ) (gone : ℕ) (desk : Desk) (counts : Counts) (turning : Turning) → AreKept before desk counts
+    → (desk_of turning).active ≡ filter (λ (entry : Entry). not (entry.number == gone)) desk.active → (turn_counts turning).cycles ≡ counts.cycles → ends_own turning ≡ true
+    → AreAccounted before gone turning
+own-ended before gone desk counts turning kept active cycles ends other inside = elim (kept other inside) [
+  | inl there ↦ elim (left-active desk gone other there) [
+    | inl stays ↦ inl (ap (λ (these : List Entry). has (map (λ (entry : Entry). entry.number) these) other) active ∙ stays)
+    | inr same ↦ inr (inr (same, ends))
+  ]
+  | inr lost ↦ inr (inl (ap (λ (these : List (List ℕ)). has (map victim_of these) other) cycles ∙ lost))
+]
+
+has-more : (cycles : List (List ℕ)) (cycle : List ℕ) (other : ℕ) → has (map victim_of cycles) other ≡ true → has (map victim_of (cycles ++ cycle ∷ [])) other ≡ true
+has-more [] cycle other inside = absurd (cc)
+has-more (one ∷ cycles) cycle other inside = elim (or_cases (victim_of one == other) (has (map victim_of cycles) other) inside) [
+  | inl here ↦ or_left (victim_of one == other) (has (map victim_of (cycles ++ cycle ∷ [])) other) here
+  | inr later ↦ or_right (victim_of one == other) (has (map victim_of (cycles ++ cycle ∷ [])) other) (has-more cycles cycle other later)
+]
+
+has-last : (cycles : List (List ℕ)) (cycle : List ℕ) (other : ℕ) → (victim_of cycle == other) ≡ true → has (map victim_of (cycles ++ cycle ∷ [])) other ≡ true
+has-last [] cycle other same = or_left (victim_of cycle == other) false same
+has-last (one ∷ cycles) cycle other same = or_right (victim_of one == other) (has (map victim_of (cycles ++ cycle ∷ [])) other) (has-last cycles cycle other same)
+
+-- victims
+breaks-kept : (before : List ℕ) (left number : ℕ) (contest : Contest) → ContestKept before contest → ContestKept before (breaks_cycles left number contest)
+breaks-kept before zero number contest kept = kept
+breaks-kept before (suc left) number (Settled desk counts) kept = kept
+breaks-kept before (suc left) number (Lost desk counts) kept = kept
+breaks-kept before (suc left) number (Contested desk counts) kept =
+    breaks-kept before left number (breaks_cycle number (shown_cycle (waits_for desk) (numbers desk) number) desk counts)
+    (by_cycle (shown_cycle (waits_for desk) (numbers desk) number))
+  where
+    more : (cycle : List ℕ) (victim : Option Entry) → find (λ (entry : Entry). entry.number == victim_of cycle) desk.active ≡ victim
+        → AreKept before (without desk victim) (record counts { cycles = counts.cycles ++ cycle ∷ [] })
+    more cycle None found other inside = elim (kept other inside) [
+      | inl there ↦ inl there
+      | inr lost ↦ inr (has-more counts.cycles cycle other lost)
+    ]
+    more cycle (Some victim) found other inside = elim (kept other inside) [
+      | inl there ↦ elim (left-active desk victim.number other there) [
+        | inl stays ↦ inl stays
+        | inr same ↦
+            let (at, passes) = among-found (λ (entry : Entry). entry.number == victim_of cycle) desk.active victim found in
+            inr (has-last counts.cycles cycle other (eq-eqb (victim_of cycle) other (sym (eqb-true victim.number (victim_of cycle) passes) ∙ sym (eqb-true other victim.number same))))
+      ]
+      | inr lost ↦ inr (has-more counts.cycles cycle other lost)
+    ]
+
+    by_lost : (cycle : List ℕ) (lost : Bool) → ContestKept before (left_over desk (record counts { cycles = counts.cycles ++ cycle ∷ [] }) (find (λ (entry : Entry). entry.number == victim_of cycle) desk.active) lost)
+    by_lost cycle true = more cycle (find (λ (entry : Entry). entry.number == victim_of cycle) desk.active) refl
+    by_lost cycle false = more cycle (find (λ (entry : Entry). entry.number == victim_of cycle) desk.active) refl
+
+    by_cycle : (cycle : Option (List ℕ)) → ContestKept before (breaks_cycle number cycle desk counts)
+    by_cycle None = kept
+    by_cycle (Some cycle) = by_lost cycle (victim_of cycle == number)
+
+module _ (word : Word) (attempt : Attempt) (before : List ℕ) where
+  accounts : (desk : Desk) (counts : Counts) (other : ℕ) → IsKept desk counts other → IsAccounted attempt.entry.number (Going desk counts) other
+  accounts desk counts other (inl there) = inl there
+  accounts desk counts other (inr lost) = inr (inl lost)
+
+  acc-commit : (word : Word) (desk : Desk) (counts : Counts) → AreKept before desk counts → AreAccounted before attempt.entry.number (commits word attempt desk counts)
+  acc-commit Unwritten desk counts kept = λ other inside. accounts desk counts other (kept other inside)
+  acc-commit Doubt desk counts kept = λ other inside. accounts desk counts other (kept other inside)
+  acc-commit Fine desk counts kept = own-ended before attempt.entry.number desk counts (commits Fine attempt desk counts) kept refl refl refl
+  acc-commit (ReadFailed page) desk counts kept = own-ended before attempt.entry.number desk counts (commits (ReadFailed page) attempt desk counts) kept refl refl refl
+  acc-commit Failed desk counts kept = own-ended before attempt.entry.number desk counts (commits Failed attempt desk counts) kept refl refl refl
+
+  acc-effect : (desk : Desk) (counts : Counts) (outcome : Outcome) → AreKept before desk counts → AreAccounted before attempt.entry.number (takes_effect word attempt outcome desk counts)
+  acc-effect desk counts (On next) kept = λ other inside. elim (kept other inside) [
+    | inl there ↦ inl (ap (λ (these : List ℕ). has these other) (numbers-replaced (gone_on attempt.entry) desk.active) ∙ there)
+    | inr lost ↦ inr (inl lost)
+  ]
+  acc-effect desk counts Commit kept = acc-commit word desk counts kept
+  acc-effect desk counts (Check code) kept = own-ended before attempt.entry.number desk counts (takes_effect word attempt (Check code) desk counts) kept refl refl refl
+
+  acc-on : (desk : Desk) (counts : Counts) (fetching : Fetching) → AreKept before desk counts → AreAccounted before attempt.entry.number (goes_on word attempt desk counts fetching)
+  acc-on desk counts (Fetched resident counted) kept = acc-effect (record desk { resident = resident }) (record counts { pages = counted }) attempt.outcome kept
+  acc-on desk counts (Broken counted) kept = own-ended before attempt.entry.number desk counts (goes_on word attempt desk counts (Broken counted)) kept refl refl refl
+
+  acc-get : (refused : List ℕ) (desk : Desk) (counts : Counts) → AreKept before desk counts → AreAccounted before attempt.entry.number (gets word attempt refused desk counts)
+  acc-get refused desk counts kept = acc-on (with_grants attempt refused desk) counts (fetches_touched word attempt (with_grants attempt refused desk) counts) kept
+
+  acc-wait : (refused holders : List ℕ) (desk : Desk) (counts : Counts) → AreKept before desk counts → AreAccounted before attempt.entry.number (waits_or_gets word attempt refused holders desk counts)
+  acc-wait refused [] desk counts kept = acc-get refused desk counts kept
+  acc-wait refused (holder ∷ holders) desk counts kept = λ other inside. accounts desk counts other (kept other inside)
+
+  acc-contest : (refused : List ℕ) (contest : Contest) → ContestKept before contest → AreAccounted before attempt.entry.number (contest_ends word attempt refused contest)
+  acc-contest refused (Lost desk counts) kept = λ other inside. accounts desk counts other (kept other inside)
+  acc-contest refused (Settled desk counts) kept = acc-wait refused (conflicts_of desk attempt.entry) desk counts kept
+  acc-contest refused (Contested desk counts) kept = acc-wait refused (conflicts_of desk attempt.entry) desk counts kept
+
+  acc-ask : (refused holders : List ℕ) (desk : Desk) (counts : Counts) → AreKept before desk counts → AreAccounted before attempt.entry.number (asks word attempt refused holders desk counts)
+  acc-ask refused [] desk counts kept = acc-get refused desk counts kept
+  acc-ask refused (holder ∷ holders) desk counts kept =
+      acc-contest refused
+      (breaks_cycles (length desk.active) attempt.entry.number (Contested (with_entry desk (record attempt.entry { waiting = true })) counts))
+      (breaks-kept before (length desk.active) attempt.entry.number (Contested (with_entry desk (record attempt.entry { waiting = true })) counts)
+      (λ other inside. elim (kept other inside) [
+        | inl there ↦ inl (ap (λ (these : List ℕ). has these other) (numbers-replaced (record attempt.entry { waiting = true }) desk.active) ∙ there)
+        | inr lost ↦ inr lost
+      ]))
+
+  acc-first : (desk : Desk) (counts : Counts) (fetching : Fetching) → AreKept before desk counts → AreAccounted before attempt.entry.number (fetched_first word attempt desk counts fetching)
+  acc-first desk counts (Fetched resident counted) kept =
+      let there = record desk { resident = resident } in
+      acc-ask (refused_pages attempt there) (conflicts_of there attempt.entry) there
+      (record { ran = counts.ran; pages = counted; locks = counts.locks + length (refused_pages attempt there); cycles = counts.cycles }) kept
+  acc-first desk counts (Broken counted) kept = own-ended before attempt.entry.number desk counts (fetched_first word attempt desk counts (Broken counted)) kept refl refl refl
+
+  acc-limit : (over : Bool) (desk : Desk) (counts : Counts) → AreKept before desk counts → AreAccounted before attempt.entry.number (limited over word attempt desk counts)
+  acc-limit true desk counts kept = own-ended before attempt.entry.number desk counts (limited true word attempt desk counts) kept refl refl refl
+  acc-limit false desk counts kept = acc-first desk counts (fetches_touched word attempt desk counts) kept
+
+  acc-attempt : (outcome : Outcome) (desk : Desk) (counts : Counts) → AreKept before desk counts → AreAccounted before attempt.entry.number (attempts word attempt outcome desk counts)
+  acc-attempt (Check code) desk counts kept = own-ended before attempt.entry.number desk counts (attempts word attempt (Check code) desk counts) kept refl refl refl
+  acc-attempt (On next) desk counts kept = acc-limit (is_over_limit attempt desk) desk counts kept
+  acc-attempt Commit desk counts kept = acc-limit (is_over_limit attempt desk) desk counts kept
+
+-- an instruction of the entry with a number
+acc-instruction : (word : Word) (before : List ℕ) (number : ℕ) (one : Option Entry) (desk : Desk) (counts : Counts) → find (λ (entry : Entry). entry.number == number) desk.active ≡ one → AreKept before desk counts
+    → AreAccounted before number (instruction word one desk counts)
+unfolding instruction
+acc-instruction word before number None desk counts found kept = λ other inside. elim (kept other inside) [
+  | inl there ↦ inl there
+  | inr lost ↦ inr (inl lost)
+]
+acc-instruction word before number (Some entry) desk counts found kept = by_state (after entry.runs.program entry.runs.args desk.committed entry.rows)
+  where
+    own : entry.number ≡ number
+    own = eqb-true entry.number number (among-found (λ (entry : Entry). entry.number == number) desk.active entry found).1
+
+    by_state : (state : Option Plain) → AreAccounted before number (attempts_at word entry state desk counts)
+    by_state None = λ other inside. elim (kept other inside) [
+      | inl there ↦ inl there
+      | inr lost ↦ inr (inl lost)
+    ]
+    by_state (Some now) =
+        subst (λ (n : ℕ). AreAccounted before n (attempts_at word entry (Some now) desk counts)) own
+        (acc-attempt word
+        (record { entry = entry; now = now; outcome = row entry.runs.program desk.committed.directory now; lines = wanted desk entry })
+        before (row entry.runs.program desk.committed.directory now) desk counts kept)
+
+-- so many instructions
+acc-turns : (word : Word) (before : List ℕ) (number left : ℕ) (turning : Turning) → AreAccounted before number turning → AreAccounted before number (turns word number left turning)
+unfolding turns
+acc-turns word before number zero (Going desk counts) accounted = λ other inside. by_case other (accounted other inside)
+  where
+    by_case : (other : ℕ) → IsAccounted number (Going desk counts) other → IsAccounted number (Over desk counts Limit) other
+    by_case other (inl there) = inl there
+    by_case other (inr (inl lost)) = inr (inl lost)
+    by_case other (inr (inr own)) = absurd (wrong own.1)
+      where
+        wrong : false ≡ true → ⊥
+        wrong same = cc
+acc-turns word before number zero (Over desk counts ending) accounted = accounted
+acc-turns word before number (suc left) (Over desk counts ending) accounted = accounted
+acc-turns word before number (suc left) (Going desk counts) accounted =
+    acc-turns word before number left (instruction word (find (λ (entry : Entry). entry.number == number) desk.active) desk counts)
+    (acc-instruction word before number (find (λ (entry : Entry). entry.number == number) desk.active) desk counts refl (λ other inside. by_case other (accounted other inside)))
+  where
+    by_case : (other : ℕ) → IsAccounted number (Going desk counts) other → IsKept desk counts other
+    by_case other (inl there) = inl there
+    by_case other (inr (inl lost)) = inr lost
+    by_case other (inr (inr own)) = absurd (wrong own.1)
+      where
+        wrong : false ≡ true → ⊥
+        wrong same = cc
+
+pub ends-have-causes : EndsHaveCauses
+ends-have-causes word number limit desk entry here = by_entry (find (λ (entry : Entry). entry.number == number) desk.active)
+  where
+    there : has (numbers desk) entry.number ≡ true
+    there = has-number desk.active entry here
+
+    by_entry : (one : Option Entry) → IsAccounted number (turn_of one word number limit desk) entry.number
+    by_entry None = inl (has-number desk.active entry here)
+    by_entry (Some one) = acc-turns word (numbers desk) number limit (Going desk no_counts) (λ other inside. inl inside) entry.number there

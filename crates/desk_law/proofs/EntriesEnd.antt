@@ -1,0 +1,78 @@
+-- The ends of an entry, from what an attempt over the bytes of all tells: its commit call, its program check, and any rollback.
+use Rattle.std.specs.Prelude.{◌≡◌, ℕ, ◌+◌, List, Some}
+use Rattle.lock_rules.specs.Sets.{size}
+use Rattle.lock_rules.specs.Lines.{Lines}
+use Rattle.flat_machine.specs.declared.machine.Plain.{Plain}
+use Rattle.flat_machine.specs.Row.{Commit, Check, row}
+use Rattle.flat_machine.specs.After.{after}
+use Rattle.desk.specs.Desk.{Desk, Entry, ended, rolled_back}
+use Rattle.desk.specs.Instruction.{Word, Fine, Counts, Over, Checked, Committed, instruction, lines_written, ordered, commits}
+use Rattle.desk_law.specs.Beside.{IsLaid, IsTold, over_all}
+use Rattle.desk_law.specs.Consistent.{IsAmong, due_to}
+use Rattle.desk_law.proofs.AttemptsOnCurrent.{own-commit, own-check, ends-consistent}
+use Rattle.desk_law.proofs.Contest.{rolled-consistent}
+use Rattle.desk_law.proofs.InstructionStages.{attempt_of}
+use Rattle.desk_law.proofs.Orderly.{IsOrderly}
+use Rattle.desk_law.proofs.RowsThere.{commit-row, commit-lines, check-row}
+use Rattle.desk_law.proofs.ToldSteps.{HasCommitted, told-commit, told-rollback}
+
+-- the desk after the commit of an entry at a state
+abbrev pub committed_desk : Desk → Entry → Plain → Desk
+committed_desk desk entry now =
+    record (ended (ordered desk (attempt_of desk entry now)) entry.number) { committed = record desk.committed { bytes = now.store } }
+
+-- what a commit call comes to
+pub record Commits (desk : Desk) (counts : Counts) (entry : Entry) (now : Plain) (locks requests : ℕ → Lines) (states : ℕ → Plain) (bytes : List ℕ) : Type 0 where
+  pub comes : (word : Word) → instruction word (Some entry) desk counts ≡ commits word (attempt_of desk entry now) desk counts
+  pub record_size : lines_written (attempt_of desk entry now) desk ≡ size (due_to desk.committed entry).writes
+  pub record_lines : IsLaid desk.committed (due_to desk.committed entry).writes bytes desk.committed.bytes now.store
+  pub consistent : IsOrderly (committed_desk desk entry now)
+  pub told : IsTold (committed_desk desk entry now).committed (committed_desk desk entry now).active locks requests states bytes
+
+pub commit-ends :
+    (desk : Desk) (counts : Counts) (entry : Entry) (now : Plain) (locks requests : ℕ → Lines) (states : ℕ → Plain) (bytes : List ℕ)
+    → IsOrderly desk → IsAmong desk.active entry → after entry.runs.program entry.runs.args desk.committed entry.rows ≡ Some now
+    → IsTold desk.committed desk.active locks requests states bytes
+    → row entry.runs.program desk.committed.directory (over_all now bytes) ≡ Commit
+    → Commits desk counts entry now locks requests states bytes
+commit-ends desk counts entry now locks requests states bytes is here at told went = record {
+  comes = comes;
+  record_size = commit-lines desk entry now is here at own;
+  record_lines = done.record_lines;
+  consistent =
+      ends-consistent Fine desk (committed_desk desk entry now) counts (record counts { ran = counts.ran + 1 }) (Committed (entry.rows + 1) now.out) entry is here (comes Fine);
+  told = done.told;
+}
+  where
+    own : row entry.runs.program desk.committed.directory now ≡ Commit
+    own = own-commit entry.runs.program desk.committed.directory now bytes went
+
+    comes : (word : Word) → instruction word (Some entry) desk counts ≡ commits word (attempt_of desk entry now) desk counts
+    comes word = commit-row word desk counts entry now is here at own
+
+    done : HasCommitted desk.committed desk.active locks requests states bytes entry now
+    done = told-commit desk.committed desk.most_lines desk.next desk.active locks requests states bytes entry now is.whole is.active here told at
+
+-- what a rollback of an active entry leaves, of whatever cause: a check, the limit, a failed read or a lost contest
+pub record Rolls (desk : Desk) (gone : Entry) (locks requests : ℕ → Lines) (states : ℕ → Plain) (bytes : List ℕ) : Type 0 where
+  pub consistent : IsOrderly (rolled_back desk gone)
+  pub told : IsTold desk.committed (rolled_back desk gone).active locks requests states bytes
+
+pub rolls :
+    (desk : Desk) (gone : Entry) (locks requests : ℕ → Lines) (states : ℕ → Plain) (bytes new : List ℕ)
+    → IsOrderly desk → IsAmong desk.active gone → IsTold desk.committed desk.active locks requests states bytes
+    → IsLaid desk.committed (due_to desk.committed gone).writes desk.committed.bytes bytes new
+    → Rolls desk gone locks requests states new
+rolls desk gone locks requests states bytes new is here told laid = record {
+  consistent = rolled-consistent desk gone is;
+  told = told-rollback desk.committed desk.most_lines desk.next desk.active locks requests states bytes new gone is.active here told laid;
+}
+
+-- a program check
+pub check-ends :
+    (desk : Desk) (counts : Counts) (entry : Entry) (now : Plain) (code : ℕ) (bytes : List ℕ)
+    → after entry.runs.program entry.runs.args desk.committed entry.rows ≡ Some now
+    → row entry.runs.program desk.committed.directory (over_all now bytes) ≡ Check code
+    → (word : Word) → instruction word (Some entry) desk counts ≡ Over (rolled_back desk entry) counts (Checked code now.iar)
+check-ends desk counts entry now code bytes at went word =
+    check-row word desk counts entry now code at (own-check entry.runs.program desk.committed.directory now bytes code went)

@@ -1,0 +1,288 @@
+-- A row that goes on leaves the desk consistent.
+use Rattle.std.specs.Prelude.{◌≡◌, refl, ℕ, suc, ◌+◌, ◌≤◌, ◌==◌, not, if◌then◌else◌, Bool, true, false, List, [], ◌∷◌, ◌++◌, length, filter, map, Some, slice_index_or}
+use Rattle.std.proofs.Common.{arith, ap, sym, ◌∙◌, subst, inl, inr}
+use Rattle.std.proofs.lemmas.Bool.{eqb-true, eq-eqb, both_ways, or_cases, or_left, or_right, or_parts, and_cases, not_from_false, false_from_ne_true}
+use Rattle.line_geometry.specs.FlatStore.{FlatStore, IsWhole}
+use Rattle.lock_rules.specs.Sets.{has, size, meets}
+use Rattle.lock_rules.specs.Lines.{Lines, both, conflicts, with_whole_pages, page_of_line, pages_of}
+use Rattle.lock_rules.proofs.Sets.{has-append, has_left, has_right, any-at, any-some}
+use Rattle.lock_rules.proofs.Lines.{part-both, part-whole_pages, has-whole_pages, has-pages_of, meets-at}
+use Rattle.flat_machine.specs.declared.machine.Plain.{Plain}
+use Rattle.flat_machine.specs.Row.{On, row}
+use Rattle.flat_machine.specs.After.{after}
+use Rattle.flat_machine.specs.Due.{touched_next, touched_within}
+use Rattle.flat_machine.specs.Agreement.{all_of}
+use Rattle.desk.specs.Desk.{Desk, Entry, nobody, with_entry}
+use Rattle.desk.specs.Holdings.{wanted, held, request, conflicts_with, conflicts_of, numbers, waits_for}
+use Rattle.desk.specs.Instruction.{Attempt, granted, with_grants}
+use Rattle.desk_law.specs.Changes.{gone_on}
+use Rattle.desk_law.specs.Consistent.{IsAmong, due_to, IsLive, AreApart, AreConsistent, IsCovered, IsHeld, HasNoCycle}
+use Rattle.desk_law.proofs.Orderly.{IsOrderly}
+use Rattle.desk_law.proofs.Entries.{replaced, among-replaced, new-among, ascend-replaced, numbers-replaced}
+use Rattle.desk_law.proofs.Walks.{except, no-cycle-fewer, no-cycle-leaves}
+use Rattle.desk_law.proofs.Others.{touched_of, others, after-row}
+use Rattle.desk_law.proofs.Waiting.{marked-waits, gone-on}
+use Rattle.desk_law.proofs.Holding.{covered-more, held-replaced, held-granted}
+use Rattle.desk_law.proofs.Contest.{IsContending}
+
+-- no conflict keeps two apart
+pub apart-still : (mine new theirs : Lines) → AreApart (with_whole_pages mine) theirs → conflicts (with_whole_pages new) theirs ≡ false
+    → AreApart (with_whole_pages (both mine new)) theirs
+apart-still mine new theirs apart none = record {
+  first_writes = λ line inside.
+      elim (or_cases (has mine.writes line) (has new.writes line) (sym (has-append mine.writes new.writes line) ∙ inside)) [
+        | inl old ↦ apart.first_writes line old
+        | inr fresh ↦ false_from_ne_true (has (all_of theirs) line) (λ there. both_ways (meets new.writes (theirs.reads ++ theirs.writes)) parts.0 (meets-at new.writes (theirs.reads ++ theirs.writes) line fresh there))
+      ];
+  second_writes = λ line inside.
+      false_from_ne_true (has (all_of (with_whole_pages (both mine new))) line)
+      (λ there.
+      elim (or_cases (has (with_whole_pages (both mine new)).reads line) (has (mine.writes ++ new.writes) line) (sym (has-append (with_whole_pages (both mine new)).reads (mine.writes ++ new.writes) line) ∙ there)) [
+        | inl read ↦
+            elim (or_cases (has (mine.reads ++ new.reads) line) (has (pages_of (mine.writes ++ new.writes)) (page_of_line line)) (sym (has-whole_pages (both mine new) line) ∙ read)) [
+              | inl row_read ↦
+                  elim (or_cases (has mine.reads line) (has new.reads line) (sym (has-append mine.reads new.reads line) ∙ row_read)) [
+                    | inl old ↦ no_read line inside (has-whole_pages mine line ∙ or_left (has mine.reads line) (has (pages_of mine.writes) (page_of_line line)) old)
+                    | inr fresh ↦ no_new_read line inside (has-whole_pages new line ∙ or_left (has new.reads line) (has (pages_of new.writes) (page_of_line line)) fresh)
+                  ]
+              | inr page_read ↦
+                  let (x, written, here) = any-some (λ l. page_of_line l == page_of_line line) (mine.writes ++ new.writes) (sym (has-pages_of (mine.writes ++ new.writes) (page_of_line line)) ∙ page_read) in
+                  elim (or_cases (has mine.writes x) (has new.writes x) (sym (has-append mine.writes new.writes x) ∙ written)) [
+                    | inl old ↦
+                        no_read line inside
+                        (has-whole_pages mine line ∙ or_right (has mine.reads line) (has (pages_of mine.writes) (page_of_line line)) (has-pages_of mine.writes (page_of_line line) ∙ any-at (λ l. page_of_line l == page_of_line line) mine.writes x old here))
+                    | inr fresh ↦
+                        no_new_read line inside
+                        (has-whole_pages new line ∙ or_right (has new.reads line) (has (pages_of new.writes) (page_of_line line)) (has-pages_of new.writes (page_of_line line) ∙ any-at (λ l. page_of_line l == page_of_line line) new.writes x fresh here))
+                  ]
+            ]
+        | inr written ↦
+            elim (or_cases (has mine.writes line) (has new.writes line) (sym (has-append mine.writes new.writes line) ∙ written)) [
+              | inl old ↦ both_ways (has (all_of theirs) line) (apart.first_writes line old) (has_right theirs.reads theirs.writes line inside)
+              | inr fresh ↦ both_ways (meets new.writes (theirs.reads ++ theirs.writes)) parts.0 (meets-at new.writes (theirs.reads ++ theirs.writes) line fresh (has_right theirs.reads theirs.writes line inside))
+            ]
+      ]);
+}
+  where
+    parts : (meets new.writes (theirs.reads ++ theirs.writes) ≡ false) × (meets (with_whole_pages new).reads theirs.writes ≡ false)
+    parts = or_parts (meets new.writes (theirs.reads ++ theirs.writes)) (meets (with_whole_pages new).reads theirs.writes) none
+
+    no_read : (line : ℕ) → has theirs.writes line ≡ true → has (with_whole_pages mine).reads line ≡ true → ⊥
+    no_read line inside read = both_ways (has (all_of (with_whole_pages mine)) line) (apart.second_writes line inside) (has_left (with_whole_pages mine).reads mine.writes line read)
+
+    no_new_read : (line : ℕ) → has theirs.writes line ≡ true → has (with_whole_pages new).reads line ≡ true → ⊥
+    no_new_read line inside read = both_ways (meets (with_whole_pages new).reads theirs.writes) parts.1 (meets-at (with_whole_pages new).reads theirs.writes line read inside)
+
+pub length-replaced : (new : Entry) (entries : List Entry) → length (replaced new entries) ≡ length entries
+length-replaced new [] = refl
+length-replaced new (one ∷ entries) = ap suc (length-replaced new entries)
+
+-- where there is no number of a conflict, nobody conflicts
+pub nobody-conflicts : (test : Entry → Bool) (entries : List Entry) → map (λ (entry : Entry). entry.number) (filter test entries) ≡ [] → (other : Entry) → IsAmong entries other → test other ≡ false
+nobody-conflicts test [] none other among = absurd among
+nobody-conflicts test (one ∷ entries) none other among = by_test (test one) refl none (nobody-conflicts test entries) among
+  where
+    by_test :
+        (keeps : Bool) → test one ≡ keeps → map (λ (entry : Entry). entry.number) (if keeps then one ∷ filter test entries else filter test entries) ≡ []
+        → (map (λ (entry : Entry). entry.number) (filter test entries) ≡ [] → (other : Entry) → IsAmong entries other → test other ≡ false)
+        → IsAmong (one ∷ entries) other → test other ≡ false
+    by_test true e none later among = absurd (cc)
+    by_test false e none later (inl same) = ap test (sym same) ∙ e
+    by_test false e none later (inr among) = later none other among
+
+-- the locks due after the row
+pub due-more : (store : FlatStore) (entry : Entry)
+    → due_to store (gone_on entry) ≡ with_whole_pages (both (touched_of store entry) (touched_next entry.runs.program entry.runs.args store entry.rows))
+due-more store entry =
+    let more : entry.rows + 1 ≡ suc entry.rows = omega arith in
+    ap (λ (rows : ℕ). with_whole_pages (touched_within entry.runs.program entry.runs.args store rows)) more
+
+pub apart-turned : (first second : Lines) → AreApart first second → AreApart second first
+apart-turned first second apart = record { first_writes = apart.second_writes; second_writes = apart.first_writes }
+
+-- one entry in place of the one with its number
+pub replaced-consistent : (store : FlatStore) (most_lines next : ℕ) (entries : List Entry) (new : Entry)
+    → AreConsistent store most_lines next entries → IsLive store most_lines new
+    → ((other : Entry) → IsAmong entries other → (other.number == new.number) ≡ false → AreApart (due_to store new) (due_to store other))
+    → AreConsistent store most_lines next (replaced new entries)
+replaced-consistent store most_lines next entries new are live apart = record {
+  ascend = ascend-replaced new 0 next entries are.ascend;
+  live = λ entry among. elim (among-replaced new entries entry among) [
+    | inl it ↦ subst (IsLive store most_lines) it live
+    | inr old ↦ are.live entry old.0
+  ];
+  apart = λ first second among1 among2 differ.
+      elim (among-replaced new entries first among1) [
+        | inl it1 ↦
+            elim (among-replaced new entries second among2) [
+              | inl it2 ↦ absurd (both_ways (first.number == second.number) differ (eq-eqb first.number second.number (ap (λ (x : Entry). x.number) (sym it1 ∙ it2))))
+              | inr old2 ↦ subst (λ (x : Entry). AreApart (due_to store x) (due_to store second)) it1 (apart second old2.0 old2.1)
+            ]
+        | inr old1 ↦
+            elim (among-replaced new entries second among2) [
+              | inl it2 ↦ subst (λ (x : Entry). AreApart (due_to store first) (due_to store x)) it2 (apart-turned (due_to store new) (due_to store first) (apart first old1.0 old1.1))
+              | inr old2 ↦ are.apart first second old1.0 old2.0 differ
+            ]
+      ];
+}
+
+-- an entry that is marked waiting
+pub marked-contending : (desk : Desk) (entry : Entry) (mark : Bool) → IsAmong desk.active entry → IsContending entry.number desk
+    → IsContending entry.number (with_entry desk (record entry { waiting = mark }))
+marked-contending desk entry mark here is = record {
+  whole = is.whole;
+  few = omega (arith, is.few, length-replaced (record entry { waiting = mark }) desk.active);
+  active =
+      replaced-consistent desk.committed desk.most_lines desk.next desk.active (record entry { waiting = mark }) is.active
+      (let live = is.active.live entry here in record { state = live.state; is = live.is; few = live.few; present = live.present })
+      (λ other among differ. apart-turned (due_to desk.committed other) (due_to desk.committed entry) (is.active.apart other entry among here differ));
+  held = held-replaced desk.committed desk.active desk.authority entry (record entry { waiting = mark }) here refl (λ page. is.held.covered page entry here) is.held;
+  no_cycle =
+      subst (HasNoCycle (except entry.number (waits_for (with_entry desk (record entry { waiting = mark })))))
+      (sym (numbers-replaced (record entry { waiting = mark }) desk.active))
+      (no-cycle-fewer (except entry.number (waits_for (with_entry desk (record entry { waiting = mark })))) (except entry.number (waits_for desk)) (numbers desk) (numbers desk)
+      (λ from to waits. marked-waits desk entry mark from to here waits) (λ x inside. inside) is.no_cycle);
+}
+
+-- an attempt whose row may go on, at a desk: the entry may be marked
+pub record IsReady (attempt : Attempt) (desk : Desk) : Type 0 where
+  pub contending : IsContending attempt.entry.number desk
+  pub mark : Bool
+  pub here : IsAmong desk.active (record attempt.entry { waiting = mark })
+  pub now : after attempt.entry.runs.program attempt.entry.runs.args desk.committed attempt.entry.rows ≡ Some attempt.now
+  pub went : row attempt.entry.runs.program desk.committed.directory attempt.now ≡ attempt.outcome
+  pub lines : attempt.lines ≡ wanted desk attempt.entry
+  pub short : size ((touched_of desk.committed attempt.entry).writes ++ (wanted desk attempt.entry).writes) ≤ desk.most_lines
+
+-- It may go on at another desk too, which has the same store and limit.
+pub ready-again : (attempt : Attempt) (old desk : Desk) (mark : Bool) → IsReady attempt old → IsContending attempt.entry.number desk → IsAmong desk.active (record attempt.entry { waiting = mark })
+    → desk.committed ≡ old.committed → desk.most_lines ≡ old.most_lines → IsReady attempt desk
+ready-again attempt old desk mark ready contends here store limit = record {
+  contending = contends;
+  mark = mark;
+  here = here;
+  now = ap (λ (store : FlatStore). after attempt.entry.runs.program attempt.entry.runs.args store attempt.entry.rows) store ∙ ready.now;
+  went = ap (λ (store : FlatStore). row attempt.entry.runs.program store.directory attempt.now) store ∙ ready.went;
+  lines = ready.lines ∙ sym (ap (λ (store : FlatStore). touched_next attempt.entry.runs.program attempt.entry.runs.args store attempt.entry.rows) store);
+  short =
+      subst (λ (most : ℕ). size ((touched_of desk.committed attempt.entry).writes ++ (wanted desk attempt.entry).writes) ≤ most) (sym limit)
+      (subst (λ (store : FlatStore). size ((touched_of store attempt.entry).writes ++ (touched_next attempt.entry.runs.program attempt.entry.runs.args store attempt.entry.rows).writes) ≤ old.most_lines) (sym store) ready.short);
+}
+
+-- the same where nobody conflicts and the pages are granted: what is permitted is held once the row has gone on
+pub record IsGranted (attempt : Attempt) (desk : Desk) : Type 0 where
+  pub whole : IsWhole desk.committed
+  pub few : length desk.active ≤ desk.most_active
+  pub active : AreConsistent desk.committed desk.most_lines desk.next desk.active
+  pub held : IsHeld desk.committed (replaced (gone_on attempt.entry) desk.active) desk.authority
+  pub no_cycle : HasNoCycle (except attempt.entry.number (waits_for desk)) (numbers desk)
+  pub mark : Bool
+  pub here : IsAmong desk.active (record attempt.entry { waiting = mark })
+  pub now : after attempt.entry.runs.program attempt.entry.runs.args desk.committed attempt.entry.rows ≡ Some attempt.now
+  pub went : row attempt.entry.runs.program desk.committed.directory attempt.now ≡ attempt.outcome
+  pub none : conflicts_of desk attempt.entry ≡ []
+  pub short : size ((touched_of desk.committed attempt.entry).writes ++ (wanted desk attempt.entry).writes) ≤ desk.most_lines
+
+pub grants-held : (desk : Desk) (attempt : Attempt) (refused : List ℕ) → IsReady attempt desk → conflicts_of desk attempt.entry ≡ []
+    → IsGranted attempt (with_grants attempt refused desk)
+grants-held desk attempt refused ready none = record {
+  whole = ready.contending.whole;
+  few = ready.contending.few;
+  active = ready.contending.active;
+  held =
+      subst (λ (l : Lines). IsHeld desk.committed (replaced (gone_on attempt.entry) desk.active) (granted attempt (with_whole_pages (both (touched_of desk.committed attempt.entry) l)) refused desk.authority)) (sym ready.lines)
+      (held-granted desk.committed desk.next (replaced (gone_on attempt.entry) desk.active) (gone_on attempt.entry) attempt
+      (both (touched_of desk.committed attempt.entry) (wanted desk attempt.entry)) refused desk.authority
+      (ascend-replaced (gone_on attempt.entry) 0 desk.next desk.active ready.contending.active.ascend)
+      (new-among (gone_on attempt.entry) desk.active (record attempt.entry { waiting = ready.mark }) ready.here refl) refl (sym (due-more desk.committed attempt.entry)) moved);
+  no_cycle = ready.contending.no_cycle;
+  mark = ready.mark;
+  here = ready.here;
+  now = ready.now;
+  went = ready.went;
+  none = none;
+  short = ready.short;
+}
+  where
+    moved : IsHeld desk.committed (replaced (gone_on attempt.entry) desk.active) desk.authority
+    moved =
+        held-replaced desk.committed desk.active desk.authority (record attempt.entry { waiting = ready.mark }) (gone_on attempt.entry) ready.here refl
+        (λ page.
+        subst (λ (l : Lines). IsCovered (slice_index_or desk.authority page nobody) page attempt.entry.number l) (sym (due-more desk.committed attempt.entry))
+        (covered-more (slice_index_or desk.authority page nobody) page attempt.entry.number (due_to desk.committed attempt.entry) (with_whole_pages (both (touched_of desk.committed attempt.entry) (wanted desk attempt.entry)))
+        (part-whole_pages (touched_of desk.committed attempt.entry) (both (touched_of desk.committed attempt.entry) (wanted desk attempt.entry)) (part-both (touched_of desk.committed attempt.entry) (wanted desk attempt.entry)))
+        (ready.contending.held.covered page (record attempt.entry { waiting = ready.mark }) ready.here)))
+        ready.contending.held
+
+-- the entries once a row has gone on while nobody conflicted
+pub gone-on-active :
+    (desk : Desk) (most : ℕ) (entry : Entry) (mark : Bool) (now next : Plain) → AreConsistent desk.committed most desk.next desk.active
+    → IsAmong desk.active (record entry { waiting = mark }) → after entry.runs.program entry.runs.args desk.committed entry.rows ≡ Some now
+    → row entry.runs.program desk.committed.directory now ≡ On next → conflicts_of desk entry ≡ []
+    → size ((touched_of desk.committed entry).writes ++ (wanted desk entry).writes) ≤ most
+    → AreConsistent desk.committed most desk.next (replaced (gone_on entry) desk.active)
+gone-on-active desk most entry mark now next are here at went none short =
+    replaced-consistent desk.committed most desk.next desk.active (gone_on entry) are live
+    (λ other among differ.
+    subst (λ (l : Lines). AreApart l (due_to desk.committed other)) (sym due)
+    (apart-still (touched_of desk.committed entry) (wanted desk entry) (due_to desk.committed other)
+    (apart-turned (due_to desk.committed other) (due_to desk.committed entry) (are.apart other (record entry { waiting = mark }) among here differ))
+    (free other among differ)))
+  where
+    due : due_to desk.committed (gone_on entry) ≡ with_whole_pages (both (touched_of desk.committed entry) (wanted desk entry))
+    due = due-more desk.committed entry
+
+    live : IsLive desk.committed most (gone_on entry)
+    live = record {
+      state = next;
+      is = after-row desk.committed entry now next at went;
+      few = omega (arith, short, ap (λ (l : Lines). size l.writes) due);
+      present = (are.live (record entry { waiting = mark }) here).present;
+    }
+
+    free : (other : Entry) → IsAmong desk.active other → (other.number == entry.number) ≡ false → conflicts (request desk entry) (held desk other) ≡ false
+    free other among differ =
+        elim (and_cases (not (other.number == entry.number)) (conflicts (request desk entry) (held desk other))
+        (nobody-conflicts (conflicts_with desk entry) desk.active none other among)) [
+          | inl same ↦ absurd (both_ways (not (other.number == entry.number)) same (not_from_false (other.number == entry.number) differ))
+          | inr fine ↦ fine
+        ]
+
+-- the row goes on
+pub row-goes-on : (desk : Desk) (attempt : Attempt) (next : Plain) → IsGranted attempt desk → attempt.outcome ≡ On next
+    → IsOrderly (with_entry desk (gone_on attempt.entry))
+row-goes-on desk attempt next is went = record {
+  whole = is.whole;
+  few = omega (arith, is.few, length-replaced (gone_on attempt.entry) desk.active);
+  active = gone-on-active desk desk.most_lines attempt.entry is.mark attempt.now next is.active is.here is.now (is.went ∙ went) is.none is.short;
+  held = is.held;
+  no_cycle =
+      subst (HasNoCycle (waits_for (with_entry desk (gone_on attempt.entry)))) (sym (numbers-replaced (gone_on attempt.entry) desk.active))
+      (no-cycle-leaves attempt.entry.number (waits_for (with_entry desk (gone_on attempt.entry))) (waits_for desk) (numbers desk)
+      (gone-on desk attempt.entry (gone_on attempt.entry) refl refl) is.no_cycle);
+}
+
+-- those that are left are so whatever replaced one
+pub others-replaced : (gone new : Entry) (entries : List Entry) → new.number ≡ gone.number → others gone (replaced new entries) ≡ others gone entries
+others-replaced gone new [] same = refl
+others-replaced gone new (one ∷ entries) same = by_new (one.number == new.number) refl (others-replaced gone new entries same)
+  where
+    out : (n : ℕ) → (n == gone.number) ≡ true → (x : Entry) → x.number ≡ n → (rest : List Entry) → (if not (x.number == gone.number) then x ∷ rest else rest) ≡ rest
+    out n e x is rest = by_test (x.number == gone.number) (ap (λ (m : ℕ). m == gone.number) is ∙ e)
+      where
+        by_test : (equal : Bool) → equal ≡ true → (if not equal then x ∷ rest else rest) ≡ rest
+        by_test true e = refl
+        by_test false e = absurd (cc)
+
+    by_new : (is_new : Bool) → (one.number == new.number) ≡ is_new → others gone (replaced new entries) ≡ others gone entries
+        → others gone ((if is_new then new else one) ∷ replaced new entries) ≡ others gone (one ∷ entries)
+    by_new true e rest =
+        let one_is : one.number ≡ gone.number = eqb-true one.number new.number e ∙ same in
+        out gone.number (eq-eqb gone.number gone.number refl) new same (others gone (replaced new entries))
+        ∙ rest
+        ∙ sym (out gone.number (eq-eqb gone.number gone.number refl) one one_is (others gone entries))
+    by_new false e rest = by_keep (one.number == gone.number)
+      where
+        by_keep : (is_gone : Bool) → (if not is_gone then one ∷ others gone (replaced new entries) else others gone (replaced new entries)) ≡ (if not is_gone then one ∷ others gone entries else others gone entries)
+        by_keep true = rest
+        by_keep false = ap (λ (these : List Entry). one ∷ these) rest

@@ -1,0 +1,88 @@
+-- Authority that is kept under identifiers of seats, and told under the numbers of the activations in them.
+use Rattle.std.specs.Prelude.{◌≡◌, refl, ℕ, zero, suc, ◌==◌, ◌||◌, not, if◌then◌else◌, Bool, true, false, List, [], ◌∷◌, map, filter, slice_set, slice_index_or}
+use Rattle.std.specs.List.{list_any}
+use Rattle.std.proofs.Common.{ap, sym, ◌∙◌}
+use Rattle.lock_rules.specs.Access.{permits}
+use Rattle.lock_rules.specs.Sets.{has}
+use Rattle.lock_rules.specs.Lines.{Lines, within_page}
+use Rattle.desk.specs.Desk.{Authority, nobody}
+use Rattle.desk.specs.Instruction.{Attempt, authority_by, granted, refuses, lines_within}
+use Rattle.desk_law.specs.Beside.{owner_told, owners_told, StandsFor}
+use Rattle.desk_law.specs.Consistent.{permitted}
+use Rattle.desk_law.proofs.AlikeSets.{filter-same}
+use Rattle.desk_law.proofs.Holding.{freed}
+
+module _ (numbers : ℕ → ℕ) (none : numbers 0 ≡ 0) where
+  pub told-page : (authority : List Authority) (page : ℕ) → slice_index_or (owners_told numbers authority) page nobody ≡ owner_told numbers (slice_index_or authority page nobody)
+  told-page [] page = λ i. record { owner = sym none i; write = false; lines = [] }
+  told-page (one ∷ authority) zero = refl
+  told-page (one ∷ authority) (suc page) = told-page authority page
+
+  -- what is permitted to an identifier is permitted to its number
+  pub permitted-told : (identifier number : ℕ) (authority : List Authority) (page line : ℕ) (store : Bool) → StandsFor numbers identifier number authority
+      → permitted (slice_index_or (owners_told numbers authority) page nobody) number line store ≡ permitted (slice_index_or authority page nobody) identifier line store
+  permitted-told identifier number authority page line store stands =
+      ap (λ (a : Authority). permitted a number line store) (told-page authority page)
+      ∙ ap (λ (same : Bool). permits same (slice_index_or authority page nobody).write (has (slice_index_or authority page nobody).lines line) store) (sym (stands.alone page))
+
+  any-same : (p q : ℕ → Bool) (xs : List ℕ) → ((x : ℕ) → p x ≡ q x) → list_any p xs ≡ list_any q xs
+  any-same p q [] same = refl
+  any-same p q (x ∷ xs) same = λ i. same x i || any-same p q xs same i
+
+  -- and the refused pages are the same
+  pub refused-told : (identifier number : ℕ) (authority : List Authority) (lines : Lines) (pages : List ℕ) → StandsFor numbers identifier number authority
+      → filter (λ page. refuses (slice_index_or (owners_told numbers authority) page nobody) number (lines_within page lines)) pages
+      ≡ filter (λ page. refuses (slice_index_or authority page nobody) identifier (lines_within page lines)) pages
+  refused-told identifier number authority lines pages stands =
+      filter-same
+      (λ page. refuses (slice_index_or (owners_told numbers authority) page nobody) number (lines_within page lines))
+      (λ page. refuses (slice_index_or authority page nobody) identifier (lines_within page lines)) pages
+      (λ page i.
+      any-same
+      (λ line. not (permitted (slice_index_or (owners_told numbers authority) page nobody) number line false))
+      (λ line. not (permitted (slice_index_or authority page nobody) identifier line false))
+      (within_page page lines.reads) (λ line. ap not (permitted-told identifier number authority page line false stands)) i
+      || any-same
+      (λ line. not (permitted (slice_index_or (owners_told numbers authority) page nobody) number line true))
+      (λ line. not (permitted (slice_index_or authority page nobody) identifier line true))
+      (within_page page lines.writes) (λ line. ap not (permitted-told identifier number authority page line true stands)) i)
+
+  -- an identifier that is cleared frees the pages of its number
+  pub freed-told : (identifier number : ℕ) (authority : List Authority) → StandsFor numbers identifier number authority
+      → owners_told numbers (map (freed identifier) authority) ≡ map (freed number) (owners_told numbers authority)
+  freed-told identifier number [] stands = refl
+  freed-told identifier number (one ∷ authority) stands =
+      λ i. first (one.owner == identifier) (numbers one.owner == number) (stands.alone 0) i ∷ freed-told identifier number authority (record { is = stands.is; alone = λ page. stands.alone (suc page) }) i
+    where
+      first : (a b : Bool) → a ≡ b → owner_told numbers (if a then nobody else one) ≡ (if b then nobody else owner_told numbers one)
+      first true true e = λ i. record { owner = none i; write = false; lines = [] }
+      first true false e = absurd (cc)
+      first false true e = absurd (cc)
+      first false false e = refl
+
+  told-set : (authority : List Authority) (page : ℕ) (new : Authority) → owners_told numbers (slice_set authority page new) ≡ slice_set (owners_told numbers authority) page (owner_told numbers new)
+  told-set [] page new = refl
+  told-set (one ∷ authority) zero new = refl
+  told-set (one ∷ authority) (suc page) new = ap (λ (rest : List Authority). owner_told numbers one ∷ rest) (told-set authority page new)
+
+  -- pages granted to an identifier are granted to its number
+  pub granted-told : (identifier : ℕ) (attempt : Attempt) (locks : Lines) (pages : List ℕ) (authority : List Authority) → numbers identifier ≡ attempt.entry.number
+      → owners_told numbers (granted (record attempt { entry = record attempt.entry { number = identifier } }) locks pages authority) ≡ granted attempt locks pages (owners_told numbers authority)
+  granted-told identifier attempt locks [] authority is = refl
+  granted-told identifier attempt locks (page ∷ pages) authority is =
+      granted-told identifier attempt locks pages (slice_set authority page (authority_by identifier (within_page page locks.reads) (within_page page locks.writes))) is
+      ∙ ap (granted attempt locks pages)
+      (told-set authority page (authority_by identifier (within_page page locks.reads) (within_page page locks.writes))
+      ∙ ap (slice_set (owners_told numbers authority) page) (by_writes (within_page page locks.writes)))
+    where
+      by_writes : (writes : List ℕ) → owner_told numbers (authority_by identifier (within_page page locks.reads) writes) ≡ authority_by attempt.entry.number (within_page page locks.reads) writes
+      by_writes [] = λ i. record { owner = is i; write = false; lines = within_page page locks.reads }
+      by_writes (line ∷ writes) = λ i. record { owner = is i; write = true; lines = line ∷ writes }
+
+  -- a seat whose identifier no page has may be taken by another number
+  pub told-taken : (identifier : ℕ) (later : ℕ → ℕ) (authority : List Authority) → ((at : ℕ) → (at == identifier) ≡ false → later at ≡ numbers at)
+      → ((page : ℕ) → ((slice_index_or authority page nobody).owner == identifier) ≡ false)
+      → owners_told later authority ≡ owners_told numbers authority
+  told-taken identifier later [] but unused = refl
+  told-taken identifier later (one ∷ authority) but unused =
+      λ i. record one { owner = but one.owner (unused 0) i } ∷ told-taken identifier later authority but (λ page. unused (suc page)) i

@@ -1,0 +1,127 @@
+-- An instruction stage by stage, as one that serves a fault goes through them.
+use Rattle.std.specs.Prelude.{◌≡◌, refl, ℕ, ◌+◌, if◌then◌else◌, Bool, true, false, List, [], ◌∷◌, length, Option, Some}
+use Rattle.std.proofs.Common.{arith, ap, ◌∙◌}
+use Rattle.std.proofs.lemmas.Bool.Decides.{nat_tests}
+use Rattle.lock_rules.specs.Sets.{has}
+use Rattle.lock_rules.specs.Resident.{brought}
+use Rattle.flat_machine.specs.declared.machine.Plain.{Plain}
+use Rattle.flat_machine.specs.Row.{Outcome, On, Commit, Check, row}
+use Rattle.flat_machine.specs.After.{after}
+use Rattle.desk.specs.Desk.{Desk, Entry, with_entry, rolled_back}
+use Rattle.desk.specs.Holdings.{wanted, conflicts_of}
+use Rattle.desk.specs.Instruction.{Word, Fine, ReadFailed, Counts, Going, Over, Checked, Victim, Waits, Attempt, Fetching, Fetched, Broken, Settled, Lost, can't_be_read, fetches, instruction, attempts, attempts_at, limited, is_over_limit, fetched_first, fetches_touched, asks, gets, goes_on, takes_effect, touched_pages, refused_pages, granted, with_grants, locks_with, commits, breaks, contest_ends, waits_or_gets}
+use Rattle.desk_law.specs.Beside.{Reads}
+use Rattle.desk_law.specs.Changes.{gone_on}
+
+-- the instruction of an entry at its state
+abbrev pub attempt_of : Desk → Entry → Plain → Attempt
+attempt_of desk entry now =
+    record { entry = entry; now = now; outcome = row entry.runs.program desk.committed.directory now; lines = wanted desk entry }
+
+-- a row that goes on, or is the commit call
+abbrev pub GoesOn : Outcome → Type 0
+GoesOn (Check code) = ⊥
+GoesOn _ = Unit {0}
+
+-- a word by which one page can't be read says that those before it can
+pub reads-before : (page : ℕ) → Reads (ReadFailed (page + 1)) page
+reads-before page at few = grind (arith, nat_tests)
+
+pub reads-all : (counted : ℕ) → Reads Fine counted
+reads-all counted page few = refl
+
+-- an instruction at a state, by its row
+pub instruction-at : (word : Word) (entry : Entry) (desk : Desk) (counts : Counts) (now : Plain)
+    → after entry.runs.program entry.runs.args desk.committed entry.rows ≡ Some now
+    → instruction word (Some entry) desk counts ≡ attempts word (attempt_of desk entry now) (attempt_of desk entry now).outcome desk counts
+unfolding instruction
+instruction-at word entry desk counts now is = ap (λ (state : Option Plain). attempts_at word entry state desk counts) is
+
+module _ (word : Word) (attempt : Attempt) (desk : Desk) (counts : Counts) where
+  -- 1. A row that fails by itself is rolled back.
+  pub stage-check : (code : ℕ) (outcome : Outcome) → outcome ≡ Check code
+      → attempts word attempt outcome desk counts ≡ Over (rolled_back desk attempt.entry) counts (Checked code attempt.now.iar)
+  stage-check code outcome is = ap (λ (this : Outcome). attempts word attempt this desk counts) is
+
+  -- 2. Otherwise the lines that it will have written are counted. Past the limit it is rolled back.
+  pub stage-limit : (outcome : Outcome) (over : Bool) → GoesOn outcome → is_over_limit attempt desk ≡ over
+      → attempts word attempt outcome desk counts ≡ limited over word attempt desk counts
+  stage-limit (On next) over goes is = ap (λ (over : Bool). limited over word attempt desk counts) is
+  stage-limit Commit over goes is = ap (λ (over : Bool). limited over word attempt desk counts) is
+  stage-limit (Check code) over goes is = absurd goes
+
+  -- 3. Within it, its pages are fetched; where one can't be read it is rolled back and nothing is resident.
+  pub stage-broken : (counted : ℕ) → fetches_touched word attempt desk counts ≡ Broken counted
+      → limited false word attempt desk counts ≡ breaks attempt desk counts counted
+  stage-broken counted is = ap (fetched_first word attempt desk counts) is
+
+  -- 4. Then its refused pages are counted, and its conflicts looked for.
+  pub stage-fetched : (resident : List ℕ) (counted : ℕ) (holders : List ℕ) → fetches_touched word attempt desk counts ≡ Fetched resident counted
+      → conflicts_of desk attempt.entry ≡ holders
+      → limited false word attempt desk counts
+      ≡ asks word attempt (refused_pages attempt desk) holders (record desk { resident = resident })
+      (record counts { pages = counted; locks = counts.locks + length (refused_pages attempt desk) })
+  stage-fetched resident counted holders is conflict =
+      ap (fetched_first word attempt desk counts) is
+      ∙ ap
+      (λ (these : List ℕ). asks word attempt (refused_pages attempt desk) these (record desk { resident = resident })
+      (record counts { pages = counted; locks = counts.locks + length (refused_pages attempt desk) }))
+      conflict
+
+  module _ (refused : List ℕ) where
+    -- 5. Without a conflict it gets its pages; 6. with one it is marked, and the contest begins.
+    pub stage-free : asks word attempt refused [] desk counts ≡ gets word attempt refused desk counts
+    stage-free = refl
+
+    -- 8. Once a contest is settled, it waits for those that are left, or gets its pages.
+    pub stage-settled : (holders : List ℕ) → conflicts_of desk attempt.entry ≡ holders
+        → contest_ends word attempt refused (Settled desk counts) ≡ waits_or_gets word attempt refused holders desk counts
+    stage-settled holders is = ap (λ (these : List ℕ). waits_or_gets word attempt refused these desk counts) is
+
+    pub stage-lost : contest_ends word attempt refused (Lost desk counts) ≡ Over desk counts Victim
+    stage-lost = refl
+
+    pub stage-waits : (holder : ℕ) (holders : List ℕ) → waits_or_gets word attempt refused (holder ∷ holders) desk counts ≡ Over desk counts (Waits (holder ∷ holders))
+    stage-waits holder holders = refl
+
+    -- 9. It gets its pages: those that left are fetched again, and the row takes effect.
+    pub stage-gets : (authority : List _) (resident : List ℕ) (counted : ℕ) → granted attempt (locks_with attempt desk) refused desk.authority ≡ authority
+        → fetches word desk.frames (touched_pages attempt) (touched_pages attempt) desk.resident counts.pages ≡ Fetched resident counted
+        → gets word attempt refused desk counts
+        ≡ takes_effect word attempt attempt.outcome (record desk { resident = resident; authority = authority }) (record counts { pages = counted })
+    stage-gets authority resident counted grants is =
+        ap (goes_on word attempt (with_grants attempt refused desk) counts) is
+        ∙ ap (λ these. takes_effect word attempt attempt.outcome (record desk { resident = resident; authority = these }) (record counts { pages = counted })) grants
+
+    pub stage-gets_broken : (counted : ℕ)
+        → fetches word desk.frames (touched_pages attempt) (touched_pages attempt) desk.resident counts.pages ≡ Broken counted
+        → gets word attempt refused desk counts ≡ breaks attempt (with_grants attempt refused desk) counts counted
+    stage-gets_broken counted is = ap (goes_on word attempt (with_grants attempt refused desk) counts) is
+
+  -- 10. A row that goes on.
+  pub stage-on : (outcome : Outcome) (next : Plain) → outcome ≡ On next
+      → takes_effect word attempt outcome desk counts ≡ Going (with_entry desk (gone_on attempt.entry)) (record counts { ran = counts.ran + 1 })
+  stage-on outcome next is = ap (λ (this : Outcome). takes_effect word attempt this desk counts) is
+
+  pub stage-commit : (outcome : Outcome) → outcome ≡ Commit → takes_effect word attempt outcome desk counts ≡ commits word attempt desk counts
+  stage-commit outcome is = ap (λ (this : Outcome). takes_effect word attempt this desk counts) is
+
+-- What one page does to a fetch: it is there, or comes in, or can't be read.
+module _ (word : Word) (frames : ℕ) (kept : List ℕ) (page : ℕ) (pages resident : List ℕ) (counted : ℕ) where
+  abbrev fetches_one : Bool → Bool → Fetching
+  fetches_one here fails =
+      if here then fetches word frames kept pages resident counted
+      else if fails then Broken (counted + 1)
+      else fetches word frames kept pages (brought frames kept resident page) (counted + 1)
+
+  pub fetch-here : has resident page ≡ true → fetches word frames kept (page ∷ pages) resident counted ≡ fetches word frames kept pages resident counted
+  fetch-here here = ap (λ (b : Bool). fetches_one b (can't_be_read word (counted + 1))) here
+
+  pub fetch-new : has resident page ≡ false → Reads word (counted + 1)
+      → fetches word frames kept (page ∷ pages) resident counted ≡ fetches word frames kept pages (brought frames kept resident page) (counted + 1)
+  fetch-new new reads =
+      ap (λ (b : Bool). fetches_one b (can't_be_read word (counted + 1))) new ∙ ap (fetches_one false) (reads (counted + 1) (omega arith))
+
+  pub fetch-fails : has resident page ≡ false → can't_be_read word (counted + 1) ≡ true
+      → fetches word frames kept (page ∷ pages) resident counted ≡ Broken (counted + 1)
+  fetch-fails new fails = ap (λ (b : Bool). fetches_one b (can't_be_read word (counted + 1))) new ∙ ap (fetches_one false) fails

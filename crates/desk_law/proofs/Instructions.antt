@@ -1,0 +1,126 @@
+-- What an instruction of an entry does to the entries and to what is committed.
+use Rattle.std.specs.Prelude.{◌≡◌, refl, ℕ, zero, suc, ◌+◌, ◌==◌, not, Bool, true, false, List, [], ◌∷◌, ◌++◌, find, Option, Some, None}
+use Rattle.std.proofs.Common.{ap, sym, ◌∙◌, inl, inr}
+use Rattle.std.proofs.lemmas.Bool.{eqb-true, eq-eqb, both_ways, not-true}
+use Rattle.lock_rules.specs.Waits.{shown_cycle, victim_of}
+use Rattle.flat_machine.specs.declared.machine.Plain.{Plain}
+use Rattle.flat_machine.specs.Row.{On}
+use Rattle.desk.specs.Desk.{Desk, Entry, with_entry, rolled_back}
+use Rattle.desk.specs.Holdings.{numbers, waits_for}
+use Rattle.desk.specs.Instruction.{Counts, Turning, Going, Over, Committed, Attempt, Contest, Contested, Settled, Lost, breaks_cycle, breaks_cycles}
+use Rattle.desk_law.specs.Changes.{gone_on, left_by}
+use Rattle.desk_law.specs.Consistent.{IsAmong, AreConsistent}
+use Rattle.desk_law.proofs.Entries.{among-filter, among-found, none-found, among-replaced, one-entry}
+use Rattle.desk_law.proofs.Others.{others}
+use Rattle.desk_law.proofs.Contest.{left_over}
+use Rattle.desk_law.proofs.GoesOn.{IsGranted}
+
+-- what is committed is as it was, and the entries of other numbers were active before
+pub record From (number : ℕ) (old desk : Desk) : Type 0 where
+  pub committed : desk.committed ≡ old.committed
+  pub others : (other : Entry) → IsAmong desk.active other → (other.number == number) ≡ false → IsAmong old.active other
+
+-- nobody has a number
+abbrev pub HasLeft : ℕ → Desk → Type 0
+HasLeft number desk = (other : Entry) → IsAmong desk.active other → (other.number == number) ≡ false
+
+-- an entry is as it was but for its mark, or gone
+abbrev pub IsAsBefore : Entry → Desk → Type 0
+IsAsBefore entry desk = (other : Entry) → IsAmong desk.active other → (other.number == entry.number) ≡ true → (mark : Bool) × (record entry { waiting = mark } ≡ other)
+
+-- the row took effect: nobody conflicted at the moment before it, and only the entry went on
+pub record RowDone (old : Desk) (attempt : Attempt) (desk : Desk) : Type 0 where
+  pub moment : Desk
+  pub next : Plain
+  pub went : attempt.outcome ≡ On next
+  pub is : desk ≡ with_entry moment (gone_on attempt.entry)
+  pub granted : IsGranted attempt moment
+  pub from : From attempt.entry.number old moment
+
+-- the commit was done: the entry ended, and its store is committed
+pub record CommitDone (old : Desk) (attempt : Attempt) (desk : Desk) (steps : ℕ) (printed : List ℕ) : Type 0 where
+  pub moment : Desk
+  pub granted : IsGranted attempt moment
+  pub from : From attempt.entry.number old moment
+  pub committed : desk.committed ≡ left_by moment.committed attempt.now
+  pub active : desk.active ≡ others attempt.entry moment.active
+  pub steps_are : steps ≡ attempt.entry.rows + 1
+  pub printed_is : printed ≡ attempt.now.out
+
+-- no row was done
+pub record NoRowDone (old : Desk) (attempt : Attempt) (desk : Desk) : Type 0 where
+  pub from : From attempt.entry.number old desk
+  pub own : IsAsBefore attempt.entry desk
+
+abbrev pub Did : Desk → Attempt → Turning → Type 0
+Did old attempt (Going desk counts) = RowDone old attempt desk
+Did old attempt (Over desk counts (Committed steps printed)) = CommitDone old attempt desk steps printed
+Did old attempt (Over desk counts ending) = NoRowDone old attempt desk
+
+-- a rollback of the entry
+pub rolled-from : (number : ℕ) (old desk : Desk) (gone : Entry) → From number old desk → From number old (rolled_back desk gone)
+rolled-from number old desk gone from = record {
+  committed = from.committed;
+  others = λ other among differ. from.others other (among-filter (λ (other : Entry). not (other.number == gone.number)) desk.active other among).0 differ;
+}
+
+pub rolled-left : (desk : Desk) (gone : Entry) → HasLeft gone.number (rolled_back desk gone)
+rolled-left desk gone other among = not-true (other.number == gone.number) (among-filter (λ (other : Entry). not (other.number == gone.number)) desk.active other among).1
+
+pub left-before : (entry : Entry) (desk : Desk) → HasLeft entry.number desk → IsAsBefore entry desk
+left-before entry desk left other among same = absurd (both_ways (other.number == entry.number) (left other among) same)
+
+pub rolled-done : (old : Desk) (attempt : Attempt) (desk : Desk) → From attempt.entry.number old desk → NoRowDone old attempt (rolled_back desk attempt.entry)
+rolled-done old attempt desk from = record {
+  from = rolled-from attempt.entry.number old desk attempt.entry from;
+  own = left-before attempt.entry (rolled_back desk attempt.entry) (rolled-left desk attempt.entry);
+}
+
+-- an entry that is active, with any mark
+pub marked-before : (entry : Entry) (mark : Bool) (desk : Desk) → AreConsistent desk.committed desk.most_lines desk.next desk.active → IsAmong desk.active (record entry { waiting = mark }) → IsAsBefore entry desk
+marked-before entry mark desk are here other among same =
+    (mark, one-entry 0 desk.next desk.active (record entry { waiting = mark }) other are.ascend here among (sym (eqb-true other.number entry.number same)))
+
+pub marked-from : (old desk : Desk) (entry new : Entry) → new.number ≡ entry.number → From entry.number old desk → From entry.number old (with_entry desk new)
+marked-from old desk entry new same from = record {
+  committed = from.committed;
+  others = λ other among differ. elim (among-replaced new desk.active other among) [
+    | inl it ↦ absurd (both_ways (other.number == entry.number) differ (eq-eqb other.number entry.number (ap (λ (x : Entry). x.number) (sym it) ∙ same)))
+    | inr before ↦ from.others other before.0 differ
+  ];
+}
+
+-- what a contest does
+abbrev pub ContestDid : (number : ℕ) (old : Desk) → Contest → Type 0
+ContestDid number old (Contested desk counts) = From number old desk
+ContestDid number old (Settled desk counts) = From number old desk
+ContestDid number old (Lost desk counts) = From number old desk × HasLeft number desk
+
+pub breaks-did : (number : ℕ) (old : Desk) (left : ℕ) (contest : Contest) → ContestDid number old contest → ContestDid number old (breaks_cycles left number contest)
+breaks-did number old zero contest did = did
+breaks-did number old (suc left) (Settled desk counts) did = did
+breaks-did number old (suc left) (Lost desk counts) did = did
+breaks-did number old (suc left) (Contested desk counts) did =
+    breaks-did number old left (breaks_cycle number (shown_cycle (waits_for desk) (numbers desk) number) desk counts)
+    (by_cycle (shown_cycle (waits_for desk) (numbers desk) number))
+  where
+    by_victim : (counts : Counts) (cycle : List ℕ) (victim : Option Entry) → find (λ (entry : Entry). entry.number == victim_of cycle) desk.active ≡ victim
+        → (lost : Bool) → (victim_of cycle == number) ≡ lost → ContestDid number old (left_over desk counts victim lost)
+    by_victim counts cycle None found true is = (
+      did,
+      λ other among.
+          ap (λ (n : ℕ). other.number == n) (sym (eqb-true (victim_of cycle) number is)) ∙ none-found (λ (entry : Entry). entry.number == victim_of cycle) desk.active found other among,
+    )
+    by_victim counts cycle None found false is = did
+    by_victim counts cycle (Some victim) found true is = (
+      rolled-from number old desk victim did,
+      λ other among.
+          let (at, passes) = among-found (λ (entry : Entry). entry.number == victim_of cycle) desk.active victim found in
+          ap (λ (n : ℕ). other.number == n) (sym (eqb-true victim.number (victim_of cycle) passes ∙ eqb-true (victim_of cycle) number is)) ∙ rolled-left desk victim other among,
+    )
+    by_victim counts cycle (Some victim) found false is = rolled-from number old desk victim did
+
+    by_cycle : (cycle : Option (List ℕ)) → ContestDid number old (breaks_cycle number cycle desk counts)
+    by_cycle None = did
+    by_cycle (Some cycle) =
+        by_victim (record counts { cycles = counts.cycles ++ cycle ∷ [] }) cycle (find (λ (entry : Entry). entry.number == victim_of cycle) desk.active) refl (victim_of cycle == number) refl

@@ -1,0 +1,188 @@
+-- The locks and the requests of active entries as a supervisor keeps them, and what steps do to them.
+use Rattle.std.specs.Prelude.{◌≡◌, refl, ℕ, ◌==◌, ◌&&◌, ◌||◌, not, if◌then◌else◌, Bool, true, false, List, [], ◌∷◌, ◌++◌, filter, map, Some}
+use Rattle.std.specs.List.{list_any}
+use Rattle.std.proofs.Common.{ap, sym, ◌∙◌, subst, inl, inr}
+use Rattle.std.proofs.lemmas.Bool.{both_ways, not-true}
+use Rattle.line_geometry.specs.FlatStore.{FlatStore, IsWhole}
+use Rattle.lock_rules.specs.Sets.{has, meets}
+use Rattle.lock_rules.specs.Lines.{Lines, no_lines, conflicts, with_whole_pages}
+use Rattle.lock_rules.specs.Waits.{shown_cycle}
+use Rattle.lock_rules.proofs.Sets.{has-append, any-some}
+use Rattle.lock_rules.proofs.Lines.{ArePart, meets-at}
+use Rattle.flat_machine.specs.declared.machine.Plain.{Plain}
+use Rattle.flat_machine.specs.After.{after}
+use Rattle.desk.specs.Desk.{Desk, Entry}
+use Rattle.desk.specs.Holdings.{request, conflicts_with, conflicts_of, waits_for, numbers}
+use Rattle.desk_law.specs.Beside.{AreAlike, requested, AreKept, IsTableBut, kept_conflict, kept_waits}
+use Rattle.desk_law.specs.Changes.{left_by, gone_on}
+use Rattle.desk_law.specs.Consistent.{IsAmong, due_to, AreConsistent}
+use Rattle.desk_law.proofs.Entries.{replaced, among-replaced, among-filter, among-push}
+use Rattle.desk_law.proofs.Others.{others, another-stays, StaysSame}
+use Rattle.desk_law.proofs.RowsThere.{open-due}
+
+pub alike-same : (lines : Lines) → AreAlike lines lines
+alike-same lines = record { reads = λ line. refl; writes = λ line. refl }
+
+pub alike-then : (first second third : Lines) → AreAlike first second → AreAlike second third → AreAlike first third
+alike-then first second third one two = record { reads = λ line. one.reads line ∙ two.reads line; writes = λ line. one.writes line ∙ two.writes line }
+
+pub alike-back : (first second : Lines) → AreAlike first second → AreAlike second first
+alike-back first second one = record { reads = λ line. sym (one.reads line); writes = λ line. sym (one.writes line) }
+
+-- two tests that imply each other are the same
+pub both-imply : (a b : Bool) → (a ≡ true → b ≡ true) → (b ≡ true → a ≡ true) → a ≡ b
+both-imply true b there back = sym (there refl)
+both-imply false true there back = back refl
+both-imply false false there back = refl
+
+pub meets-alike : (a b c d : List ℕ) → ((x : ℕ) → has a x ≡ has b x) → ((x : ℕ) → has c x ≡ has d x) → meets a c ≡ meets b d
+meets-alike a b c d first second = both-imply (meets a c) (meets b d) there back
+  where
+    there : meets a c ≡ true → meets b d ≡ true
+    there meet = let (x, one, two) = any-some (has c) a meet in meets-at b d x (sym (first x) ∙ one) (sym (second x) ∙ two)
+
+    back : meets b d ≡ true → meets a c ≡ true
+    back meet = let (x, one, two) = any-some (has d) b meet in meets-at a c x (first x ∙ one) (second x ∙ two)
+
+-- whether sets conflict doesn't depend on how they are listed
+pub conflicts-alike : (asked request holds locks : Lines) → AreAlike asked request → AreAlike holds locks → conflicts asked holds ≡ conflicts request locks
+conflicts-alike asked request holds locks first second =
+    λ i.
+    meets-alike asked.writes request.writes (holds.reads ++ holds.writes) (locks.reads ++ locks.writes) first.writes all i
+    || meets-alike asked.reads request.reads holds.writes locks.writes first.reads second.writes i
+  where
+    all : (x : ℕ) → has (holds.reads ++ holds.writes) x ≡ has (locks.reads ++ locks.writes) x
+    all x = has-append holds.reads holds.writes x ∙ (λ i. second.reads x i || second.writes x i) ∙ sym (has-append locks.reads locks.writes x)
+
+pub filter-alike : (p q : Entry → Bool) (entries : List Entry) → ((entry : Entry) → IsAmong entries entry → p entry ≡ q entry) → filter p entries ≡ filter q entries
+filter-alike p q [] same = refl
+filter-alike p q (one ∷ entries) same =
+    λ i. if same one (inl refl) i then one ∷ filter-alike p q entries (λ entry among. same entry (inr among)) i else filter-alike p q entries (λ entry among. same entry (inr among)) i
+
+pub any-entries : (p q : Entry → Bool) (entries : List Entry) → ((entry : Entry) → IsAmong entries entry → p entry ≡ q entry) → list_any p entries ≡ list_any q entries
+any-entries p q [] same = refl
+any-entries p q (one ∷ entries) same = λ i. same one (inl refl) i || any-entries p q entries (λ entry among. same entry (inr among)) i
+
+module _ (desk : Desk) (locks requests : ℕ → Lines) (are : AreKept desk.committed desk.active locks requests) where
+  conflict-kept : (asked : Lines) (entry other : Entry) → AreAlike asked (request desk entry) → IsAmong desk.active other
+      → kept_conflict asked locks entry.number other ≡ conflicts_with desk entry other
+  conflict-kept asked entry other alike among =
+      ap (λ (b : Bool). not (other.number == entry.number) && b) (conflicts-alike asked (request desk entry) (locks other.number) (due_to desk.committed other) alike (are.held other among))
+
+  -- the holders that a request conflicts with
+  pub conflicts-kept : (asked : Lines) (entry : Entry) → AreAlike asked (request desk entry)
+      → map (λ (other : Entry). other.number) (filter (kept_conflict asked locks entry.number) desk.active) ≡ conflicts_of desk entry
+  conflicts-kept asked entry alike =
+      ap (map (λ (other : Entry). other.number))
+      (filter-alike (kept_conflict asked locks entry.number) (conflicts_with desk entry) desk.active (λ other among. conflict-kept asked entry other alike among))
+
+  pub waits-kept : (from to : ℕ) → kept_waits locks requests desk.active from to ≡ waits_for desk from to
+  waits-kept from to =
+      any-entries
+      (λ entry. entry.number == from && entry.waiting && list_any (λ other. other.number == to && kept_conflict (requests entry.number) locks entry.number other) desk.active)
+      (λ entry. entry.number == from && entry.waiting && list_any (λ other. other.number == to && conflicts_with desk entry other) desk.active)
+      desk.active
+      (λ entry among. by_mark entry entry.waiting refl among)
+    where
+      by_mark : (entry : Entry) (mark : Bool) → entry.waiting ≡ mark → IsAmong desk.active entry
+          → (entry.number == from && entry.waiting && list_any (λ other. other.number == to && kept_conflict (requests entry.number) locks entry.number other) desk.active)
+          ≡ (entry.number == from && entry.waiting && list_any (λ other. other.number == to && conflicts_with desk entry other) desk.active)
+      by_mark entry true e among =
+          ap (λ (b : Bool). entry.number == from && entry.waiting && b)
+          (any-entries (λ other. other.number == to && kept_conflict (requests entry.number) locks entry.number other) (λ other. other.number == to && conflicts_with desk entry other) desk.active
+          (λ other there. ap (λ (b : Bool). other.number == to && b) (conflict-kept (requests entry.number) entry other (are.asked entry among e) there)))
+      by_mark entry false e among = none (entry.number == from) entry.waiting _ _ e
+        where
+          none : (a mark b c : Bool) → mark ≡ false → (a && mark && b) ≡ (a && mark && c)
+          none a true b c e = absurd (cc)
+          none true false b c e = refl
+          none false false b c e = refl
+
+  -- the cycle that is shown is that of the tables
+  pub cycle-kept : (number : ℕ) → shown_cycle (kept_waits locks requests desk.active) (numbers desk) number ≡ shown_cycle (waits_for desk) (numbers desk) number
+  cycle-kept number = ap (λ (waits : ℕ → ℕ → Bool). shown_cycle waits (numbers desk) number) (λ i from to. waits-kept from to i)
+
+module _ (store : FlatStore) (entries : List Entry) (locks requests : ℕ → Lines) (are : AreKept store entries locks requests) where
+  -- a row that goes on sets its own locks alone; its mark is off, so its request is of no account
+  pub kept-row : (entry : Entry) (new : ℕ → Lines) → AreAlike (new entry.number) (due_to store (gone_on entry)) → IsTableBut entry.number locks new
+      → AreKept store (replaced (gone_on entry) entries) new requests
+  kept-row entry new alike but = record {
+    held = λ other among. elim (among-replaced (gone_on entry) entries other among) [
+      | inl it ↦ subst (λ (x : Entry). AreAlike (new x.number) (due_to store x)) it alike
+      | inr old ↦ subst (λ (lines : Lines). AreAlike lines (due_to store other)) (sym (but.kept other.number old.1)) (are.held other old.0)
+    ];
+    asked = λ other among waits. elim (among-replaced (gone_on entry) entries other among) [
+      | inl it ↦ absurd (both_ways other.waiting (ap (λ (x : Entry). x.waiting) (sym it)) waits)
+      | inr old ↦ are.asked other old.0 waits
+    ];
+  }
+
+  -- a mark sets its own request alone
+  pub kept-mark : (entry : Entry) (new : ℕ → Lines) → IsAmong entries entry → AreAlike (new entry.number) (requested store entry) → IsTableBut entry.number requests new
+      → AreKept store (replaced (record entry { waiting = true }) entries) locks new
+  kept-mark entry new here alike but = record {
+    held = λ other among. elim (among-replaced (record entry { waiting = true }) entries other among) [
+      | inl it ↦ subst (λ (x : Entry). AreAlike (locks x.number) (due_to store x)) it (are.held entry here)
+      | inr old ↦ are.held other old.0
+    ];
+    asked = λ other among waits. elim (among-replaced (record entry { waiting = true }) entries other among) [
+      | inl it ↦ subst (λ (x : Entry). AreAlike (new x.number) (requested store x)) it alike
+      | inr old ↦ subst (λ (lines : Lines). AreAlike lines (requested store other)) (sym (but.kept other.number old.1)) (are.asked other old.0 waits)
+    ];
+  }
+
+  -- a rollback sets none
+  pub kept-rollback : (gone : Entry) → AreKept store (others gone entries) locks requests
+  kept-rollback gone = record {
+    held = λ other among. are.held other (among-filter (λ (other : Entry). not (other.number == gone.number)) entries other among).0;
+    asked = λ other among waits. are.asked other (among-filter (λ (other : Entry). not (other.number == gone.number)) entries other among).0 waits;
+  }
+
+  -- nor does a commit
+  pub kept-commit : (most_lines next : ℕ) (entry : Entry) (now : Plain) → IsWhole store → AreConsistent store most_lines next entries → IsAmong entries entry
+      → after entry.runs.program entry.runs.args store entry.rows ≡ Some now
+      → AreKept (left_by store now) (others entry entries) locks requests
+  kept-commit most_lines next entry now whole consistent here is = record {
+    held = λ other among.
+        let (there, differ) = among-filter (λ (other : Entry). not (other.number == entry.number)) entries other among in
+        let same : StaysSame store (left_by store now) other = another-stays store most_lines next entries entry other now whole consistent here there (not-true (other.number == entry.number) differ) is in
+        subst (AreAlike (locks other.number)) (sym same.due) (are.held other there);
+    asked = λ other among waits.
+        let (there, differ) = among-filter (λ (other : Entry). not (other.number == entry.number)) entries other among in
+        let same : StaysSame store (left_by store now) other = another-stays store most_lines next entries entry other now whole consistent here there (not-true (other.number == entry.number) differ) is in
+        subst (λ (lines : Lines). AreAlike (requests other.number) (with_whole_pages lines)) (sym same.wants) (are.asked other there waits);
+  }
+
+  -- a begin gives no locks
+  pub kept-begin : (last : Entry) → last.rows ≡ 0 → last.waiting ≡ false → AreAlike (locks last.number) no_lines → AreKept store (entries ++ last ∷ []) locks requests
+  kept-begin last none unmarked clear = record {
+    held = λ other among. elim (among-push entries last other among) [
+      | inl old ↦ are.held other old
+      | inr it ↦
+          subst (λ (x : Entry). AreAlike (locks x.number) (due_to store x)) it
+          (subst (λ (rows : ℕ). AreAlike (locks last.number) (due_to store (record last { rows = rows }))) (sym none) clear)
+    ];
+    asked = λ other among waits. elim (among-push entries last other among) [
+      | inl old ↦ are.asked other old waits
+      | inr it ↦ absurd (both_ways other.waiting (ap (λ (x : Entry). x.waiting) (sym it) ∙ unmarked) waits)
+    ];
+  }
+
+-- a row whose lines were there sets nothing
+pub kept-open_row : (desk : Desk) (locks requests : ℕ → Lines) (entry : Entry) → AreKept desk.committed desk.active locks requests → IsAmong desk.active entry
+    → ArePart (request desk entry) (due_to desk.committed entry)
+    → AreKept desk.committed (replaced (gone_on entry) desk.active) locks requests
+kept-open_row desk locks requests entry are here part =
+    kept-row desk.committed desk.active locks requests are entry locks
+    (alike-then (locks entry.number) (due_to desk.committed entry) (due_to desk.committed (gone_on entry)) (are.held entry here)
+    (alike-back (due_to desk.committed (gone_on entry)) (due_to desk.committed entry) (open-due desk entry part)))
+    (record { kept = λ at other. refl })
+
+-- (3) The request of another is the same after a commit; the other steps leave the committed store, of which it is.
+pub request-commit :
+    (store : FlatStore) (most_lines next : ℕ) (entries : List Entry) (entry other : Entry) (now : Plain) → IsWhole store → AreConsistent store most_lines next entries
+    → IsAmong entries entry → IsAmong entries other → (other.number == entry.number) ≡ false
+    → after entry.runs.program entry.runs.args store entry.rows ≡ Some now
+    → requested (left_by store now) other ≡ requested store other
+request-commit store most_lines next entries entry other now whole consistent here there differ is =
+    ap with_whole_pages (another-stays store most_lines next entries entry other now whole consistent here there differ is).wants

@@ -1,0 +1,75 @@
+-- An instruction all of whose lines are on resident pages that permit them: it takes effect at once.
+use Rattle.std.specs.Prelude.{◌≡◌, refl, ℕ, ◌+◌, ◌==◌, not, if◌then◌else◌, Bool, true, false, List, [], ◌∷◌, ◌++◌, filter, slice_index_or}
+use Rattle.std.specs.List.{list_any}
+use Rattle.std.proofs.Common.{sym, ◌∙◌, subst, inl, inr}
+use Rattle.std.proofs.lemmas.Bool.{eqb-true, eq-eqb, and_parts, or_cases, or_left, or_right, or_from, not_from_true}
+use Rattle.lock_rules.specs.Sets.{has}
+use Rattle.lock_rules.specs.Lines.{Lines, within_page, page_of_line, pages_of}
+use Rattle.lock_rules.proofs.Sets.{has-append, any-some}
+use Rattle.lock_rules.proofs.Lines.{ArePart, has-within_page, has-pages_of}
+use Rattle.desk.specs.Desk.{Desk, Entry, nobody}
+use Rattle.desk.specs.Holdings.{wanted, request}
+use Rattle.desk.specs.Instruction.{Word, Fetched, Broken, can't_be_read, fetches, refuses, lines_within}
+use Rattle.lock_rules.specs.Resident.{brought}
+use Rattle.desk_law.proofs.Permitted.{any-none, permitted-held}
+use Rattle.desk_law.specs.Beside.{AreThere}
+use Rattle.desk_law.specs.Consistent.{IsAmong, due_to, permitted}
+use Rattle.desk_law.proofs.Orderly.{IsOrderly}
+
+-- where none passes
+pub filter-none : (test : ℕ → Bool) (xs : List ℕ) → ((x : ℕ) → test x ≡ false) → filter test xs ≡ []
+filter-none test [] none = refl
+filter-none test (x ∷ xs) none = by_test (test x) (none x) (filter-none test xs none)
+  where
+    by_test : (keeps : Bool) → keeps ≡ false → filter test xs ≡ [] → (if keeps then x ∷ filter test xs else filter test xs) ≡ []
+    by_test true e rest = absurd (cc)
+    by_test false e rest = rest
+
+-- pages that are all resident are fetched as they are
+pub fetches-none :
+    (word : Word) (frames : ℕ) (kept pages resident : List ℕ) (counted : ℕ) → ((page : ℕ) → has pages page ≡ true → has resident page ≡ true)
+    → fetches word frames kept pages resident counted ≡ Fetched resident counted
+fetches-none word frames kept [] resident counted there = refl
+fetches-none word frames kept (page ∷ pages) resident counted there =
+    by_test (has resident page) (there page (or_left (page == page) (has pages page) (eq-eqb page page refl)))
+    (fetches-none word frames kept pages resident counted (λ p inside. there p (or_right (page == p) (has pages p) inside)))
+  where
+    by_test : (here : Bool) → here ≡ true → fetches word frames kept pages resident counted ≡ Fetched resident counted
+        → (if here then fetches word frames kept pages resident counted
+        else if can't_be_read word (counted + 1) then Broken (counted + 1)
+        else fetches word frames kept pages (brought frames kept resident page) (counted + 1))
+        ≡ Fetched resident counted
+    by_test true e rest = rest
+    by_test false e rest = absurd (cc)
+
+module _ (desk : Desk) (number : ℕ) (lines : Lines) (are : AreThere desk number lines) where
+  pub there-resident : (page : ℕ) → has (pages_of (lines.reads ++ lines.writes)) page ≡ true → has desk.resident page ≡ true
+  there-resident page inside =
+      let (line, there, at) = any-some (λ l. page_of_line l == page) (lines.reads ++ lines.writes) (sym (has-pages_of (lines.reads ++ lines.writes) page) ∙ inside) in
+      subst (λ (p : ℕ). has desk.resident p ≡ true) (eqb-true (page_of_line line) page at)
+      (elim (or_cases (has lines.reads line) (has lines.writes line) (sym (has-append lines.reads lines.writes line) ∙ there)) [
+        | inl read ↦ (are.reads line read).resident
+        | inr written ↦ (are.writes line written).resident
+      ])
+
+  pub there-unrefused : (page : ℕ) → refuses (slice_index_or desk.authority page nobody) number (lines_within page lines) ≡ false
+  there-unrefused page =
+      or_from (list_any (λ line. not (permitted (slice_index_or desk.authority page nobody) number line false)) (within_page page lines.reads))
+      (list_any (λ line. not (permitted (slice_index_or desk.authority page nobody) number line true)) (within_page page lines.writes))
+      (any-none (λ line. not (permitted (slice_index_or desk.authority page nobody) number line false)) (within_page page lines.reads)
+      (λ line inside.
+      let parts = and_parts (page == page_of_line line) (has lines.reads line) (sym (has-within_page page lines.reads line) ∙ inside) in
+      not_from_true (permitted (slice_index_or desk.authority page nobody) number line false)
+      (subst (λ (p : ℕ). permitted (slice_index_or desk.authority p nobody) number line false ≡ true) (sym (eqb-true page (page_of_line line) parts.0)) (are.reads line parts.1).permits)))
+      (any-none (λ line. not (permitted (slice_index_or desk.authority page nobody) number line true)) (within_page page lines.writes)
+      (λ line inside.
+      let parts = and_parts (page == page_of_line line) (has lines.writes line) (sym (has-within_page page lines.writes line) ∙ inside) in
+      not_from_true (permitted (slice_index_or desk.authority page nobody) number line true)
+      (subst (λ (p : ℕ). permitted (slice_index_or desk.authority p nobody) number line true ≡ true) (sym (eqb-true page (page_of_line line) parts.0)) (are.writes line parts.1).permits)))
+
+-- what is permitted is held: the request of a row whose lines are there is among the locks due already
+pub there-held : (desk : Desk) (entry : Entry) → IsOrderly desk → IsAmong desk.active entry → AreThere desk entry.number (wanted desk entry)
+    → ArePart (request desk entry) (due_to desk.committed entry)
+there-held desk entry is here are =
+    permitted-held desk entry is here
+    (record { reads = λ line inside. (are.reads line inside).permits; writes = λ line inside. (are.writes line inside).permits })

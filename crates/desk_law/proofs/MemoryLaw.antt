@@ -1,0 +1,440 @@
+-- The law of isolation.
+use Rattle.std.specs.Prelude.{◌≤◌, ◌≡◌, refl, ℕ, zero, suc, ◌+◌, ◌<◌, ◌==◌, ◌||◌, nat_lt, not, if◌then◌else◌, Bool, true, false, List, [], ◌∷◌, ◌++◌, length, map, find, Option, Some, None, slice_get}
+use Rattle.std.specs.List.{flat_map, range_with_len}
+use Rattle.std.proofs.Common.{arith, ap, sym, ◌∙◌, subst, inl, inr}
+use Rattle.std.proofs.lemmas.Bool.{eqb-true, eq-eqb, ne_eqb, ltb-true, or_cases, or_left, or_right, not_from_false, cond-false}
+use Rattle.line_geometry.specs.FlatStore.{FlatStore, IsWhole}
+use Rattle.line_geometry.specs.Lines.{line_count}
+use Rattle.lock_rules.specs.Sets.{has}
+use Rattle.flat_machine.specs.declared.machine.Plain.{Plain}
+use Rattle.flat_machine.specs.declared.machine.Program.{Program}
+use Rattle.flat_machine.specs.After.{start, after}
+use Rattle.flat_machine.proofs.Whole.{serial-whole}
+use Rattle.desk.specs.declared.event.Event.{Event}
+use Rattle.desk.specs.declared.event.Event.TheVariants.{Begin, Turn, Checkpoint, Crash}
+use Rattle.desk.specs.Commits.{begun, IsSerial}
+use Rattle.desk.specs.Desk.{Desk, Entry, with_entry, opened}
+use Rattle.desk.specs.Holdings.{numbers}
+use Rattle.desk.specs.Instruction.{Word, Fine, ReadFailed, Unwritten, Doubt, Failed, Counts, Turning, Going, Over, Idle, Limit, Checked, Journal, Disk, Victim, Waits, Committed, CommitUnwritten, CommitDoubted, Attempt, instruction, turns, turn_of, no_counts}
+use Rattle.desk.specs.Report.{event_lines}
+use Rattle.desk.specs.Run.{Turned, Busy, Nothing, turned, begin_if, begins, absent_segment, restarted, event_of, step, run}
+use Rattle.desk.proofs.SerialLaw.{run-serial}
+use Rattle.desk_law.specs.Changes.{gone_on}
+use Rattle.desk_law.specs.Consistent.{IsAmong, IsConsistent}
+use Rattle.desk_law.specs.Current.{current_of, current_bytes}
+use Rattle.desk_law.specs.Causes.{desk_of}
+use Rattle.desk_law.specs.Memory.{Machine, Memory, first_machine, with_machine, given_back, row_of, after_instruction, after_turns, after_event, memory_after, memory_of, IsAlone, IsMemory, FindTheirOwn, RunsAreIsolated, CommitsTellTheMachine, SideBySideIsSerial}
+use Rattle.desk_law.proofs.Orderly.{IsOrderly, orderly}
+use Rattle.desk_law.proofs.Entries.{among-found, among-filter, filter-among, new-among, among-push, between, found-among, one-entry, numbers-replaced}
+use Rattle.desk_law.proofs.Others.{others}
+use Rattle.desk_law.proofs.Waiting.{number-of, has-number}
+use Rattle.desk_law.proofs.GoesOn.{IsGranted}
+use Rattle.desk_law.proofs.Endings.{first_entry, with_first, begins-consistent}
+use Rattle.desk_law.proofs.Instructions.{From, RowDone, CommitDone, NoRowDone, Did}
+use Rattle.desk_law.proofs.InstructionStages.{attempt_of}
+use Rattle.desk_law.proofs.TurnsStay.{Stays, Instructed, instructed}
+use Rattle.desk_law.proofs.ConsistentLaw.{stays-consistent, runs-consistent}
+use Rattle.desk_law.proofs.KeptTables.{both-imply}
+use Rattle.desk_law.proofs.CurrentBytes.{bytes-current, one-current}
+use Rattle.desk_law.proofs.CurrentLaw.{holders-see-current}
+use Rattle.desk_law.proofs.CurrentSteps.{current-begun, current-quiet}
+use Rattle.desk_law.proofs.MemorySteps.{AreFewer, memory-current, given-back, at-own, row-done, commit-done}
+
+module _ (old : Desk) (attempt : Attempt) (is : IsOrderly old) (here : IsAmong old.active attempt.entry)
+    (at : after attempt.entry.runs.program attempt.entry.runs.args old.committed attempt.entry.rows ≡ Some attempt.now) where
+  -- the entries at the moment before a row or a commit
+  moment-fewer : (moment : Desk) → IsGranted attempt moment → From attempt.entry.number old moment → AreFewer old moment
+  moment-fewer moment granted from = record { committed = from.committed; was = λ entry among. by_own entry among (entry.number == attempt.entry.number) refl }
+    where
+      by_own : (entry : Entry) → IsAmong moment.active entry → (own : Bool) → (entry.number == attempt.entry.number) ≡ own
+          → (before : Entry) × IsAmong old.active before × (before.number ≡ entry.number) × (before.runs ≡ entry.runs) × (before.rows ≡ entry.rows)
+      by_own entry among true e =
+          let it = one-entry 0 moment.next moment.active (record attempt.entry { waiting = granted.mark }) entry granted.active.ascend granted.here among (sym (eqb-true entry.number attempt.entry.number e)) in
+          (attempt.entry, here, ap (λ (x : Entry). x.number) it, ap (λ (x : Entry). x.runs) it, ap (λ (x : Entry). x.rows) it)
+      by_own entry among false e = (entry, from.others entry among e, refl, refl, refl)
+
+  -- and where no row was done
+  no-row-fewer : (desk : Desk) → NoRowDone old attempt desk → AreFewer old desk
+  no-row-fewer desk done = record { committed = done.from.committed; was = λ entry among. by_own entry among (entry.number == attempt.entry.number) refl }
+    where
+      by_own : (entry : Entry) → IsAmong desk.active entry → (own : Bool) → (entry.number == attempt.entry.number) ≡ own
+          → (before : Entry) × IsAmong old.active before × (before.number ≡ entry.number) × (before.runs ≡ entry.runs) × (before.rows ≡ entry.rows)
+      by_own entry among true e =
+          let (mark, it) = done.own entry among e in
+          (attempt.entry, here, ap (λ (x : Entry). x.number) it, ap (λ (x : Entry). x.runs) it, ap (λ (x : Entry). x.rows) it)
+      by_own entry among false e = (entry, done.from.others entry among e, refl, refl, refl)
+
+  no-row : (desk : Desk) (memory : Memory) → IsOrderly desk → NoRowDone old attempt desk → IsMemory old memory → IsMemory desk (given_back desk.committed.directory (numbers old) (numbers desk) memory)
+  no-row desk memory later done of = given-back old desk (numbers desk) memory desk.most_lines is later.active (no-row-fewer desk done) (λ number. refl) of
+
+  the-row : (desk : Desk) (memory : Memory) → IsOrderly desk → RowDone old attempt desk → IsMemory old memory
+      → IsMemory desk
+      (row_of desk.committed.directory (find (λ (entry : Entry). entry.number == attempt.entry.number) desk.active) (given_back desk.committed.directory (numbers old) (numbers desk) memory))
+  the-row desk memory later done of =
+      subst
+      (λ (d : Desk). IsMemory d (row_of d.committed.directory (find (λ (entry : Entry). entry.number == attempt.entry.number) d.active) (given_back d.committed.directory (numbers old) (numbers d) memory)))
+      (sym done.is)
+      (subst (IsMemory (with_entry done.moment (gone_on attempt.entry)))
+      (sym (ap (λ (one : Option Entry). row_of done.moment.committed.directory one (given_back done.moment.committed.directory (numbers old) (numbers (with_entry done.moment (gone_on attempt.entry))) memory)) found))
+      (row-done done.moment attempt done.next (given_back done.moment.committed.directory (numbers old) (numbers (with_entry done.moment (gone_on attempt.entry))) memory) done.granted done.went between_is))
+    where
+      then_orderly : IsOrderly (with_entry done.moment (gone_on attempt.entry))
+      then_orderly = subst IsOrderly done.is later
+
+      found : find (λ (entry : Entry). entry.number == attempt.entry.number) (with_entry done.moment (gone_on attempt.entry)).active ≡ Some (gone_on attempt.entry)
+      found =
+          found-among done.moment.next (with_entry done.moment (gone_on attempt.entry)).active (gone_on attempt.entry) then_orderly.active.ascend
+          (new-among (gone_on attempt.entry) done.moment.active (record attempt.entry { waiting = done.granted.mark }) done.granted.here refl)
+
+      between_is : IsMemory done.moment (given_back done.moment.committed.directory (numbers old) (numbers (with_entry done.moment (gone_on attempt.entry))) memory)
+      between_is =
+          given-back old done.moment (numbers (with_entry done.moment (gone_on attempt.entry))) memory done.moment.most_lines is done.granted.active (moment-fewer done.moment done.granted done.from)
+          (λ number. ap (λ (these : List ℕ). has these number) (numbers-replaced (gone_on attempt.entry) done.moment.active)) of
+
+  the-commit : (desk : Desk) (memory : Memory) (steps : ℕ) (printed : List ℕ) → CommitDone old attempt desk steps printed → IsMemory old memory
+      → IsMemory desk (after_instruction attempt.entry.number old (Over desk (record { ran = 0; pages = 0; locks = 0; cycles = [] }) (Committed steps printed)) memory)
+  the-commit desk memory steps printed done of =
+      commit-done done.moment desk attempt (given_back desk.committed.directory (numbers old) (attempt.entry.number ∷ numbers desk) memory) done.granted done.committed done.active
+      (subst (λ (store : FlatStore). IsMemory done.moment (given_back store.directory (numbers old) (attempt.entry.number ∷ numbers desk) memory)) (sym done.committed)
+      (given-back old done.moment (attempt.entry.number ∷ numbers desk) memory done.moment.most_lines is done.granted.active (moment-fewer done.moment done.granted done.from) same of))
+    where
+      entry : Entry
+      entry = record attempt.entry { waiting = done.granted.mark }
+
+      same : (number : ℕ) → has (attempt.entry.number ∷ numbers desk) number ≡ has (numbers done.moment) number
+      same number =
+          ap (λ (entries : List Entry). attempt.entry.number == number || has (map (λ (entry : Entry). entry.number) entries) number) done.active
+          ∙ both-imply (attempt.entry.number == number || has (map (λ (entry : Entry). entry.number) (others attempt.entry done.moment.active)) number) (has (numbers done.moment) number)
+          (λ inside. elim (or_cases (attempt.entry.number == number) (has (map (λ (entry : Entry). entry.number) (others attempt.entry done.moment.active)) number) inside) [
+            | inl own ↦
+                subst (λ (n : ℕ). has (numbers done.moment) n ≡ true) (eqb-true attempt.entry.number number own)
+                (has-number done.moment.active (record attempt.entry { waiting = done.granted.mark }) done.granted.here)
+            | inr other ↦
+                let (one, among, own) = number-of (others attempt.entry done.moment.active) number other in
+                subst (λ (n : ℕ). has (numbers done.moment) n ≡ true) own
+                (has-number done.moment.active one (among-filter (λ (other : Entry). not (other.number == attempt.entry.number)) done.moment.active one among).0)
+          ])
+          (λ inside.
+          let (one, among, own) = number-of done.moment.active number inside in
+          by_own one among own (one.number == attempt.entry.number) refl)
+        where
+          by_own : (one : Entry) → IsAmong done.moment.active one → one.number ≡ number → (equal : Bool) → (one.number == attempt.entry.number) ≡ equal
+              → (attempt.entry.number == number || has (map (λ (entry : Entry). entry.number) (others attempt.entry done.moment.active)) number) ≡ true
+          by_own one among own true e =
+              or_left (attempt.entry.number == number) (has (map (λ (entry : Entry). entry.number) (others attempt.entry done.moment.active)) number)
+              (eq-eqb attempt.entry.number number (sym (eqb-true one.number attempt.entry.number e) ∙ own))
+          by_own one among own false e =
+              or_right (attempt.entry.number == number) (has (map (λ (entry : Entry). entry.number) (others attempt.entry done.moment.active)) number)
+              (subst (λ (n : ℕ). has (map (λ (entry : Entry). entry.number) (others attempt.entry done.moment.active)) n ≡ true) own
+              (has-number (others attempt.entry done.moment.active) one
+              (filter-among (λ (other : Entry). not (other.number == attempt.entry.number)) done.moment.active one among (not_from_false (one.number == attempt.entry.number) e))))
+
+  -- what the machine printed
+  told : (memory : Memory) (printed : List ℕ) → IsMemory old memory → printed ≡ attempt.now.out
+      → (machine : Machine) × (memory.machines attempt.entry.number ≡ Some machine) × (machine.state.out ≡ printed)
+  told memory printed of is_out =
+      let alone = of.alone attempt.entry here in
+      (alone.it, alone.is, ap (λ (state : Option Plain). out_of state) (sym alone.at ∙ at) ∙ sym is_out)
+    where
+      out_of : Option Plain → List ℕ
+      out_of None = []
+      out_of (Some state) = state.out
+
+-- the memory after a turn's instruction; where it committed, the machine printed what is told
+abbrev pub TurnMemory : ℕ → Turning → Memory → Type 0
+TurnMemory number (Over desk counts (Committed steps printed)) memory =
+    IsMemory desk memory × ((machine : Machine) × (memory.machines number ≡ Some machine) × (machine.state.out ≡ printed))
+TurnMemory number turning memory = IsMemory (desk_of turning) memory
+
+an-instruction : (old : Desk) (attempt : Attempt) (most : ℕ) (memory : Memory) (turning : Turning) → IsOrderly old → IsAmong old.active attempt.entry
+    → after attempt.entry.runs.program attempt.entry.runs.args old.committed attempt.entry.rows ≡ Some attempt.now
+    → Stays attempt.entry.number most turning → Did old attempt turning → IsMemory old memory
+    → TurnMemory attempt.entry.number turning (after_instruction attempt.entry.number old turning memory)
+an-instruction old attempt most memory (Going desk counts) is here at stays did of = the-row old attempt is here at desk memory stays.0 did of
+an-instruction old attempt most memory (Over desk counts (Committed steps printed)) is here at stays did of =
+    (the-commit old attempt is here at desk memory steps printed did of, told old attempt is here at memory printed of did.printed_is)
+an-instruction old attempt most memory (Over desk counts Idle) is here at stays did of = no-row old attempt is here at desk memory stays.0 did of
+an-instruction old attempt most memory (Over desk counts Limit) is here at stays did of = no-row old attempt is here at desk memory stays.0 did of
+an-instruction old attempt most memory (Over desk counts (Checked code address)) is here at stays did of = no-row old attempt is here at desk memory stays.0 did of
+an-instruction old attempt most memory (Over desk counts (Journal lines limit)) is here at stays did of = no-row old attempt is here at desk memory stays.0 did of
+an-instruction old attempt most memory (Over desk counts Disk) is here at stays did of = no-row old attempt is here at desk memory stays.0 did of
+an-instruction old attempt most memory (Over desk counts Victim) is here at stays did of = no-row old attempt is here at desk memory stays.0 did of
+an-instruction old attempt most memory (Over desk counts (Waits holders)) is here at stays did of = no-row old attempt is here at desk memory stays.0 did of
+an-instruction old attempt most memory (Over desk counts CommitUnwritten) is here at stays did of = no-row old attempt is here at desk memory stays.0 did of
+an-instruction old attempt most memory (Over desk counts CommitDoubted) is here at stays did of = no-row old attempt is here at desk memory stays.0 did of
+
+memory-of-turn : (number : ℕ) (turning : Turning) (memory : Memory) → TurnMemory number turning memory → IsMemory (desk_of turning) memory
+memory-of-turn number (Going desk counts) memory of = of
+memory-of-turn number (Over desk counts (Committed steps printed)) memory of = of.0
+memory-of-turn number (Over desk counts Idle) memory of = of
+memory-of-turn number (Over desk counts Limit) memory of = of
+memory-of-turn number (Over desk counts (Checked code address)) memory of = of
+memory-of-turn number (Over desk counts (Journal lines limit)) memory of = of
+memory-of-turn number (Over desk counts Disk) memory of = of
+memory-of-turn number (Over desk counts Victim) memory of = of
+memory-of-turn number (Over desk counts (Waits holders)) memory of = of
+memory-of-turn number (Over desk counts CommitUnwritten) memory of = of
+memory-of-turn number (Over desk counts CommitDoubted) memory of = of
+
+-- so many instructions
+memory-turns : (word : Word) (number most left : ℕ) (turning : Turning) (memory : Memory) → Stays number most turning → TurnMemory number turning memory
+    → TurnMemory number (turns word number left turning) (after_turns word number left turning memory)
+unfolding turns
+memory-turns word number most zero (Going desk counts) memory stays of = of
+memory-turns word number most zero (Over desk counts ending) memory stays of = of
+memory-turns word number most (suc left) (Over desk counts ending) memory stays of = of
+memory-turns word number most (suc left) (Going desk counts) memory stays of =
+    let next = instruction word (find (λ (entry : Entry). entry.number == number) desk.active) desk counts in
+    let by : Instructed number most desk next = instructed word number most desk counts stays.0 stays.1 stays.2 in
+    memory-turns word number most left next (after_instruction number desk next memory)
+    (subst (λ (n : ℕ). Stays n most next) by.own by.goes.0)
+    (subst (λ (n : ℕ). TurnMemory n next (after_instruction n desk next memory)) by.own
+    (an-instruction desk (attempt_of desk by.entry by.now) most memory next stays.0 by.here by.at by.goes.0 by.goes.1 of))
+
+-- a turn of nobody
+same-fewer : (desk : Desk) → AreFewer desk desk
+same-fewer desk = record { committed = refl; was = λ entry among. (entry, among, refl, refl, refl) }
+
+idle-turns : (word : Word) (number left : ℕ) (desk : Desk) (memory : Memory) → IsOrderly desk → find (λ (entry : Entry). entry.number == number) desk.active ≡ None → IsMemory desk memory
+    → IsMemory desk (after_turns word number left (Going desk no_counts) memory)
+unfolding instruction
+idle-turns word number zero desk memory is none of = of
+idle-turns word number (suc left) desk memory is none of =
+    subst
+    (λ (one : Option Entry). IsMemory desk (after_turns word number left (instruction word one desk no_counts) (after_instruction number desk (instruction word one desk no_counts) memory)))
+    (sym none)
+    (by_left left)
+  where
+    back : IsMemory desk (given_back desk.committed.directory (numbers desk) (numbers desk) memory)
+    back = given-back desk desk (numbers desk) memory desk.most_lines is is.active (same-fewer desk) (λ number. refl) of
+
+    by_left : (left : ℕ) → IsMemory desk (after_turns word number left (Over desk no_counts Idle) (given_back desk.committed.directory (numbers desk) (numbers desk) memory))
+    by_left zero = back
+    by_left (suc left) = back
+
+-- a begin
+begun-memory : (desk later : Desk) (number : ℕ) (machine : Option Machine) (memory : Memory) → later.committed ≡ desk.committed → later.active ≡ desk.active
+    → ((entry : Entry) → IsAmong desk.active entry → (entry.number == number) ≡ false) → IsMemory desk memory → IsMemory later (with_machine number machine memory)
+begun-memory desk later number machine memory store_is active_is other of = record {
+  committed = of.committed ∙ ap (λ (store : FlatStore). store.bytes) (sym store_is);
+  bytes = of.bytes ∙ sym (λ i. bytes_over (store_is i) (active_is i));
+  alone = λ entry among.
+      let there = subst (λ (these : List Entry). IsAmong these entry) active_is among in
+      subst (λ (store : FlatStore). IsAlone store entry (if entry.number == number then machine else memory.machines entry.number)) (sym store_is)
+      (subst (IsAlone desk.committed entry) (sym (cond-false (entry.number == number) machine (memory.machines entry.number) (other entry there))) (of.alone entry there));
+}
+  where
+    bytes_over : FlatStore → List Entry → List ℕ
+    bytes_over store entries = flat_map (current_of store entries) (range_with_len 0 (line_count store.directory))
+
+memory-begin : (programs : List Program) (program : ℕ) (args : List ℕ) (word : Word) (desk : Desk) (memory : Memory) → IsConsistent desk → IsMemory desk memory
+    → IsMemory (begin_if program args (slice_get programs program) desk).desk (after_event programs (Begin program args) word desk memory)
+memory-begin programs program args word desk memory is of = by_code (slice_get programs program)
+  where
+    other : (entry : Entry) → IsAmong desk.active entry → (entry.number == desk.next) ≡ false
+    other entry among = ne_eqb entry.number desk.next (λ same. omega (arith, same, (between 0 desk.next desk.active entry is.active.ascend among).1))
+
+    by_code : (code : Option Program) → IsMemory (begin_if program args code desk).desk (with_machine desk.next (first_machine args desk.committed code) memory)
+    by_code None = begun-memory desk desk desk.next None memory refl refl other of
+    by_code (Some code) = by_room (nat_lt (length desk.active) desk.most_active) refl
+      where
+        machine : Option Machine
+        machine = first_machine args desk.committed (Some code)
+
+        by_segment : (absent : Option ℕ) → length desk.active < desk.most_active → absent_segment desk.committed.directory code.windows ≡ absent
+            → IsMemory (begins absent program (record { program = code; args = args }) desk).desk (with_machine desk.next (first_machine args desk.committed (Some code)) memory)
+        by_segment (Some segment) few absent = begun-memory desk (record desk { next = desk.next + 1 }) desk.next (first_machine args desk.committed (Some code)) memory refl refl other of
+        by_segment None few present = record {
+          committed = of.committed;
+          bytes =
+              one-current desk.committed (with_first desk (record { program = code; args = args })).active memory.bytes (current_bytes (with_first desk (record { program = code; args = args })))
+              (current-begun desk.committed desk.most_lines desk.next desk.active is.active memory.bytes (first_entry desk.next (record { program = code; args = args })) refl
+              (begins-consistent desk (record { program = code; args = args }) (orderly desk is) few present).active (memory-current desk memory is.whole of))
+              (bytes-current (with_first desk (record { program = code; args = args })) is.whole);
+          alone = λ entry among. elim (among-push desk.active (first_entry desk.next (record { program = code; args = args })) entry among) [
+            | inl there ↦
+                subst (IsAlone desk.committed entry) (sym (cond-false (entry.number == desk.next) (first_machine args desk.committed (Some code)) (memory.machines entry.number) (other entry there))) (of.alone entry there)
+            | inr it ↦
+                subst (λ (x : Entry). IsAlone desk.committed x (if x.number == desk.next then first_machine args desk.committed (Some code) else memory.machines x.number)) it
+                (record {
+                  it = record { state = start code args desk.committed; wrote = [] };
+                  is = at-own desk.next (first_machine args desk.committed (Some code)) (memory.machines desk.next);
+                  bytes = desk.committed.bytes;
+                  at = refl;
+                  wrote = refl;
+                })
+          ];
+        }
+
+        by_room : (room : Bool) → nat_lt (length desk.active) desk.most_active ≡ room
+            → IsMemory (if room then begins (absent_segment desk.committed.directory code.windows) program (record { program = code; args = args }) desk
+            else record { desk = record desk { next = desk.next + 1 }; happening = Busy desk.next program }).desk (with_machine desk.next (first_machine args desk.committed (Some code)) memory)
+        by_room true few = by_segment (absent_segment desk.committed.directory code.windows) (ltb-true (length desk.active) desk.most_active few) refl
+        by_room false full = begun-memory desk (record desk { next = desk.next + 1 }) desk.next (first_machine args desk.committed (Some code)) memory refl refl other of
+
+-- a turn
+own-turn : (word : Word) (number limit : ℕ) (desk : Desk) (memory : Memory) (entry : Entry) → IsConsistent desk → find (λ (entry : Entry). entry.number == number) desk.active ≡ Some entry
+    → IsMemory desk memory → TurnMemory number (turns word number limit (Going desk no_counts)) (after_turns word number limit (Going desk no_counts) memory)
+own-turn word number limit desk memory entry is found of =
+    let (here, passes) = among-found (λ (entry : Entry). entry.number == number) desk.active entry found in
+    memory-turns word number (length desk.active) limit (Going desk no_counts) memory (orderly desk is, (entry, here, eqb-true entry.number number passes), omega arith) of
+
+turned-desk : (activation : ℕ) (turning : Turning) → (turned activation turning).desk ≡ desk_of turning
+turned-desk activation (Over desk counts ending) = refl
+turned-desk activation (Going desk counts) = refl
+
+memory-turn : (word : Word) (activation limit : ℕ) (desk : Desk) (memory : Memory) → IsConsistent desk → IsMemory desk memory
+    → (one : Option Entry) → find (λ (entry : Entry). entry.number == activation) desk.active ≡ one
+    → IsMemory (turned activation (turn_of one word activation limit desk)).desk (after_turns word activation limit (Going desk no_counts) memory)
+memory-turn word activation limit desk memory is of None found = idle-turns word activation limit desk memory (orderly desk is) found of
+memory-turn word activation limit desk memory is of (Some entry) found =
+    subst (λ (d : Desk). IsMemory d (after_turns word activation limit (Going desk no_counts) memory)) (sym (turned-desk activation (turns word activation limit (Going desk no_counts))))
+    (memory-of-turn activation (turns word activation limit (Going desk no_counts)) (after_turns word activation limit (Going desk no_counts) memory)
+    (own-turn word activation limit desk memory entry is found of))
+
+-- a crash
+crash-memory : (desk : Desk) (memory : Memory) → IsConsistent desk → IsMemory desk memory → IsMemory (restarted desk) (record memory { bytes = memory.committed })
+crash-memory desk memory is of = record {
+  committed = of.committed;
+  bytes = of.committed ∙ one-current desk.committed [] desk.committed.bytes (current_bytes (restarted desk)) (current-quiet desk.committed is.whole) (bytes-current (restarted desk) is.whole);
+  alone = λ entry among. absurd among;
+}
+
+shut-memory : (desk : Desk) (memory : Memory) → IsMemory desk memory → IsMemory (record desk { closed = true }) memory
+shut-memory desk memory of = record { committed = of.committed; bytes = of.bytes; alone = of.alone }
+
+-- an event of an open desk
+memory-event : (programs : List Program) (event : Event) (word : Word) (desk : Desk) (memory : Memory) → IsConsistent desk → IsMemory desk memory
+    → IsMemory (event_of programs event word desk).desk (after_event programs event word desk memory)
+memory-event programs (Begin program args) word desk memory is of = memory-begin programs program args word desk memory is of
+memory-event programs (Turn activation limit) word desk memory is of =
+    memory-turn word activation limit desk memory is of (find (λ (entry : Entry). entry.number == activation) desk.active) refl
+memory-event programs Checkpoint Failed desk memory is of = shut-memory desk memory of
+memory-event programs Checkpoint Fine desk memory is of = of
+memory-event programs Checkpoint (ReadFailed page) desk memory is of = of
+memory-event programs Checkpoint Unwritten desk memory is of = of
+memory-event programs Checkpoint Doubt desk memory is of = of
+memory-event programs Crash Failed desk memory is of = shut-memory (restarted desk) (record memory { bytes = memory.committed }) (crash-memory desk memory is of)
+memory-event programs Crash Fine desk memory is of = crash-memory desk memory is of
+memory-event programs Crash (ReadFailed page) desk memory is of = crash-memory desk memory is of
+memory-event programs Crash Unwritten desk memory is of = crash-memory desk memory is of
+memory-event programs Crash Doubt desk memory is of = crash-memory desk memory is of
+
+memory-step : (programs : List Program) (event : Event) (word : Word) (desk : Desk) (memory : Memory) → IsConsistent desk → IsMemory desk memory
+    → IsMemory (step programs event word desk).desk (if desk.closed then memory else after_event programs event word desk memory)
+memory-step programs event word desk memory is of = by_closed desk.closed
+  where
+    by_closed : (closed : Bool)
+        → IsMemory (if closed then record { desk = desk; happening = Nothing } else event_of programs event word desk).desk (if closed then memory else after_event programs event word desk memory)
+    by_closed true = of
+    by_closed false = memory-event programs event word desk memory is of
+
+-- a run
+memory-run : (programs : List Program) (events : List (Event × Word)) (desk : Desk) (memory : Memory) → IsConsistent desk → IsMemory desk memory
+    → IsMemory (run programs events desk) (memory_after programs events desk memory)
+memory-run programs [] desk memory is of = of
+memory-run programs (event ∷ events) desk memory is of =
+    memory-run programs events (step programs event.0 event.1 desk).desk (if desk.closed then memory else after_event programs event.0 event.1 desk memory)
+    (stays-consistent programs event.0 event.1 desk is) (memory-step programs event.0 event.1 desk memory is of)
+
+opened-memory : (frames most_active most_lines : ℕ) (store : FlatStore) → IsWhole store → IsMemory (opened frames most_active most_lines store) (memory_of store)
+opened-memory frames most_active most_lines store whole = record {
+  committed = refl;
+  bytes =
+      one-current store [] store.bytes (current_bytes (opened frames most_active most_lines store)) (current-quiet store whole)
+      (bytes-current (opened frames most_active most_lines store) whole);
+  alone = λ entry among. absurd among;
+}
+
+memory-runs : (programs : List Program) (frames most_active most_lines : ℕ) (store : FlatStore) (events : List (Event × Word)) → IsWhole store → 2 ≤ frames
+    → IsMemory (run programs events (opened frames most_active most_lines store)) (memory_after programs events (opened frames most_active most_lines store) (memory_of store))
+memory-runs programs frames most_active most_lines store events whole two =
+    memory-run programs events (opened frames most_active most_lines store) (memory_of store)
+    (runs-consistent programs frames most_active most_lines store [] whole two) (opened-memory frames most_active most_lines store whole)
+
+-- an entry's own lines are in the bytes of all
+own-found : (desk : Desk) (memory : Memory) → IsConsistent desk → IsMemory desk memory → FindTheirOwn desk memory
+own-found desk memory is of entry state here at line holds =
+    (memory-current desk memory is.whole of).lines line ∙ sym (holders-see-current desk entry state line is here at holds)
+
+pub runs-are-isolated : RunsAreIsolated
+runs-are-isolated programs frames most_active most_lines store events whole two =
+    let is = memory-runs programs frames most_active most_lines store events whole two in
+    (is, own-found _ _ (runs-consistent programs frames most_active most_lines store events whole two) is)
+
+-- one event more
+memory-more : (programs : List Program) (events : List (Event × Word)) (event : Event × Word) (desk : Desk) (memory : Memory)
+    → memory_after programs (events ++ event ∷ []) desk memory
+    ≡ (if (run programs events desk).closed then memory_after programs events desk memory
+    else after_event programs event.0 event.1 (run programs events desk) (memory_after programs events desk memory))
+memory-more programs [] event desk memory = refl
+memory-more programs (first ∷ events) event desk memory =
+    memory-more programs events event (step programs first.0 first.1 desk).desk (if desk.closed then memory else after_event programs first.0 first.1 desk memory)
+
+-- what a turn's happening tells of it
+printed-by : (number : ℕ) (turning : Turning) (memory : Memory) (counts : Counts) (steps : ℕ) (printed : List ℕ) → TurnMemory number turning memory
+    → (turned number turning).happening ≡ Turned number counts (Committed steps printed)
+    → (machine : Machine) × (memory.machines number ≡ Some machine) × (machine.state.out ≡ printed)
+printed-by number (Over desk some (Committed s p)) memory counts steps printed of happened =
+    let same : p ≡ printed = cc in
+    (of.1.0, of.1.1, of.1.2 ∙ same)
+printed-by number (Going desk some) memory counts steps printed of happened = absurd (cc)
+printed-by number (Over desk some Idle) memory counts steps printed of happened = absurd (cc)
+printed-by number (Over desk some Limit) memory counts steps printed of happened = absurd (cc)
+printed-by number (Over desk some (Checked code address)) memory counts steps printed of happened = absurd (cc)
+printed-by number (Over desk some (Journal lines limit)) memory counts steps printed of happened = absurd (cc)
+printed-by number (Over desk some Disk) memory counts steps printed of happened = absurd (cc)
+printed-by number (Over desk some Victim) memory counts steps printed of happened = absurd (cc)
+printed-by number (Over desk some (Waits holders)) memory counts steps printed of happened = absurd (cc)
+printed-by number (Over desk some CommitUnwritten) memory counts steps printed of happened = absurd (cc)
+printed-by number (Over desk some CommitDoubted) memory counts steps printed of happened = absurd (cc)
+
+-- a turn that committed
+commit-told : (programs : List Program) (desk : Desk) (memory : Memory) (number limit : ℕ) (word : Word) (counts : Counts) (steps : ℕ) (printed : List ℕ) → IsConsistent desk → IsMemory desk memory
+    → (step programs (Turn number limit) word desk).happening ≡ Turned number counts (Committed steps printed)
+    → (machine : Machine) × ((if desk.closed then memory else after_event programs (Turn number limit) word desk memory).machines number ≡ Some machine) × (machine.state.out ≡ printed)
+commit-told programs desk memory number limit word counts steps printed is of happened = by_closed desk.closed happened
+  where
+    by_entry : (one : Option Entry) → find (λ (entry : Entry). entry.number == number) desk.active ≡ one
+        → (turned number (turn_of one word number limit desk)).happening ≡ Turned number counts (Committed steps printed)
+        → (machine : Machine) × ((after_turns word number limit (Going desk no_counts) memory).machines number ≡ Some machine) × (machine.state.out ≡ printed)
+    by_entry None found happened = absurd (cc)
+    by_entry (Some entry) found happened =
+        printed-by number (turns word number limit (Going desk no_counts)) (after_turns word number limit (Going desk no_counts) memory) counts steps printed
+        (own-turn word number limit desk memory entry is found of) happened
+
+    by_closed : (closed : Bool)
+        → (if closed then record { desk = desk; happening = Nothing } else event_of programs (Turn number limit) word desk).happening ≡ Turned number counts (Committed steps printed)
+        → (machine : Machine) × ((if closed then memory else after_event programs (Turn number limit) word desk memory).machines number ≡ Some machine) × (machine.state.out ≡ printed)
+    by_closed true happened = absurd (cc)
+    by_closed false happened = by_entry (find (λ (entry : Entry). entry.number == number) desk.active) refl happened
+
+pub commits-tell-the-machine : CommitsTellTheMachine
+commits-tell-the-machine programs frames most_active most_lines store events number limit word counts steps printed whole two happened =
+    let start_desk = opened frames most_active most_lines store in
+    let (machine, is, told) =
+    commit-told programs (run programs events start_desk) (memory_after programs events start_desk (memory_of store)) number limit word counts steps printed
+    (runs-consistent programs frames most_active most_lines store events whole two)
+    (memory-runs programs frames most_active most_lines store events whole two) happened in
+    (machine, ap (λ (memory : Memory). memory.machines number) (memory-more programs events (Turn number limit, word) start_desk (memory_of store)) ∙ is, told)
+
+pub side-by-side-is-serial : SideBySideIsSerial
+side-by-side-is-serial names programs number frames most_active most_lines store events taken rest whole two is_run =
+    subst
+    (λ (committed : FlatStore). IsSerial (begun programs events) number store (run programs taken (opened frames most_active most_lines store)).order
+    (event_lines names programs number taken (opened frames most_active most_lines store)) committed (run programs taken (opened frames most_active most_lines store)).closed)
+    same serial
+  where
+    serial : IsSerial (begun programs events) number store (run programs taken (opened frames most_active most_lines store)).order
+        (event_lines names programs number taken (opened frames most_active most_lines store)) (run programs taken (opened frames most_active most_lines store)).committed
+        (run programs taken (opened frames most_active most_lines store)).closed
+    serial = run-serial names programs number frames most_active most_lines store events taken rest is_run
+
+    one_directory : (run programs taken (opened frames most_active most_lines store)).committed.directory ≡ store.directory
+    one_directory = (serial-whole (begun programs events) serial.done store (run programs taken (opened frames most_active most_lines store)).committed whole serial.leaves).1
+
+    bytes : (memory_after programs taken (opened frames most_active most_lines store) (memory_of store)).committed ≡ (run programs taken (opened frames most_active most_lines store)).committed.bytes
+    bytes = (memory-runs programs frames most_active most_lines store taken whole two).committed
+
+    same : (run programs taken (opened frames most_active most_lines store)).committed ≡ record store { bytes = (memory_after programs taken (opened frames most_active most_lines store) (memory_of store)).committed }
+    same = λ i. record { directory = one_directory i; bytes = sym bytes i }

@@ -1,0 +1,343 @@
+-- What machines side by side do to one memory, step by step.
+use Rattle.std.specs.Prelude.{◌≡◌, refl, ℕ, ◌==◌, ◌||◌, not, if◌then◌else◌, Bool, true, false, List, [], ◌∷◌, ◌++◌, length, filter, Option, Some}
+use Rattle.std.specs.List.{flat_map, range_with_len, list_any}
+use Rattle.std.specs.Option.{option_map_or}
+use Rattle.std.proofs.Common.{ap, sym, ◌∙◌, subst, inl, inr}
+use Rattle.std.proofs.lemmas.Bool.{eq-eqb, both_ways, and_parts, and_from, cases_Bool, not-true, not_from_false, false_from_ne_true, cond-false}
+use Rattle.std.proofs.lemmas.Option.{same_Some}
+use Rattle.line_geometry.specs.Directory.{Layout, byte_count}
+use Rattle.line_geometry.specs.FlatStore.{FlatStore, IsWhole}
+use Rattle.line_geometry.specs.Lines.{line_count}
+use Rattle.lock_rules.specs.Sets.{has}
+use Rattle.lock_rules.specs.Lines.{Lines, no_lines}
+use Rattle.lock_rules.proofs.Sets.{has-append, has-filter, any-at, any-some}
+use Rattle.flat_machine.specs.declared.machine.Plain.{Plain}
+use Rattle.flat_machine.specs.declared.machine.Plan.{Plan}
+use Rattle.flat_machine.specs.declared.machine.Plan.TheVariants.{Does, Fails}
+use Rattle.flat_machine.specs.declared.machine.Program.{Program}
+use Rattle.flat_machine.specs.Row.{Outcome, On, plan_at, row}
+use Rattle.flat_machine.specs.Touched.{touched, touched_by}
+use Rattle.flat_machine.specs.After.{after}
+use Rattle.flat_machine.specs.Due.{due_locks, touched_next}
+use Rattle.flat_machine.specs.Agreement.{line_in}
+use Rattle.flat_machine.proofs.Agreement.{after-whole}
+use Rattle.desk.specs.Desk.{Desk, Entry, with_entry}
+use Rattle.desk.specs.Holdings.{numbers}
+use Rattle.desk.specs.Instruction.{Attempt}
+use Rattle.desk_law.specs.Beside.{IsLaid}
+use Rattle.desk_law.specs.Changes.{gone_on, left_by}
+use Rattle.desk_law.specs.Consistent.{IsAmong, due_to, AreConsistent}
+use Rattle.desk_law.specs.Current.{current_of, current, IsCurrent, current_bytes}
+use Rattle.desk_law.specs.Memory.{Machine, Memory, laid, wrote_by, given_back, went_on, does_row, commit_of, IsAlone, IsMemory}
+use Rattle.desk_law.proofs.Entries.{replaced, among-filter, among-replaced, one-entry}
+use Rattle.desk_law.proofs.Orderly.{IsOrderly}
+use Rattle.desk_law.proofs.Others.{others, another-same, after-row}
+use Rattle.desk_law.proofs.Waiting.{number-of, has-number}
+use Rattle.desk_law.proofs.GoesOn.{IsGranted, due-more}
+use Rattle.desk_law.proofs.CurrentLines.{somebody, wrote-held, holder-or-none, current-written, current-unwritten, commit-current}
+use Rattle.desk_law.proofs.CurrentBytes.{bytes-current, laid-is}
+use Rattle.desk_law.proofs.CurrentLaw.{row-runs}
+use Rattle.desk_law.proofs.CurrentSteps.{commit-laid}
+
+-- entries of a desk were active before, but for their marks
+pub record AreFewer (old desk : Desk) : Type 0 where
+  pub committed : desk.committed ≡ old.committed
+  pub was : (entry : Entry) → IsAmong desk.active entry → (before : Entry) × IsAmong old.active before × (before.number ≡ entry.number) × (before.runs ≡ entry.runs) × (before.rows ≡ entry.rows)
+
+pub has-joined : (f : ℕ → List ℕ) (xs : List ℕ) (line : ℕ) → has (flat_map f xs) line ≡ list_any (λ x. has (f x) line) xs
+has-joined f [] line = refl
+has-joined f (x ∷ xs) line = has-append (f x) (flat_map f xs) line ∙ ap (λ (b : Bool). has (f x) line || b) (has-joined f xs line)
+
+-- what depends on the program and its rows alone
+due-alike : (store : FlatStore) (before entry : Entry) → before.runs ≡ entry.runs → before.rows ≡ entry.rows → due_to store before ≡ due_to store entry
+due-alike store before entry runs rows = λ i. due_locks (runs i).program (runs i).args store (rows i)
+
+after-alike : (store : FlatStore) (before entry : Entry) → before.runs ≡ entry.runs → before.rows ≡ entry.rows
+    → after before.runs.program before.runs.args store before.rows ≡ after entry.runs.program entry.runs.args store entry.rows
+after-alike store before entry runs rows = λ i. after (runs i).program (runs i).args store (rows i)
+
+-- the bytes of a memory are current
+pub memory-current : (desk : Desk) (memory : Memory) → IsWhole desk.committed → IsMemory desk memory → IsCurrent desk.committed desk.active memory.bytes
+memory-current desk memory whole is = subst (IsCurrent desk.committed desk.active) (sym is.bytes) (bytes-current desk whole)
+
+wrote-is : (desk : Desk) (memory : Memory) (entry : Entry) → IsMemory desk memory → IsAmong desk.active entry → wrote_by memory entry.number ≡ (due_to desk.committed entry).writes
+wrote-is desk memory entry is here =
+    let alone = is.alone entry here in
+    ap (λ (machine : Option Machine). option_map_or (λ (m : Machine). m.wrote) machine []) alone.is ∙ alone.wrote
+
+-- Lines of those that went are given back.
+module _ (old desk : Desk) (stay : List ℕ) (memory : Memory) (most : ℕ) (is_old : IsOrderly old) (are : AreConsistent desk.committed most desk.next desk.active)
+    (fewer : AreFewer old desk) (stays : (number : ℕ) → has stay number ≡ has (numbers desk) number) (is : IsMemory old memory) where
+  abbrev gone : List ℕ
+  gone = filter (λ number. not (has stay number)) (numbers old)
+
+  whole : IsWhole desk.committed
+  whole = subst IsWhole (sym fewer.committed) is_old.whole
+
+  abbrev Wrote : Desk → Entry → ℕ → Type 0
+  Wrote here entry line = has (due_to here.committed entry).writes line ≡ true
+
+  -- one that wrote a line now had written it before
+  wrote-before : (entry : Entry) (line : ℕ) → IsAmong desk.active entry → Wrote desk entry line → (before : Entry) × IsAmong old.active before × (before.number ≡ entry.number) × Wrote old before line
+  wrote-before entry line among wrote =
+      let (before, there, number, runs, rows) = fewer.was entry among in (
+        before,
+        there,
+        number,
+        ap (λ (l : Lines). has l.writes line) (due-alike old.committed before entry runs rows) ∙ ap (λ (store : FlatStore). has (due_to store entry).writes line) (sym fewer.committed) ∙ wrote,
+      )
+
+  -- one that stays had written before what it has written
+  wrote-after : (before : Entry) (line : ℕ) → IsAmong old.active before → has (numbers desk) before.number ≡ true → Wrote old before line
+      → (entry : Entry) × IsAmong desk.active entry × (before.runs ≡ entry.runs) × (before.rows ≡ entry.rows) × Wrote desk entry line
+  wrote-after before line there inside wrote =
+      let (entry, among, own) = number-of desk.active before.number inside in
+      let (first, at, number, runs, rows) = fewer.was entry among in
+      let same : first ≡ before = one-entry 0 old.next old.active first before is_old.active.ascend at there (number ∙ own) in
+      let runs_are : before.runs ≡ entry.runs = ap (λ (x : Entry). x.runs) (sym same) ∙ runs in
+      let rows_are : before.rows ≡ entry.rows = ap (λ (x : Entry). x.rows) (sym same) ∙ rows in (
+        entry,
+        among,
+        runs_are,
+        rows_are,
+        ap (λ (l : Lines). has l.writes line) (sym (due-alike desk.committed before entry runs_are rows_are)) ∙ ap (λ (store : FlatStore). has (due_to store before).writes line) fewer.committed ∙ wrote,
+      )
+
+  -- a line that is given back is as it is committed
+  back-line : (line : ℕ) → has (flat_map (wrote_by memory) gone) line ≡ true → current desk line ≡ line_in desk.committed.directory desk.committed.bytes line
+  back-line line inside =
+      let (number, out, wrote) = any-some (λ x. has (wrote_by memory x) line) gone (sym (has-joined (wrote_by memory) gone line) ∙ inside) in
+      let parts = and_parts (has (numbers old) number) (not (has stay number)) (sym (has-filter (λ n. not (has stay n)) (numbers old) number) ∙ out) in
+      let (one, there, own) = number-of old.active number parts.0 in
+      let one_wrote : Wrote old one line = ap (λ (l : List ℕ). has l line) (sym (wrote-is old memory one is there)) ∙ ap (λ (n : ℕ). has (wrote_by memory n) line) own ∙ wrote in
+      current-unwritten desk.committed most desk.next desk.active are line
+      (λ entry among.
+      false_from_ne_true (has (due_to desk.committed entry).writes line)
+      (λ also.
+      let (before, at, same, was) = wrote-before entry line among also in
+      let it : before ≡ one = holder-or-none old.committed old.most_lines old.next old.active is_old.active one before line there at (wrote-held old.committed old.most_lines old.next old.active is_old.active one line one_wrote) was in
+      both_ways (has stay number) (not-true (has stay number) parts.1)
+      (stays number
+      ∙ subst (λ (n : ℕ). has (numbers desk) n ≡ true) (sym same ∙ ap (λ (x : Entry). x.number) it ∙ own) (has-number desk.active entry among))))
+
+  -- any other line is as it was
+  kept-line : (line : ℕ) → has (flat_map (wrote_by memory) gone) line ≡ false → current desk line ≡ current old line
+  kept-line line out = elim (somebody old.committed old.most_lines old.next old.active is_old.active line) [
+    | inl some ↦
+        elim (cases_Bool (has (numbers desk) some.0.number)) [
+          | inl inside ↦
+              let (entry, among, runs, rows, wrote) = wrote-after some.0 line some.1 inside some.2 in
+              let live = is_old.active.live some.0 some.1 in
+              let at : after entry.runs.program entry.runs.args desk.committed entry.rows ≡ Some live.state =
+              ap (λ (store : FlatStore). after entry.runs.program entry.runs.args store entry.rows) fewer.committed ∙ sym (after-alike old.committed some.0 entry runs rows) ∙ live.is in
+              current-written desk.committed most desk.next desk.active are entry live.state line among at wrote
+              ∙ ap (λ (store : FlatStore). line_in store.directory live.state.store line) fewer.committed
+              ∙ sym (current-written old.committed old.most_lines old.next old.active is_old.active some.0 live.state line some.1 live.is some.2)
+          | inr went ↦
+              absurd (both_ways (has (flat_map (wrote_by memory) gone) line) out
+              (has-joined (wrote_by memory) gone line
+              ∙ any-at (λ x. has (wrote_by memory x) line) gone some.0.number
+              (has-filter (λ n. not (has stay n)) (numbers old) some.0.number
+              ∙ and_from (has (numbers old) some.0.number) (not (has stay some.0.number)) (has-number old.active some.0 some.1) (not_from_false (has stay some.0.number) (stays some.0.number ∙ went)))
+              (ap (λ (l : List ℕ). has l line) (wrote-is old memory some.0 is some.1) ∙ some.2)))
+        ]
+    | inr none ↦
+        current-unwritten desk.committed most desk.next desk.active are line
+        (λ entry among.
+        false_from_ne_true (has (due_to desk.committed entry).writes line)
+        (λ also.
+        let (before, at, same, was) = wrote-before entry line among also in
+        both_ways (has (due_to old.committed before).writes line) (none before at) was))
+        ∙ ap (λ (store : FlatStore). line_in store.directory store.bytes line) fewer.committed
+        ∙ sym (current-unwritten old.committed old.most_lines old.next old.active is_old.active line none)
+  ]
+
+  pub given-back : IsMemory desk (given_back desk.committed.directory (numbers old) stay memory)
+  given-back = record { committed = committed; bytes = bytes; alone = alone }
+    where
+      committed : memory.committed ≡ desk.committed.bytes
+      committed = is.committed ∙ ap (λ (store : FlatStore). store.bytes) (sym fewer.committed)
+
+      now : IsCurrent old.committed old.active memory.bytes
+      now = memory-current old memory is_old.whole is
+
+      long : length memory.bytes ≡ byte_count desk.committed.directory
+      long = now.long ∙ ap (λ (store : FlatStore). byte_count store.directory) (sym fewer.committed)
+
+      line_was : (line : ℕ) → line_in desk.committed.directory memory.bytes line ≡ current old line
+      line_was line = ap (λ (store : FlatStore). line_in store.directory memory.bytes line) fewer.committed ∙ now.lines line
+
+      then : IsCurrent desk.committed desk.active (current_bytes desk)
+      then = bytes-current desk whole
+
+      each : (line : ℕ) → (back : Bool) → has (flat_map (wrote_by memory) gone) line ≡ back
+          → line_in desk.committed.directory (current_bytes desk) line ≡ (if back then line_in desk.committed.directory memory.committed line else line_in desk.committed.directory memory.bytes line)
+      each line true e = then.lines line ∙ back-line line e ∙ ap (λ (b : List ℕ). line_in desk.committed.directory b line) (sym committed)
+      each line false e = then.lines line ∙ kept-line line e ∙ sym (line_was line)
+
+      bytes : laid desk.committed.directory (flat_map (wrote_by memory) gone) memory.committed memory.bytes ≡ current_bytes desk
+      bytes =
+          laid-is desk.committed.directory (flat_map (wrote_by memory) gone) memory.committed memory.bytes (current_bytes desk)
+          (ap (λ (b : List ℕ). length b) committed ∙ whole) long then.long
+          (λ line. each line (has (flat_map (wrote_by memory) gone) line) refl)
+
+      alone : (entry : Entry) → IsAmong desk.active entry → IsAlone desk.committed entry (memory.machines entry.number)
+      alone entry among =
+          let (before, there, number, runs, rows) = fewer.was entry among in
+          let was = is.alone before there in
+          record {
+            it = was.it;
+            is = ap memory.machines (sym number) ∙ was.is;
+            bytes = was.bytes;
+            at = ap (λ (store : FlatStore). after entry.runs.program entry.runs.args store entry.rows) fewer.committed ∙ sym (after-alike old.committed before entry runs rows) ∙ was.at;
+            wrote =
+                was.wrote
+                ∙ ap (λ (l : Lines). l.writes) (due-alike old.committed before entry runs rows)
+                ∙ ap (λ (store : FlatStore). (due_to store entry).writes) (sym fewer.committed);
+          }
+
+-- a number has its machine
+pub at-own : {A : Type 0} (number : ℕ) (x y : A) → (if number == number then x else y) ≡ x
+at-own number x y = by_test (number == number) (eq-eqb number number refl)
+  where
+    by_test : (b : Bool) → b ≡ true → (if b then x else y) ≡ x
+    by_test true e = refl
+    by_test false e = absurd (cc)
+
+-- what a row on the memory touches is what its entry's next row touches
+touches-same : (program : Program) (directory : Layout) (one other first second : Plain) → row program directory one ≡ On first → row program directory other ≡ On second
+    → plan_at one ≡ plan_at other → touched program directory one ≡ touched program directory other
+touches-same program directory one other first second went also plans =
+    ap (λ (outcome : Outcome). touched_by program directory outcome (plan_at one)) went
+    ∙ ap (touched_by program directory (On first)) plans
+    ∙ by_plan (plan_at other)
+    ∙ sym (ap (λ (outcome : Outcome). touched_by program directory outcome (plan_at other)) also)
+  where
+    by_plan : (plan : Plan) → touched_by program directory (On first) plan ≡ touched_by program directory (On second) plan
+    by_plan (Does registers status act address link) = refl
+    by_plan (Fails code) = refl
+
+-- A row of a machine, while nobody conflicts.
+module _ (moment : Desk) (attempt : Attempt) (next : Plain) (memory : Memory) (granted : IsGranted attempt moment) (went : attempt.outcome ≡ On next) (is : IsMemory moment memory) where
+  abbrev marked : Entry
+  marked = record attempt.entry { waiting = granted.mark }
+
+  alone : IsAlone moment.committed (record attempt.entry { waiting = granted.mark }) (memory.machines attempt.entry.number)
+  alone = is.alone (record attempt.entry { waiting = granted.mark }) granted.here
+
+  now_is : attempt.now ≡ record alone.it.state { store = alone.bytes }
+  now_is = same_Some attempt.now (record alone.it.state { store = alone.bytes }) (sym granted.now ∙ alone.at)
+
+  abbrev then_bytes : List ℕ
+  then_bytes = current_bytes (with_entry moment (gone_on attempt.entry))
+
+  row-went : row attempt.entry.runs.program moment.committed.directory (record alone.it.state { store = memory.bytes }) ≡ On (record next { store = then_bytes })
+  row-went =
+      ap (λ (bytes : List ℕ). row attempt.entry.runs.program moment.committed.directory (record alone.it.state { store = bytes })) is.bytes
+      ∙ ap (λ (s : Plain). row attempt.entry.runs.program moment.committed.directory (record s { store = current_bytes moment })) (sym now_is)
+      ∙ row-runs moment moment.most_lines attempt.entry granted.mark attempt.now next granted.whole granted.active granted.here granted.now (granted.went ∙ went) granted.none
+
+  touches : (touched attempt.entry.runs.program moment.committed.directory (record alone.it.state { store = memory.bytes })).writes
+      ≡ (touched_next attempt.entry.runs.program attempt.entry.runs.args moment.committed attempt.entry.rows).writes
+  touches =
+      ap (λ (l : Lines). l.writes)
+      (touches-same attempt.entry.runs.program moment.committed.directory (record alone.it.state { store = memory.bytes }) attempt.now (record next { store = then_bytes }) next row-went (granted.went ∙ went)
+      (ap (λ (s : Plain). plan_at s) (sym now_is)))
+      ∙ sym (ap (λ (state : Option Plain). (option_map_or (touched attempt.entry.runs.program moment.committed.directory) state no_lines).writes) granted.now)
+
+  wrote : alone.it.wrote ++ (touched attempt.entry.runs.program moment.committed.directory (record alone.it.state { store = memory.bytes })).writes
+      ≡ (due_to moment.committed (gone_on attempt.entry)).writes
+  wrote =
+      (λ i. alone.wrote i ++ touches i) ∙ sym (ap (λ (l : Lines). l.writes) (due-more moment.committed attempt.entry))
+
+  abbrev then_machine : Machine
+  then_machine = record {
+    state = record next { store = then_bytes };
+    wrote = alone.it.wrote ++ (touched attempt.entry.runs.program moment.committed.directory (record alone.it.state { store = memory.bytes })).writes;
+  }
+
+  abbrev then_memory : Memory
+  then_memory = record {
+    bytes = then_bytes;
+    committed = memory.committed;
+    machines = λ at. if at == attempt.entry.number then Some then_machine else memory.machines at;
+  }
+
+  does : does_row moment.committed.directory (gone_on attempt.entry) (memory.machines attempt.entry.number) memory ≡ then_memory
+  does =
+      ap (λ (machine : Option Machine). does_row moment.committed.directory (gone_on attempt.entry) machine memory) alone.is
+      ∙ ap (λ (outcome : Outcome). went_on attempt.entry.number (alone.it.wrote ++ (touched attempt.entry.runs.program moment.committed.directory (record alone.it.state { store = memory.bytes })).writes) outcome memory) row-went
+
+  then-alone : (entry : Entry) → IsAmong (replaced (gone_on attempt.entry) moment.active) entry → IsAlone moment.committed entry (then_memory.machines entry.number)
+  then-alone entry among = elim (among-replaced (gone_on attempt.entry) moment.active entry among) [
+    | inl it ↦
+        subst (λ (x : Entry). IsAlone moment.committed x (then_memory.machines x.number)) it
+        (record {
+          it = then_machine;
+          is = at-own attempt.entry.number (Some then_machine) (memory.machines attempt.entry.number);
+          bytes = next.store;
+          at = after-row moment.committed attempt.entry attempt.now next granted.now (granted.went ∙ went);
+          wrote = wrote;
+        })
+    | inr old ↦
+        subst (IsAlone moment.committed entry) (sym (cond-false (entry.number == attempt.entry.number) (Some then_machine) (memory.machines entry.number) old.1)) (is.alone entry old.0)
+  ]
+
+  pub row-done : IsMemory (with_entry moment (gone_on attempt.entry)) (does_row moment.committed.directory (gone_on attempt.entry) (memory.machines attempt.entry.number) memory)
+  row-done = subst (IsMemory (with_entry moment (gone_on attempt.entry))) (sym does) (record { committed = is.committed; bytes = refl; alone = then-alone })
+
+-- A commit of a machine.
+module _ (moment desk : Desk) (attempt : Attempt) (memory : Memory) (granted : IsGranted attempt moment)
+    (store_is : desk.committed ≡ left_by moment.committed attempt.now) (active_is : desk.active ≡ others attempt.entry moment.active) (is : IsMemory moment memory) where
+  before : IsCurrent moment.committed moment.active memory.bytes
+  before = memory-current moment memory granted.whole is
+
+  long : length attempt.now.store ≡ byte_count moment.committed.directory
+  long = after-whole attempt.entry.runs.program attempt.entry.runs.args moment.committed attempt.entry.rows attempt.now granted.whole granted.now
+
+  laid_by : IsLaid moment.committed (due_to moment.committed attempt.entry).writes memory.bytes moment.committed.bytes attempt.now.store
+  laid_by =
+      commit-laid moment.committed moment.most_lines moment.next moment.active granted.active memory.bytes (record attempt.entry { waiting = granted.mark }) attempt.now granted.whole
+      (long ∙ sym granted.whole) granted.here granted.now before
+
+  each : (line : ℕ) → (wrote : Bool) → has (due_to moment.committed attempt.entry).writes line ≡ wrote
+      → line_in moment.committed.directory attempt.now.store line ≡ (if wrote then line_in moment.committed.directory memory.bytes line else line_in moment.committed.directory moment.committed.bytes line)
+  each line true e = laid_by.laid line e
+  each line false e = laid_by.kept line e
+
+  wrote_is : wrote_by memory attempt.entry.number ≡ (due_to moment.committed attempt.entry).writes
+  wrote_is = wrote-is moment memory (record attempt.entry { waiting = granted.mark }) is granted.here
+
+  committed : laid desk.committed.directory (wrote_by memory attempt.entry.number) memory.bytes memory.committed ≡ desk.committed.bytes
+  committed =
+      (λ i. laid (store_is i).directory (wrote_is i) memory.bytes (is.committed i))
+      ∙ laid-is moment.committed.directory (due_to moment.committed attempt.entry).writes memory.bytes moment.committed.bytes attempt.now.store before.long granted.whole long
+      (λ line. each line (has (due_to moment.committed attempt.entry).writes line) refl)
+      ∙ sym (ap (λ (store : FlatStore). store.bytes) store_is)
+
+  current_then : current_bytes moment ≡ current_bytes desk
+  current_then =
+      (λ i.
+      flat_map
+      (λ (line : ℕ). sym (commit-current moment.committed moment.most_lines moment.next moment.active (record attempt.entry { waiting = granted.mark }) attempt.now line granted.whole granted.active granted.here granted.now) i)
+      (range_with_len 0 (line_count moment.committed.directory)))
+      ∙ sym (λ i. flat_map (current_of (store_is i) (active_is i)) (range_with_len 0 (line_count (store_is i).directory)))
+
+  still-alone : (entry : Entry) → IsAmong (others attempt.entry moment.active) entry → IsAlone (left_by moment.committed attempt.now) entry (memory.machines entry.number)
+  still-alone entry among =
+      let (there, differ) = among-filter (λ (other : Entry). not (other.number == attempt.entry.number)) moment.active entry among in
+      let was = is.alone entry there in
+      let apart = granted.active.apart entry (record attempt.entry { waiting = granted.mark }) there granted.here (not-true (entry.number == attempt.entry.number) differ) in
+      let (bytes, same) =
+      another-same moment.committed attempt.entry entry attempt.now (record was.it.state { store = was.bytes }) granted.whole granted.now was.at
+      (record { first_writes = apart.second_writes; second_writes = apart.first_writes }) in
+      record { it = was.it; is = was.is; bytes = bytes; at = same.state_on_other; wrote = was.wrote ∙ ap (λ (l : Lines). l.writes) (sym same.due) }
+
+  pub commit-done : IsMemory desk (commit_of desk.committed.directory attempt.entry.number memory)
+  commit-done = record {
+    committed = committed;
+    bytes = is.bytes ∙ current_then;
+    alone = λ entry among.
+        subst (λ (store : FlatStore). IsAlone store entry (memory.machines entry.number)) (sym store_is)
+        (still-alone entry (subst (λ (entries : List Entry). IsAmong entries entry) active_is among));
+  }

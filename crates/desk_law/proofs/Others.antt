@@ -1,0 +1,130 @@
+-- A commit of one activation leaves the others as they were.
+use Rattle.std.specs.Prelude.{suc, ◌+◌, Option, option_and_then, ◌≡◌, refl, ℕ, ◌==◌, not, true, false, List, filter, Some}
+use Rattle.std.proofs.Common.{arith, ap, sym, ◌∙◌, subst, inl, inr}
+use Rattle.std.proofs.lemmas.Bool.{both_ways, false_from_ne_true, or_cases, not-true}
+use Rattle.line_geometry.specs.FlatStore.{FlatStore, IsWhole}
+use Rattle.lock_rules.specs.Sets.{has, size}
+use Rattle.lock_rules.specs.Lines.{Lines, with_whole_pages}
+use Rattle.lock_rules.proofs.Sets.{has-append, has_left, has_right}
+use Rattle.flat_machine.specs.declared.machine.Plain.{Plain}
+use Rattle.flat_machine.specs.After.{after, next_state}
+use Rattle.flat_machine.specs.Row.{On, row}
+use Rattle.flat_machine.specs.Due.{touched_within, touched_next}
+use Rattle.flat_machine.specs.Agreement.{all_of, DoesTheSame}
+use Rattle.flat_machine.proofs.Agreement.{agreement-enough, after-whole, after-kept}
+use Rattle.desk.specs.Desk.{Entry}
+use Rattle.desk_law.specs.Changes.{left_by}
+use Rattle.desk_law.specs.Consistent.{IsAmong, due_to, IsLive, AreApart, AreConsistent}
+use Rattle.desk_law.proofs.Entries.{among-filter, ascend-filter}
+
+-- the state after a row more
+pub after-row : (store : FlatStore) (entry : Entry) (now next : Plain) → after entry.runs.program entry.runs.args store entry.rows ≡ Some now
+    → row entry.runs.program store.directory now ≡ On next → after entry.runs.program entry.runs.args store (entry.rows + 1) ≡ Some next
+after-row store entry now next at went =
+    let more : entry.rows + 1 ≡ suc entry.rows = omega arith in
+    ap (λ (rows : ℕ). after entry.runs.program entry.runs.args store rows) more
+    ∙ ap (λ (state : Option Plain). option_and_then (λ (s : Plain). next_state (row entry.runs.program store.directory s)) state) at
+    ∙ ap next_state went
+
+-- the lines that were touched
+abbrev pub touched_of : FlatStore → Entry → Lines
+touched_of store entry = touched_within entry.runs.program entry.runs.args store entry.rows
+
+-- touched lines are held
+pub touched-held : (lines : Lines) (line : ℕ) → has (all_of lines) line ≡ true → has (all_of (with_whole_pages lines)) line ≡ true
+touched-held lines line inside =
+    elim (or_cases (has lines.reads line) (has lines.writes line) (sym (has-append lines.reads lines.writes line) ∙ inside)) [
+      | inl read ↦ has_left (with_whole_pages lines).reads lines.writes line (has_left lines.reads _ line read)
+      | inr written ↦ has_right (with_whole_pages lines).reads lines.writes line written
+    ]
+
+-- what one has touched, another that is apart has not written
+pub unwritten : (first second : Lines) → AreApart (with_whole_pages first) (with_whole_pages second)
+    → (line : ℕ) → has (all_of second) line ≡ true → has first.writes line ≡ false
+unwritten first second apart line inside =
+    false_from_ne_true (has first.writes line)
+    (λ written. both_ways (has (all_of (with_whole_pages second)) line) (apart.first_writes line written) (touched-held second line inside))
+
+-- another does the same over what the commit leaves
+pub another-same :
+    (store : FlatStore) (entry other : Entry) (now state : Plain) → IsWhole store
+    → after entry.runs.program entry.runs.args store entry.rows ≡ Some now
+    → after other.runs.program other.runs.args store other.rows ≡ Some state
+    → AreApart (due_to store entry) (due_to store other)
+    → (bytes : List ℕ) × DoesTheSame other.runs.program other.runs.args store (left_by store now) other.rows state bytes
+another-same store entry other now state whole here there apart =
+    agreement-enough other.runs.program other.runs.args store (left_by store now) other.rows state whole
+    (after-whole entry.runs.program entry.runs.args store entry.rows now whole here)
+    refl there
+    (λ line inside. after-kept entry.runs.program entry.runs.args store entry.rows now whole here line (unwritten (touched_of store entry) (touched_of store other) apart line inside))
+
+-- what is due to another stays, and what it wants
+pub record StaysSame (store later : FlatStore) (other : Entry) : Type 0 where
+  pub due : due_to later other ≡ due_to store other
+  pub wants : touched_next other.runs.program other.runs.args later other.rows ≡ touched_next other.runs.program other.runs.args store other.rows
+
+pub another-stays :
+    (store : FlatStore) (most_lines next : ℕ) (entries : List Entry) (entry other : Entry) (now : Plain) → IsWhole store
+    → AreConsistent store most_lines next entries → IsAmong entries entry → IsAmong entries other → (other.number == entry.number) ≡ false
+    → after entry.runs.program entry.runs.args store entry.rows ≡ Some now
+    → StaysSame store (left_by store now) other
+another-stays store most_lines next entries entry other now whole are here there differ is =
+    let live : IsLive store most_lines other = are.live other there in
+    let apart : AreApart (due_to store other) (due_to store entry) = are.apart other entry there here differ in
+    let (bytes, same) = another-same store entry other now live.state whole is live.is (record { first_writes = apart.second_writes; second_writes = apart.first_writes }) in
+    record { due = same.due; wants = same.touches other.rows (omega arith) }
+
+another-live :
+    (store : FlatStore) (most_lines next : ℕ) (entries : List Entry) (entry other : Entry) (now : Plain) → IsWhole store
+    → AreConsistent store most_lines next entries → IsAmong entries entry → IsAmong entries other → (other.number == entry.number) ≡ false
+    → after entry.runs.program entry.runs.args store entry.rows ≡ Some now
+    → IsLive (left_by store now) most_lines other
+another-live store most_lines next entries entry other now whole are here there differ is =
+    let live : IsLive store most_lines other = are.live other there in
+    let apart : AreApart (due_to store other) (due_to store entry) = are.apart other entry there here differ in
+    let (bytes, same) = another-same store entry other now live.state whole is live.is (record { first_writes = apart.second_writes; second_writes = apart.first_writes }) in
+    record {
+      state = record live.state { store = bytes };
+      is = same.state_on_other;
+      few = omega (arith, live.few, ap (λ (lines : Lines). size lines.writes) same.due);
+      present = live.present;
+    }
+
+-- the entries that are left
+abbrev pub others : Entry → List Entry → List Entry
+others entry entries = filter (λ (other : Entry). not (other.number == entry.number)) entries
+
+-- the others are consistent over what a commit leaves
+pub commit-leaves :
+    (store : FlatStore) (most_lines next : ℕ) (entries : List Entry) (entry : Entry) (now : Plain) → IsWhole store
+    → AreConsistent store most_lines next entries → IsAmong entries entry
+    → after entry.runs.program entry.runs.args store entry.rows ≡ Some now
+    → AreConsistent (left_by store now) most_lines next (others entry entries)
+commit-leaves store most_lines next entries entry now whole are here is =
+    record {
+      ascend = ascend-filter (λ (other : Entry). not (other.number == entry.number)) 0 next entries are.ascend;
+      live = λ other among.
+          let (there, differ) = among-filter (λ (other : Entry). not (other.number == entry.number)) entries other among in
+          another-live store most_lines next entries entry other now whole are here there (not-true (other.number == entry.number) differ) is;
+      apart = λ first second among1 among2 differ.
+          let (there1, differ1) = among-filter (λ (other : Entry). not (other.number == entry.number)) entries first among1 in
+          let (there2, differ2) = among-filter (λ (other : Entry). not (other.number == entry.number)) entries second among2 in
+          let same1 = another-stays store most_lines next entries entry first now whole are here there1 (not-true (first.number == entry.number) differ1) is in
+          let same2 = another-stays store most_lines next entries entry second now whole are here there2 (not-true (second.number == entry.number) differ2) is in
+          subst (λ (lines : Lines). AreApart lines (due_to (left_by store now) second)) (sym same1.due)
+          (subst (λ (lines : Lines). AreApart (due_to store first) lines) (sym same2.due) (are.apart first second there1 there2 differ));
+    }
+
+-- and after a rollback
+pub rollback-leaves :
+    (store : FlatStore) (most_lines next : ℕ) (entries : List Entry) (entry : Entry)
+    → AreConsistent store most_lines next entries → AreConsistent store most_lines next (others entry entries)
+rollback-leaves store most_lines next entries entry are =
+    record {
+      ascend = ascend-filter (λ (other : Entry). not (other.number == entry.number)) 0 next entries are.ascend;
+      live = λ other among. are.live other (among-filter (λ (other : Entry). not (other.number == entry.number)) entries other among).0;
+      apart = λ first second among1 among2 differ.
+          are.apart first second
+          (among-filter (λ (other : Entry). not (other.number == entry.number)) entries first among1).0
+          (among-filter (λ (other : Entry). not (other.number == entry.number)) entries second among2).0 differ;
+    }

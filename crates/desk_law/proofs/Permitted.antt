@@ -1,0 +1,93 @@
+-- What is permitted is held, and what is held conflicts with nobody.
+use Rattle.std.specs.Prelude.{◌≡◌, refl, ℕ, ◌==◌, ◌&&◌, not, if◌then◌else◌, Bool, true, false, List, [], ◌∷◌, ◌++◌, map, filter}
+use Rattle.std.specs.List.{list_any}
+use Rattle.std.proofs.Common.{sym, ◌∙◌, inl, inr}
+use Rattle.std.proofs.lemmas.Bool.{both_ways, or_cases, or_right, or_from, false_from_ne_true}
+use Rattle.lock_rules.specs.Sets.{has, size, meets}
+use Rattle.lock_rules.specs.Lines.{Lines, conflicts, page_of_line, pages_of}
+use Rattle.lock_rules.proofs.Sets.{has-append, has_left, any-at, any-some}
+use Rattle.lock_rules.proofs.Sizes.{size-alike}
+use Rattle.lock_rules.proofs.Lines.{ArePart, has-whole_pages, has-pages_of}
+use Rattle.flat_machine.specs.Agreement.{all_of}
+use Rattle.desk.specs.Desk.{Desk, Entry}
+use Rattle.desk.specs.Holdings.{wanted, request, held, conflicts_with, conflicts_of}
+use Rattle.desk_law.specs.Consistent.{IsAmong, due_to, AreApart}
+use Rattle.desk_law.specs.Laws.{ArePermitted, PermittedIsFree}
+use Rattle.desk_law.proofs.Orderly.{IsOrderly, orderly}
+use Rattle.desk_law.proofs.Others.{touched_of}
+
+-- where none passes
+pub any-none : (test : ℕ → Bool) (xs : List ℕ) → ((x : ℕ) → has xs x ≡ true → test x ≡ false) → list_any test xs ≡ false
+any-none test xs none =
+    false_from_ne_true (list_any test xs)
+    (λ some. let (x, inside, passes) = any-some test xs some in both_ways (test x) (none x inside) passes)
+
+-- what is permitted is held: the request of a row whose lines are there is among the locks due already
+pub permitted-held : (desk : Desk) (entry : Entry) → IsOrderly desk → IsAmong desk.active entry → ArePermitted desk.authority entry.number (wanted desk entry)
+    → ArePart (request desk entry) (due_to desk.committed entry)
+permitted-held desk entry is here are = record { reads = record { among = reads }; writes = record { among = writes } }
+  where
+    writes : (line : ℕ) → has (wanted desk entry).writes line ≡ true → has (due_to desk.committed entry).writes line ≡ true
+    writes line inside = (is.held.covered (page_of_line line) entry here).stores line refl (are.writes line inside)
+
+    reads : (line : ℕ) → has (request desk entry).reads line ≡ true → has (due_to desk.committed entry).reads line ≡ true
+    reads line inside =
+        elim (or_cases (has (wanted desk entry).reads line) (has (pages_of (wanted desk entry).writes) (page_of_line line)) (sym (has-whole_pages (wanted desk entry) line) ∙ inside)) [
+          | inl read ↦ (is.held.covered (page_of_line line) entry here).loads line refl (are.reads line read)
+          | inr page ↦
+              let (x, written, at) = any-some (λ l. page_of_line l == page_of_line line) (wanted desk entry).writes (sym (has-pages_of (wanted desk entry).writes (page_of_line line)) ∙ page) in
+              has-whole_pages (touched_of desk.committed entry) line
+              ∙ or_right (has (touched_of desk.committed entry).reads line) (has (pages_of (touched_of desk.committed entry).writes) (page_of_line line))
+              (has-pages_of (touched_of desk.committed entry).writes (page_of_line line)
+              ∙ any-at (λ l. page_of_line l == page_of_line line) (touched_of desk.committed entry).writes x (writes x written) at)
+        ]
+
+-- what is among the locks of one conflicts with nobody who is apart
+pub part-free : (asked mine theirs : Lines) → ArePart asked mine → AreApart mine theirs → conflicts asked theirs ≡ false
+part-free asked mine theirs part apart =
+    or_from (meets asked.writes (theirs.reads ++ theirs.writes)) (meets asked.reads theirs.writes)
+    (any-none (has (theirs.reads ++ theirs.writes)) asked.writes (λ x inside. apart.first_writes x (part.writes.among x inside)))
+    (any-none (has theirs.writes) asked.reads
+    (λ x inside.
+    false_from_ne_true (has theirs.writes x)
+    (λ written. both_ways (has (all_of mine) x) (apart.second_writes x written) (has_left mine.reads mine.writes x (part.reads.among x inside)))))
+
+pub nobody-else : (test : Entry → Bool) (entries : List Entry) → ((other : Entry) → IsAmong entries other → test other ≡ false)
+    → map (λ (other : Entry). other.number) (filter test entries) ≡ []
+nobody-else test [] none = refl
+nobody-else test (one ∷ entries) none = by_test (test one) (none one (inl refl)) (nobody-else test entries (λ other among. none other (inr among)))
+  where
+    by_test : (keeps : Bool) → keeps ≡ false → map (λ (other : Entry). other.number) (filter test entries) ≡ []
+        → map (λ (other : Entry). other.number) (if keeps then one ∷ filter test entries else filter test entries) ≡ []
+    by_test true e rest = absurd (cc)
+    by_test false e rest = rest
+
+-- a request that is held already conflicts with nobody
+pub held-free : (desk : Desk) (entry : Entry) → IsOrderly desk → IsAmong desk.active entry → ArePart (request desk entry) (due_to desk.committed entry)
+    → conflicts_of desk entry ≡ []
+held-free desk entry is here part =
+    nobody-else (conflicts_with desk entry) desk.active
+    (λ other among. by_test other among (other.number == entry.number) refl)
+  where
+    by_test : (other : Entry) → IsAmong desk.active other → (same : Bool) → (other.number == entry.number) ≡ same
+        → (not same && conflicts (request desk entry) (held desk other)) ≡ false
+    by_test other among true e = refl
+    by_test other among false e =
+        part-free (request desk entry) (due_to desk.committed entry) (held desk other) part
+        (let apart = is.active.apart other entry among here e in record { first_writes = apart.second_writes; second_writes = apart.first_writes })
+
+-- the lines written stay so many
+pub held-written : (desk : Desk) (entry : Entry) → ArePart (request desk entry) (due_to desk.committed entry)
+    → size ((touched_of desk.committed entry).writes ++ (wanted desk entry).writes) ≡ size (due_to desk.committed entry).writes
+held-written desk entry part =
+    size-alike ((touched_of desk.committed entry).writes ++ (wanted desk entry).writes) (touched_of desk.committed entry).writes
+    (record {
+      among = λ x inside. elim (or_cases (has (touched_of desk.committed entry).writes x) (has (wanted desk entry).writes x) (sym (has-append (touched_of desk.committed entry).writes (wanted desk entry).writes x) ∙ inside)) [
+        | inl old ↦ old
+        | inr new ↦ part.writes.among x new
+      ];
+    })
+    (record { among = λ x inside. has_left (touched_of desk.committed entry).writes (wanted desk entry).writes x inside })
+
+pub permitted-is-free : PermittedIsFree
+permitted-is-free desk entry is here are = held-free desk entry (orderly desk is) here (permitted-held desk entry (orderly desk is) here are)

@@ -1,0 +1,164 @@
+-- A turn leaves resident pages that fit.
+use Rattle.std.specs.Prelude.{◌≡◌, refl, ℕ, zero, suc, ◌+◌, ◌<◌, ◌≤◌, ◌==◌, Bool, true, false, List, [], ◌∷◌, ◌++◌, length, find, Option, Some, None}
+use Rattle.std.specs.Option.{option_map_or}
+use Rattle.std.proofs.Common.{arith, ap, sym, ◌∙◌}
+use Rattle.std.proofs.lemmas.Bool.{eqb-true}
+use Rattle.line_geometry.specs.Directory.{Layout, page_count}
+use Rattle.line_geometry.specs.Lines.{line_count}
+use Rattle.lock_rules.specs.Sets.{has}
+use Rattle.lock_rules.specs.Lines.{no_lines, page_of_line}
+use Rattle.lock_rules.specs.Waits.{shown_cycle, victim_of}
+use Rattle.lock_rules.proofs.Sets.{any-some}
+use Rattle.lock_rules.proofs.Lines.{has-pages_of}
+use Rattle.flat_machine.specs.declared.machine.Plain.{Plain}
+use Rattle.flat_machine.specs.declared.machine.Program.{Program}
+use Rattle.flat_machine.specs.Row.{Outcome, On, Commit, Check, row}
+use Rattle.flat_machine.specs.After.{after}
+use Rattle.flat_machine.specs.Touched.{touched}
+use Rattle.flat_machine.specs.Agreement.{all_of}
+use Rattle.flat_machine.proofs.Below.{touched-below}
+use Rattle.desk.specs.Desk.{Desk, Entry, with_entry, rolled_back}
+use Rattle.desk.specs.Holdings.{wanted, conflicts_of, numbers, waits_for}
+use Rattle.desk.specs.Instruction.{Word, Fine, ReadFailed, Unwritten, Doubt, Failed, Counts, Turning, Going, Over, Attempt, Fetching, Fetched, Broken, Contest, Contested, Settled, Lost, attempts, attempts_at, instruction, turns, touched_pages, limited, is_over_limit, fetched_first, fetches_touched, asks, gets, goes_on, takes_effect, commits, contest_ends, waits_or_gets, with_grants, refused_pages, breaks_cycle, breaks_cycles}
+use Rattle.desk_law.specs.Consistent.{AreResident}
+use Rattle.desk_law.proofs.Contest.{left_over}
+use Rattle.desk_law.proofs.ResidentPages.{FetchFits, fetches-resident, taken-resident, none-resident}
+
+-- there are two frames, and the resident pages fit
+pub record Fits (desk : Desk) : Type 0 where
+  pub frames : 2 ≤ desk.frames
+  pub resident : AreResident desk.frames (page_count desk.committed.directory) desk.resident
+
+abbrev pub TurnFits : Turning → Type 0
+TurnFits (Going desk counts) = Fits desk
+TurnFits (Over desk counts ending) = Fits desk
+
+-- a contest leaves them so, and the directory
+abbrev pub ContestFits : Layout → Contest → Type 0
+ContestFits directory (Contested desk counts) = Fits desk × (desk.committed.directory ≡ directory)
+ContestFits directory (Settled desk counts) = Fits desk × (desk.committed.directory ≡ directory)
+ContestFits directory (Lost desk counts) = Fits desk × (desk.committed.directory ≡ directory)
+
+-- the pages of the lines that a row touches are the store's
+pub touched-within : (program : Program) (directory : Layout) (state : Option Plain) (page : ℕ) (attempt : Attempt)
+    → attempt.lines ≡ option_map_or (touched program directory) state no_lines
+    → has (touched_pages attempt) page ≡ true → page < page_count directory
+touched-within program directory state page attempt same inside =
+    let (line, there, here) = any-some (λ l. page_of_line l == page) (all_of attempt.lines) (sym (has-pages_of (all_of attempt.lines) page) ∙ inside) in
+    let low : line < line_count directory = by_state state line (sym (ap (λ l. has (all_of l) line) same) ∙ there) in
+    omega (arith, low, eqb-true (page_of_line line) page here)
+  where
+    by_state : (state : Option Plain) (line : ℕ) → has (all_of (option_map_or (touched program directory) state no_lines)) line ≡ true → line < line_count directory
+    by_state None line there = absurd (cc)
+    by_state (Some now) line there = touched-below program directory now line there
+
+-- a rollback
+pub rolled-fits : (desk : Desk) (entry : Entry) → Fits desk → Fits (rolled_back desk entry)
+rolled-fits desk entry is = record { frames = is.frames; resident = taken-resident desk.frames (page_count desk.committed.directory) _ desk.resident is.resident }
+
+-- other pages are resident
+resident-fits : (desk : Desk) (resident : List ℕ) → Fits desk → AreResident desk.frames (page_count desk.committed.directory) resident → Fits (record desk { resident = resident })
+resident-fits desk resident is are = record { frames = is.frames; resident = are }
+
+-- victims
+breaks-fits : (directory : Layout) (left one : ℕ) (contest : Contest) → ContestFits directory contest → ContestFits directory (breaks_cycles left one contest)
+breaks-fits directory zero one contest is = is
+breaks-fits directory (suc left) one (Settled desk counts) is = is
+breaks-fits directory (suc left) one (Lost desk counts) is = is
+breaks-fits directory (suc left) one (Contested desk counts) is =
+    breaks-fits directory left one (breaks_cycle one (shown_cycle (waits_for desk) (numbers desk) one) desk counts)
+    (by_cycle (shown_cycle (waits_for desk) (numbers desk) one))
+  where
+    by_victim : (counts : Counts) (victim : Option Entry) (lost : Bool) → ContestFits directory (left_over desk counts victim lost)
+    by_victim counts None true = is
+    by_victim counts None false = is
+    by_victim counts (Some entry) true = (rolled-fits desk entry is.0, is.1)
+    by_victim counts (Some entry) false = (rolled-fits desk entry is.0, is.1)
+
+    by_cycle : (cycle : Option (List ℕ)) → ContestFits directory (breaks_cycle one cycle desk counts)
+    by_cycle None = is
+    by_cycle (Some cycle) = by_victim (record counts { cycles = counts.cycles ++ cycle ∷ [] }) (find (λ (entry : Entry). entry.number == victim_of cycle) desk.active) (victim_of cycle == one)
+
+module _ (word : Word) (attempt : Attempt) (directory : Layout) (below : (page : ℕ) → has (touched_pages attempt) page ≡ true → page < page_count directory) where
+  fits-fetched : (desk : Desk) (counts : Counts) → desk.committed.directory ≡ directory → Fits desk → FetchFits desk.frames (page_count desk.committed.directory) (fetches_touched word attempt desk counts)
+  fits-fetched desk counts same is =
+      fetches-resident word desk.frames (page_count desk.committed.directory) (touched_pages attempt) (touched_pages attempt) desk.resident counts.pages (omega (arith, is.frames)) is.resident
+      (λ page inside. omega (arith, below page inside, ap page_count same))
+
+  fits-commit : (word : Word) (desk : Desk) (counts : Counts) → Fits desk → TurnFits (commits word attempt desk counts)
+  fits-commit Unwritten desk counts is = record { frames = is.frames; resident = is.resident }
+  fits-commit Doubt desk counts is = record { frames = is.frames; resident = is.resident }
+  fits-commit Fine desk counts is = record { frames = is.frames; resident = is.resident }
+  fits-commit (ReadFailed page) desk counts is = record { frames = is.frames; resident = is.resident }
+  fits-commit Failed desk counts is = record { frames = is.frames; resident = is.resident }
+
+  fits-effect : (desk : Desk) (counts : Counts) (outcome : Outcome) → Fits desk → TurnFits (takes_effect word attempt outcome desk counts)
+  fits-effect desk counts (On next) is = record { frames = is.frames; resident = is.resident }
+  fits-effect desk counts Commit is = fits-commit word desk counts is
+  fits-effect desk counts (Check code) is = rolled-fits desk attempt.entry is
+
+  fits-on : (desk : Desk) (counts : Counts) (fetching : Fetching) → Fits desk → FetchFits desk.frames (page_count desk.committed.directory) fetching → TurnFits (goes_on word attempt desk counts fetching)
+  fits-on desk counts (Fetched resident counted) is are = fits-effect (record desk { resident = resident }) (record counts { pages = counted }) attempt.outcome (resident-fits desk resident is are)
+  fits-on desk counts (Broken counted) is are = record { frames = is.frames; resident = none-resident desk.frames (page_count desk.committed.directory) }
+
+  fits-get : (refused : List ℕ) (desk : Desk) (counts : Counts) → desk.committed.directory ≡ directory → Fits desk → TurnFits (gets word attempt refused desk counts)
+  fits-get refused desk counts same is =
+      let there : Fits (with_grants attempt refused desk) = record { frames = is.frames; resident = is.resident } in
+      fits-on (with_grants attempt refused desk) counts (fetches_touched word attempt (with_grants attempt refused desk) counts) there (fits-fetched (with_grants attempt refused desk) counts same there)
+
+  fits-wait : (refused holders : List ℕ) (desk : Desk) (counts : Counts) → desk.committed.directory ≡ directory → Fits desk → TurnFits (waits_or_gets word attempt refused holders desk counts)
+  fits-wait refused [] desk counts same is = fits-get refused desk counts same is
+  fits-wait refused (holder ∷ holders) desk counts same is = is
+
+  fits-contest : (refused : List ℕ) (contest : Contest) → ContestFits directory contest → TurnFits (contest_ends word attempt refused contest)
+  fits-contest refused (Lost desk counts) is = is.0
+  fits-contest refused (Settled desk counts) is = fits-wait refused (conflicts_of desk attempt.entry) desk counts is.1 is.0
+  fits-contest refused (Contested desk counts) is = fits-wait refused (conflicts_of desk attempt.entry) desk counts is.1 is.0
+
+  fits-ask : (refused holders : List ℕ) (desk : Desk) (counts : Counts) → desk.committed.directory ≡ directory → Fits desk → TurnFits (asks word attempt refused holders desk counts)
+  fits-ask refused [] desk counts same is = fits-get refused desk counts same is
+  fits-ask refused (holder ∷ holders) desk counts same is =
+      fits-contest refused
+      (breaks_cycles (length desk.active) attempt.entry.number (Contested (with_entry desk (record attempt.entry { waiting = true })) counts))
+      (breaks-fits directory (length desk.active) attempt.entry.number (Contested (with_entry desk (record attempt.entry { waiting = true })) counts)
+      (record { frames = is.frames; resident = is.resident }, same))
+
+  fits-first : (desk : Desk) (counts : Counts) (fetching : Fetching) → desk.committed.directory ≡ directory → Fits desk → FetchFits desk.frames (page_count desk.committed.directory) fetching
+      → TurnFits (fetched_first word attempt desk counts fetching)
+  fits-first desk counts (Fetched resident counted) same is are =
+      let there = record desk { resident = resident } in
+      fits-ask (refused_pages attempt there) (conflicts_of there attempt.entry) there
+      (record { ran = counts.ran; pages = counted; locks = counts.locks + length (refused_pages attempt there); cycles = counts.cycles })
+      same (resident-fits desk resident is are)
+  fits-first desk counts (Broken counted) same is are = record { frames = is.frames; resident = none-resident desk.frames (page_count desk.committed.directory) }
+
+  fits-limit : (over : Bool) (desk : Desk) (counts : Counts) → desk.committed.directory ≡ directory → Fits desk → TurnFits (limited over word attempt desk counts)
+  fits-limit true desk counts same is = rolled-fits desk attempt.entry is
+  fits-limit false desk counts same is = fits-first desk counts (fetches_touched word attempt desk counts) same is (fits-fetched desk counts same is)
+
+  fits-attempt : (outcome : Outcome) (desk : Desk) (counts : Counts) → desk.committed.directory ≡ directory → Fits desk → TurnFits (attempts word attempt outcome desk counts)
+  fits-attempt (Check code) desk counts same is = rolled-fits desk attempt.entry is
+  fits-attempt (On next) desk counts same is = fits-limit (is_over_limit attempt desk) desk counts same is
+  fits-attempt Commit desk counts same is = fits-limit (is_over_limit attempt desk) desk counts same is
+
+-- an instruction
+pub fits-instruction : (word : Word) (one : Option Entry) (desk : Desk) (counts : Counts) → Fits desk → TurnFits (instruction word one desk counts)
+unfolding instruction
+fits-instruction word None desk counts is = is
+fits-instruction word (Some entry) desk counts is = by_state (after entry.runs.program entry.runs.args desk.committed entry.rows) refl
+  where
+    by_state : (state : Option Plain) → after entry.runs.program entry.runs.args desk.committed entry.rows ≡ state → TurnFits (attempts_at word entry state desk counts)
+    by_state None at = is
+    by_state (Some now) at =
+        let attempt : Attempt = record { entry = entry; now = now; outcome = row entry.runs.program desk.committed.directory now; lines = wanted desk entry } in
+        fits-attempt word attempt desk.committed.directory
+        (λ page inside. touched-within entry.runs.program desk.committed.directory (after entry.runs.program entry.runs.args desk.committed entry.rows) page attempt refl inside)
+        (row entry.runs.program desk.committed.directory now) desk counts refl is
+
+-- so many instructions
+pub fits-turns : (word : Word) (number left : ℕ) (turning : Turning) → TurnFits turning → TurnFits (turns word number left turning)
+unfolding turns
+fits-turns word number zero (Going desk counts) is = is
+fits-turns word number (suc left) (Going desk counts) is =
+    fits-turns word number left _ (fits-instruction word (find (λ (entry : Entry). entry.number == number) desk.active) desk counts is)
+fits-turns word number left (Over desk counts ending) is = is

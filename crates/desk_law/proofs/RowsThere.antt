@@ -1,0 +1,158 @@
+-- An instruction of a consistent desk whose lines are all there: nothing is counted but the row, and nothing else changes.
+use Rattle.std.specs.Prelude.{nat_lt, ◌≡◌, refl, ℕ, ◌+◌, ◌==◌, Bool, true, false, List, [], ◌++◌, length, filter, Some, slice_index_or}
+use Rattle.std.proofs.Common.{arith, ap, sym, ◌∙◌, subst, inl, inr}
+use Rattle.std.proofs.lemmas.Bool.{or_cases, or_right}
+use Rattle.lock_rules.specs.Sets.{has, size}
+use Rattle.lock_rules.specs.Lines.{Lines, both, with_whole_pages, page_of_line, pages_of}
+use Rattle.lock_rules.proofs.Sets.{has-append, has_left, any-at, any-some}
+use Rattle.lock_rules.proofs.Lines.{ArePart, part-both, part-whole_pages, has-whole_pages, has-pages_of}
+use Rattle.flat_machine.specs.declared.machine.Plain.{Plain}
+use Rattle.flat_machine.specs.Row.{On, Commit, Check, row}
+use Rattle.flat_machine.specs.After.{after}
+use Rattle.desk.specs.Desk.{Desk, Entry, nobody, with_entry, rolled_back}
+use Rattle.desk.specs.Holdings.{wanted, request, conflicts_of}
+use Rattle.desk.specs.Instruction.{Word, Counts, Going, Over, Checked, Attempt, Fetched, fetches, instruction, lines_written, refuses, lines_within, gets, takes_effect, commits}
+use Rattle.std.proofs.lemmas.Bool.Decides.{nat_tests}
+use Rattle.desk_law.specs.Beside.{AreThere, AreAlike}
+use Rattle.desk_law.specs.Changes.{gone_on}
+use Rattle.desk_law.specs.Consistent.{IsAmong, due_to}
+use Rattle.desk_law.proofs.GoesOn.{due-more}
+use Rattle.desk_law.proofs.InstructionStages.{attempt_of, GoesOn, instruction-at, stage-check, stage-limit, stage-fetched, stage-gets, stage-on, stage-commit}
+use Rattle.desk_law.proofs.LinesThere.{filter-none, fetches-none, there-resident, there-unrefused, there-held}
+use Rattle.desk_law.proofs.Orderly.{IsOrderly}
+use Rattle.desk_law.proofs.Others.{touched_of}
+use Rattle.desk_law.proofs.Permitted.{held-free, held-written}
+use Rattle.desk_law.proofs.Endings.{wanted-commit}
+
+-- What an instruction comes to that goes through with nothing fetched, refused or met.
+pub effect-there :
+    (word : Word) (desk : Desk) (counts : Counts) (entry : Entry) (now : Plain) → GoesOn (attempt_of desk entry now).outcome
+    → after entry.runs.program entry.runs.args desk.committed entry.rows ≡ Some now
+    → AreThere desk entry.number (wanted desk entry) → conflicts_of desk entry ≡ []
+    → nat_lt desk.most_lines (lines_written (attempt_of desk entry now) desk) ≡ false
+    → instruction word (Some entry) desk counts ≡ takes_effect word (attempt_of desk entry now) (attempt_of desk entry now).outcome desk counts
+effect-there word desk counts entry now goes at there alone within =
+    instruction-at word entry desk counts now at
+    ∙ stage-limit word attempt desk counts attempt.outcome false goes within
+    ∙ stage-fetched word attempt desk counts desk.resident counts.pages [] (all_there counts.pages) alone
+    ∙ ap (λ (refused : List ℕ). gets word attempt refused desk (record counts { locks = counts.locks + length refused })) nothing
+    ∙ stage-gets word attempt desk (record counts { locks = counts.locks + 0 }) [] desk.authority desk.resident counts.pages refl (all_there counts.pages)
+    ∙ ap (λ (locks : ℕ). takes_effect word attempt attempt.outcome desk (record counts { locks = locks })) (omega arith)
+  where
+    attempt : Attempt
+    attempt = record { entry = entry; now = now; outcome = row entry.runs.program desk.committed.directory now; lines = wanted desk entry }
+
+    all_there : (counted : ℕ) → fetches word desk.frames (pages_of ((wanted desk entry).reads ++ (wanted desk entry).writes)) (pages_of ((wanted desk entry).reads ++ (wanted desk entry).writes)) desk.resident counted ≡ Fetched desk.resident counted
+    all_there counted =
+        fetches-none word desk.frames (pages_of ((wanted desk entry).reads ++ (wanted desk entry).writes)) (pages_of ((wanted desk entry).reads ++ (wanted desk entry).writes)) desk.resident counted
+        (there-resident desk entry.number (wanted desk entry) there)
+
+    nothing : filter (λ page. refuses (slice_index_or desk.authority page nobody) entry.number (lines_within page (wanted desk entry))) (pages_of ((wanted desk entry).reads ++ (wanted desk entry).writes)) ≡ []
+    nothing =
+        filter-none (λ page. refuses (slice_index_or desk.authority page nobody) entry.number (lines_within page (wanted desk entry))) (pages_of ((wanted desk entry).reads ++ (wanted desk entry).writes))
+        (there-unrefused desk entry.number (wanted desk entry) there)
+
+-- No active entry is past the limit.
+pub within-most : (desk : Desk) (entry : Entry) → IsOrderly desk → IsAmong desk.active entry → nat_lt desk.most_lines (size (due_to desk.committed entry).writes) ≡ false
+within-most desk entry is here = grind (arith, nat_tests, (is.active.live entry here).few)
+
+-- A row of an active entry whose lines are there goes on, for every word.
+pub open-row :
+    (word : Word) (desk : Desk) (counts : Counts) (entry : Entry) (now next : Plain) → IsOrderly desk → IsAmong desk.active entry
+    → after entry.runs.program entry.runs.args desk.committed entry.rows ≡ Some now
+    → row entry.runs.program desk.committed.directory now ≡ On next
+    → AreThere desk entry.number (wanted desk entry)
+    → instruction word (Some entry) desk counts ≡ Going (with_entry desk (gone_on entry)) (record counts { ran = counts.ran + 1 })
+open-row word desk counts entry now next is here at went there =
+    effect-there word desk counts entry now (subst GoesOn (sym went) tt) at there (held-free desk entry is here held)
+    (ap (nat_lt desk.most_lines) (held-written desk entry held) ∙ within-most desk entry is here)
+    ∙ stage-on word (attempt_of desk entry now) desk counts (attempt_of desk entry now).outcome next went
+  where
+    held : ArePart (request desk entry) (due_to desk.committed entry)
+    held = there-held desk entry is here there
+
+-- The locks that are due after it are those that were due before.
+pub open-due : (desk : Desk) (entry : Entry) → ArePart (request desk entry) (due_to desk.committed entry)
+    → AreAlike (due_to desk.committed (gone_on entry)) (due_to desk.committed entry)
+open-due desk entry part = record { reads = reads; writes = writes }
+  where
+    due : due_to desk.committed (gone_on entry) ≡ with_whole_pages (both (touched_of desk.committed entry) (wanted desk entry))
+    due = due-more desk.committed entry
+
+    alike : (a b : Bool) → (a ≡ true → b ≡ true) → (b ≡ true → a ≡ true) → a ≡ b
+    alike true b there back = sym (there refl)
+    alike false true there back = back refl
+    alike false false there back = refl
+
+    old : ArePart (due_to desk.committed entry) (with_whole_pages (both (touched_of desk.committed entry) (wanted desk entry)))
+    old = part-whole_pages (touched_of desk.committed entry) (both (touched_of desk.committed entry) (wanted desk entry)) (part-both (touched_of desk.committed entry) (wanted desk entry))
+
+    writes_part : (line : ℕ) → has ((touched_of desk.committed entry).writes ++ (wanted desk entry).writes) line ≡ true → has (touched_of desk.committed entry).writes line ≡ true
+    writes_part line inside =
+        elim (or_cases (has (touched_of desk.committed entry).writes line) (has (wanted desk entry).writes line) (sym (has-append (touched_of desk.committed entry).writes (wanted desk entry).writes line) ∙ inside)) [
+          | inl one ↦ one
+          | inr new ↦ part.writes.among line new
+        ]
+
+    reads_part : (line : ℕ) → has (with_whole_pages (both (touched_of desk.committed entry) (wanted desk entry))).reads line ≡ true → has (due_to desk.committed entry).reads line ≡ true
+    reads_part line inside =
+        elim (or_cases (has ((touched_of desk.committed entry).reads ++ (wanted desk entry).reads) line) (has (pages_of ((touched_of desk.committed entry).writes ++ (wanted desk entry).writes)) (page_of_line line))
+        (sym (has-whole_pages (both (touched_of desk.committed entry) (wanted desk entry)) line) ∙ inside)) [
+          | inl row_read ↦
+              elim (or_cases (has (touched_of desk.committed entry).reads line) (has (wanted desk entry).reads line) (sym (has-append (touched_of desk.committed entry).reads (wanted desk entry).reads line) ∙ row_read)) [
+                | inl one ↦ has_left (touched_of desk.committed entry).reads _ line one
+                | inr new ↦ part.reads.among line (has_left (wanted desk entry).reads _ line new)
+              ]
+          | inr page ↦
+              let (x, written, at) = any-some (λ l. page_of_line l == page_of_line line) ((touched_of desk.committed entry).writes ++ (wanted desk entry).writes) (sym (has-pages_of ((touched_of desk.committed entry).writes ++ (wanted desk entry).writes) (page_of_line line)) ∙ page) in
+              has-whole_pages (touched_of desk.committed entry) line
+              ∙ or_right (has (touched_of desk.committed entry).reads line) (has (pages_of (touched_of desk.committed entry).writes) (page_of_line line))
+              (has-pages_of (touched_of desk.committed entry).writes (page_of_line line)
+              ∙ any-at (λ l. page_of_line l == page_of_line line) (touched_of desk.committed entry).writes x (writes_part x written) at)
+        ]
+
+    reads : (line : ℕ) → has (due_to desk.committed (gone_on entry)).reads line ≡ has (due_to desk.committed entry).reads line
+    reads line =
+        ap (λ (l : Lines). has l.reads line) due
+        ∙ alike (has (with_whole_pages (both (touched_of desk.committed entry) (wanted desk entry))).reads line) (has (due_to desk.committed entry).reads line) (reads_part line) (old.reads.among line)
+
+    writes : (line : ℕ) → has (due_to desk.committed (gone_on entry)).writes line ≡ has (due_to desk.committed entry).writes line
+    writes line =
+        ap (λ (l : Lines). has l.writes line) due
+        ∙ alike (has ((touched_of desk.committed entry).writes ++ (wanted desk entry).writes) line) (has (due_to desk.committed entry).writes line) (writes_part line) (old.writes.among line)
+
+-- The commit call of an active entry comes to its disk at once.
+pub commit-row :
+    (word : Word) (desk : Desk) (counts : Counts) (entry : Entry) (now : Plain) → IsOrderly desk → IsAmong desk.active entry
+    → after entry.runs.program entry.runs.args desk.committed entry.rows ≡ Some now
+    → row entry.runs.program desk.committed.directory now ≡ Commit
+    → instruction word (Some entry) desk counts ≡ commits word (attempt_of desk entry now) desk counts
+commit-row word desk counts entry now is here at went =
+    effect-there word desk counts entry now (subst GoesOn (sym went) tt) at there (held-free desk entry is here held)
+    (ap (nat_lt desk.most_lines) (held-written desk entry held) ∙ within-most desk entry is here)
+    ∙ stage-commit word (attempt_of desk entry now) desk counts (attempt_of desk entry now).outcome went
+  where
+    there : AreThere desk entry.number (wanted desk entry)
+    there = subst (AreThere desk entry.number) (sym (wanted-commit desk entry now at went)) (record { reads = λ line inside. absurd (cc); writes = λ line inside. absurd (cc) })
+
+    held : ArePart (request desk entry) (due_to desk.committed entry)
+    held = there-held desk entry is here there
+
+-- its record has so many lines
+pub commit-lines : (desk : Desk) (entry : Entry) (now : Plain) → IsOrderly desk → IsAmong desk.active entry
+    → after entry.runs.program entry.runs.args desk.committed entry.rows ≡ Some now
+    → row entry.runs.program desk.committed.directory now ≡ Commit
+    → lines_written (attempt_of desk entry now) desk ≡ size (due_to desk.committed entry).writes
+commit-lines desk entry now is here at went =
+    held-written desk entry
+    (there-held desk entry is here
+    (subst (AreThere desk entry.number) (sym (wanted-commit desk entry now at went)) (record { reads = λ line inside. absurd (cc); writes = λ line inside. absurd (cc) })))
+
+-- A program check rolls back, whatever is there.
+pub check-row :
+    (word : Word) (desk : Desk) (counts : Counts) (entry : Entry) (now : Plain) (code : ℕ)
+    → after entry.runs.program entry.runs.args desk.committed entry.rows ≡ Some now
+    → row entry.runs.program desk.committed.directory now ≡ Check code
+    → instruction word (Some entry) desk counts ≡ Over (rolled_back desk entry) counts (Checked code now.iar)
+check-row word desk counts entry now code at went =
+    instruction-at word entry desk counts now at ∙ stage-check word (attempt_of desk entry now) desk counts code (attempt_of desk entry now).outcome went

@@ -1,0 +1,143 @@
+-- The end of an instruction that was served: its pages are granted and there, and its row goes on over the bytes of all.
+use Rattle.std.specs.Prelude.{false, nat_lt, ◌≡◌, refl, ℕ, ◌+◌, ◌<◌, true, List, [], ◌++◌, length, filter, slice_index_or, Option, Some}
+use Rattle.std.specs.Option.{option_map_or}
+use Rattle.std.proofs.lemmas.Bool.{ltb-false}
+use Rattle.std.proofs.Common.{arith, ap, sym, ◌∙◌}
+use Rattle.line_geometry.specs.Lines.{line_count}
+use Rattle.lock_rules.specs.Sets.{has}
+use Rattle.lock_rules.specs.Lines.{Lines, no_lines, both, with_whole_pages, page_of_line}
+use Rattle.lock_rules.proofs.Sets.{has_left, has_right}
+use Rattle.lock_rules.proofs.Lines.{pages_of-line}
+use Rattle.flat_machine.specs.declared.machine.Plain.{Plain}
+use Rattle.flat_machine.specs.Row.{On, row}
+use Rattle.flat_machine.specs.Touched.{touched}
+use Rattle.flat_machine.specs.After.{after}
+use Rattle.flat_machine.specs.Agreement.{all_of}
+use Rattle.flat_machine.proofs.Below.{touched-below}
+use Rattle.desk.specs.Desk.{Desk, Entry, Authority, nobody, with_entry}
+use Rattle.desk.specs.Holdings.{conflicts_of}
+use Rattle.desk.specs.Instruction.{Word, Counts, Going, Attempt, Fetched, fetches, lines_written, touched_pages, refuses, lines_within, granted, locks_with, with_grants, gets}
+use Rattle.desk_law.specs.Beside.{AreThere, over_all}
+use Rattle.desk_law.specs.Changes.{gone_on}
+use Rattle.desk_law.specs.Consistent.{IsAmong}
+use Rattle.desk_law.specs.Current.{IsCurrent}
+use Rattle.desk_law.specs.Laws.{ArePermitted}
+use Rattle.desk_law.proofs.AttemptsOnCurrent.{shown-current}
+use Rattle.desk_law.proofs.Contest.{KeepsPages, contending}
+use Rattle.desk_law.proofs.ContestRounds.{IsUnderWay}
+use Rattle.desk_law.proofs.Entries.{replaced}
+use Rattle.desk_law.proofs.GoesOn.{IsReady, ready-again, grants-held, row-goes-on}
+use Rattle.desk_law.proofs.Granted.{granted-permits}
+use Rattle.desk_law.proofs.InstructionStages.{attempt_of, stage-gets, stage-on}
+use Rattle.desk_law.proofs.Orderly.{IsOrderly}
+use Rattle.desk_law.proofs.Others.{touched_of}
+use Rattle.desk_law.proofs.SharedBytes.{row-on-current}
+use Rattle.desk_law.proofs.TurnsStay.{resident-consistent, resident-granted}
+
+-- an attempt within the limit, once its pages were fetched first
+pub ready-first : (desk : Desk) (entry : Entry) (now next : Plain) (resident : List ℕ) → IsOrderly desk → IsAmong desk.active entry
+    → after entry.runs.program entry.runs.args desk.committed entry.rows ≡ Some now
+    → nat_lt desk.most_lines (lines_written (attempt_of desk entry now) desk) ≡ false
+    → IsReady (attempt_of desk entry now) (record desk { resident = resident })
+ready-first desk entry now next resident is here at within = record {
+  contending = contending entry.number (record desk { resident = resident }) (resident-consistent desk resident is);
+  mark = entry.waiting;
+  here = here;
+  now = at;
+  went = refl;
+  lines = refl;
+  short = ltb-false desk.most_lines (lines_written (attempt_of desk entry now) desk) within;
+}
+
+-- and once a contest is settled
+pub ready-settled : (attempt : Attempt) (old desk : Desk) → IsReady attempt old → IsUnderWay old desk (record attempt.entry { waiting = true }) → IsOrderly desk
+    → IsReady attempt desk
+ready-settled attempt old desk ready under_way is = ready-again attempt old desk true ready under_way.contending under_way.here under_way.store under_way.limit
+
+-- the desk before the row takes effect
+abbrev pub got : Attempt → List ℕ → List ℕ → Desk → Desk
+got attempt refused resident desk =
+    record desk { resident = resident; authority = granted attempt (locks_with attempt desk) refused desk.authority }
+
+-- A touched line lies on a page of the store.
+pub touched-page : (attempt : Attempt) (desk : Desk) → IsReady attempt desk → (line : ℕ) → has (all_of attempt.lines) line ≡ true → page_of_line line < length desk.authority
+touched-page attempt desk ready line inside =
+    let lines : attempt.lines ≡ touched attempt.entry.runs.program desk.committed.directory attempt.now =
+    ready.lines ∙ ap (λ (state : Option Plain). option_map_or (touched attempt.entry.runs.program desk.committed.directory) state no_lines) ready.now in
+    let below : line < line_count desk.committed.directory =
+    touched-below attempt.entry.runs.program desk.committed.directory attempt.now line (ap (λ (l : Lines). has (all_of l) line) (sym lines) ∙ inside) in
+    omega (arith, below, ready.contending.held.pages)
+
+-- Once the refused pages are granted and all are there, the second attempt isn't refused.
+pub served-there :
+    (attempt : Attempt) (before : List Authority) (desk : Desk) (resident : List ℕ) → IsReady attempt desk → KeepsPages attempt.entry.number before desk.authority
+    → ((page : ℕ) → has (touched_pages attempt) page ≡ true → has resident page ≡ true)
+    → AreThere
+    (got attempt (filter (λ page. refuses (slice_index_or before page nobody) attempt.entry.number (lines_within page attempt.lines)) (touched_pages attempt)) resident desk)
+    attempt.entry.number attempt.lines
+served-there attempt before desk resident ready keeps there = record {
+  reads = λ line inside. record {
+    resident = there (page_of_line line) (pages_of-line (all_of attempt.lines) line (has_left attempt.lines.reads attempt.lines.writes line inside));
+    permits = permitted_all.reads line inside;
+  };
+  writes = λ line inside. record {
+    resident = there (page_of_line line) (pages_of-line (all_of attempt.lines) line (has_right attempt.lines.reads attempt.lines.writes line inside));
+    permits = permitted_all.writes line inside;
+  };
+}
+  where
+    locks : Lines
+    locks = with_whole_pages (both (touched_of desk.committed attempt.entry) attempt.lines)
+
+    reads : (line : ℕ) → has attempt.lines.reads line ≡ true → has (with_whole_pages (both (touched_of desk.committed attempt.entry) attempt.lines)).reads line ≡ true
+    reads line inside =
+        has_left ((touched_of desk.committed attempt.entry).reads ++ attempt.lines.reads) _ line (has_right (touched_of desk.committed attempt.entry).reads attempt.lines.reads line inside)
+
+    writes : (line : ℕ) → has attempt.lines.writes line ≡ true → has ((touched_of desk.committed attempt.entry).writes ++ attempt.lines.writes) line ≡ true
+    writes line inside = has_right (touched_of desk.committed attempt.entry).writes attempt.lines.writes line inside
+
+    permitted_all : ArePermitted
+        (granted attempt (with_whole_pages (both (touched_of desk.committed attempt.entry) attempt.lines))
+        (filter (λ page. refuses (slice_index_or before page nobody) attempt.entry.number (lines_within page attempt.lines)) (touched_pages attempt)) desk.authority)
+        attempt.entry.number attempt.lines
+    permitted_all =
+        granted-permits attempt (with_whole_pages (both (touched_of desk.committed attempt.entry) attempt.lines)) before desk.authority keeps reads writes
+        (touched-page attempt desk ready)
+
+-- what a served row leaves, with the state that the storage shows after it
+pub record WasServed (attempt : Attempt) (refused resident : List ℕ) (desk : Desk) (counts : Counts) (counted : ℕ) (shown : Plain) : Type 0 where
+  pub shows : (next : Plain) → attempt.outcome ≡ On next → shown ≡ over_all next shown.store
+  pub comes : (word : Word) → fetches word desk.frames (touched_pages attempt) (touched_pages attempt) desk.resident counts.pages ≡ Fetched resident counted
+      → gets word attempt refused desk counts
+      ≡ Going (with_entry (got attempt refused resident desk) (gone_on attempt.entry)) (record counts { pages = counted; ran = counts.ran + 1 })
+  pub consistent : IsOrderly (with_entry (got attempt refused resident desk) (gone_on attempt.entry))
+  pub is_current : IsCurrent desk.committed (replaced (gone_on attempt.entry) desk.active) shown.store
+
+-- The row goes on over the bytes of all, where nobody conflicts.
+pub served-goes :
+    (attempt : Attempt) (refused resident : List ℕ) (desk : Desk) (counts : Counts) (counted : ℕ) (next shown : Plain) (bytes : List ℕ)
+    → IsReady attempt desk → conflicts_of desk attempt.entry ≡ [] → attempt.outcome ≡ On next → IsCurrent desk.committed desk.active bytes
+    → row attempt.entry.runs.program desk.committed.directory (over_all attempt.now bytes) ≡ On shown
+    → WasServed attempt refused resident desk counts counted shown
+served-goes attempt refused resident desk counts counted next shown bytes ready none goes current_now went = record {
+  shows = λ other is. let same : other ≡ next = on-same other next (sym is ∙ goes) in left.0 ∙ ap (λ (s : Plain). over_all s shown.store) (sym same);
+  comes = λ word again.
+      stage-gets word attempt desk counts refused (granted attempt (locks_with attempt desk) refused desk.authority) resident counted refl again
+      ∙ stage-on word attempt (got attempt refused resident desk) (record counts { pages = counted }) attempt.outcome next goes;
+  consistent = later;
+  is_current = left.1;
+}
+  where
+    on-same : (one other : Plain) → On one ≡ On other → one ≡ other
+    on-same one other is = cc
+
+    later : IsOrderly (with_entry (got attempt refused resident desk) (gone_on attempt.entry))
+    later =
+        row-goes-on (got attempt refused resident desk) attempt next
+        (resident-granted attempt (with_grants attempt refused desk) resident (grants-held desk attempt refused ready none)) goes
+
+    left : (shown ≡ over_all next shown.store) × IsCurrent desk.committed (replaced (gone_on attempt.entry) desk.active) shown.store
+    left =
+        shown-current desk (record attempt.entry { waiting = ready.mark }) attempt.now next shown bytes
+        (row-on-current desk desk.most_lines (record attempt.entry { waiting = ready.mark }) attempt.now next bytes ready.contending.whole ready.contending.active later.active ready.here ready.now (ready.went ∙ goes) none current_now)
+        went

@@ -1,0 +1,134 @@
+-- The stages put together: a fault that meets no conflict, and one whose contest left none, go on; and the second attempt of
+-- each finds its lines there.
+use Rattle.std.specs.Prelude.{false, nat_lt, ◌≡◌, refl, ℕ, ◌+◌, true, List, [], ◌∷◌, length, filter, map, Some, None}
+use Rattle.std.proofs.Common.{ap, sym, ◌∙◌, subst}
+use Rattle.lock_rules.specs.Sets.{has}
+use Rattle.lock_rules.specs.Lines.{Lines, with_whole_pages}
+use Rattle.flat_machine.specs.declared.machine.Plain.{Plain}
+use Rattle.flat_machine.specs.Row.{On, row}
+use Rattle.flat_machine.specs.After.{after}
+use Rattle.desk.specs.Desk.{Desk, Entry, Authority, with_entry}
+use Rattle.desk.specs.Holdings.{conflicts_of}
+use Rattle.desk.specs.Instruction.{Word, Fine, Counts, Turning, Going, Attempt, Fetched, fetches, instruction, lines_written, touched_pages, refused_pages, gets, asks}
+use Rattle.desk_law.specs.Beside.{AreThere, AreAlike, over_all, requested, IsTableBut, kept_conflict, AreStatesBut, IsTold, Reads}
+use Rattle.desk_law.specs.Changes.{gone_on}
+use Rattle.desk_law.specs.Consistent.{IsAmong, due_to}
+use Rattle.desk_law.proofs.AttemptsOnCurrent.{wanted-is}
+use Rattle.desk_law.proofs.Contest.{KeepsPages}
+use Rattle.desk_law.proofs.GoesOn.{IsReady}
+use Rattle.desk_law.proofs.KeptTables.{conflicts-kept}
+use Rattle.desk_law.proofs.Orderly.{IsOrderly}
+use Rattle.desk_law.proofs.ServedEffect.{got, served-there}
+use Rattle.desk_law.proofs.ServesConflicts.{IsContesting, shows_cycle, contesting-begins, contesting-ready}
+use Rattle.desk_law.proofs.ServesToLocks.{served_attempt, asked_for, serve-asks, serve-ready, serve-ends}
+use Rattle.desk_law.proofs.ToldSteps.{HasServed, told-served}
+
+-- the desk once the pages of a fault were fetched first, and what was counted then
+abbrev pub fetched_desk : Desk → List ℕ → Desk
+fetched_desk desk resident = record desk { resident = resident }
+
+abbrev pub fetched_counts : Counts → (counted refused : ℕ) → Counts
+fetched_counts counts counted refused = record counts { pages = counted; locks = counts.locks + refused }
+
+-- a row that was served: the instruction, wherever it began, goes on to a consistent desk, of which all is told
+pub record WentOn (begins : Word → Turning) (next : Desk) (more : Counts) (locks requests : ℕ → Lines) (states : ℕ → Plain) (bytes : List ℕ) : Type 0 where
+  pub comes : (word : Word) → Reads word more.pages → begins word ≡ Going next more
+  pub consistent : IsOrderly next
+  pub told : IsTold next.committed next.active locks requests states bytes
+
+-- From where it gets its pages on.
+pub gets-goes :
+    (begins : Word → Turning) (attempt : Attempt) (refused resident : List ℕ) (desk : Desk) (counts : Counts) (counted : ℕ) (locks more requests : ℕ → Lines) (states new : ℕ → Plain) (next shown : Plain) (bytes : List ℕ)
+    → ((word : Word) → Reads word counts.pages → begins word ≡ gets word attempt refused desk counts)
+    → IsReady attempt desk → conflicts_of desk attempt.entry ≡ [] → attempt.outcome ≡ On next
+    → IsTold desk.committed desk.active locks requests states bytes
+    → fetches Fine desk.frames (touched_pages attempt) (touched_pages attempt) desk.resident counts.pages ≡ Fetched resident counted
+    → row attempt.entry.runs.program desk.committed.directory (over_all attempt.now bytes) ≡ On shown
+    → AreAlike (more attempt.entry.number) (due_to desk.committed (gone_on attempt.entry)) → IsTableBut attempt.entry.number locks more
+    → new attempt.entry.number ≡ shown → AreStatesBut attempt.entry.number states new
+    → WentOn begins (with_entry (got attempt refused resident desk) (gone_on attempt.entry)) (record counts { pages = counted; ran = counts.ran + 1 }) more requests new shown.store
+gets-goes begins attempt refused resident desk counts counted locks more requests states new next shown bytes comes ready none goes told again went alike but_locks new_is but =
+    let served : HasServed attempt refused resident desk counts counted more requests new shown =
+    told-served attempt refused resident desk counts counted locks more requests states new next shown bytes ready none goes told went alike but_locks new_is but in
+    record {
+      comes = λ word reads. serve-ends begins attempt refused resident desk counts counted more requests new shown comes served again word reads;
+      consistent = served.consistent;
+      told = served.told;
+    }
+
+module _ (desk : Desk) (counts : Counts) (entry : Entry) (now shown : Plain) (bytes : List ℕ) (is : IsOrderly desk) (here : IsAmong desk.active entry)
+    (at : after entry.runs.program entry.runs.args desk.committed entry.rows ≡ Some now)
+    (went : row entry.runs.program desk.committed.directory (over_all now bytes) ≡ On shown)
+    (within : nat_lt desk.most_lines (lines_written (served_attempt desk entry now bytes) desk) ≡ false)
+    (locks requests : ℕ → Lines) (states : ℕ → Plain) (told : IsTold desk.committed desk.active locks requests states bytes)
+    (first : List ℕ) (counted : ℕ)
+    (fetched : fetches Fine desk.frames (touched_pages (served_attempt desk entry now bytes)) (touched_pages (served_attempt desk entry now bytes)) desk.resident counts.pages ≡ Fetched first counted) where
+  abbrev refused_now : List ℕ
+  refused_now = refused_pages (served_attempt desk entry now bytes) desk
+
+  -- Without a conflict it gets its pages at once.
+  pub free-gets : map (λ (other : Entry). other.number) (filter (kept_conflict (asked_for (served_attempt desk entry now bytes)) locks entry.number) desk.active) ≡ []
+      → (word : Word) → Reads word counted
+      → instruction word (Some entry) desk counts
+      ≡ gets word (served_attempt desk entry now bytes) (refused_pages (served_attempt desk entry now bytes) desk) (record desk { resident = first })
+      (record counts { pages = counted; locks = counts.locks + length (refused_pages (served_attempt desk entry now bytes) desk) })
+  free-gets none word reads =
+      serve-asks desk counts entry now shown bytes is here at went within locks requests first counted told.kept fetched word reads
+      ∙ ap
+      (λ (holders : List ℕ). asks word (served_attempt desk entry now bytes) (refused_pages (served_attempt desk entry now bytes) desk) holders (record desk { resident = first })
+      (record counts { pages = counted; locks = counts.locks + length (refused_pages (served_attempt desk entry now bytes) desk) }))
+      none
+
+  alike-asked : AreAlike (asked_for (served_attempt desk entry now bytes)) (requested desk.committed entry)
+  alike-asked =
+      subst (λ (l : Lines). AreAlike (with_whole_pages l) (requested desk.committed entry)) (wanted-is desk entry now shown bytes at went)
+      (record { reads = λ line. refl; writes = λ line. refl })
+
+  pub free-none : map (λ (other : Entry). other.number) (filter (kept_conflict (asked_for (served_attempt desk entry now bytes)) locks entry.number) desk.active) ≡ []
+      → conflicts_of (record desk { resident = first }) entry ≡ []
+  free-none none = sym (conflicts-kept desk locks requests told.kept (asked_for (served_attempt desk entry now bytes)) entry alike-asked) ∙ none
+
+  -- The second attempt finds its lines there, once both fetches are done and the refused pages granted.
+  pub free-there : (resident : List ℕ) → ((page : ℕ) → has (touched_pages (served_attempt desk entry now bytes)) page ≡ true → has resident page ≡ true)
+      → AreThere (got (served_attempt desk entry now bytes) (refused_pages (served_attempt desk entry now bytes) desk) resident (record desk { resident = first })) entry.number
+      (served_attempt desk entry now bytes).lines
+  free-there resident there =
+      served-there (served_attempt desk entry now bytes) desk.authority (record desk { resident = first }) resident
+      (serve-ready desk counts entry now shown bytes is here at went within first) (λ page own. refl) there
+
+  -- With a conflict its contest begins, with the kept request that it asks for.
+  pub contest-begins : (holder : ℕ) (holders : List ℕ) (asked : ℕ → Lines)
+      → map (λ (other : Entry). other.number) (filter (kept_conflict (asked_for (served_attempt desk entry now bytes)) locks entry.number) desk.active) ≡ holder ∷ holders
+      → asked entry.number ≡ asked_for (served_attempt desk entry now bytes) → IsTableBut entry.number requests asked
+      → IsContesting (λ word. instruction word (Some entry) desk counts) (served_attempt desk entry now bytes) (refused_pages (served_attempt desk entry now bytes) desk)
+      (record desk { resident = first }) (with_entry (record desk { resident = first }) (record entry { waiting = true }))
+      (record counts { pages = counted; locks = counts.locks + length (refused_pages (served_attempt desk entry now bytes) desk) })
+      locks asked states bytes
+  contest-begins holder holders asked some asked_is but =
+      contesting-begins (λ word. instruction word (Some entry) desk counts) (served_attempt desk entry now bytes) (refused_pages (served_attempt desk entry now bytes) desk) holder holders
+      (record desk { resident = first })
+      (record counts { pages = counted; locks = counts.locks + length (refused_pages (served_attempt desk entry now bytes) desk) })
+      locks requests asked states bytes
+      (λ word reads.
+      serve-asks desk counts entry now shown bytes is here at went within locks requests first counted told.kept fetched word reads
+      ∙ ap
+      (λ (these : List ℕ). asks word (served_attempt desk entry now bytes) (refused_pages (served_attempt desk entry now bytes) desk) these (record desk { resident = first })
+      (record counts { pages = counted; locks = counts.locks + length (refused_pages (served_attempt desk entry now bytes) desk) }))
+      some)
+      (serve-ready desk counts entry now shown bytes is here at went within first)
+      (record { whole = is.whole; few = is.few; active = is.active; held = is.held; no_cycle = is.no_cycle })
+      here told
+      (subst (λ (l : Lines). AreAlike l (requested desk.committed entry)) (sym asked_is) alike-asked)
+      but
+
+-- After a contest that left no holder, the second attempt finds its lines there too.
+pub contest-there :
+    (begins : Word → Turning) (attempt : Attempt) (before first desk : Desk) (counts : Counts) (locks requests : ℕ → Lines) (states : ℕ → Plain) (bytes resident : List ℕ)
+    → IsContesting begins attempt (refused_pages attempt before) first desk counts locks requests states bytes → shows_cycle locks requests desk attempt.entry.number ≡ None
+    → first.authority ≡ before.authority
+    → ((page : ℕ) → has (touched_pages attempt) page ≡ true → has resident page ≡ true)
+    → AreThere (got attempt (refused_pages attempt before) resident desk) attempt.entry.number attempt.lines
+contest-there begins attempt before first desk counts locks requests states bytes resident is shown same there =
+    served-there attempt before.authority desk resident
+    (contesting-ready begins attempt (refused_pages attempt before) first desk counts locks requests states bytes is shown)
+    (subst (λ (authority : List Authority). KeepsPages attempt.entry.number authority desk.authority) same is.under_way.keeps) there

@@ -1,0 +1,143 @@
+-- One store of bytes for all entries: it holds every line as it is now, and each row may run over it.
+use Rattle.std.specs.Prelude.{◌≡◌, refl, ℕ, ◌+◌, ◌==◌, not, true, false, List, [], ◌++◌, length, Option, Some}
+use Rattle.std.specs.Option.{option_map_or}
+use Rattle.std.proofs.Common.{ap, sym, ◌∙◌, subst, inl, inr}
+use Rattle.std.proofs.lemmas.Bool.{eqb-true, both_ways, or_cases, or_left, or_parts, and_cases, cases_Bool, not_from_false, false_from_ne_true}
+use Rattle.line_geometry.specs.Directory.{Layout, byte_count}
+use Rattle.line_geometry.specs.FlatStore.{FlatStore, IsWhole}
+use Rattle.lock_rules.specs.Sets.{has, meets}
+use Rattle.lock_rules.specs.Lines.{Lines, conflicts, pages_of, page_of_line}
+use Rattle.lock_rules.proofs.Sets.{has-append, has_left, has_right}
+use Rattle.lock_rules.proofs.Lines.{has-whole_pages, meets-at}
+use Rattle.flat_machine.specs.declared.machine.Plain.{Plain}
+use Rattle.flat_machine.specs.declared.machine.Plan.{Plan}
+use Rattle.flat_machine.specs.declared.machine.Plan.TheVariants.{Does, Fails}
+use Rattle.flat_machine.specs.declared.machine.Program.{Program}
+use Rattle.flat_machine.specs.Row.{Outcome, On, plan_at, row}
+use Rattle.flat_machine.specs.Touched.{touched, touched_by}
+use Rattle.flat_machine.specs.After.{after}
+use Rattle.flat_machine.specs.Agreement.{line_in, all_of, SameWay}
+use Rattle.flat_machine.proofs.Agreement.{after-whole, after-kept}
+use Rattle.flat_machine.proofs.SameWay.{on, row-way}
+use Rattle.flat_machine.proofs.Steps.{Keeps, Steps, lines_of_plan, row-steps}
+use Rattle.desk.specs.Desk.{Desk, Entry}
+use Rattle.desk.specs.Holdings.{wanted, request, held, conflicts_with, conflicts_of}
+use Rattle.desk_law.specs.Changes.{gone_on}
+use Rattle.desk_law.specs.Consistent.{IsAmong, AreConsistent}
+use Rattle.desk_law.specs.Current.{current_of, current, IsCurrent}
+use Rattle.desk_law.proofs.Entries.{replaced, one-entry}
+use Rattle.desk_law.proofs.Others.{touched_of, after-row}
+use Rattle.desk_law.proofs.GoesOn.{nobody-conflicts}
+use Rattle.desk_law.proofs.CurrentLines.{current-written, current-unwritten, row-writes, row-leaves}
+
+-- a line that no other wrote is seen as it is now
+pub current-seen :
+    (store : FlatStore) (most_lines next : ℕ) (entries : List Entry) (entry : Entry) (state : Plain) (line : ℕ) → IsWhole store
+    → AreConsistent store most_lines next entries → IsAmong entries entry → after entry.runs.program entry.runs.args store entry.rows ≡ Some state
+    → ((other : Entry) → IsAmong entries other → (other.number == entry.number) ≡ false → has (touched_of store other).writes line ≡ false)
+    → current_of store entries line ≡ line_in store.directory state.store line
+current-seen store most_lines next entries entry state line whole are here is free =
+    elim (cases_Bool (has (touched_of store entry).writes line)) [
+      | inl wrote ↦ current-written store most_lines next entries are entry state line here is wrote
+      | inr didn't ↦
+          current-unwritten store most_lines next entries are line
+          (λ other there. elim (cases_Bool (other.number == entry.number)) [
+            | inl same ↦
+                ap (λ (x : Entry). has (touched_of store x).writes line) (one-entry 0 next entries other entry are.ascend there here (eqb-true other.number entry.number same)) ∙ didn't
+            | inr differ ↦ free other there differ
+          ])
+          ∙ after-kept entry.runs.program entry.runs.args store entry.rows state whole is line didn't
+    ]
+
+-- (a') where nobody conflicts, the next row's lines are seen as they are now
+pub current-wanted :
+    (desk : Desk) (most : ℕ) (entry : Entry) (state : Plain) (line : ℕ) → IsWhole desk.committed
+    → AreConsistent desk.committed most desk.next desk.active → IsAmong desk.active entry
+    → after entry.runs.program entry.runs.args desk.committed entry.rows ≡ Some state
+    → conflicts_of desk entry ≡ [] → has (all_of (wanted desk entry)) line ≡ true
+    → current desk line ≡ line_in desk.committed.directory state.store line
+current-wanted desk most entry state line whole are here is none wants =
+    current-seen desk.committed most desk.next desk.active entry state line whole are here is (λ other there differ. free other there differ)
+  where
+    free : (other : Entry) → IsAmong desk.active other → (other.number == entry.number) ≡ false → has (touched_of desk.committed other).writes line ≡ false
+    free other there differ =
+        elim (and_cases (not (other.number == entry.number)) (conflicts (request desk entry) (held desk other))
+        (nobody-conflicts (conflicts_with desk entry) desk.active none other there)) [
+          | inl same ↦ absurd (both_ways (not (other.number == entry.number)) same (not_from_false (other.number == entry.number) differ))
+          | inr fine ↦
+              let parts = or_parts (meets (request desk entry).writes ((held desk other).reads ++ (held desk other).writes)) (meets (request desk entry).reads (held desk other).writes) fine in
+              false_from_ne_true (has (touched_of desk.committed other).writes line)
+              (λ wrote.
+              elim (or_cases (has (wanted desk entry).reads line) (has (wanted desk entry).writes line) (sym (has-append (wanted desk entry).reads (wanted desk entry).writes line) ∙ wants)) [
+                | inl reads ↦
+                    both_ways (meets (request desk entry).reads (held desk other).writes) parts.1
+                    (meets-at (request desk entry).reads (held desk other).writes line
+                    (has-whole_pages (wanted desk entry) line ∙ or_left (has (wanted desk entry).reads line) (has (pages_of (wanted desk entry).writes) (page_of_line line)) reads) wrote)
+                | inr writes ↦
+                    both_ways (meets (request desk entry).writes ((held desk other).reads ++ (held desk other).writes)) parts.0
+                    (meets-at (request desk entry).writes ((held desk other).reads ++ (held desk other).writes) line writes (has_right (held desk other).reads (held desk other).writes line wrote))
+              ])
+        ]
+
+-- the row of an entry over the bytes of all
+pub record RunsOn (store : FlatStore) (entries : List Entry) (entry : Entry) (now next : Plain) (bytes : List ℕ) : Type 0 where
+  pub other : List ℕ
+  pub went : row entry.runs.program store.directory (record now { store = bytes }) ≡ On (record next { store = other })
+  pub is_current : IsCurrent store (replaced (gone_on entry) entries) other
+
+-- Where nobody conflicts, the row does to the bytes of all what it does to the entry's own.
+pub row-on-current :
+    (desk : Desk) (most : ℕ) (entry : Entry) (now next : Plain) (bytes : List ℕ) → IsWhole desk.committed
+    → AreConsistent desk.committed most desk.next desk.active
+    → AreConsistent desk.committed most desk.next (replaced (gone_on entry) desk.active) → IsAmong desk.active entry
+    → after entry.runs.program entry.runs.args desk.committed entry.rows ≡ Some now
+    → row entry.runs.program desk.committed.directory now ≡ On next
+    → conflicts_of desk entry ≡ [] → IsCurrent desk.committed desk.active bytes
+    → RunsOn desk.committed desk.active entry now next bytes
+row-on-current desk most entry now next bytes whole are later here is went none current_now =
+    let (other, second, keeps) = stepped in
+    record {
+      other = other;
+      went = second;
+      is_current = record {
+        long = keeps.long_on_other ∙ current_now.long;
+        lines = λ line. elim (cases_Bool (has (wanted desk entry).writes line)) [
+          | inl wrote ↦
+              sym (keeps.equal_stay line (sees line (has_right (wanted desk entry).reads (wanted desk entry).writes line wrote)))
+              ∙ sym (row-writes desk.committed most desk.next desk.active entry next line later here after_next wrote)
+          | inr didn't ↦
+              sym (keeps.kept_on_other line (sym (ap (λ (l : Lines). has l.writes line) lines) ∙ didn't))
+              ∙ current_now.lines line
+              ∙ sym (row-leaves desk.committed most desk.next desk.active entry now next line whole are later here is went after_next didn't)
+        ];
+      };
+    }
+  where
+    after_next : after entry.runs.program entry.runs.args desk.committed (entry.rows + 1) ≡ Some next
+    after_next = after-row desk.committed entry now next is went
+
+    by_plan : (plan : Plan) → touched_by entry.runs.program desk.committed.directory (On next) plan ≡ lines_of_plan entry.runs.program desk.committed.directory plan
+    by_plan (Does registers status act address link) = refl
+    by_plan (Fails code) = refl
+
+    lines : wanted desk entry ≡ lines_of_plan entry.runs.program desk.committed.directory (plan_at now)
+    lines =
+        ap (λ (state : Option Plain). option_map_or (touched entry.runs.program desk.committed.directory) state (record { reads = []; writes = [] })) is
+        ∙ ap (λ (outcome : Outcome). touched_by entry.runs.program desk.committed.directory outcome (plan_at now)) went
+        ∙ by_plan (plan_at now)
+
+    own : length now.store ≡ byte_count desk.committed.directory
+    own = after-whole entry.runs.program entry.runs.args desk.committed entry.rows now whole is
+
+    sees : (line : ℕ) → has (all_of (wanted desk entry)) line ≡ true → line_in desk.committed.directory now.store line ≡ line_in desk.committed.directory bytes line
+    sees line wants = sym (current_now.lines line ∙ current-wanted desk most entry now line whole are here is none wants)
+
+    stepped : (other : List ℕ) × (row entry.runs.program desk.committed.directory (on now bytes) ≡ On (on next other)) × Keeps desk.committed.directory (lines_of_plan entry.runs.program desk.committed.directory (plan_at now)).writes now.store bytes next.store other
+    stepped =
+        subst (λ (outcome : Outcome). Steps desk.committed.directory (lines_of_plan entry.runs.program desk.committed.directory (plan_at now)) now bytes outcome (row entry.runs.program desk.committed.directory (on now bytes))) went
+        (row-steps entry.runs.program desk.committed.directory now bytes own (current_now.long ∙ sym own)
+        (λ line inside. sees line (has_left (wanted desk entry).reads (wanted desk entry).writes line (ap (λ (l : Lines). has l.reads line) lines ∙ inside))))
+
+-- The row goes the same way over the bytes of all, also where it is the commit call or a check.
+pub way-on-current : (program : Program) (directory : Layout) (now : Plain) (bytes : List ℕ) → SameWay (row program directory now) (row program directory (record now { store = bytes }))
+way-on-current program directory now bytes = row-way program directory now bytes

@@ -1,0 +1,65 @@
+-- Where nobody waits for himself, somebody waits for nobody.
+use Rattle.std.specs.Prelude.{◌≡◌, refl, ℕ, zero, suc, ◌<◌, ◌≤◌, ◌&&◌, not, Bool, true, false, List, length, filter}
+use Rattle.std.specs.List.{list_any}
+use Rattle.std.proofs.Common.{arith, ap, sym, ◌∙◌, subst, inl, inr}
+use Rattle.std.proofs.lemmas.Bool.{eqb-true, both_ways, and_from, cases_Bool, false_from_ne_true, not_from_false}
+use Rattle.lock_rules.specs.Sets.{has}
+use Rattle.lock_rules.specs.Waits.{leads}
+use Rattle.lock_rules.proofs.Sets.{any-at, any-some}
+use Rattle.desk.specs.Holdings.{numbers, waits_for}
+use Rattle.desk_law.specs.Consistent.{HasNoCycle}
+use Rattle.desk_law.specs.Laws.{SomebodyCanGoOn}
+use Rattle.desk_law.proofs.Walks.{one-step, walk-short, count-lt}
+use Rattle.desk_law.proofs.Waiting.{waits-by, number-of, has-number}
+
+-- the numbers to which waits lead from one
+abbrev pub reached : (ℕ → ℕ → Bool) → List ℕ → ℕ → ℕ → Bool
+reached waits all from to = leads waits all (length all) from to
+
+-- one that is waited for leads to fewer
+pub leads-to-fewer : (waits : ℕ → ℕ → Bool) (all : List ℕ) → HasNoCycle waits all → (from next : ℕ) → has all from ≡ true → has all next ≡ true → waits from next ≡ true
+    → length (filter (reached waits all next) all) < length (filter (reached waits all from) all)
+leads-to-fewer waits all none from next inside there step =
+    count-lt (reached waits all next) (reached waits all from) all
+    (λ to walk. walk-short waits all to from (suc (length all)) inside (one-step waits all (length all) from to next there step (inr walk)))
+    (any-at (λ x. reached waits all from x && not (reached waits all next x)) all next there
+    (and_from (reached waits all from next) (not (reached waits all next next))
+    (walk-short waits all next from 1 inside (one-step waits all 0 from next next there step (inl refl)))
+    (not_from_false (reached waits all next next) (none (length all) next))))
+
+-- one among some that waits for none of them
+abbrev WaitsForNone : (ℕ → ℕ → Bool) → List ℕ → Type 0
+WaitsForNone waits all = (free : ℕ) × (has all free ≡ true) × (list_any (waits free) all ≡ false)
+
+waits-for-none : (waits : ℕ → ℕ → Bool) (all : List ℕ) → HasNoCycle waits all → (most from : ℕ) → has all from ≡ true → length (filter (reached waits all from) all) ≤ most
+    → WaitsForNone waits all
+waits-for-none waits all none zero from inside few = elim (cases_Bool (list_any (waits from) all)) [
+  | inl some ↦
+      let (next, there, step) = any-some (waits from) all some in
+      absurd (omega (arith, few, leads-to-fewer waits all none from next inside there step))
+  | inr nobody ↦ (from, inside, nobody)
+]
+waits-for-none waits all none (suc most) from inside few = elim (cases_Bool (list_any (waits from) all)) [
+  | inl some ↦
+      let (next, there, step) = any-some (waits from) all some in
+      waits-for-none waits all none most next there (omega (arith, few, leads-to-fewer waits all none from next inside there step))
+  | inr nobody ↦ (from, inside, nobody)
+]
+
+pub somebody-can-go-on : SomebodyCanGoOn
+somebody-can-go-on desk entry is here =
+    let (free, inside, none) =
+    waits-for-none (waits_for desk) (numbers desk) is.no_cycle (length (filter (reached (waits_for desk) (numbers desk) entry.number) (numbers desk))) entry.number
+    (has-number desk.active entry here) (omega arith) in
+    let (other, there, own) = number-of desk.active free inside in (
+      other,
+      there,
+      λ number.
+          false_from_ne_true (waits_for desk other.number number)
+          (λ waits.
+          let by = waits-by desk other.number number waits in
+          both_ways (list_any (waits_for desk free) (numbers desk)) none
+          (any-at (waits_for desk free) (numbers desk) number
+          (subst (λ (n : ℕ). has (numbers desk) n ≡ true) (eqb-true by.other.number number by.is_to) (has-number desk.active by.other by.other_among))
+          (ap (λ (n : ℕ). waits_for desk n number) (sym own) ∙ waits))),
+    )

@@ -1,0 +1,192 @@
+-- What a supervisor keeps beside a desk: locks and requests by number, states but for their store, and one list of bytes for
+-- all; and what each step does to it.
+use Rattle.std.specs.Prelude.{◌≡◌, ℕ, ◌+◌, ◌==◌, not, Bool, true, false, List, [], ◌∷◌, ◌++◌, Some}
+use Rattle.std.proofs.Common.{ap, sym, ◌∙◌, subst, inl, inr}
+use Rattle.std.proofs.lemmas.Bool.{not-true}
+use Rattle.line_geometry.specs.FlatStore.{FlatStore, IsWhole}
+use Rattle.lock_rules.specs.Lines.{Lines, no_lines}
+use Rattle.flat_machine.specs.declared.machine.Plain.{Plain}
+use Rattle.flat_machine.specs.Row.{On, row}
+use Rattle.flat_machine.specs.Touched.{touched}
+use Rattle.flat_machine.specs.After.{after, start}
+use Rattle.flat_machine.proofs.Agreement.{after-whole}
+use Rattle.desk.specs.Desk.{Desk, Entry, with_entry}
+use Rattle.desk.specs.Holdings.{conflicts_of}
+use Rattle.desk.specs.Instruction.{Word, Counts, Going, Attempt, Fetched, instruction, fetches, touched_pages, gets}
+use Rattle.desk_law.specs.Beside.{IsLaid, AreThere, AreAlike, over_all, requested, IsTableBut, IsState, AreStates, AreStatesBut, IsTold}
+use Rattle.desk_law.specs.Changes.{left_by, gone_on}
+use Rattle.desk_law.specs.Consistent.{IsAmong, due_to, AreConsistent}
+use Rattle.desk_law.proofs.AttemptsOnCurrent.{HasGone, attempt-goes}
+use Rattle.desk_law.proofs.CurrentSteps.{current-rolled, current-committed, commit-laid, current-marked, current-begun, current-quiet}
+use Rattle.desk_law.proofs.Entries.{replaced, among-replaced, among-filter, among-push}
+use Rattle.desk_law.proofs.GoesOn.{apart-turned, IsReady}
+use Rattle.desk_law.proofs.KeptTables.{kept-row, kept-mark, kept-rollback, kept-commit, kept-begin, kept-open_row}
+use Rattle.desk_law.proofs.Orderly.{IsOrderly}
+use Rattle.desk_law.proofs.Others.{others, another-same, after-row}
+use Rattle.desk_law.proofs.ServedEffect.{got, WasServed, served-goes}
+
+module _ (store : FlatStore) (entries : List Entry) (states : ℕ → Plain) (are : AreStates store entries states) where
+  pub states-row : (entry : Entry) (next shown : Plain) (new : ℕ → Plain) → after entry.runs.program entry.runs.args store (entry.rows + 1) ≡ Some next
+      → shown ≡ over_all next shown.store → new entry.number ≡ shown → AreStatesBut entry.number states new
+      → AreStates store (replaced (gone_on entry) entries) new
+  states-row entry next shown new at shows is but other among = elim (among-replaced (gone_on entry) entries other among) [
+    | inl it ↦
+        subst (λ (x : Entry). IsState store x (new x.number)) it
+        (record { bytes = next.store; at = at ∙ ap Some (sym (ap (λ (s : Plain). over_all s next.store) (is ∙ shows))) })
+    | inr old ↦ subst (IsState store other) (sym (but other.number old.1)) (are other old.0)
+  ]
+
+  pub states-mark : (entry : Entry) (mark : Bool) → IsAmong entries entry → AreStates store (replaced (record entry { waiting = mark }) entries) states
+  states-mark entry mark here other among = elim (among-replaced (record entry { waiting = mark }) entries other among) [
+    | inl it ↦ subst (λ (x : Entry). IsState store x (states x.number)) it (let is = are entry here in record { bytes = is.bytes; at = is.at })
+    | inr old ↦ are other old.0
+  ]
+
+  pub states-rollback : (gone : Entry) → AreStates store (others gone entries) states
+  states-rollback gone other among = are other (among-filter (λ (other : Entry). not (other.number == gone.number)) entries other among).0
+
+  pub states-commit : (most_lines next : ℕ) (entry : Entry) (now : Plain) → IsWhole store → AreConsistent store most_lines next entries → IsAmong entries entry
+      → after entry.runs.program entry.runs.args store entry.rows ≡ Some now → AreStates (left_by store now) (others entry entries) states
+  states-commit most_lines next entry now whole consistent here at other among =
+      let (there, differ) = among-filter (λ (other : Entry). not (other.number == entry.number)) entries other among in
+      let is = are other there in
+      let (bytes, same) = another-same store entry other now (over_all (states other.number) is.bytes) whole at is.at
+      (apart-turned (due_to store other) (due_to store entry) (consistent.apart other entry there here (not-true (other.number == entry.number) differ))) in
+      record { bytes = bytes; at = same.state_on_other }
+
+  pub states-begin : (last : Entry) → last.rows ≡ 0 → (bytes : List ℕ) → over_all (states last.number) store.bytes ≡ start last.runs.program last.runs.args store
+      → AreStates store (entries ++ last ∷ []) states
+  states-begin last none bytes is other among = elim (among-push entries last other among) [
+    | inl old ↦ are other old
+    | inr it ↦
+        subst (λ (x : Entry). IsState store x (states x.number)) it
+        (record { bytes = store.bytes; at = ap (λ (rows : ℕ). after last.runs.program last.runs.args store rows) none ∙ ap Some (sym is) })
+  ]
+
+-- A row whose lines were there: the locks stay, and the state and the bytes are those that the attempt left.
+pub record HasGoneOn (desk : Desk) (counts : Counts) (entry : Entry) (locks requests : ℕ → Lines) (states : ℕ → Plain) (shown : Plain) : Type 0 where
+  pub is_instruction : (word : Word) → instruction word (Some entry) desk counts ≡ Going (with_entry desk (gone_on entry)) (record counts { ran = counts.ran + 1 })
+  pub consistent : IsOrderly (with_entry desk (gone_on entry))
+  pub told : IsTold desk.committed (replaced (gone_on entry) desk.active) locks requests states shown.store
+
+pub told-open_row :
+    (desk : Desk) (counts : Counts) (entry : Entry) (locks requests : ℕ → Lines) (states new : ℕ → Plain) (shown : Plain) (bytes : List ℕ)
+    → IsOrderly desk → IsAmong desk.active entry → IsTold desk.committed desk.active locks requests states bytes
+    → row entry.runs.program desk.committed.directory (over_all (states entry.number) bytes) ≡ On shown
+    → AreThere desk entry.number (touched entry.runs.program desk.committed.directory (over_all (states entry.number) bytes))
+    → new entry.number ≡ shown → AreStatesBut entry.number states new
+    → HasGoneOn desk counts entry locks requests new shown
+told-open_row desk counts entry locks requests states new shown bytes is here told went there new_is but =
+    let state = told.stand entry here in
+    let gone : HasGone desk counts entry shown =
+    attempt-goes desk counts entry (over_all (states entry.number) state.bytes) shown bytes is here state.at told.is_current went there in
+    record {
+      is_instruction = gone.is_instruction;
+      consistent = gone.consistent;
+      told = record {
+        kept = kept-open_row desk locks requests entry told.kept here gone.held;
+        stand = states-row desk.committed desk.active states told.stand entry gone.next shown new gone.at gone.shows new_is but;
+        is_current = gone.is_current;
+      };
+    }
+
+-- A mark.
+pub told-mark :
+    (store : FlatStore) (most_lines next : ℕ) (entries : List Entry) (locks requests new : ℕ → Lines) (states : ℕ → Plain) (bytes : List ℕ) (entry : Entry)
+    → AreConsistent store most_lines next entries → AreConsistent store most_lines next (replaced (record entry { waiting = true }) entries)
+    → IsAmong entries entry → IsTold store entries locks requests states bytes
+    → AreAlike (new entry.number) (requested store entry) → IsTableBut entry.number requests new
+    → IsTold store (replaced (record entry { waiting = true }) entries) locks new states bytes
+told-mark store most_lines next entries locks requests new states bytes entry are later here told alike but = record {
+  kept = kept-mark store entries locks requests told.kept entry new here alike but;
+  stand = states-mark store entries states told.stand entry true here;
+  is_current = current-marked store most_lines next entries are bytes entry true here later told.is_current;
+}
+
+-- A rollback.
+pub told-rollback :
+    (store : FlatStore) (most_lines next : ℕ) (entries : List Entry) (locks requests : ℕ → Lines) (states : ℕ → Plain) (bytes new : List ℕ) (gone : Entry)
+    → AreConsistent store most_lines next entries → IsAmong entries gone → IsTold store entries locks requests states bytes
+    → IsLaid store (due_to store gone).writes store.bytes bytes new
+    → IsTold store (others gone entries) locks requests states new
+told-rollback store most_lines next entries locks requests states bytes new gone are here told laid = record {
+  kept = kept-rollback store entries locks requests told.kept gone;
+  stand = states-rollback store entries states told.stand gone;
+  is_current = current-rolled store most_lines next entries are bytes gone new here told.is_current laid;
+}
+
+-- A commit: neither bytes nor tables change, and the committed store becomes the entry's, which is the old one with the lines
+-- that it wrote laid over from those bytes.
+pub record HasCommitted (store : FlatStore) (entries : List Entry) (locks requests : ℕ → Lines) (states : ℕ → Plain) (bytes : List ℕ) (entry : Entry) (now : Plain) : Type 0 where
+  pub told : IsTold (left_by store now) (others entry entries) locks requests states bytes
+  pub record_lines : IsLaid store (due_to store entry).writes bytes store.bytes now.store
+
+pub told-commit :
+    (store : FlatStore) (most_lines next : ℕ) (entries : List Entry) (locks requests : ℕ → Lines) (states : ℕ → Plain) (bytes : List ℕ) (entry : Entry) (now : Plain)
+    → IsWhole store → AreConsistent store most_lines next entries → IsAmong entries entry → IsTold store entries locks requests states bytes
+    → after entry.runs.program entry.runs.args store entry.rows ≡ Some now
+    → HasCommitted store entries locks requests states bytes entry now
+told-commit store most_lines next entries locks requests states bytes entry now whole are here told at = record {
+  told = record {
+    kept = kept-commit store entries locks requests told.kept most_lines next entry now whole are here at;
+    stand = states-commit store entries states told.stand most_lines next entry now whole are here at;
+    is_current = current-committed store most_lines next entries are bytes entry now whole here at told.is_current;
+  };
+  record_lines =
+      commit-laid store most_lines next entries are bytes entry now whole
+      (after-whole entry.runs.program entry.runs.args store entry.rows now whole at ∙ sym whole) here at told.is_current;
+}
+
+-- A begin.
+pub told-begin :
+    (store : FlatStore) (most_lines next : ℕ) (entries : List Entry) (locks requests : ℕ → Lines) (states : ℕ → Plain) (bytes : List ℕ) (last : Entry)
+    → AreConsistent store most_lines next entries → AreConsistent store most_lines (next + 1) (entries ++ last ∷ [])
+    → IsTold store entries locks requests states bytes → last.rows ≡ 0 → last.waiting ≡ false → AreAlike (locks last.number) no_lines
+    → over_all (states last.number) store.bytes ≡ start last.runs.program last.runs.args store
+    → IsTold store (entries ++ last ∷ []) locks requests states bytes
+told-begin store most_lines next entries locks requests states bytes last are later told none unmarked clear starts = record {
+  kept = kept-begin store entries locks requests told.kept last none unmarked clear;
+  stand = states-begin store entries states told.stand last none bytes starts;
+  is_current = current-begun store most_lines next entries are bytes last none later told.is_current;
+}
+
+-- An opening, and what a crash leaves.
+pub told-quiet : (store : FlatStore) (locks requests : ℕ → Lines) (states : ℕ → Plain) → IsWhole store → IsTold store [] locks requests states store.bytes
+told-quiet store locks requests states whole = record {
+  kept = record { held = λ entry among. absurd among; asked = λ entry among waits. absurd among };
+  stand = λ entry among. absurd among;
+  is_current = current-quiet store whole;
+}
+
+-- A row that was served: its locks are those of the row too, its mark is off, and the state and the bytes are those that the
+-- second attempt left.
+pub record HasServed (attempt : Attempt) (refused resident : List ℕ) (desk : Desk) (counts : Counts) (counted : ℕ) (locks requests : ℕ → Lines) (states : ℕ → Plain) (shown : Plain) : Type 0 where
+  pub comes : (word : Word) → fetches word desk.frames (touched_pages attempt) (touched_pages attempt) desk.resident counts.pages ≡ Fetched resident counted
+      → gets word attempt refused desk counts
+      ≡ Going (with_entry (got attempt refused resident desk) (gone_on attempt.entry)) (record counts { pages = counted; ran = counts.ran + 1 })
+  pub consistent : IsOrderly (with_entry (got attempt refused resident desk) (gone_on attempt.entry))
+  pub told : IsTold desk.committed (replaced (gone_on attempt.entry) desk.active) locks requests states shown.store
+
+pub told-served :
+    (attempt : Attempt) (refused resident : List ℕ) (desk : Desk) (counts : Counts) (counted : ℕ) (locks more requests : ℕ → Lines) (states new : ℕ → Plain) (next shown : Plain) (bytes : List ℕ)
+    → IsReady attempt desk → conflicts_of desk attempt.entry ≡ [] → attempt.outcome ≡ On next
+    → IsTold desk.committed desk.active locks requests states bytes
+    → row attempt.entry.runs.program desk.committed.directory (over_all attempt.now bytes) ≡ On shown
+    → AreAlike (more attempt.entry.number) (due_to desk.committed (gone_on attempt.entry)) → IsTableBut attempt.entry.number locks more
+    → new attempt.entry.number ≡ shown → AreStatesBut attempt.entry.number states new
+    → HasServed attempt refused resident desk counts counted more requests new shown
+told-served attempt refused resident desk counts counted locks more requests states new next shown bytes ready none goes told went alike but_locks new_is but =
+    let served : WasServed attempt refused resident desk counts counted shown =
+    served-goes attempt refused resident desk counts counted next shown bytes ready none goes told.is_current went in
+    let marked : Entry = record attempt.entry { waiting = ready.mark } in
+    record {
+      comes = served.comes;
+      consistent = served.consistent;
+      told = record {
+        kept = kept-row desk.committed desk.active locks requests told.kept attempt.entry more alike but_locks;
+        stand =
+            states-row desk.committed desk.active states told.stand attempt.entry next shown new
+            (after-row desk.committed attempt.entry attempt.now next ready.now (ready.went ∙ goes)) (served.shows next goes) new_is but;
+        is_current = served.is_current;
+      };
+    }

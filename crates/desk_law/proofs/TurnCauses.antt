@@ -1,0 +1,278 @@
+-- Each end of a turn has its cause.
+use Rattle.std.specs.Prelude.{◌≡◌, refl, ℕ, zero, suc, ◌+◌, ◌<◌, ◌==◌, if◌then◌else◌, Bool, true, false, List, [], ◌∷◌, ◌++◌, length, find, Option, Some, None}
+use Rattle.std.proofs.Common.{arith, ap, sym, ◌∙◌, subst}
+use Rattle.std.proofs.lemmas.Bool.{eqb-true, ltb-true}
+use Rattle.lock_rules.specs.Sets.{has, size}
+use Rattle.lock_rules.specs.Resident.{brought}
+use Rattle.lock_rules.specs.Waits.{shown_cycle, victim_of}
+use Rattle.flat_machine.specs.declared.machine.Plain.{Plain}
+use Rattle.flat_machine.specs.Row.{Outcome, On, Commit, Check, row}
+use Rattle.flat_machine.specs.After.{after}
+use Rattle.flat_machine.specs.Due.{touched_within, touched_next}
+use Rattle.desk.specs.Desk.{Desk, Entry, with_entry}
+use Rattle.desk.specs.Holdings.{conflicts_of, numbers, waits_for}
+use Rattle.desk.specs.Instruction.{Word, Fine, ReadFailed, Unwritten, Doubt, Failed, Counts, Turning, Going, Over, Idle, Limit, Checked, Journal, Disk, Victim, Waits, Committed, CommitUnwritten, CommitDoubted, Attempt, Fetching, Fetched, Broken, Contest, Contested, Settled, Lost, attempts, attempts_at, instruction, turns, turn_of, no_counts, can't_be_read, fetches, limited, is_over_limit, lines_written, fetched_first, fetches_touched, asks, gets, goes_on, takes_effect, commits, contest_ends, waits_or_gets, with_grants, refused_pages, breaks_cycle, breaks_cycles}
+use Rattle.desk_law.specs.Causes.{RowIs, lines_by, waiting_after, HasCause, IsOverFor, TurnsEndForCause, desk_of}
+use Rattle.desk_law.specs.Changes.{gone_on}
+use Rattle.desk_law.specs.Consistent.{IsAmong, IsConsistent}
+use Rattle.desk_law.proofs.Entries.{found-among, new-among}
+use Rattle.desk_law.proofs.Contest.{left_over}
+use Rattle.desk_law.proofs.ContestRounds.{asker-left}
+use Rattle.desk_law.proofs.ConsistentLaw.{instruction-consistent}
+use Rattle.desk_law.proofs.InstructionStages.{attempt_of}
+
+-- a page that can't be read is the last one counted
+abbrev FetchCause : Word → Fetching → Type 0
+FetchCause word (Fetched resident counted) = Unit {0}
+FetchCause word (Broken counted) = word ≡ ReadFailed counted
+
+unread : (word : Word) (counted : ℕ) → can't_be_read word counted ≡ true → word ≡ ReadFailed counted
+unread (ReadFailed page) counted fails = ap ReadFailed (eqb-true page counted fails)
+unread Fine counted fails = absurd (cc)
+unread Unwritten counted fails = absurd (cc)
+unread Doubt counted fails = absurd (cc)
+unread Failed counted fails = absurd (cc)
+
+fetch-cause : (word : Word) (frames : ℕ) (kept pages resident : List ℕ) (counted : ℕ) → FetchCause word (fetches word frames kept pages resident counted)
+fetch-cause word frames kept [] resident counted = tt
+fetch-cause word frames kept (page ∷ pages) resident counted =
+    by_there (has resident page) (can't_be_read word (counted + 1)) refl
+    (fetch-cause word frames kept pages resident counted)
+    (fetch-cause word frames kept pages (brought frames kept resident page) (counted + 1))
+  where
+    by_there : (there fails : Bool) → can't_be_read word (counted + 1) ≡ fails → FetchCause word (fetches word frames kept pages resident counted)
+        → FetchCause word (fetches word frames kept pages (brought frames kept resident page) (counted + 1))
+        → FetchCause word (if there then fetches word frames kept pages resident counted
+        else if fails then Broken (counted + 1) else fetches word frames kept pages (brought frames kept resident page) (counted + 1))
+    by_there true fails e rest more = rest
+    by_there false true e rest more = unread word (counted + 1) e
+    by_there false false e rest more = more
+
+-- the last cycle recorded is that of a victim
+abbrev LastVictim : ℕ → Counts → Type 0
+LastVictim number counts = (front : List (List ℕ)) × (cycle : List ℕ) × (counts.cycles ≡ front ++ cycle ∷ []) × (victim_of cycle ≡ number)
+
+-- an attempt under way: the entry is active, with some mark, and no row was done
+record Stays (old : Desk) (base : Counts) (entry : Entry) (desk : Desk) (counts : Counts) : Type 0 where
+  committed : desk.committed ≡ old.committed
+  limit : desk.most_lines ≡ old.most_lines
+  ran : counts.ran ≡ base.ran
+  mark : Bool
+  here : IsAmong desk.active (record entry { waiting = mark })
+
+-- what an instruction comes to, and why
+abbrev Comes : Word → Attempt → (old : Desk) → (base : Counts) → Turning → Type 0
+Comes word attempt old base (Going desk counts) =
+    IsAmong desk.active (gone_on attempt.entry) × (desk.committed ≡ old.committed) × (desk.most_lines ≡ old.most_lines) × (counts.ran ≡ base.ran + 1)
+Comes word attempt old base (Over desk counts Idle) = ⊥
+Comes word attempt old base (Over desk counts Limit) = ⊥
+Comes word attempt old base (Over desk counts (Checked code address)) = (counts.ran ≡ base.ran) × (attempt.outcome ≡ Check code) × (address ≡ attempt.now.iar)
+Comes word attempt old base (Over desk counts (Journal lines most)) = (counts.ran ≡ base.ran) × (lines ≡ lines_written attempt old) × (most ≡ old.most_lines) × (most < lines)
+Comes word attempt old base (Over desk counts Disk) = word ≡ ReadFailed counts.pages
+Comes word attempt old base (Over desk counts Victim) = LastVictim attempt.entry.number counts
+Comes word attempt old base (Over desk counts (Waits holders)) =
+    (counts.ran ≡ base.ran) × IsAmong desk.active (record attempt.entry { waiting = true }) × (conflicts_of desk attempt.entry ≡ holders) × (holders ≡ [] → ⊥)
+Comes word attempt old base (Over desk counts (Committed steps printed)) =
+    (counts.ran ≡ base.ran + 1) × (steps ≡ attempt.entry.rows + 1) × (attempt.outcome ≡ Commit) × (printed ≡ attempt.now.out)
+Comes word attempt old base (Over desk counts CommitUnwritten) = (counts.ran ≡ base.ran) × (word ≡ Unwritten) × (attempt.outcome ≡ Commit)
+Comes word attempt old base (Over desk counts CommitDoubted) = (counts.ran ≡ base.ran) × (word ≡ Doubt) × (attempt.outcome ≡ Commit)
+
+-- a contest leaves the entry marked, or it was the victim
+record Marked (old : Desk) (base : Counts) (entry : Entry) (desk : Desk) (counts : Counts) : Type 0 where
+  committed : desk.committed ≡ old.committed
+  limit : desk.most_lines ≡ old.most_lines
+  ran : counts.ran ≡ base.ran
+  here : IsAmong desk.active (record entry { waiting = true })
+
+abbrev ContestComes : Desk → Counts → Entry → Contest → Type 0
+ContestComes old base entry (Contested desk counts) = Marked old base entry desk counts
+ContestComes old base entry (Settled desk counts) = Marked old base entry desk counts
+ContestComes old base entry (Lost desk counts) = LastVictim entry.number counts
+
+contest-comes : (old : Desk) (base : Counts) (entry : Entry) (left : ℕ) (contest : Contest) → ContestComes old base entry contest → ContestComes old base entry (breaks_cycles left entry.number contest)
+contest-comes old base entry zero contest is = is
+contest-comes old base entry (suc left) (Settled desk counts) is = is
+contest-comes old base entry (suc left) (Lost desk counts) is = is
+contest-comes old base entry (suc left) (Contested desk counts) is =
+    contest-comes old base entry left (breaks_cycle entry.number (shown_cycle (waits_for desk) (numbers desk) entry.number) desk counts)
+    (by_cycle (shown_cycle (waits_for desk) (numbers desk) entry.number))
+  where
+    by_victim : (cycle : List ℕ) (victim : Option Entry) → find (λ (one : Entry). one.number == victim_of cycle) desk.active ≡ victim → (lost : Bool) → (victim_of cycle == entry.number) ≡ lost
+        → ContestComes old base entry (left_over desk (record counts { cycles = counts.cycles ++ cycle ∷ [] }) victim lost)
+    by_victim cycle victim found true e = (counts.cycles, cycle, refl, eqb-true (victim_of cycle) entry.number e)
+    by_victim cycle None found false e = record { committed = is.committed; limit = is.limit; ran = is.ran; here = is.here }
+    by_victim cycle (Some victim) found false e = record {
+      committed = is.committed;
+      limit = is.limit;
+      ran = is.ran;
+      here = asker-left desk (record entry { waiting = true }) victim cycle is.here found e;
+    }
+
+    by_cycle : (cycle : Option (List ℕ)) → ContestComes old base entry (breaks_cycle entry.number cycle desk counts)
+    by_cycle None = is
+    by_cycle (Some cycle) = by_victim cycle (find (λ (one : Entry). one.number == victim_of cycle) desk.active) refl (victim_of cycle == entry.number) refl
+
+module _ (word : Word) (attempt : Attempt) (old : Desk) (base : Counts) where
+  come-commit : (word : Word) (desk : Desk) (counts : Counts) → attempt.outcome ≡ Commit → Stays old base attempt.entry desk counts → Comes word attempt old base (commits word attempt desk counts)
+  come-commit Unwritten desk counts went stays = (stays.ran, refl, went)
+  come-commit Doubt desk counts went stays = (stays.ran, refl, went)
+  come-commit Fine desk counts went stays = (ap (λ (n : ℕ). n + 1) stays.ran, refl, went, refl)
+  come-commit (ReadFailed page) desk counts went stays = (ap (λ (n : ℕ). n + 1) stays.ran, refl, went, refl)
+  come-commit Failed desk counts went stays = (ap (λ (n : ℕ). n + 1) stays.ran, refl, went, refl)
+
+  come-effect : (desk : Desk) (counts : Counts) (outcome : Outcome) → attempt.outcome ≡ outcome → Stays old base attempt.entry desk counts → Comes word attempt old base (takes_effect word attempt outcome desk counts)
+  come-effect desk counts (On next) went stays = (
+    new-among (gone_on attempt.entry) desk.active (record attempt.entry { waiting = stays.mark }) stays.here refl,
+    stays.committed,
+    stays.limit,
+    ap (λ (n : ℕ). n + 1) stays.ran,
+  )
+  come-effect desk counts Commit went stays = come-commit word desk counts went stays
+  come-effect desk counts (Check code) went stays = (stays.ran, went, refl)
+
+  come-on : (desk : Desk) (counts : Counts) (fetching : Fetching) → Stays old base attempt.entry desk counts → FetchCause word fetching → Comes word attempt old base (goes_on word attempt desk counts fetching)
+  come-on desk counts (Fetched resident counted) stays cause =
+      come-effect (record desk { resident = resident }) (record counts { pages = counted }) attempt.outcome refl
+      (record { committed = stays.committed; limit = stays.limit; ran = stays.ran; mark = stays.mark; here = stays.here })
+  come-on desk counts (Broken counted) stays cause = cause
+
+  come-get : (refused : List ℕ) (desk : Desk) (counts : Counts) → Stays old base attempt.entry desk counts → Comes word attempt old base (gets word attempt refused desk counts)
+  come-get refused desk counts stays =
+      come-on (with_grants attempt refused desk) counts (fetches_touched word attempt (with_grants attempt refused desk) counts)
+      (record { committed = stays.committed; limit = stays.limit; ran = stays.ran; mark = stays.mark; here = stays.here })
+      (fetch-cause word desk.frames _ _ desk.resident counts.pages)
+
+  come-wait : (refused holders : List ℕ) (desk : Desk) (counts : Counts) → conflicts_of desk attempt.entry ≡ holders → Marked old base attempt.entry desk counts
+      → Comes word attempt old base (waits_or_gets word attempt refused holders desk counts)
+  come-wait refused [] desk counts conflict is = come-get refused desk counts (record { committed = is.committed; limit = is.limit; ran = is.ran; mark = true; here = is.here })
+  come-wait refused (holder ∷ holders) desk counts conflict is = (is.ran, is.here, conflict, some)
+    where
+      some : holder ∷ holders ≡ [] → ⊥
+      some none = cc
+
+  come-contest : (refused : List ℕ) (contest : Contest) → ContestComes old base attempt.entry contest → Comes word attempt old base (contest_ends word attempt refused contest)
+  come-contest refused (Lost desk counts) is = is
+  come-contest refused (Settled desk counts) is = come-wait refused (conflicts_of desk attempt.entry) desk counts refl is
+  come-contest refused (Contested desk counts) is = come-wait refused (conflicts_of desk attempt.entry) desk counts refl is
+
+  come-ask : (refused holders : List ℕ) (desk : Desk) (counts : Counts) → Stays old base attempt.entry desk counts → Comes word attempt old base (asks word attempt refused holders desk counts)
+  come-ask refused [] desk counts stays = come-get refused desk counts stays
+  come-ask refused (holder ∷ holders) desk counts stays =
+      come-contest refused
+      (breaks_cycles (length desk.active) attempt.entry.number (Contested (with_entry desk (record attempt.entry { waiting = true })) counts))
+      (contest-comes old base attempt.entry (length desk.active) (Contested (with_entry desk (record attempt.entry { waiting = true })) counts)
+      (record {
+        committed = stays.committed;
+        limit = stays.limit;
+        ran = stays.ran;
+        here = new-among (record attempt.entry { waiting = true }) desk.active (record attempt.entry { waiting = stays.mark }) stays.here refl;
+      }))
+
+  come-first : (desk : Desk) (counts : Counts) (fetching : Fetching) → Stays old base attempt.entry desk counts → FetchCause word fetching → Comes word attempt old base (fetched_first word attempt desk counts fetching)
+  come-first desk counts (Fetched resident counted) stays cause =
+      let there = record desk { resident = resident } in
+      come-ask (refused_pages attempt there) (conflicts_of there attempt.entry) there
+      (record { ran = counts.ran; pages = counted; locks = counts.locks + length (refused_pages attempt there); cycles = counts.cycles })
+      (record { committed = stays.committed; limit = stays.limit; ran = stays.ran; mark = stays.mark; here = stays.here })
+  come-first desk counts (Broken counted) stays cause = cause
+
+  come-limit : (over : Bool) → is_over_limit attempt old ≡ over → Stays old base attempt.entry old base → Comes word attempt old base (limited over word attempt old base)
+  come-limit true e stays = (refl, refl, refl, ltb-true old.most_lines (lines_written attempt old) e)
+  come-limit false e stays = come-first old base (fetches_touched word attempt old base) stays (fetch-cause word old.frames _ _ old.resident base.pages)
+
+  come-attempt : (outcome : Outcome) → attempt.outcome ≡ outcome → Stays old base attempt.entry old base → Comes word attempt old base (attempts word attempt outcome old base)
+  come-attempt (Check code) went stays = (refl, went, refl)
+  come-attempt (On next) went stays = come-limit (is_over_limit attempt old) refl stays
+  come-attempt Commit went stays = come-limit (is_over_limit attempt old) refl stays
+
+-- an instruction of an active entry
+come-instruction : (word : Word) (desk : Desk) (counts : Counts) (entry : Entry) (now : Plain) → IsAmong desk.active entry
+    → after entry.runs.program entry.runs.args desk.committed entry.rows ≡ Some now
+    → Comes word (attempt_of desk entry now) desk counts (instruction word (Some entry) desk counts)
+unfolding instruction
+come-instruction word desk counts entry now here at =
+    subst (λ (state : Option Plain). Comes word (attempt_of desk entry now) desk counts (attempts_at word entry state desk counts)) (sym at)
+    (come-attempt word (attempt_of desk entry now) desk counts (row entry.runs.program desk.committed.directory now) refl
+    (record { committed = refl; limit = refl; ran = refl; mark = entry.waiting; here = here }))
+
+-- a turn under way: the entry has done so many rows more
+record Under (limit left : ℕ) (start : Desk) (first : Entry) (desk : Desk) (counts : Counts) : Type 0 where
+  is : IsConsistent desk
+  committed : desk.committed ≡ start.committed
+  most : desk.most_lines ≡ start.most_lines
+  entry : Entry
+  here : IsAmong desk.active entry
+  number : entry.number ≡ first.number
+  runs : entry.runs ≡ first.runs
+  rows : entry.rows ≡ first.rows + counts.ran
+  left_is : counts.ran + left ≡ limit
+
+abbrev IsUnder : Word → (limit left : ℕ) → Desk → Entry → Turning → Type 0
+IsUnder word limit left start first (Going desk counts) = Under limit left start first desk counts
+IsUnder word limit left start first (Over desk counts ending) = HasCause word limit start first desk counts ending
+
+-- from one instruction to the turn
+module _ (word : Word) (limit left : ℕ) (start : Desk) (first : Entry) (desk : Desk) (counts : Counts) (under : Under limit (suc left) start first desk counts) (now : Plain)
+    (at : after under.entry.runs.program under.entry.runs.args desk.committed under.entry.rows ≡ Some now) where
+  its-row : (ran : ℕ) (outcome : Outcome) → ran ≡ counts.ran → row under.entry.runs.program desk.committed.directory now ≡ outcome → RowIs start.committed first ran now outcome
+  its-row ran outcome same went = (
+    (λ i. after (sym under.runs i).program (sym under.runs i).args (sym under.committed i) ((ap (λ (n : ℕ). first.rows + n) same ∙ sym under.rows) i)) ∙ at,
+    (λ i. row (sym under.runs i).program (sym under.committed i).directory now) ∙ went,
+  )
+
+  its-lines : (ran : ℕ) → ran ≡ counts.ran → lines_written (attempt_of desk under.entry now) desk ≡ lines_by start.committed first ran
+  its-lines ran same =
+      λ i.
+      size
+      ((touched_within (under.runs i).program (under.runs i).args (under.committed i) ((under.rows ∙ ap (λ (n : ℕ). first.rows + n) (sym same)) i)).writes
+      ++ (touched_next (under.runs i).program (under.runs i).args (under.committed i) ((under.rows ∙ ap (λ (n : ℕ). first.rows + n) (sym same)) i)).writes)
+
+  its-waiting : (ran : ℕ) → ran ≡ counts.ran → record under.entry { waiting = true } ≡ waiting_after first ran
+  its-waiting ran same = λ i. record { number = under.number i; runs = under.runs i; rows = (under.rows ∙ ap (λ (n : ℕ). first.rows + n) (sym same)) i; waiting = true }
+
+  cause-instruction : (turning : Turning) → IsConsistent (desk_of turning) → Comes word (attempt_of desk under.entry now) desk counts turning → IsUnder word limit left start first turning
+  cause-instruction (Going later more) is comes = record {
+    is = is;
+    committed = comes.1 ∙ under.committed;
+    most = comes.2 ∙ under.most;
+    entry = gone_on under.entry;
+    here = comes.0;
+    number = under.number;
+    runs = under.runs;
+    rows = omega (arith, under.rows, comes.3);
+    left_is = omega (arith, under.left_is, comes.3);
+  }
+  cause-instruction (Over later more Idle) is comes = absurd comes
+  cause-instruction (Over later more Limit) is comes = absurd comes
+  cause-instruction (Over later more (Checked code address)) is comes = (now, its-row more.ran (Check code) comes.0 comes.1, comes.2)
+  cause-instruction (Over later more (Journal lines most)) is comes = (comes.1 ∙ its-lines more.ran comes.0, comes.2 ∙ under.most, comes.3)
+  cause-instruction (Over later more Disk) is comes = comes
+  cause-instruction (Over later more Victim) is comes = (comes.0, comes.1, comes.2, comes.3 ∙ under.number)
+  cause-instruction (Over later more (Waits holders)) is comes = (
+    subst (IsAmong later.active) (its-waiting more.ran comes.0) comes.1,
+    ap (conflicts_of later) (sym (its-waiting more.ran comes.0)) ∙ comes.2,
+    comes.3,
+  )
+  cause-instruction (Over later more (Committed steps printed)) is comes = (counts.ran, comes.0, omega (arith, comes.1, under.rows), (now, its-row counts.ran Commit refl comes.2, comes.3))
+  cause-instruction (Over later more CommitUnwritten) is comes = (comes.1, (now, its-row more.ran Commit comes.0 comes.2))
+  cause-instruction (Over later more CommitDoubted) is comes = (comes.1, (now, its-row more.ran Commit comes.0 comes.2))
+
+cause-turns : (word : Word) (limit left : ℕ) (start : Desk) (first : Entry) (turning : Turning) → IsUnder word limit left start first turning → IsOverFor word limit start first (turns word first.number left turning)
+unfolding turns
+cause-turns word limit zero start first (Going desk counts) under = omega (arith, under.left_is)
+cause-turns word limit zero start first (Over desk counts ending) cause = cause
+cause-turns word limit (suc left) start first (Over desk counts ending) cause = cause
+cause-turns word limit (suc left) start first (Going desk counts) under =
+    let live = under.is.active.live under.entry under.here in
+    cause-turns word limit left start first (instruction word (find (λ (entry : Entry). entry.number == first.number) desk.active) desk counts)
+    (subst (λ (one : Option Entry). IsUnder word limit left start first (instruction word one desk counts))
+    (sym (ap (λ (n : ℕ). find (λ (entry : Entry). entry.number == n) desk.active) (sym under.number) ∙ found-among desk.next desk.active under.entry under.is.active.ascend under.here))
+    (cause-instruction word limit left start first desk counts under live.state live.is (instruction word (Some under.entry) desk counts)
+    (instruction-consistent word desk counts under.entry under.is under.here)
+    (come-instruction word desk counts under.entry live.state under.here live.is)))
+
+pub turns-end-for-cause : TurnsEndForCause
+turns-end-for-cause word limit desk entry is here =
+    subst (λ (one : Option Entry). IsOverFor word limit desk entry (turn_of one word entry.number limit desk)) (sym (found-among desk.next desk.active entry is.active.ascend here))
+    (cause-turns word limit limit desk entry (Going desk no_counts)
+    (record { is = is; committed = refl; most = refl; entry = entry; here = here; number = refl; runs = refl; rows = omega arith; left_is = omega arith }))

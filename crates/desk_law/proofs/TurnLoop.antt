@@ -1,0 +1,76 @@
+-- The loop of a turn: what it keeps, and its ends.
+use Rattle.std.specs.Prelude.{◌≡◌, refl, ℕ, zero, suc, ◌≤◌, ◌==◌, find, Option, Some}
+use Rattle.std.proofs.Common.{arith, ap, ◌∙◌}
+use Rattle.desk.specs.Desk.{Desk, Entry}
+use Rattle.desk.specs.Instruction.{Word, Fine, ReadFailed, Unwritten, Doubt, Failed, Counts, Turning, Going, Over, Ending, Limit, Attempt, no_counts, instruction, turns, turn, turn_of, commits}
+use Rattle.desk_law.specs.Beside.{Reads}
+use Rattle.desk_law.specs.Consistent.{IsAmong}
+use Rattle.desk_law.proofs.Orderly.{IsOrderly}
+use Rattle.desk_law.proofs.Entries.{found-among}
+
+-- a turn, from wherever it began, is one of so many instructions from here
+pub record IsTurning (begins : Word → Turning) (number left : ℕ) (desk : Desk) (counts : Counts) : Type 0 where
+  pub comes : (word : Word) → Reads word counts.pages → begins word ≡ turns word number left (Going desk counts)
+
+-- as it begins
+pub turning-begins : (limit : ℕ) (desk : Desk) (entry : Entry) → IsOrderly desk → IsAmong desk.active entry
+    → IsTurning (λ word. turn word entry.number limit desk) entry.number limit desk no_counts
+turning-begins limit desk entry is here = record {
+  comes = λ word reads. ap (λ (one : Option Entry). turn_of one word entry.number limit desk) (found-among desk.next desk.active entry is.active.ascend here);
+}
+
+turns-more : (word : Word) (number left : ℕ) (desk : Desk) (counts : Counts)
+    → turns word number (suc left) (Going desk counts) ≡ turns word number left (instruction word (find (λ (entry : Entry). entry.number == number) desk.active) desk counts)
+unfolding turns
+turns-more word number left desk counts = refl
+
+turns-over : (word : Word) (number left : ℕ) (desk : Desk) (counts : Counts) (ending : Ending) → turns word number left (Over desk counts ending) ≡ Over desk counts ending
+unfolding turns
+turns-over word number left desk counts ending = refl
+
+turns-none : (word : Word) (number : ℕ) (desk : Desk) (counts : Counts) → turns word number zero (Going desk counts) ≡ Over desk counts Limit
+unfolding turns
+turns-none word number desk counts = refl
+
+turns-commit : (word : Word) (number left : ℕ) (attempt : Attempt) (desk : Desk) (counts : Counts) → turns word number left (commits word attempt desk counts) ≡ commits word attempt desk counts
+unfolding turns
+turns-commit Fine number left attempt desk counts = refl
+turns-commit (ReadFailed page) number left attempt desk counts = refl
+turns-commit Unwritten number left attempt desk counts = refl
+turns-commit Doubt number left attempt desk counts = refl
+turns-commit Failed number left attempt desk counts = refl
+
+module _ (begins : Word → Turning) (left : ℕ) (desk : Desk) (counts : Counts) (entry : Entry) (is : IsOrderly desk) (here : IsAmong desk.active entry)
+    (turning : IsTurning begins entry.number (suc left) desk counts) where
+  one-more : (word : Word) → Reads word counts.pages → begins word ≡ turns word entry.number left (instruction word (Some entry) desk counts)
+  one-more word reads =
+      turning.comes word reads
+      ∙ turns-more word entry.number left desk counts
+      ∙ ap (λ (one : Option Entry). turns word entry.number left (instruction word one desk counts)) (found-among desk.next desk.active entry is.active.ascend here)
+
+  -- an instruction that goes on, and counts no fewer pages
+  pub turning-goes : (next : Desk) (more : Counts) → counts.pages ≤ more.pages
+      → ((word : Word) → Reads word more.pages → instruction word (Some entry) desk counts ≡ Going next more)
+      → IsTurning begins entry.number left next more
+  turning-goes next more grows comes = record {
+    comes = λ word reads.
+        one-more word (λ page few. reads page (omega (arith, few, grows)))
+        ∙ ap (turns word entry.number left) (comes word reads);
+  }
+
+  -- one that ends the turn, for one word
+  pub turning-ends : (word : Word) (next : Desk) (more : Counts) (ending : Ending) → Reads word counts.pages
+      → instruction word (Some entry) desk counts ≡ Over next more ending → begins word ≡ Over next more ending
+  turning-ends word next more ending reads comes =
+      one-more word reads ∙ ap (turns word entry.number left) comes ∙ turns-over word entry.number left next more ending
+
+  -- one that is at the commit call
+  pub turning-commits : (word : Word) (attempt : Attempt) (some : Desk) (more : Counts) → Reads word counts.pages
+      → instruction word (Some entry) desk counts ≡ commits word attempt some more → begins word ≡ commits word attempt some more
+  turning-commits word attempt some more reads comes =
+      one-more word reads ∙ ap (turns word entry.number left) comes ∙ turns-commit word entry.number left attempt some more
+
+-- none is left
+pub turning-limit : (begins : Word → Turning) (number : ℕ) (desk : Desk) (counts : Counts) → IsTurning begins number 0 desk counts
+    → (word : Word) → Reads word counts.pages → begins word ≡ Over desk counts Limit
+turning-limit begins number desk counts turning word reads = turning.comes word reads ∙ turns-none word number desk counts

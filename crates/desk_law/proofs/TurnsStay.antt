@@ -1,0 +1,242 @@
+-- A turn leaves a desk orderly.
+use Rattle.std.specs.Prelude.{◌≡◌, refl, ℕ, zero, suc, ◌+◌, ◌≤◌, ◌==◌, Bool, true, false, List, [], ◌∷◌, ◌++◌, length, find, Option, Some, None}
+use Rattle.std.proofs.Common.{arith, sym, ◌∙◌, subst}
+use Rattle.std.proofs.lemmas.Bool.{eqb-true, eq-eqb, both_ways, ltb-false}
+use Rattle.std.proofs.lemmas.Option.{none-some}
+use Rattle.lock_rules.specs.Sets.{size}
+use Rattle.lock_rules.specs.Lines.{Lines}
+use Rattle.flat_machine.specs.declared.machine.Plain.{Plain}
+use Rattle.flat_machine.specs.Row.{Outcome, On, Commit, Check, row}
+use Rattle.flat_machine.specs.After.{after}
+use Rattle.desk.specs.Desk.{Desk, Entry, with_entry, ended, rolled_back}
+use Rattle.desk.specs.Holdings.{wanted, conflicts_of}
+use Rattle.desk.specs.Instruction.{Word, Fine, ReadFailed, Unwritten, Doubt, Failed, Counts, Turning, Going, Over, Ending, Idle, Committed, Attempt, Fetching, Fetched, Broken, Contest, Contested, Settled, Lost, attempts, attempts_at, instruction, turns, limited, is_over_limit, lines_written, fetched_first, fetches_touched, asks, gets, goes_on, breaks, ordered, takes_effect, commits, contest_ends, waits_or_gets, with_grants, refused_pages}
+use Rattle.desk_law.specs.Changes.{gone_on}
+use Rattle.desk_law.specs.Consistent.{IsAmong}
+use Rattle.desk_law.specs.Laws.{IsActive}
+use Rattle.desk_law.proofs.Orderly.{IsOrderly}
+use Rattle.desk_law.proofs.Entries.{among-found, none-found, new-among}
+use Rattle.desk_law.proofs.Others.{touched_of}
+use Rattle.desk_law.proofs.Contest.{contending, rolled-consistent, breaks-all, Came}
+use Rattle.desk_law.proofs.GoesOn.{IsReady, ready-again, IsGranted, grants-held, row-goes-on, marked-contending, length-replaced}
+use Rattle.desk_law.proofs.Endings.{granted-rolled, granted-commits, granted-closes}
+use Rattle.desk_law.proofs.Instructions.{From, NoRowDone, Did, ContestDid, left-before, rolled-done, marked-before, marked-from, breaks-did}
+use Rattle.desk_law.proofs.InstructionStages.{attempt_of}
+
+-- an ending that isn't idle
+abbrev pub WasBusy : Ending → Type 0
+WasBusy Idle = ⊥
+WasBusy _ = Unit {0}
+
+-- A turn of an active number: its desk is consistent, it is active still or the turn is over, and it isn't idle.
+-- The cycles that were broken and those that are active are so many at most.
+abbrev pub Stays : ℕ → (most : ℕ) → Turning → Type 0
+Stays number most (Going desk counts) = IsOrderly desk × IsActive desk number × (length counts.cycles + length desk.active ≤ most)
+Stays number most (Over desk counts ending) = IsOrderly desk × WasBusy ending × (length counts.cycles ≤ most)
+
+-- other pages are resident
+pub resident-consistent : (desk : Desk) (resident : List ℕ) → IsOrderly desk → IsOrderly (record desk { resident = resident })
+resident-consistent desk resident is = record { whole = is.whole; few = is.few; active = is.active; held = is.held; no_cycle = is.no_cycle }
+
+pub resident-granted : (attempt : Attempt) (desk : Desk) (resident : List ℕ) → IsGranted attempt desk → IsGranted attempt (record desk { resident = resident })
+resident-granted attempt desk resident is = record {
+  whole = is.whole;
+  few = is.few;
+  active = is.active;
+  held = is.held;
+  no_cycle = is.no_cycle;
+  mark = is.mark;
+  here = is.here;
+  now = is.now;
+  went = is.went;
+  none = is.none;
+  short = is.short;
+}
+
+-- an instruction: it leaves the desk orderly, and does what it does to the entries
+abbrev pub Goes : (old : Desk) → Attempt → (most : ℕ) → Turning → Type 0
+Goes old attempt most turning = Stays attempt.entry.number most turning × Did old attempt turning
+
+module _ (word : Word) (attempt : Attempt) (most : ℕ) (old : Desk) where
+  -- the cycles that were broken and those that are active
+  abbrev Room : Desk → Counts → Type 0
+  Room desk counts = length counts.cycles + length desk.active ≤ most
+
+  goes-done : (desk : Desk) (counts : Counts) → Room desk counts → From attempt.entry.number old desk → IsGranted attempt desk
+      → Goes old attempt most
+      (Over
+      (record (ended (ordered desk attempt) attempt.entry.number) { committed = record desk.committed { bytes = attempt.now.store } })
+      (record counts { ran = counts.ran + 1 })
+      (Committed (attempt.entry.rows + 1) attempt.now.out))
+  goes-done desk counts fits from is =
+      let done = granted-commits desk attempt is in (
+        (record { whole = done.whole; few = done.few; active = done.active; held = done.held; no_cycle = done.no_cycle }, tt, omega (arith, fits)),
+        record { moment = desk; granted = is; from = from; committed = refl; active = refl; steps_are = refl; printed_is = refl },
+      )
+
+  goes-closed : (desk : Desk) → IsGranted attempt desk → attempt.outcome ≡ Commit → (order : List (ℕ × ℕ)) → IsOrderly (record desk { order = order; closed = true })
+  goes-closed desk is went order =
+      let left = granted-closes desk attempt is went in
+      record { whole = left.whole; few = left.few; active = left.active; held = left.held; no_cycle = left.no_cycle }
+
+  goes-left : (desk : Desk) (order : List (ℕ × ℕ)) → From attempt.entry.number old desk → IsGranted attempt desk → NoRowDone old attempt (record desk { order = order; closed = true })
+  goes-left desk order from is = record {
+    from = record { committed = from.committed; others = from.others };
+    own = marked-before attempt.entry is.mark desk is.active is.here;
+  }
+
+  goes-commit : (word : Word) (desk : Desk) (counts : Counts) → Room desk counts → From attempt.entry.number old desk → attempt.outcome ≡ Commit → IsGranted attempt desk → Goes old attempt most (commits word attempt desk counts)
+  goes-commit Unwritten desk counts fits from went is = ((goes-closed desk is went desk.order, tt, omega (arith, fits)), goes-left desk desk.order from is)
+  goes-commit Doubt desk counts fits from went is =
+      let order = desk.order ++ (attempt.entry.number, attempt.entry.rows + 1) ∷ [] in
+      ((goes-closed desk is went order, tt, omega (arith, fits)), goes-left desk order from is)
+  goes-commit Fine desk counts fits from went is = goes-done desk counts fits from is
+  goes-commit (ReadFailed page) desk counts fits from went is = goes-done desk counts fits from is
+  goes-commit Failed desk counts fits from went is = goes-done desk counts fits from is
+
+  goes-effect : (desk : Desk) (counts : Counts) (outcome : Outcome) → Room desk counts → From attempt.entry.number old desk → attempt.outcome ≡ outcome → IsGranted attempt desk → Goes old attempt most (takes_effect word attempt outcome desk counts)
+  goes-effect desk counts (On next) fits from went is = (
+    (
+      row-goes-on desk attempt next is went,
+      (gone_on attempt.entry, new-among (gone_on attempt.entry) desk.active (record attempt.entry { waiting = is.mark }) is.here refl, refl),
+      omega (arith, fits, length-replaced (gone_on attempt.entry) desk.active),
+    ),
+    record { moment = desk; next = next; went = went; is = refl; granted = is; from = from },
+  )
+  goes-effect desk counts Commit fits from went is = goes-commit word desk counts fits from went is
+  goes-effect desk counts (Check code) fits from went is = ((granted-rolled desk attempt is, tt, omega (arith, fits)), rolled-done old attempt desk from)
+
+  goes-broken : (desk : Desk) (counts : Counts) (counted : ℕ) → Room desk counts → From attempt.entry.number old desk → IsOrderly (rolled_back desk attempt.entry) → Goes old attempt most (breaks attempt desk counts counted)
+  goes-broken desk counts counted fits from is =
+      let rolled = rolled-done old attempt desk from in (
+        (resident-consistent (rolled_back desk attempt.entry) [] is, tt, omega (arith, fits)),
+        record { from = record { committed = from.committed; others = rolled.from.others }; own = rolled.own },
+      )
+
+  goes-on : (desk : Desk) (counts : Counts) (fetching : Fetching) → Room desk counts → From attempt.entry.number old desk → IsGranted attempt desk → Goes old attempt most (goes_on word attempt desk counts fetching)
+  goes-on desk counts (Fetched resident counted) fits from is =
+      goes-effect (record desk { resident = resident }) (record counts { pages = counted }) attempt.outcome fits (record { committed = from.committed; others = from.others }) refl (resident-granted attempt desk resident is)
+  goes-on desk counts (Broken counted) fits from is = goes-broken desk counts counted fits from (granted-rolled desk attempt is)
+
+  goes-get : (refused : List ℕ) (desk : Desk) (counts : Counts) → Room desk counts → From attempt.entry.number old desk → IsReady attempt desk → conflicts_of desk attempt.entry ≡ [] → Goes old attempt most (gets word attempt refused desk counts)
+  goes-get refused desk counts fits from ready none =
+      goes-on (with_grants attempt refused desk) counts (fetches_touched word attempt (with_grants attempt refused desk) counts) fits
+      (record { committed = from.committed; others = from.others }) (grants-held desk attempt refused ready none)
+
+  goes-wait : (refused holders : List ℕ) (desk : Desk) (counts : Counts) → Room desk counts → From attempt.entry.number old desk → conflicts_of desk attempt.entry ≡ holders → IsReady attempt desk → IsOrderly desk
+      → Goes old attempt most (waits_or_gets word attempt refused holders desk counts)
+  goes-wait refused [] desk counts fits from none ready is = goes-get refused desk counts fits from ready none
+  goes-wait refused (holder ∷ holders) desk counts fits from some ready is =
+      ((is, tt, omega (arith, fits)), record { from = from; own = marked-before attempt.entry ready.mark desk is.active ready.here })
+
+  goes-contest : (refused : List ℕ) (mark : Bool) (before : Desk) (contest : Contest) → IsReady attempt before → Came attempt.entry.number most (record attempt.entry { waiting = mark }) before contest
+      → ContestDid attempt.entry.number old contest → Goes old attempt most (contest_ends word attempt refused contest)
+  goes-contest refused mark before (Lost desk counts) ready came did = ((came.0, tt, omega (arith, came.1)), record { from = did.0; own = left-before attempt.entry desk did.1 })
+  goes-contest refused mark before (Contested desk counts) ready came did = absurd came
+  goes-contest refused mark before (Settled desk counts) ready came did =
+      goes-wait refused (conflicts_of desk attempt.entry) desk counts came.5 did refl
+      (ready-again attempt before desk mark ready (contending attempt.entry.number desk came.0) came.1 came.2 came.3)
+      came.0
+
+  goes-ask : (refused holders : List ℕ) (desk : Desk) (counts : Counts) → Room desk counts → From attempt.entry.number old desk → conflicts_of desk attempt.entry ≡ holders → IsReady attempt desk → IsAmong desk.active attempt.entry
+      → Goes old attempt most (asks word attempt refused holders desk counts)
+  goes-ask refused [] desk counts fits from none ready here = goes-get refused desk counts fits from ready none
+  goes-ask refused (holder ∷ holders) desk counts fits from some ready here =
+      let marked = with_entry desk (record attempt.entry { waiting = true }) in
+      goes-contest refused true desk _ ready
+      (breaks-all (length desk.active) attempt.entry.number most (record attempt.entry { waiting = true }) desk marked counts refl
+      (new-among (record attempt.entry { waiting = true }) desk.active attempt.entry here refl)
+      (marked-contending desk attempt.entry true here ready.contending)
+      (omega (arith, length-replaced (record attempt.entry { waiting = true }) desk.active)) refl refl (λ page own. refl)
+      (omega (arith, fits, length-replaced (record attempt.entry { waiting = true }) desk.active)))
+      (breaks-did attempt.entry.number old (length desk.active) (Contested marked counts) (marked-from old desk attempt.entry (record attempt.entry { waiting = true }) refl from))
+
+  goes-fetch : (desk : Desk) (counts : Counts) (fetching : Fetching) → Room desk counts → From attempt.entry.number old desk → IsOrderly desk → IsAmong desk.active attempt.entry
+      → after attempt.entry.runs.program attempt.entry.runs.args desk.committed attempt.entry.rows ≡ Some attempt.now
+      → row attempt.entry.runs.program desk.committed.directory attempt.now ≡ attempt.outcome
+      → attempt.lines ≡ wanted desk attempt.entry
+      → lines_written attempt desk ≤ desk.most_lines
+      → Goes old attempt most (fetched_first word attempt desk counts fetching)
+  goes-fetch desk counts (Broken counted) fits from is here now went lines short = goes-broken desk counts counted fits from (rolled-consistent desk attempt.entry is)
+  goes-fetch desk counts (Fetched resident counted) fits from is here now went lines short =
+      let there = record desk { resident = resident } in
+      goes-ask (refused_pages attempt there) (conflicts_of there attempt.entry) there
+      (record { ran = counts.ran; pages = counted; locks = counts.locks + length (refused_pages attempt there); cycles = counts.cycles })
+      fits (record { committed = from.committed; others = from.others }) refl
+      (record {
+        contending = contending attempt.entry.number there (resident-consistent desk resident is);
+        mark = attempt.entry.waiting;
+        here = here;
+        now = now;
+        went = went;
+        lines = lines;
+        short = subst (λ (l : Lines). size ((touched_of desk.committed attempt.entry).writes ++ l.writes) ≤ desk.most_lines) lines short;
+      })
+      here
+
+  goes-limit : (over : Bool) (desk : Desk) (counts : Counts) → Room desk counts → From attempt.entry.number old desk → is_over_limit attempt desk ≡ over → IsOrderly desk → IsAmong desk.active attempt.entry
+      → after attempt.entry.runs.program attempt.entry.runs.args desk.committed attempt.entry.rows ≡ Some attempt.now
+      → row attempt.entry.runs.program desk.committed.directory attempt.now ≡ attempt.outcome
+      → attempt.lines ≡ wanted desk attempt.entry
+      → Goes old attempt most (limited over word attempt desk counts)
+  goes-limit true desk counts fits from over is here now went lines = ((rolled-consistent desk attempt.entry is, tt, omega (arith, fits)), rolled-done old attempt desk from)
+  goes-limit false desk counts fits from under is here now went lines =
+      goes-fetch desk counts (fetches_touched word attempt desk counts) fits from is here now went lines (ltb-false desk.most_lines (lines_written attempt desk) under)
+
+  pub goes-attempt : (outcome : Outcome) (desk : Desk) (counts : Counts) → Room desk counts → From attempt.entry.number old desk → IsOrderly desk → IsAmong desk.active attempt.entry
+      → after attempt.entry.runs.program attempt.entry.runs.args desk.committed attempt.entry.rows ≡ Some attempt.now
+      → row attempt.entry.runs.program desk.committed.directory attempt.now ≡ attempt.outcome
+      → attempt.lines ≡ wanted desk attempt.entry
+      → Goes old attempt most (attempts word attempt outcome desk counts)
+  goes-attempt (Check code) desk counts fits from is here now went lines = ((rolled-consistent desk attempt.entry is, tt, omega (arith, fits)), rolled-done old attempt desk from)
+  goes-attempt (On next) desk counts fits from is here now went lines = goes-limit (is_over_limit attempt desk) desk counts fits from refl is here now went lines
+  goes-attempt Commit desk counts fits from is here now went lines = goes-limit (is_over_limit attempt desk) desk counts fits from refl is here now went lines
+
+-- what the instruction of an active number does
+pub record Instructed (number most : ℕ) (old : Desk) (turning : Turning) : Type 0 where
+  pub entry : Entry
+  pub here : IsAmong old.active entry
+  pub own : entry.number ≡ number
+  pub now : Plain
+  pub at : after entry.runs.program entry.runs.args old.committed entry.rows ≡ Some now
+  pub goes : Goes old (attempt_of old entry now) most turning
+
+-- an instruction of the entry with a number
+pub instructed : (word : Word) (number most : ℕ) (desk : Desk) (counts : Counts) → IsOrderly desk → IsActive desk number → length counts.cycles + length desk.active ≤ most
+    → Instructed number most desk (instruction word (find (λ (entry : Entry). entry.number == number) desk.active) desk counts)
+unfolding instruction
+instructed word number most desk counts is active fits = by_entry (find (λ (entry : Entry). entry.number == number) desk.active) refl
+  where
+    by_state : (entry : Entry) → IsAmong desk.active entry → entry.number ≡ number → (state : Option Plain)
+        → after entry.runs.program entry.runs.args desk.committed entry.rows ≡ state → Instructed number most desk (attempts_at word entry state desk counts)
+    by_state entry here own None at = absurd (none-some (is.active.live entry here).state (sym at ∙ (is.active.live entry here).is))
+    by_state entry here own (Some now) at = record {
+      entry = entry;
+      here = here;
+      own = own;
+      now = now;
+      at = at;
+      goes =
+          goes-attempt word (attempt_of desk entry now) most desk (row entry.runs.program desk.committed.directory now) desk counts fits
+          (record { committed = refl; others = λ other among differ. among }) is here at refl refl;
+    }
+
+    by_entry : (one : Option Entry) → find (λ (entry : Entry). entry.number == number) desk.active ≡ one → Instructed number most desk (instruction word one desk counts)
+    by_entry None found = absurd (both_ways (active.0.number == number) (none-found (λ (entry : Entry). entry.number == number) desk.active found active.0 active.1) (eq-eqb active.0.number number active.2))
+    by_entry (Some entry) found =
+        let (here, passes) = among-found (λ (entry : Entry). entry.number == number) desk.active entry found in
+        by_state entry here (eqb-true entry.number number passes)
+        (after entry.runs.program entry.runs.args desk.committed entry.rows) refl
+
+pub stays-instruction : (word : Word) (number most : ℕ) (desk : Desk) (counts : Counts) → IsOrderly desk → IsActive desk number → length counts.cycles + length desk.active ≤ most
+    → Stays number most (instruction word (find (λ (entry : Entry). entry.number == number) desk.active) desk counts)
+stays-instruction word number most desk counts is active fits =
+    let by = instructed word number most desk counts is active fits in
+    subst (λ (n : ℕ). Stays n most (instruction word (find (λ (entry : Entry). entry.number == number) desk.active) desk counts)) by.own by.goes.0
+
+-- so many instructions
+pub stays-turns : (word : Word) (number most left : ℕ) (turning : Turning) → Stays number most turning → Stays number most (turns word number left turning)
+unfolding turns
+stays-turns word number most zero (Going desk counts) is = (is.0, tt, omega (arith, is.2))
+stays-turns word number most (suc left) (Going desk counts) is = stays-turns word number most left _ (stays-instruction word number most desk counts is.0 is.1 is.2)
+stays-turns word number most left (Over desk counts ending) is = is

@@ -1,0 +1,206 @@
+-- Who waits for whom as entries change.
+use Rattle.std.specs.Prelude.{◌≡◌, refl, ℕ, ◌==◌, ◌&&◌, not, Bool, true, false, List, [], ◌∷◌, filter, map, Some}
+use Rattle.std.specs.List.{list_any}
+use Rattle.std.proofs.Common.{ap, sym, ◌∙◌, subst, inl, inr}
+use Rattle.std.proofs.lemmas.Bool.{eqb-true, eq-eqb, both_ways, and_parts, and_from, or_cases, or_left, or_right, not-true, false_from_ne_true}
+use Rattle.line_geometry.specs.FlatStore.{IsWhole}
+use Rattle.lock_rules.specs.Sets.{has}
+use Rattle.lock_rules.specs.Lines.{conflicts, with_whole_pages}
+use Rattle.flat_machine.specs.declared.machine.Plain.{Plain}
+use Rattle.flat_machine.specs.After.{after}
+use Rattle.desk.specs.Desk.{Desk, Entry, with_entry, rolled_back}
+use Rattle.desk.specs.Holdings.{conflicts_with, waits_for}
+use Rattle.desk_law.specs.Changes.{committed_at, left_by}
+use Rattle.desk_law.specs.Consistent.{IsAmong, AreConsistent}
+use Rattle.desk_law.proofs.Entries.{among-filter, among-replaced}
+use Rattle.desk_law.proofs.Walks.{except, Leaves}
+use Rattle.desk_law.proofs.Others.{another-stays, StaysSame}
+
+-- an entry that passes a test settles it
+pub any-among : (test : Entry → Bool) (entries : List Entry) → list_any test entries ≡ true → (entry : Entry) × IsAmong entries entry × (test entry ≡ true)
+any-among test [] some = absurd (cc)
+any-among test (one ∷ entries) some =
+    elim (or_cases (test one) (list_any test entries) some) [
+      | inl here ↦ (one, inl refl, here)
+      | inr later ↦ let (entry, among, passes) = any-among test entries later in (entry, inr among, passes)
+    ]
+
+pub among-any : (test : Entry → Bool) (entries : List Entry) (entry : Entry) → IsAmong entries entry → test entry ≡ true → list_any test entries ≡ true
+among-any test [] entry among passes = absurd among
+among-any test (one ∷ entries) entry (inl same) passes = or_left (test one) (list_any test entries) (ap test same ∙ passes)
+among-any test (one ∷ entries) entry (inr among) passes = or_right (test one) (list_any test entries) (among-any test entries entry among passes)
+
+-- the numbers are those of entries
+pub number-of : (entries : List Entry) (number : ℕ) → has (map (λ (entry : Entry). entry.number) entries) number ≡ true → (entry : Entry) × IsAmong entries entry × (entry.number ≡ number)
+number-of [] number inside = absurd (cc)
+number-of (one ∷ entries) number inside =
+    elim (or_cases (one.number == number) (has (map (λ (entry : Entry). entry.number) entries) number) inside) [
+      | inl here ↦ (one, inl refl, eqb-true one.number number here)
+      | inr later ↦ let (entry, among, same) = number-of entries number later in (entry, inr among, same)
+    ]
+
+pub has-number : (entries : List Entry) (entry : Entry) → IsAmong entries entry → has (map (λ (entry : Entry). entry.number) entries) entry.number ≡ true
+has-number [] entry among = absurd among
+has-number (one ∷ entries) entry (inl same) = or_left (one.number == entry.number) (has (map (λ (entry : Entry). entry.number) entries) entry.number) (eq-eqb one.number entry.number (ap (λ (x : Entry). x.number) same))
+has-number (one ∷ entries) entry (inr among) = or_right (one.number == entry.number) (has (map (λ (entry : Entry). entry.number) entries) entry.number) (has-number entries entry among)
+
+-- one entry waits for another
+pub record WaitsFor (desk : Desk) (from to : ℕ) : Type 0 where
+  pub entry : Entry
+  pub other : Entry
+  pub entry_among : IsAmong desk.active entry
+  pub other_among : IsAmong desk.active other
+  pub is_from : (entry.number == from) ≡ true
+  pub waiting : entry.waiting ≡ true
+  pub is_to : (other.number == to) ≡ true
+  pub conflict : conflicts_with desk entry other ≡ true
+
+pub waits-by : (desk : Desk) (from to : ℕ) → waits_for desk from to ≡ true → WaitsFor desk from to
+waits-by desk from to waits =
+    let (entry, among, passes) = any-among (λ entry. entry.number == from && entry.waiting && list_any (λ other. other.number == to && conflicts_with desk entry other) desk.active) desk.active waits in
+    let parts = and_parts (entry.number == from && entry.waiting) (list_any (λ other. other.number == to && conflicts_with desk entry other) desk.active) passes in
+    let firsts = and_parts (entry.number == from) entry.waiting parts.0 in
+    let (other, there, meets) = any-among (λ other. other.number == to && conflicts_with desk entry other) desk.active parts.1 in
+    let seconds = and_parts (other.number == to) (conflicts_with desk entry other) meets in
+    record {
+      entry = entry;
+      other = other;
+      entry_among = among;
+      other_among = there;
+      is_from = firsts.0;
+      waiting = firsts.1;
+      is_to = seconds.0;
+      conflict = seconds.1;
+    }
+
+pub waits-from : (desk : Desk) (from to : ℕ) → WaitsFor desk from to → waits_for desk from to ≡ true
+waits-from desk from to by =
+    among-any (λ entry. entry.number == from && entry.waiting && list_any (λ other. other.number == to && conflicts_with desk entry other) desk.active) desk.active by.entry by.entry_among
+    (and_from (by.entry.number == from && by.entry.waiting) (list_any (λ other. other.number == to && conflicts_with desk by.entry other) desk.active)
+    (and_from (by.entry.number == from) by.entry.waiting by.is_from by.waiting)
+    (among-any (λ other. other.number == to && conflicts_with desk by.entry other) desk.active by.other by.other_among
+    (and_from (by.other.number == to) (conflicts_with desk by.entry by.other) by.is_to by.conflict)))
+
+-- fewer entries have fewer numbers
+pub fewer-numbers : (test : Entry → Bool) (entries : List Entry) (x : ℕ)
+    → has (map (λ (entry : Entry). entry.number) (filter test entries)) x ≡ true → has (map (λ (entry : Entry). entry.number) entries) x ≡ true
+fewer-numbers test entries x inside =
+    let (entry, among, same) = number-of (filter test entries) x inside in
+    subst (λ (n : ℕ). has (map (λ (entry : Entry). entry.number) entries) n ≡ true) same (has-number entries entry (among-filter test entries entry among).0)
+
+-- after a rollback, whoever waits did so before
+pub rollback-waits : (desk : Desk) (gone : Entry) (from to : ℕ) → waits_for (rolled_back desk gone) from to ≡ true → waits_for desk from to ≡ true
+rollback-waits desk gone from to waits =
+    let by = waits-by (rolled_back desk gone) from to waits in
+    waits-from desk from to
+    (record {
+      entry = by.entry;
+      other = by.other;
+      entry_among = (among-filter (λ (other : Entry). not (other.number == gone.number)) desk.active by.entry by.entry_among).0;
+      other_among = (among-filter (λ (other : Entry). not (other.number == gone.number)) desk.active by.other by.other_among).0;
+      is_from = by.is_from;
+      waiting = by.waiting;
+      is_to = by.is_to;
+      conflict = by.conflict;
+    })
+
+-- and after a commit
+pub commit-waits : (desk : Desk) (entry : Entry) (now : Plain) (from to : ℕ) → IsWhole desk.committed
+    → AreConsistent desk.committed desk.most_lines desk.next desk.active → IsAmong desk.active entry
+    → after entry.runs.program entry.runs.args desk.committed entry.rows ≡ Some now
+    → waits_for (committed_at desk entry now) from to ≡ true → waits_for desk from to ≡ true
+commit-waits desk entry now from to whole are here is waits =
+    let by = waits-by (committed_at desk entry now) from to waits in
+    let (there1, differ1) = among-filter (λ (other : Entry). not (other.number == entry.number)) desk.active by.entry by.entry_among in
+    let (there2, differ2) = among-filter (λ (other : Entry). not (other.number == entry.number)) desk.active by.other by.other_among in
+    let same1 : StaysSame desk.committed (left_by desk.committed now) by.entry = another-stays desk.committed desk.most_lines desk.next desk.active entry by.entry now whole are here there1 (not-true (by.entry.number == entry.number) differ1) is in
+    let same2 : StaysSame desk.committed (left_by desk.committed now) by.other = another-stays desk.committed desk.most_lines desk.next desk.active entry by.other now whole are here there2 (not-true (by.other.number == entry.number) differ2) is in
+    waits-from desk from to
+    (record {
+      entry = by.entry;
+      other = by.other;
+      entry_among = there1;
+      other_among = there2;
+      is_from = by.is_from;
+      waiting = by.waiting;
+      is_to = by.is_to;
+      conflict =
+          sym (λ i. not (by.other.number == by.entry.number) && conflicts (with_whole_pages (same1.wants i)) (same2.due i)) ∙ by.conflict;
+    })
+
+-- one that is marked waiting adds waits of its own alone
+pub marked-waits : (desk : Desk) (entry : Entry) (mark : Bool) (from to : ℕ) → IsAmong desk.active entry
+    → except entry.number (waits_for (with_entry desk (record entry { waiting = mark }))) from to ≡ true → except entry.number (waits_for desk) from to ≡ true
+marked-waits desk entry mark from to here waits =
+    let parts = and_parts (not (from == entry.number)) (waits_for (with_entry desk (record entry { waiting = mark })) from to) waits in
+    let by = waits-by (with_entry desk (record entry { waiting = mark })) from to parts.1 in
+    and_from (not (from == entry.number)) (waits_for desk from to) parts.0
+    (elim (among-replaced (record entry { waiting = mark }) desk.active by.entry by.entry_among) [
+      | inl new ↦
+          let same : (entry.number == from) ≡ true = ap (λ (x : Entry). x.number == from) new ∙ by.is_from in
+          absurd (both_ways (from == entry.number) (not-true (from == entry.number) parts.0) (eq-eqb from entry.number (sym (eqb-true entry.number from same))))
+      | inr old ↦
+          elim (among-replaced (record entry { waiting = mark }) desk.active by.other by.other_among) [
+            | inl new ↦
+                waits-from desk from to
+                (record {
+                  entry = by.entry;
+                  other = entry;
+                  entry_among = old.0;
+                  other_among = here;
+                  is_from = by.is_from;
+                  waiting = by.waiting;
+                  is_to = ap (λ (x : Entry). x.number == to) new ∙ by.is_to;
+                  conflict = ap (λ (x : Entry). conflicts_with desk by.entry x) new ∙ by.conflict;
+                })
+            | inr also ↦
+                waits-from desk from to
+                (record {
+                  entry = by.entry;
+                  other = by.other;
+                  entry_among = old.0;
+                  other_among = also.0;
+                  is_from = by.is_from;
+                  waiting = by.waiting;
+                  is_to = by.is_to;
+                  conflict = by.conflict;
+                })
+          ]
+    ])
+
+-- one whose row goes on waits for nobody
+pub gone-on : (desk : Desk) (entry new : Entry) → new.number ≡ entry.number → new.waiting ≡ false
+    → Leaves entry.number (waits_for (with_entry desk new)) (waits_for desk)
+gone-on desk entry new same not_waiting = record {
+  none = λ to.
+      false_from_ne_true (waits_for (with_entry desk new) entry.number to)
+      (λ waits.
+      let by = waits-by (with_entry desk new) entry.number to waits in
+      elim (among-replaced new desk.active by.entry by.entry_among) [
+        | inl it ↦ both_ways by.entry.waiting (sym (ap (λ (x : Entry). x.waiting) it) ∙ not_waiting) by.waiting
+        | inr old ↦ both_ways (by.entry.number == new.number) old.1 (eq-eqb by.entry.number new.number (eqb-true by.entry.number entry.number by.is_from ∙ sym same))
+      ]);
+  kept = λ from to other waits.
+      let by = waits-by (with_entry desk new) from to waits in
+      elim (among-replaced new desk.active by.entry by.entry_among) [
+        | inl it ↦ absurd (both_ways by.entry.waiting (sym (ap (λ (x : Entry). x.waiting) it) ∙ not_waiting) by.waiting)
+        | inr old ↦
+            elim (among-replaced new desk.active by.other by.other_among) [
+              | inl it ↦
+                  let is_one : to ≡ entry.number = sym (eqb-true by.other.number to by.is_to) ∙ sym (ap (λ (x : Entry). x.number) it) ∙ same in
+                  absurd (both_ways (to == entry.number) other (eq-eqb to entry.number is_one))
+              | inr also ↦
+                  waits-from desk from to
+                  (record {
+                    entry = by.entry;
+                    other = by.other;
+                    entry_among = old.0;
+                    other_among = also.0;
+                    is_from = by.is_from;
+                    waiting = by.waiting;
+                    is_to = by.is_to;
+                    conflict = by.conflict;
+                  })
+            ]
+      ];
+}

@@ -1,0 +1,288 @@
+-- Where waits lead.
+use Rattle.std.specs.Prelude.{◌≡◌, refl, ℕ, zero, suc, ◌<◌, ◌≤◌, ◌==◌, ◌&&◌, ◌||◌, ◌⊎◌, not, if◌then◌else◌, Bool, true, false, List, [], ◌∷◌, length, filter}
+use Rattle.std.specs.List.{list_any}
+use Rattle.std.proofs.Common.{arith, ap, sym, ◌∙◌, subst, inl, inr}
+use Rattle.std.proofs.lemmas.Bool.{eqb-true, eq-eqb, both_ways, and_parts, and_from, or_cases, or_left, or_right, cases_Bool, not_from_false, false_from_ne_true}
+use Rattle.lock_rules.specs.Sets.{has}
+use Rattle.lock_rules.specs.Waits.{leads}
+use Rattle.lock_rules.proofs.Sets.{any-at, any-some}
+use Rattle.desk_law.specs.Consistent.{HasNoCycle}
+use Rattle.desk_law.proofs.Entries.{filter-short}
+
+-- the first step of a walk
+pub record Steps (waits : ℕ → ℕ → Bool) (all : List ℕ) (steps from to : ℕ) : Type 0 where
+  pub next : ℕ
+  pub there : has all next ≡ true
+  pub step : waits from next ≡ true
+  pub rest : (next ≡ to) ⊎ (leads waits all steps next to ≡ true)
+
+pub first-step : (waits : ℕ → ℕ → Bool) (all : List ℕ) (steps from to : ℕ) → leads waits all (suc steps) from to ≡ true → Steps waits all steps from to
+first-step waits all steps from to leads_there =
+    let (next, there, passes) = any-some (λ next. waits from next && (next == to || leads waits all steps next to)) all leads_there in
+    let parts = and_parts (waits from next) (next == to || leads waits all steps next to) passes in
+    record {
+      next = next;
+      there = there;
+      step = parts.0;
+      rest = elim (or_cases (next == to) (leads waits all steps next to) parts.1) [
+        | inl same ↦ inl (eqb-true next to same)
+        | inr later ↦ inr later
+      ];
+    }
+
+pub one-step : (waits : ℕ → ℕ → Bool) (all : List ℕ) (steps from to next : ℕ) → has all next ≡ true → waits from next ≡ true
+    → (next ≡ to) ⊎ (leads waits all steps next to ≡ true) → leads waits all (suc steps) from to ≡ true
+one-step waits all steps from to next there step (inl same) =
+    any-at (λ next. waits from next && (next == to || leads waits all steps next to)) all next there
+    (and_from (waits from next) (next == to || leads waits all steps next to) step (or_left (next == to) (leads waits all steps next to) (eq-eqb next to same)))
+one-step waits all steps from to next there step (inr later) =
+    any-at (λ next. waits from next && (next == to || leads waits all steps next to)) all next there
+    (and_from (waits from next) (next == to || leads waits all steps next to) step (or_right (next == to) (leads waits all steps next to) later))
+
+-- more waits among more numbers lead as far
+pub leads-wider : (waits wider : ℕ → ℕ → Bool) (all more : List ℕ)
+    → ((from to : ℕ) → waits from to ≡ true → wider from to ≡ true) → ((x : ℕ) → has all x ≡ true → has more x ≡ true)
+    → (steps from to : ℕ) → leads waits all steps from to ≡ true → leads wider more steps from to ≡ true
+leads-wider waits wider all more wide among zero from to walk = absurd (cc)
+leads-wider waits wider all more wide among (suc steps) from to walk =
+    let first = first-step waits all steps from to walk in
+    one-step wider more steps from to first.next (among first.next first.there) (wide from first.next first.step)
+    (elim first.rest [
+      | inl same ↦ inl same
+      | inr later ↦ inr (leads-wider waits wider all more wide among steps first.next to later)
+    ])
+
+-- so do more steps
+pub leads-more : (waits : ℕ → ℕ → Bool) (all : List ℕ) (steps more from to : ℕ) → steps ≤ more → leads waits all steps from to ≡ true → leads waits all more from to ≡ true
+leads-more waits all zero more from to le walk = absurd (cc)
+leads-more waits all (suc steps) zero from to le walk = absurd (omega arith)
+leads-more waits all (suc steps) (suc more) from to le walk =
+    let first = first-step waits all steps from to walk in
+    one-step waits all more from to first.next first.there first.step
+    (elim first.rest [
+      | inl same ↦ inl same
+      | inr later ↦ inr (leads-more waits all steps more first.next to (omega arith) later)
+    ])
+
+-- one walk after another
+pub walk-on : (waits : ℕ → ℕ → Bool) (all : List ℕ) (steps others from middle to : ℕ)
+    → leads waits all steps from middle ≡ true → leads waits all others middle to ≡ true → (sum : ℕ) × (leads waits all sum from to ≡ true)
+walk-on waits all zero others from middle to one two = absurd (cc)
+walk-on waits all (suc steps) others from middle to one two =
+    let first = first-step waits all steps from middle one in
+    elim first.rest [
+      | inl same ↦ (
+        suc others,
+        one-step waits all others from to first.next first.there first.step (inr (ap (λ (x : ℕ). leads waits all others x to) same ∙ two)),
+      )
+      | inr later ↦
+          let (sum, walk) = walk-on waits all steps others first.next middle to later two in (
+            suc sum,
+            one-step waits all sum from to first.next first.there first.step (inr walk),
+          )
+    ]
+
+-- the waits without those of one number
+abbrev pub except : ℕ → (ℕ → ℕ → Bool) → ℕ → ℕ → Bool
+except one waits from to = not (from == one) && waits from to
+
+-- a walk that goes by a number
+pub record GoesBy (waits : ℕ → ℕ → Bool) (all : List ℕ) (one from to : ℕ) : Type 0 where
+  pub until : (from ≡ one) ⊎ ((steps : ℕ) × (leads waits all steps from one ≡ true))
+  pub steps : ℕ
+  pub onwards : leads waits all steps one to ≡ true
+
+-- a walk goes by a number, or does without its waits
+pub by-or-without : (waits : ℕ → ℕ → Bool) (all : List ℕ) (one steps from to : ℕ) → leads waits all steps from to ≡ true
+    → (leads (except one waits) all steps from to ≡ true) ⊎ GoesBy waits all one from to
+by-or-without waits all one zero from to walk = absurd (cc)
+by-or-without waits all one (suc steps) from to walk =
+    elim (cases_Bool (from == one)) [
+      | inl here ↦
+          let same : from ≡ one = eqb-true from one here in
+          inr (record { until = inl same; steps = suc steps; onwards = subst (λ (x : ℕ). leads waits all (suc steps) x to ≡ true) same walk })
+      | inr away ↦
+          let first = first-step waits all steps from to walk in
+          let step : except one waits from first.next ≡ true = and_from (not (from == one)) (waits from first.next) (not_from_false (from == one) away) first.step in
+          elim first.rest [
+            | inl same ↦ inl (one-step (except one waits) all steps from to first.next first.there step (inl same))
+            | inr later ↦
+                elim (by-or-without waits all one steps first.next to later) [
+                  | inl without ↦ inl (one-step (except one waits) all steps from to first.next first.there step (inr without))
+                  | inr by ↦
+                      inr (record {
+                        until = inr (elim by.until [
+                          | inl same ↦ (1, one-step waits all zero from one first.next first.there first.step (inl same))
+                          | inr longer ↦ (suc longer.0, one-step waits all longer.0 from one first.next first.there first.step (inr longer.1))
+                        ]);
+                        steps = by.steps;
+                        onwards = by.onwards;
+                      })
+                ]
+          ]
+    ]
+
+-- a cycle goes by a number that it leads back to, or does without its waits
+pub no-cycle-from : (waits : ℕ → ℕ → Bool) (all : List ℕ) (one : ℕ) → HasNoCycle (except one waits) all
+    → ((steps : ℕ) → leads waits all steps one one ≡ false) → HasNoCycle waits all
+no-cycle-from waits all one none not_back steps number =
+    false_from_ne_true (leads waits all steps number number)
+    (λ walk. elim (by-or-without waits all one steps number number walk) [
+      | inl without ↦ both_ways (leads (except one waits) all steps number number) (none steps number) without
+      | inr by ↦ elim by.until [
+        | inl same ↦ both_ways (leads waits all by.steps one one) (not_back by.steps) (ap (leads waits all by.steps one) (sym same) ∙ by.onwards)
+        | inr before ↦
+            let (sum, round) = walk-on waits all by.steps before.0 one number one by.onwards before.1 in
+            both_ways (leads waits all sum one one) (not_back sum) round
+      ]
+    ])
+
+-- with fewer waits there is no cycle either
+pub no-cycle-fewer : (fewer waits : ℕ → ℕ → Bool) (less all : List ℕ)
+    → ((from to : ℕ) → fewer from to ≡ true → waits from to ≡ true) → ((x : ℕ) → has less x ≡ true → has all x ≡ true)
+    → HasNoCycle waits all → HasNoCycle fewer less
+no-cycle-fewer fewer waits less all wide among none steps number =
+    false_from_ne_true (leads fewer less steps number number)
+    (λ walk. both_ways (leads waits all steps number number) (none steps number) (leads-wider fewer waits less all wide among steps number number walk))
+
+-- one that waits for nobody is in no cycle, whoever waits for it
+pub record Leaves (one : ℕ) (new old : ℕ → ℕ → Bool) : Type 0 where
+  pub none : (to : ℕ) → new one to ≡ false
+  pub kept : (from to : ℕ) → (to == one) ≡ false → new from to ≡ true → old from to ≡ true
+
+away-from : (one : ℕ) (new old : ℕ → ℕ → Bool) (all : List ℕ) (steps from to : ℕ) → Leaves one new old → leads new all steps from to ≡ true → (from == one) ≡ false
+away-from one new old all zero from to leaves walk = absurd (cc)
+away-from one new old all (suc steps) from to leaves walk =
+    let first = first-step new all steps from to walk in
+    false_from_ne_true (from == one)
+    (λ here. both_ways (new from first.next) (ap (λ (x : ℕ). new x first.next) (eqb-true from one here) ∙ leaves.none first.next) first.step)
+
+stays-away : (one : ℕ) (new old : ℕ → ℕ → Bool) (all : List ℕ) (steps from to : ℕ) → Leaves one new old → (to == one) ≡ false → leads new all steps from to ≡ true
+    → leads (except one old) all steps from to ≡ true
+stays-away one new old all zero from to leaves other walk = absurd (cc)
+stays-away one new old all (suc steps) from to leaves other walk =
+    let first = first-step new all steps from to walk in
+    let away : (from == one) ≡ false = away-from one new old all (suc steps) from to leaves walk in
+    let step : (first.next == one) ≡ false → except one old from first.next ≡ true =
+    λ next_away. and_from (not (from == one)) (old from first.next) (not_from_false (from == one) away) (leaves.kept from first.next next_away first.step) in
+    elim first.rest [
+      | inl same ↦
+          one-step (except one old) all steps from to first.next first.there
+          (step (ap (λ (x : ℕ). x == one) same ∙ other)) (inl same)
+      | inr later ↦
+          one-step (except one old) all steps from to first.next first.there
+          (step (away-from one new old all steps first.next to leaves later)) (inr (stays-away one new old all steps first.next to leaves other later))
+    ]
+
+pub no-cycle-leaves : (one : ℕ) (new old : ℕ → ℕ → Bool) (all : List ℕ) → Leaves one new old → HasNoCycle (except one old) all → HasNoCycle new all
+no-cycle-leaves one new old all leaves none steps number =
+    false_from_ne_true (leads new all steps number number)
+    (λ walk.
+    both_ways (leads (except one old) all steps number number) (none steps number)
+    (stays-away one new old all steps number number leaves (away-from one new old all steps number number leaves walk) walk))
+
+-- How many pass one test, and how many another that lets more pass.
+count-le : (test wider : ℕ → Bool) (xs : List ℕ) → ((x : ℕ) → test x ≡ true → wider x ≡ true) → length (filter test xs) ≤ length (filter wider xs)
+count-le test wider [] wide = omega arith
+count-le test wider (x ∷ xs) wide = by_test (test x) (wider x) refl refl (count-le test wider xs wide)
+  where
+    by_test :
+        (one two : Bool) → test x ≡ one → wider x ≡ two → length (filter test xs) ≤ length (filter wider xs)
+        → length (if one then x ∷ filter test xs else filter test xs) ≤ length (if two then x ∷ filter wider xs else filter wider xs)
+    by_test true true e f rest = omega (arith, rest)
+    by_test true false e f rest = absurd (both_ways (wider x) f (wide x e))
+    by_test false true e f rest = omega (arith, rest)
+    by_test false false e f rest = rest
+
+pub count-lt : (test wider : ℕ → Bool) (xs : List ℕ) → ((x : ℕ) → test x ≡ true → wider x ≡ true)
+    → list_any (λ x. wider x && not (test x)) xs ≡ true → length (filter test xs) < length (filter wider xs)
+count-lt test wider [] wide some = absurd (cc)
+count-lt test wider (x ∷ xs) wide some = by_test (test x) (wider x) refl refl (count-le test wider xs wide) (count-lt test wider xs wide) some
+  where
+    by_test :
+        (one two : Bool) → test x ≡ one → wider x ≡ two → length (filter test xs) ≤ length (filter wider xs)
+        → (list_any (λ x. wider x && not (test x)) xs ≡ true → length (filter test xs) < length (filter wider xs))
+        → ((two && not one) || list_any (λ x. wider x && not (test x)) xs) ≡ true
+        → length (if one then x ∷ filter test xs else filter test xs) < length (if two then x ∷ filter wider xs else filter wider xs)
+    by_test true true e f le rest some = omega (arith, rest some)
+    by_test true false e f le rest some = absurd (both_ways (wider x) f (wide x e))
+    by_test false true e f le rest some = omega (arith, le)
+    by_test false false e f le rest some = rest some
+
+pub all-pass : (test : ℕ → Bool) (xs : List ℕ) → length xs ≤ length (filter test xs) → (x : ℕ) → has xs x ≡ true → test x ≡ true
+all-pass test [] full x inside = absurd (cc)
+all-pass test (y ∷ ys) full x inside = by_test (test y) refl full (all-pass test ys) inside
+  where
+    by_test :
+        (one : Bool) → test y ≡ one → suc (length ys) ≤ length (if one then y ∷ filter test ys else filter test ys)
+        → (length ys ≤ length (filter test ys) → (x : ℕ) → has ys x ≡ true → test x ≡ true)
+        → (y == x || has ys x) ≡ true → test x ≡ true
+    by_test true e full rest inside = elim (or_cases (y == x) (has ys x) inside) [
+      | inl same ↦ ap test (sym (eqb-true y x same)) ∙ e
+      | inr later ↦ rest (omega (arith, full)) x later
+    ]
+    by_test false e full rest inside = absurd (omega (arith, full, filter-short test ys))
+
+-- whether so many steps lead to a number
+abbrev reach : (ℕ → ℕ → Bool) → List ℕ → ℕ → ℕ → ℕ → Bool
+reach waits all to steps from = leads waits all steps from to
+
+-- with one step more, no other number leads there
+abbrev Stable : (ℕ → ℕ → Bool) → List ℕ → ℕ → ℕ → Type 0
+Stable waits all to steps = (x : ℕ) → has all x ≡ true → leads waits all (suc steps) x to ≡ true → leads waits all steps x to ≡ true
+
+-- then none does with any more
+stable-stays : (waits : ℕ → ℕ → Bool) (all : List ℕ) (to steps : ℕ) → Stable waits all to steps
+    → (more x : ℕ) → has all x ≡ true → leads waits all more x to ≡ true → leads waits all steps x to ≡ true
+stable-stays waits all to steps stable zero x inside walk = absurd (cc)
+stable-stays waits all to steps stable (suc more) x inside walk =
+    let first = first-step waits all more x to walk in
+    stable x inside
+    (one-step waits all steps x to first.next first.there first.step
+    (elim first.rest [
+      | inl same ↦ inl same
+      | inr later ↦ inr (stable-stays waits all to steps stable more first.next first.there later)
+    ]))
+
+-- so many steps are stable, or more numbers lead there than with fewer
+stable-or-more : (waits : ℕ → ℕ → Bool) (all : List ℕ) (to steps : ℕ)
+    → Stable waits all to steps ⊎ (length (filter (reach waits all to steps) all) < length (filter (reach waits all to (suc steps)) all))
+stable-or-more waits all to steps =
+    elim (cases_Bool (list_any (λ x. reach waits all to (suc steps) x && not (reach waits all to steps x)) all)) [
+      | inl some ↦ inr (count-lt (reach waits all to steps) (reach waits all to (suc steps)) all (λ x walk. leads-more waits all steps (suc steps) x to (omega arith) walk) some)
+      | inr none ↦ inl (λ x inside walk.
+          elim (cases_Bool (leads waits all steps x to)) [
+            | inl fine ↦ fine
+            | inr not_yet ↦
+                absurd (both_ways (list_any (λ x. reach waits all to (suc steps) x && not (reach waits all to steps x)) all) none
+                (any-at (λ x. reach waits all to (suc steps) x && not (reach waits all to steps x)) all x inside
+                (and_from (leads waits all (suc steps) x to) (not (leads waits all steps x to)) walk (not_from_false (leads waits all steps x to) not_yet))))
+          ])
+    ]
+
+-- some number of steps is stable, or each brought one number more
+record StableBy (waits : ℕ → ℕ → Bool) (all : List ℕ) (to most : ℕ) : Type 0 where
+  steps : ℕ
+  upto : steps ≤ most
+  stable : Stable waits all to steps
+
+stable-by : (waits : ℕ → ℕ → Bool) (all : List ℕ) (to most : ℕ) → StableBy waits all to most ⊎ (most ≤ length (filter (reach waits all to most) all))
+stable-by waits all to zero = inr (omega arith)
+stable-by waits all to (suc most) =
+    elim (stable-by waits all to most) [
+      | inl by ↦ inl (record { steps = by.steps; upto = omega (arith, by.upto); stable = by.stable })
+      | inr many ↦
+          elim (stable-or-more waits all to most) [
+            | inl stable ↦ inl (record { steps = most; upto = omega arith; stable = stable })
+            | inr more ↦ inr (omega (arith, many, more))
+          ]
+    ]
+
+-- a walk needs no more steps than there are numbers
+pub walk-short : (waits : ℕ → ℕ → Bool) (all : List ℕ) (to from steps : ℕ) → has all from ≡ true → leads waits all steps from to ≡ true
+    → leads waits all (length all) from to ≡ true
+walk-short waits all to from steps inside walk =
+    elim (stable-by waits all to (length all)) [
+      | inl by ↦ leads-more waits all by.steps (length all) from to by.upto (stable-stays waits all to by.steps by.stable steps from inside walk)
+      | inr many ↦ all-pass (reach waits all to (length all)) all many from inside
+    ]

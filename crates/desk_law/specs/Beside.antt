@@ -1,0 +1,111 @@
+-- What is kept beside a desk and told of it: bytes, locks, requests, states and marks.
+use Rattle.std.specs.Prelude.{◌≡◌, ℕ, ◌≤◌, ◌==◌, ◌&&◌, not, Bool, true, false, List, map, find, length, slice_index_or, Some}
+use Rattle.std.specs.List.{list_any}
+use Rattle.std.specs.Option.{option_map_or}
+use Rattle.line_geometry.specs.FlatStore.{FlatStore}
+use Rattle.lock_rules.specs.Sets.{has}
+use Rattle.lock_rules.specs.Lines.{Lines, conflicts, with_whole_pages, page_of_line}
+use Rattle.flat_machine.specs.declared.machine.Plain.{Plain}
+use Rattle.flat_machine.specs.After.{after}
+use Rattle.flat_machine.specs.Due.{touched_next}
+use Rattle.flat_machine.specs.Agreement.{line_in}
+use Rattle.desk.specs.Desk.{Desk, Entry, Authority, nobody}
+use Rattle.desk.specs.Instruction.{Word, can't_be_read}
+use Rattle.desk_law.specs.Consistent.{IsAmong, due_to, permitted}
+use Rattle.desk_law.specs.Current.{IsCurrent}
+
+-- bytes with these lines from others
+pub record IsLaid (store : FlatStore) (lines : List ℕ) (from old new : List ℕ) : Type 0 where
+  pub long : length new ≡ length old
+  pub laid : (line : ℕ) → has lines line ≡ true → line_in store.directory new line ≡ line_in store.directory from line
+  pub kept : (line : ℕ) → has lines line ≡ false → line_in store.directory new line ≡ line_in store.directory old line
+
+-- a line is on a resident page, whose authority permits a number the access
+pub record IsThere (desk : Desk) (number line : ℕ) (store : Bool) : Type 0 where
+  pub resident : has desk.resident (page_of_line line) ≡ true
+  pub permits : permitted (slice_index_or desk.authority (page_of_line line) nobody) number line store ≡ true
+
+-- all these lines are
+pub record AreThere (desk : Desk) (number : ℕ) (lines : Lines) : Type 0 where
+  pub reads : (line : ℕ) → has lines.reads line ≡ true → IsThere desk number line false
+  pub writes : (line : ℕ) → has lines.writes line ≡ true → IsThere desk number line true
+
+-- two sets of lines have the same members
+pub record AreAlike (one other : Lines) : Type 0 where
+  pub reads : (line : ℕ) → has one.reads line ≡ has other.reads line
+  pub writes : (line : ℕ) → has one.writes line ≡ has other.writes line
+
+-- the state of an entry over the bytes of all, as a storage shows it
+abbrev pub over_all : Plain → List ℕ → Plain
+over_all now bytes = record now { store = bytes }
+
+-- what the next row of an entry asks for, over a store
+abbrev pub requested : FlatStore → Entry → Lines
+requested store entry = with_whole_pages (touched_next entry.runs.program entry.runs.args store entry.rows)
+
+-- tables by number keep the locks of each entry, and the request of each that is marked waiting, as sets
+pub record AreKept (store : FlatStore) (entries : List Entry) (locks requests : ℕ → Lines) : Type 0 where
+  pub held : (entry : Entry) → IsAmong entries entry → AreAlike (locks entry.number) (due_to store entry)
+  pub asked : (entry : Entry) → IsAmong entries entry → entry.waiting ≡ true → AreAlike (requests entry.number) (requested store entry)
+
+-- one table is another but at a number
+pub record IsTableBut (number : ℕ) (old new : ℕ → Lines) : Type 0 where
+  pub kept : (at : ℕ) → (at == number) ≡ false → new at ≡ old at
+
+-- whether what one asks for conflicts with what another holds, by a table of locks
+abbrev pub kept_conflict : Lines → (ℕ → Lines) → (number : ℕ) → Entry → Bool
+kept_conflict asked locks number other = not (other.number == number) && conflicts asked (locks other.number)
+
+-- who waits for whom, by the tables
+abbrev pub kept_waits : (locks requests : ℕ → Lines) → List Entry → ℕ → ℕ → Bool
+kept_waits locks requests entries from to =
+    list_any
+    (λ entry. entry.number == from && entry.waiting && list_any (λ other. other.number == to && kept_conflict (requests entry.number) locks entry.number other) entries)
+    entries
+
+-- the state of an entry is this one, but for the bytes of its store
+pub record IsState (store : FlatStore) (entry : Entry) (shown : Plain) : Type 0 where
+  pub bytes : List ℕ
+  pub at : after entry.runs.program entry.runs.args store entry.rows ≡ Some (over_all shown bytes)
+
+-- the same of each entry, by a table
+abbrev pub AreStates : FlatStore → List Entry → (ℕ → Plain) → Type 0
+AreStates store entries states = (entry : Entry) → IsAmong entries entry → IsState store entry (states entry.number)
+
+-- one table of states is another but at a number
+abbrev pub AreStatesBut : ℕ → (old new : ℕ → Plain) → Type 0
+AreStatesBut number old new = (at : ℕ) → (at == number) ≡ false → new at ≡ old at
+
+-- all that is kept beside the entries over a store
+pub record IsTold (store : FlatStore) (entries : List Entry) (locks requests : ℕ → Lines) (states : ℕ → Plain) (bytes : List ℕ) : Type 0 where
+  pub kept : AreKept store entries locks requests
+  pub stand : AreStates store entries states
+  pub is_current : IsCurrent store entries bytes
+
+-- a line is marked where an active entry has written it
+pub record AreMarked (store : FlatStore) (entries : List Entry) (marked : ℕ → Bool) : Type 0 where
+  pub is : (line : ℕ) → marked line ≡ list_any (λ (entry : Entry). has (due_to store entry).writes line) entries
+
+-- each of the first so many pages that are counted can be read
+abbrev pub Reads : Word → ℕ → Type 0
+Reads word counted = (page : ℕ) → page ≤ counted → can't_be_read word page ≡ false
+
+-- the authority of a page with its owner told: 0 is nobody's identifier and nobody's number
+abbrev pub owner_told : (numbers : ℕ → ℕ) → Authority → Authority
+owner_told numbers authority = record authority { owner = numbers authority.owner }
+
+abbrev pub owners_told : (numbers : ℕ → ℕ) → List Authority → List Authority
+owners_told numbers authority = map (owner_told numbers) authority
+
+-- on each page an identifier stands where its number is told: seats that are taken have numbers of their own
+pub record StandsFor (numbers : ℕ → ℕ) (identifier number : ℕ) (authority : List Authority) : Type 0 where
+  pub is : numbers identifier ≡ number
+  pub alone : (page : ℕ) → ((slice_index_or authority page nobody).owner == identifier) ≡ (numbers (slice_index_or authority page nobody).owner == number)
+
+-- seats that are taken, in the order of their activations, have entries of different numbers
+pub record AreSeats (taken : List ℕ) (entry_of : ℕ → Entry) : Type 0 where
+  pub apart : (at other : ℕ) → has taken at ≡ true → has taken other ≡ true → ((entry_of at).number == (entry_of other).number) ≡ (at == other)
+
+-- a table by seat, as one by number
+abbrev pub by_number : {A : Type 0} → List ℕ → (ℕ → Entry) → (ℕ → A) → A → ℕ → A
+by_number taken entry_of table else_this number = option_map_or table (find (λ at. (entry_of at).number == number) taken) else_this

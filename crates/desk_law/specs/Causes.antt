@@ -1,0 +1,93 @@
+-- Why turns and activations end.
+use Rattle.std.specs.Prelude.{◌≡◌, ℕ, ◌+◌, ◌<◌, ◌==◌, ◌⊎◌, map, Bool, true, false, IsTrue, List, [], ◌∷◌, ◌++◌, Some}
+use Rattle.line_geometry.specs.FlatStore.{FlatStore}
+use Rattle.lock_rules.specs.Sets.{has, size}
+use Rattle.lock_rules.specs.Waits.{victim_of}
+use Rattle.flat_machine.specs.declared.machine.Plain.{Plain}
+use Rattle.flat_machine.specs.Row.{Outcome, Commit, Check, row}
+use Rattle.flat_machine.specs.After.{after}
+use Rattle.flat_machine.specs.Due.{touched_within, touched_next}
+use Rattle.desk.specs.Desk.{Desk, Entry}
+use Rattle.desk.specs.Holdings.{conflicts_of, numbers}
+use Rattle.desk.specs.Instruction.{Word, ReadFailed, Unwritten, Doubt, Counts, Ending, Idle, Limit, Checked, Journal, Disk, Victim, Waits, Committed, CommitUnwritten, CommitDoubted, Turning, Going, Over, turn}
+use Rattle.desk_law.specs.Consistent.{IsAmong, IsConsistent}
+
+-- the row of an entry after so many rows more goes so at a state
+abbrev pub RowIs : FlatStore → Entry → (ran : ℕ) → Plain → Outcome → Type 0
+RowIs store entry ran now outcome =
+    (after entry.runs.program entry.runs.args store (entry.rows + ran) ≡ Some now) × (row entry.runs.program store.directory now ≡ outcome)
+
+-- how many lines an entry will have written after so many rows more and the next one
+abbrev pub lines_by : FlatStore → Entry → (ran : ℕ) → ℕ
+lines_by store entry ran =
+    size
+    ((touched_within entry.runs.program entry.runs.args store (entry.rows + ran)).writes
+    ++ (touched_next entry.runs.program entry.runs.args store (entry.rows + ran)).writes)
+
+-- the entry after so many rows more, marked waiting
+abbrev pub waiting_after : Entry → (ran : ℕ) → Entry
+waiting_after entry ran = record entry { rows = entry.rows + ran; waiting = true }
+
+-- the cause of an end, by the desk and the entry at the turn's begin and the desk at its end
+abbrev pub HasCause : Word → (limit : ℕ) → Desk → Entry → (later : Desk) → Counts → Ending → Type 0
+HasCause word limit desk entry later counts Idle = ⊥
+HasCause word limit desk entry later counts Limit = counts.ran ≡ limit
+HasCause word limit desk entry later counts (Checked code address) =
+    (now : Plain) × RowIs desk.committed entry counts.ran now (Check code) × (address ≡ now.iar)
+HasCause word limit desk entry later counts (Journal lines most) =
+    (lines ≡ lines_by desk.committed entry counts.ran) × (most ≡ desk.most_lines) × (most < lines)
+HasCause word limit desk entry later counts Disk = word ≡ ReadFailed counts.pages
+HasCause word limit desk entry later counts Victim =
+    (front : List (List ℕ)) × (cycle : List ℕ) × (counts.cycles ≡ front ++ cycle ∷ []) × (victim_of cycle ≡ entry.number)
+HasCause word limit desk entry later counts (Waits holders) =
+    IsAmong later.active (waiting_after entry counts.ran)
+    × (conflicts_of later (waiting_after entry counts.ran) ≡ holders)
+    × (holders ≡ [] → ⊥)
+HasCause word limit desk entry later counts (Committed steps printed) =
+    (ran : ℕ) × (counts.ran ≡ ran + 1) × (steps ≡ entry.rows + ran + 1)
+    × ((now : Plain) × RowIs desk.committed entry ran now Commit × (printed ≡ now.out))
+HasCause word limit desk entry later counts CommitUnwritten = (word ≡ Unwritten) × ((now : Plain) × RowIs desk.committed entry counts.ran now Commit)
+HasCause word limit desk entry later counts CommitDoubted = (word ≡ Doubt) × ((now : Plain) × RowIs desk.committed entry counts.ran now Commit)
+
+-- a turn is over, for its cause
+abbrev pub IsOverFor : Word → (limit : ℕ) → Desk → Entry → Turning → Type 0
+IsOverFor word limit desk entry (Going later counts) = ⊥
+IsOverFor word limit desk entry (Over later counts ending) = HasCause word limit desk entry later counts ending
+
+-- The law: each end of a turn of an active entry has its cause. At a limit so many rows were done; at a check and at a commit the row is
+-- that one; a journal's lines are more than a record may have; a page that can't be read is the last one counted; a victim is that of the last
+-- cycle recorded; and who waits is marked, and conflicts with those holders, who are some.
+abbrev pub TurnsEndForCause : Type 0
+TurnsEndForCause =
+    (word : Word) (limit : ℕ) (desk : Desk) (entry : Entry) → IsConsistent desk → IsAmong desk.active entry
+    → IsOverFor word limit desk entry (turn word entry.number limit desk)
+
+-- the desk and the counts of a turn, and whether it is over by an end of its own activation
+abbrev pub desk_of : Turning → Desk
+desk_of (Going desk counts) = desk
+desk_of (Over desk counts ending) = desk
+
+abbrev pub turn_counts : Turning → Counts
+turn_counts (Going desk counts) = counts
+turn_counts (Over desk counts ending) = counts
+
+abbrev pub ends_own : Turning → Bool
+ends_own (Over desk counts (Checked code address)) = true
+ends_own (Over desk counts (Journal lines limit)) = true
+ends_own (Over desk counts Disk) = true
+ends_own (Over desk counts (Committed steps printed)) = true
+ends_own _ = false
+
+-- a number is that of an active entry still, or of the victim of a cycle that the turn recorded, or it is the turn's own, which ended itself
+abbrev pub IsAccounted : (number : ℕ) → Turning → ℕ → Type 0
+IsAccounted number turning other =
+    IsTrue (has (numbers (desk_of turning)) other)
+    ⊎ (IsTrue (has (map victim_of (turn_counts turning).cycles) other)
+    ⊎ (IsTrue (other == number) × IsTrue (ends_own turning)))
+
+-- The law: who is active before a turn and not after it was the victim of a cycle that the turn recorded, or has the turn's number, and the turn
+-- ended by its check, the limit on lines, a page that can't be read, or its commit.
+abbrev pub EndsHaveCauses : Type 0
+EndsHaveCauses =
+    (word : Word) (number limit : ℕ) (desk : Desk) (entry : Entry) → IsAmong desk.active entry
+    → IsAccounted number (turn word number limit desk) entry.number

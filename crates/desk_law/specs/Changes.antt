@@ -1,0 +1,17 @@
+-- What a row and a commit make of an entry, a store and a desk.
+use Rattle.std.specs.Prelude.{◌+◌, false}
+use Rattle.line_geometry.specs.FlatStore.{FlatStore}
+use Rattle.flat_machine.specs.declared.machine.Plain.{Plain}
+use Rattle.desk.specs.Desk.{Desk, Entry, ended}
+
+-- an entry once its row has gone on
+abbrev pub gone_on : Entry → Entry
+gone_on entry = record entry { rows = entry.rows + 1; waiting = false }
+
+-- the store once an entry has committed at a state
+abbrev pub left_by : FlatStore → Plain → FlatStore
+left_by store now = record store { bytes = now.store }
+
+-- the desk after an entry has committed at a state, but for its order
+abbrev pub committed_at : Desk → Entry → Plain → Desk
+committed_at desk entry now = record (ended desk entry.number) { committed = left_by desk.committed now }

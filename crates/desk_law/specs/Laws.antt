@@ -1,0 +1,95 @@
+-- The laws of a desk at every moment.
+use Rattle.std.specs.Prelude.{◌≡◌, ℕ, ◌≤◌, Bool, true, false, IsTrue, IsFalse, List, [], ◌∷◌, ◌++◌, slice_index_or, Some, None}
+use Rattle.line_geometry.specs.FlatStore.{FlatStore, IsWhole}
+use Rattle.lock_rules.specs.Sets.{has}
+use Rattle.lock_rules.specs.Lines.{Lines, page_of_line}
+use Rattle.lock_rules.specs.Waits.{shown_cycle}
+use Rattle.flat_machine.specs.declared.machine.Program.{Program}
+use Rattle.desk.specs.declared.event.Event.{Event}
+use Rattle.desk.specs.Desk.{Desk, Entry, Authority, nobody, opened, with_entry}
+use Rattle.desk.specs.Holdings.{wanted, conflicts_of, numbers, waits_for}
+use Rattle.desk.specs.Instruction.{Word, Counts, Idle, Turning, Over, turn, no_counts, Contest, Contested, Settled, Lost, breaks_cycle, breaks_cycles}
+use Rattle.desk.specs.Run.{step, run}
+use Rattle.desk_law.specs.Consistent.{IsAmong, permitted, IsConsistent}
+
+-- The law: a desk that is consistent is so after every event with every word.
+abbrev pub StaysConsistent : Type 0
+StaysConsistent =
+    (programs : List Program) (event : Event) (word : Word) (desk : Desk)
+    → IsConsistent desk → IsConsistent (step programs event word desk).desk
+
+-- The law: a desk that opens on a whole store with two frames or more is consistent after every run.
+abbrev pub RunsStayConsistent : Type 0
+RunsStayConsistent =
+    (programs : List Program) (frames most_active most_lines : ℕ) (store : FlatStore) (events : List (Event × Word))
+    → IsWhole store → 2 ≤ frames
+    → IsConsistent (run programs events (opened frames most_active most_lines store))
+
+-- a number is that of an active entry
+abbrev pub IsActive : Desk → ℕ → Type 0
+IsActive desk number = (entry : Entry) × IsAmong desk.active entry × (entry.number ≡ number)
+
+-- a turn under way, or over and not idle
+abbrev pub IsNotIdle : Turning → Type 0
+IsNotIdle (Over desk counts Idle) = ⊥
+IsNotIdle _ = Unit {0}
+
+-- The law: a turn is idle exactly where its number isn't active, and then the desk stays and nothing is counted.
+abbrev pub IdleWhereInactive : Type 0
+IdleWhereInactive =
+    (word : Word) (number limit : ℕ) (desk : Desk) → IsConsistent desk
+    → (IsActive desk number → IsNotIdle (turn word number limit desk))
+    × ((IsActive desk number → ⊥) → turn word number limit desk ≡ Over desk no_counts Idle)
+
+-- an authority of each page permits a number all these lines
+pub record ArePermitted (authority : List Authority) (number : ℕ) (lines : Lines) : Type 0 where
+  pub reads : (line : ℕ) → IsTrue (has lines.reads line) → IsTrue (permitted (slice_index_or authority (page_of_line line) nobody) number line false)
+  pub writes : (line : ℕ) → IsTrue (has lines.writes line) → IsTrue (permitted (slice_index_or authority (page_of_line line) nobody) number line true)
+
+-- The law: an entry whose next row touches permitted lines alone conflicts with nobody.
+abbrev pub PermittedIsFree : Type 0
+PermittedIsFree =
+    (desk : Desk) (entry : Entry) → IsConsistent desk → IsAmong desk.active entry
+    → ArePermitted desk.authority entry.number (wanted desk entry) → conflicts_of desk entry ≡ []
+
+-- The law: where somebody is active, somebody who is active waits for nobody.
+abbrev pub SomebodyCanGoOn : Type 0
+SomebodyCanGoOn =
+    (desk : Desk) (entry : Entry) → IsConsistent desk → IsAmong desk.active entry
+    → (other : Entry) × IsAmong desk.active other × ((number : ℕ) → IsFalse (waits_for desk other.number number))
+
+-- each member of a list waits for the next
+abbrev pub EachWaits : (waits : ℕ → ℕ → Bool) → List ℕ → Type 0
+EachWaits waits [] = Unit {0}
+EachWaits waits (one ∷ []) = Unit {0}
+EachWaits waits (one ∷ other ∷ rest) = IsTrue (waits one other) × EachWaits waits (other ∷ rest)
+
+-- what a contest has counted
+abbrev pub counts_of : Contest → Counts
+counts_of (Contested desk counts) = counts
+counts_of (Settled desk counts) = counts
+counts_of (Lost desk counts) = counts
+
+-- The law: where the cycle of a number is broken, it is recorded behind those before it, it begins with the number, and each of its members
+-- waits for the next at the desk at which it was found. Where there is none, nothing is recorded.
+abbrev pub BrokenCyclesWere : Type 0
+BrokenCyclesWere =
+    (number : ℕ) (desk : Desk) (counts : Counts)
+    → ((cycle : List ℕ) → shown_cycle (waits_for desk) (numbers desk) number ≡ Some cycle
+    → ((counts_of (breaks_cycle number (Some cycle) desk counts)).cycles ≡ counts.cycles ++ cycle ∷ [])
+    × ((rest : List ℕ) × (cycle ≡ number ∷ rest)) × EachWaits (waits_for desk) cycle)
+    × (counts_of (breaks_cycle number None desk counts) ≡ counts)
+
+-- the last of a list is this number
+abbrev pub EndsWith : ℕ → List ℕ → Type 0
+EndsWith number [] = ⊥
+EndsWith number (one ∷ []) = one ≡ number
+EndsWith number (one ∷ other ∷ rest) = EndsWith number (other ∷ rest)
+
+-- The law: in whatever round of the contest of an entry of a consistent desk, a cycle that is found ends with the number with which it begins.
+abbrev pub ContestedCyclesClose : Type 0
+ContestedCyclesClose =
+    (desk met : Desk) (entry : Entry) (counts counted : Counts) (rounds : ℕ) (cycle : List ℕ) → IsConsistent desk → IsAmong desk.active entry
+    → breaks_cycles rounds entry.number (Contested (with_entry desk (record entry { waiting = true })) counts) ≡ Contested met counted
+    → shown_cycle (waits_for met) (numbers met) entry.number ≡ Some cycle
+    → EndsWith entry.number cycle

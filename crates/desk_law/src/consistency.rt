@@ -1,0 +1,37 @@
+ghost use Rattle.desk_law.specs.Laws.{BrokenCyclesWere, ContestedCyclesClose, IdleWhereInactive, PermittedIsFree};
+ghost use Rattle.desk_law.specs.Laws.{RunsStayConsistent, SomebodyCanGoOn, StaysConsistent};
+
+/// A desk that is consistent is so after every event with every word (docs/MODEL.md). It calls nothing.
+pub fn desks_stay_consistent()
+    ensures { StaysConsistent }
+{}
+
+/// A desk that opens on a whole store with two frames or more is consistent after every run. It calls nothing.
+pub fn runs_stay_consistent()
+    ensures { RunsStayConsistent }
+{}
+
+/// A turn of a consistent desk is idle exactly where its activation isn't active. It calls nothing.
+pub fn idle_where_inactive()
+    ensures { IdleWhereInactive }
+{}
+
+/// An entry whose next row touches permitted lines alone conflicts with nobody. It calls nothing.
+pub fn permitted_is_free()
+    ensures { PermittedIsFree }
+{}
+
+/// Where somebody is active, somebody who is active waits for nobody. It calls nothing.
+pub fn somebody_can_go_on()
+    ensures { SomebodyCanGoOn }
+{}
+
+/// Each member of a cycle that is broken waited for the next at the desk at which it was found. It calls nothing.
+pub fn broken_cycles_were()
+    ensures { BrokenCyclesWere }
+{}
+
+/// A cycle that is found in the contest of an entry ends with the number with which it begins. It calls nothing.
+pub fn contested_cycles_close()
+    ensures { ContestedCyclesClose }
+{}

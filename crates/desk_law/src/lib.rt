@@ -1,0 +1,19 @@
+//! The law of the desk: a desk is consistent at every moment, so programs that run side by side can't see each other's
+//! half-done work. The crate has definitions (docs/MODEL.md), lemmas, and laws that call nothing.
+#![tactic(auto)]
+
+mod causes;
+mod consistency;
+mod current;
+mod isolation;
+
+pub use causes::{ends_have_causes, turns_end_for_cause};
+pub use consistency::{
+    broken_cycles_were, contested_cycles_close, desks_stay_consistent, idle_where_inactive,
+    permitted_is_free, runs_stay_consistent, somebody_can_go_on,
+};
+pub use current::{
+    commits_change_no_line, commits_leave_others, holders_see_current, one_list_is_current,
+    rollbacks_give_back, rows_change_their_lines, rows_run_on_current,
+};
+pub use isolation::{commits_tell_the_machine, runs_are_isolated, side_by_side_is_serial};
