@@ -15,10 +15,6 @@ pub record Entry : Type 0 where
 abbrev pub entry_of : Authority → Entry
 entry_of authority = record { owner = authority.tid; write = authority.write; lines = lines_of_bits authority.bits }
 
--- nobody's entry
-abbrev pub nobodys : Entry
-nobodys = record { owner = 0; write = false; lines = [] }
-
 -- whether an entry lets an identifier load from a line of the page, or store to it
 abbrev pub lets : Entry → (tid line : ℕ) → (store : Bool) → Bool
 lets entry tid line store = permits (entry.owner == tid) entry.write (has entry.lines line) store
