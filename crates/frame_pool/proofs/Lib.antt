@@ -1,0 +1,5 @@
+pub mod ApartLemmas
+pub mod SoundLemmas
+pub mod PlaceLemmas
+pub mod PoolLemmas
+pub mod LendLemmas

@@ -1,0 +1,154 @@
+-- What a step of the places needs and leaves.
+use Rattle.std.proofs.Common.{◌≡◌, ℕ, zero, suc, ◌+◌, ◌<◌, ◌≤◌, Bool, true, false, List, [], ◌∷◌, ◌++◌, length, refl, sym, ◌∙◌, ap, arith, Some, None, vec_len, vec_capacity}
+use Rattle.std.specs.Prelude.{◌==◌, ◌||◌, not, cond, nat_lt, position, slice_index, slice_index_or, if◌then◌else◌, Option, unwrap_or, Result, Ok, Err, is_ok, IsOk, IsSome, option_to_list}
+use Rattle.std.specs.List.{prefix_len, range_with_len}
+use Rattle.std.proofs.lemmas.Bool.{ltb-true, ltb-false, eqb-true}
+use Rattle.std.proofs.lemmas.List.{get_or_read_under}
+use Rattle.lock_rules.specs.Sets.{has}
+use Rattle.frame_pool.specs.declared.pages.StorePages.{StorePages}
+use Rattle.frame_pool.specs.Places.{place_of, index_out}
+use Rattle.frame_pool.specs.Sizes.{frame_count}
+use Rattle.frame_pool.specs.Sound.{IsSound, is_apart}
+use Rattle.frame_pool.specs.PlacesView.{places_of}
+use Rattle.frame_pool.proofs.ApartLemmas.{has-push_last, first-apart, or_none}
+use Rattle.frame_pool.proofs.SoundLemmas.{resident-in_frame, page-within, frame-of_store}
+
+-- what holds of a page at a place of the resident ones
+pub record Leaves (p : StorePages) (index page : ℕ) : Type 0 where
+  pub at : slice_index p.resident.items index ≡ page
+  pub below : index < length p.resident.items
+  pub in_frame : place_of (places_of p) page ≡ Some (unwrap_or (place_of (places_of p) page) 0)
+  pub inside : page < vec_len p.frame_of
+  pub frame : unwrap_or (place_of (places_of p) page) 0 < vec_len p.page_in
+  pub free : vec_len p.free < vec_capacity p.free
+
+pub leaves : (p : StorePages) (index page : ℕ) → index < vec_len p.resident → page ≡ slice_index_or p.resident.items index page → Leaves p index page
+leaves p index page index_below read =
+    record { at = sym at; below = below; in_frame = in_frame; inside = omega (arith, inside, p.frame_of.ok.0); frame = frame; free = omega (arith, sound.placed.used, below, p.free_room, p.free.ok.0) }
+  where
+    sound : IsSound (places_of p)
+    sound = p.sound
+
+    below : index < length p.resident.items
+    below = omega (arith, index_below, p.resident.ok.0)
+
+    at : page ≡ slice_index p.resident.items index
+    at = get_or_read_under p.resident.items index (vec_len p.resident) page 0 read index_below p.resident.ok.0
+
+    in_frame : place_of (places_of p) page ≡ Some (unwrap_or (place_of (places_of p) page) 0)
+    in_frame = rw at (resident-in_frame (places_of p) index sound below)
+
+    inside : page < length p.frame_of.items
+    inside = page-within (places_of p) page (unwrap_or (place_of (places_of p) page) 0) in_frame
+
+    frame : unwrap_or (place_of (places_of p) page) 0 < vec_len p.page_in
+    frame =
+        let store = frame-of_store (places_of p) page (unwrap_or (place_of (places_of p) page) 0) sound in_frame in
+        omega (arith, store.below, sound.sized.page_in, p.page_in.ok.0)
+
+-- the frame that was read of a page
+pub read_frame :
+    (p : StorePages) (place page frame : ℕ) (read : Option ℕ) → place ≡ page → page < vec_len p.frame_of → read ≡ slice_index_or p.frame_of.items place read
+    → frame ≡ unwrap_or read 0 → frame ≡ unwrap_or (place_of (places_of p) page) 0
+read_frame p place page frame read same inside is value =
+    let at : read ≡ slice_index_or p.frame_of.items place None = get_or_read_under p.frame_of.items place (vec_len p.frame_of) read None is (omega arith) p.frame_of.ok.0 in
+    value ∙ ap (λ (o : Option ℕ). unwrap_or o 0) (at ∙ ap (λ (i : ℕ). slice_index_or p.frame_of.items i None) same)
+
+-- a push for which there was room
+pub pushed : (X Y : Type 0) (r : Result X Y) (new old : List ℕ) (x : ℕ) → new ≡ (if is_ok r then old ++ x ∷ [] else old) → IsOk r → new ≡ old ++ x ∷ []
+pushed X Y (Ok v) new old x is ok = is
+pushed X Y (Err v) new old x is ok = absurd (cc)
+
+-- a pop where there was something
+pub popped : (old new : List ℕ) (o : Option ℕ) → old ≡ new ++ option_to_list o → IsSome o → old ≡ new ++ unwrap_or o 0 ∷ []
+popped old new None is some = absurd (cc)
+popped old new (Some x) is some = is
+
+-- a frame is free where not all are in use
+pub some-free : (p : StorePages) → vec_len p.resident < p.frames → 0 < vec_len p.free
+some-free p room = omega (arith, p.sound.placed.used, p.resident.ok.0, p.free.ok.0)
+
+pub free-within : (p : StorePages) (frame : ℕ) (free : List ℕ) → p.free.items ≡ free ++ frame ∷ [] → frame < vec_len p.page_in
+free-within p frame free split =
+    let facts = p.sound.placed.is_free frame (ap (λ (xs : List ℕ). has xs frame) split ∙ has-push_last free frame) in
+    omega (arith, facts.1.below, p.sound.sized.page_in, p.page_in.ok.0)
+
+-- a page's frame is one of the frames
+pub frame-within : (p : StorePages) (page frame : ℕ) → place_of (places_of p) page ≡ Some frame → frame < frame_count p.page p.frames
+frame-within p page frame there = (frame-of_store (places_of p) page frame p.sound there).below
+
+-- of two pages not both are to stay
+stays-one : (keep : Option ℕ) (x y : ℕ) → has (option_to_list keep) x ≡ true → has (option_to_list keep) y ≡ true → y ≡ x
+stays-one None x y first second = absurd (cc)
+stays-one (Some k) x y first second = sym (eqb-true k y (only (k == y) second)) ∙ eqb-true k x (only (k == x) first)
+  where
+    only : (b : Bool) → (b || false) ≡ true → b ≡ true
+    only true is = refl
+    only false is = absurd (cc)
+
+some-goes :
+    (keep : Option ℕ) (x y : ℕ) (rest : List ℕ) → is_apart (x ∷ y ∷ rest) ≡ true
+    → length (x ∷ y ∷ rest) ≤ prefix_len (λ page. not (not (has (option_to_list keep) page))) (x ∷ y ∷ rest) → ⊥
+some-goes keep x y rest apart all = by_test (has (option_to_list keep) x) (has (option_to_list keep) y) refl refl all
+  where
+    by_test :
+        (first second : Bool) → has (option_to_list keep) x ≡ first → has (option_to_list keep) y ≡ second
+        → length (x ∷ y ∷ rest) ≤ cond (not (not first)) (1 + cond (not (not second)) (1 + prefix_len (λ page. not (not (has (option_to_list keep) page))) rest) 0) 0
+        → ⊥
+    by_test true true first second all =
+        let none : ((y == x) ≡ false) × (has rest x ≡ false) = or_none (y == x) (has rest x) (first-apart x (y ∷ rest) apart).0 in
+        let same : y ≡ x = stays-one keep x y first second in
+        let test : (y == x) ≡ true = equal y x same in
+        (let clash : true ≡ false = sym test ∙ none.0 in cc)
+      where
+        equal : (a b : ℕ) → a ≡ b → (a == b) ≡ true
+        equal a b e = grind arith
+    by_test true false first second all = absurd (omega arith)
+    by_test false second first second_is all = absurd (omega arith)
+
+not-all-stay : (keep : Option ℕ) (xs : List ℕ) → is_apart xs ≡ true → 2 ≤ length xs → position (λ page. not (has (option_to_list keep) page)) xs ≡ None → ⊥
+not-all-stay keep [] apart two none = omega arith
+not-all-stay keep (x ∷ []) apart two none = omega arith
+not-all-stay keep (x ∷ y ∷ rest) apart two none =
+    by_test (nat_lt (prefix_len (λ page. not (not (has (option_to_list keep) page))) (x ∷ y ∷ rest)) (length (x ∷ y ∷ rest))) refl none
+  where
+    by_test :
+        (b : Bool) → nat_lt (prefix_len (λ page. not (not (has (option_to_list keep) page))) (x ∷ y ∷ rest)) (length (x ∷ y ∷ rest)) ≡ b
+        → cond b (Some (prefix_len (λ page. not (not (has (option_to_list keep) page))) (x ∷ y ∷ rest))) None ≡ None → ⊥
+    by_test true is none = (let clash : Some (prefix_len (λ page. not (not (has (option_to_list keep) page))) (x ∷ y ∷ rest)) ≡ None = none in cc)
+    by_test false is none = some-goes keep x y rest apart (ltb-false _ _ is)
+
+-- where no page goes out a frame is free
+pub none-room : (p : StorePages) (keep : Option ℕ) → index_out (places_of p) keep ≡ None → vec_len p.resident < p.frames
+none-room p keep none = by_test (nat_lt (length p.resident.items) p.frames) refl none
+  where
+    by_test :
+        (b : Bool) → nat_lt (length p.resident.items) p.frames ≡ b
+        → (if b then None else position (λ page. not (has (option_to_list keep) page)) p.resident.items) ≡ None → vec_len p.resident < p.frames
+    by_test true is none = omega (arith, ltb-true _ _ is, p.resident.ok.0)
+    by_test false is none =
+        absurd (not-all-stay keep p.resident.items p.sound.placed.pages_apart (omega (arith, ltb-false _ _ is, p.sound.sized.some)) none)
+
+-- the place of the page that goes out is one of the resident ones
+position-below : (test : ℕ → Bool) (xs : List ℕ) (i : ℕ) → position test xs ≡ Some i → i < length xs
+position-below test xs i is = by_test (nat_lt (prefix_len (λ x. not (test x)) xs) (length xs)) refl is
+  where
+    by_test : (b : Bool) → nat_lt (prefix_len (λ x. not (test x)) xs) (length xs) ≡ b → cond b (Some (prefix_len (λ x. not (test x)) xs)) None ≡ Some i → i < length xs
+    by_test true below is = let at : prefix_len (λ x. not (test x)) xs ≡ i = cc in omega (arith, ltb-true _ _ below, at)
+    by_test false below is = absurd (cc)
+
+pub index-out_below : (p : StorePages) (keep : Option ℕ) (index : ℕ) → index_out (places_of p) keep ≡ Some index → index < length p.resident.items
+index-out_below p keep index is = by_test (nat_lt (length p.resident.items) p.frames) is
+  where
+    by_test :
+        (b : Bool) → (if b then None else position (λ page. not (has (option_to_list keep) page)) p.resident.items) ≡ Some index → index < length p.resident.items
+    by_test true is = absurd (cc)
+    by_test false is = position-below (λ page. not (has (option_to_list keep) page)) p.resident.items index is
+
+-- one more number of a range
+pub range-push : (first count : ℕ) → range_with_len first count ++ (first + count) ∷ [] ≡ range_with_len first (count + 1)
+range-push first zero = let at : first + 0 ≡ first = omega arith in ap (λ (x : ℕ). x ∷ []) at
+range-push first (suc count) =
+    let at : first + suc count ≡ first + 1 + count = omega arith in
+    ap (λ (x : ℕ). first ∷ (range_with_len (first + 1) count ++ x ∷ [])) at ∙ ap (λ (xs : List ℕ). first ∷ xs) (range-push (first + 1) count)
+    ∙ ap (λ (n : ℕ). range_with_len first n) (let next : suc (count + 1) ≡ suc count + 1 = omega arith in next)

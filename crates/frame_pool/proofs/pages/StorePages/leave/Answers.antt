@@ -1,0 +1,36 @@
+use Rattle.std.proofs.Common.{◌≡◌, ℕ, [], ◌∷◌, ◌++◌, sym, ◌∙◌, ap, arith}
+use Rattle.std.specs.Prelude.{slice_set, None, unwrap_or}
+use Rattle.frame_pool.specs.Places.{place_of}
+use Rattle.frame_pool.specs.PlacesView.{places_of}
+use Rattle.frame_pool.proofs.SoundLemmas.{sound-left_by}
+use Rattle.frame_pool.proofs.PlaceLemmas.{Leaves, leaves, read_frame, pushed}
+use Rattle.frame_pool.proofs.pages.StorePages.leave.Goals as goal
+
+pub index-requires : goal.index-requires
+index-requires c =
+    let facts : Leaves c.args.self.now c.args.index c.remove-page.result = leaves c.args.self.now c.args.index c.remove-page.result c.requires c.remove-page.ensures.value in
+    omega (arith, facts.inside, c.from-place.ensures)
+
+pub index_mut-requires : goal.index_mut-requires
+index_mut-requires c =
+    let facts : Leaves c.args.self.now c.args.index c.remove-page.result = leaves c.args.self.now c.args.index c.remove-page.result c.requires c.remove-page.ensures.value in
+    omega (arith, facts.inside, c.from-place.ensures)
+
+pub index_mut-requires-2 : goal.index_mut-requires-2
+index_mut-requires-2 c =
+    let facts : Leaves c.args.self.now c.args.index c.remove-page.result = leaves c.args.self.now c.args.index c.remove-page.result c.requires c.remove-page.ensures.value in
+    let frame : c.from.result ≡ unwrap_or (place_of (places_of c.args.self.now) c.remove-page.result) 0 = c.from.ensures ∙ read_frame c.args.self.now c.from-place.result c.remove-page.result c.unwrap_or-frame.result c.index.result.now c.from-place.ensures facts.inside c.index.ensures c.unwrap_or-frame.ensures in
+    omega (arith, facts.frame, frame)
+
+pub invariant_of-self-clause-sound : goal.invariant_of-self-clause-sound
+invariant_of-self-clause-sound c =
+    let facts : Leaves c.args.self.now c.args.index c.remove-page.result = leaves c.args.self.now c.args.index c.remove-page.result c.requires c.remove-page.ensures.value in
+    let frame : c.from.result ≡ unwrap_or (place_of (places_of c.args.self.now) c.remove-page.result) 0 = c.from.ensures ∙ read_frame c.args.self.now c.from-place.result c.remove-page.result c.unwrap_or-frame.result c.index.result.now c.from-place.ensures facts.inside c.index.ensures c.unwrap_or-frame.ensures in
+    let free : c.push.new.self.items ≡ c.args.self.now.free.items ++ unwrap_or (place_of (places_of c.args.self.now) c.remove-page.result) 0 ∷ [] =
+    pushed _ _ c.push.result c.push.new.self.items c.args.self.now.free.items c.unwrap_or-frame.result c.push.ensures.items (c.push.ensures.succeeds facts.free)
+    ∙ ap (λ (x : ℕ). c.args.self.now.free.items ++ x ∷ []) (sym c.from.ensures ∙ frame) in
+    sound-left_by (places_of c.args.self.now) c.args.index c.remove-page.result (unwrap_or (place_of (places_of c.args.self.now) c.remove-page.result) 0)
+    c.remove-page.new.self.items c.push.new.self.items
+    (slice_set c.args.self.now.frame_of.items c.from-place.result None) (slice_set c.args.self.now.page_in.items c.from.result None)
+    c.args.self.now.sound facts.below facts.at facts.in_frame c.remove-page.ensures.items
+    (ap (λ (i : ℕ). slice_set c.args.self.now.frame_of.items i None) c.from-place.ensures) (ap (λ (i : ℕ). slice_set c.args.self.now.page_in.items i None) frame) free

@@ -1,0 +1,6 @@
+use Rattle.std.proofs.Common.{◌≡◌, ◌≤◌, vec_capacity}
+use Rattle.std.specs.List.{range_with_len}
+use Rattle.frame_pool.proofs.pages.frames_from.Given as goal
+
+abbrev pub invariant-loop-frame : goal.invariant-loop-frame
+invariant-loop-frame l = (l.frames.items ≡ range_with_len l.first l.frame) × (l.count ≤ vec_capacity l.frames)

@@ -1,0 +1,16 @@
+use Rattle.std.proofs.Common.{◌≡◌, ℕ, ◌<◌, length, All}
+use Rattle.std.specs.Prelude.{fold}
+use Rattle.frame_pool.specs.Pool.{line_laid}
+use Rattle.frame_pool.specs.View.{pool_of}
+use Rattle.frame_pool.proofs.pool.FramePool.lay_kept.Given as goal
+
+-- the lines that are left lie over what lies there
+abbrev pub invariant-loop-line : goal.invariant-loop-line
+invariant-loop-line l =
+    record {
+      same : fold (line_laid l.page l.frame) (pool_of l.self) l.line-iterator.left ≡ fold (line_laid l.page l.frame) (pool_of l.initial.self) l.initial.line-iterator.left;
+      below : All (λ (line : ℕ). line < 16) l.line-iterator.left;
+      pages : length l.self.places.frame_of.items ≡ length l.initial.self.places.frame_of.items;
+      size : l.self.places.page ≡ l.initial.self.places.page;
+      frames : l.self.places.frames ≡ l.initial.self.places.frames;
+    }

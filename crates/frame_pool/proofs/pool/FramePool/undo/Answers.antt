@@ -1,0 +1,23 @@
+use Rattle.std.proofs.Common.{◌==◌, ℕ, sym, ◌∙◌, ap}
+use Rattle.std.specs.Prelude.{slice_index}
+use Rattle.std.proofs.lemmas.Bool.{eqb-true}
+use Rattle.std.proofs.lemmas.List.Quantifiers.{position-Some}
+use Rattle.frame_pool.specs.declared.model.Pool.{Pool}
+use Rattle.frame_pool.specs.Pool.{gone}
+use Rattle.frame_pool.specs.View.{pool_of}
+use Rattle.frame_pool.proofs.PoolLemmas.{gone-none, not-resident}
+use Rattle.frame_pool.proofs.pool.FramePool.undo.Goals as goal
+
+pub returns-in-Some : goal.returns-in-Some
+returns-in-Some c =
+    let mid = c.settle.new.self in
+    let told = position-Some (λ (other : ℕ). other == c.args.page) mid.places.resident.items c.in-Some.index 0 (sym c.index_of.ensures ∙ c.in-Some.is) in
+    c.leave.ensures.value
+    ∙ ap (gone (pool_of mid)) (eqb-true (slice_index mid.places.resident.items c.in-Some.index) c.args.page told.1)
+    ∙ ap (λ (pool : Pool). gone pool c.args.page) c.settle.ensures
+
+pub returns-in_default : goal.returns-in_default
+returns-in_default c =
+    let mid = c.settle.new.self in
+    sym (gone-none mid c.args.page (not-resident mid.places.resident.items c.args.page (sym c.index_of.ensures ∙ c.in_default.is)))
+    ∙ ap (λ (pool : Pool). gone pool c.args.page) c.settle.ensures

@@ -1,0 +1,69 @@
+-- Which pages are resident, in which frames.
+use Rattle.std.specs.Prelude.{◌≡◌, ℕ, nat_lt, not, if◌then◌else◌, length, position, option_to_list, List, [], ◌∷◌, ◌++◌, remove, replicate, slice_set, slice_index, slice_index_or, Option, Some, None, unwrap_or}
+use Rattle.std.specs.List.{range_with_len}
+use Rattle.lock_rules.specs.Sets.{has}
+use Rattle.line_geometry.specs.declared.directory.PageSize.{PageSize}
+use Rattle.frame_pool.specs.Sizes.{private_frames, frame_count}
+
+-- the resident pages in the order in which they came, the frame of each page, the page of each frame, and the frames of the
+-- store that are free
+pub record Places : Type 0 where
+  pub page : PageSize
+  pub frames : ℕ
+  pub resident : List ℕ
+  pub frame_of : List (Option ℕ)
+  pub page_in : List (Option ℕ)
+  pub free : List ℕ
+
+-- no page is resident
+abbrev pub fresh_places : PageSize → (frames pages : ℕ) → Places
+fresh_places size frames pages =
+    record {
+      page = size;
+      frames = frames;
+      resident = [];
+      frame_of = replicate pages None;
+      page_in = replicate (frame_count size frames) None;
+      free = range_with_len (private_frames size) frames;
+    }
+
+-- the frame of a page
+abbrev pub place_of : Places → ℕ → Option ℕ
+place_of places page = slice_index_or places.frame_of page None
+
+-- the page of a frame
+abbrev pub page_at : Places → ℕ → Option ℕ
+page_at places frame = slice_index_or places.page_in frame None
+
+-- the page at an index of the resident ones
+abbrev pub resident_at : Places → ℕ → ℕ
+resident_at places index = slice_index places.resident index
+
+-- and its frame
+abbrev pub frame_of_index : Places → ℕ → ℕ
+frame_of_index places index = unwrap_or (place_of places (resident_at places index)) 0
+
+-- the index of the page that goes out for another: none while a frame is free, else that of the first that isn't to stay
+abbrev pub index_out : Places → Option ℕ → Option ℕ
+index_out places keep =
+    if nat_lt (length places.resident) places.frames then None else position (λ page. not (has (option_to_list keep) page)) places.resident
+
+-- the page at an index of the resident ones left its frame
+abbrev pub left : Places → (index page frame : ℕ) → Places
+left places index page frame =
+    record places {
+      resident = remove places.resident index;
+      frame_of = slice_set places.frame_of page None;
+      page_in = slice_set places.page_in frame None;
+      free = places.free ++ frame ∷ [];
+    }
+
+-- a page came into a frame that was free
+pub record CameIn (old new : Places) (page frame : ℕ) : Type 0 where
+  pub free : old.free ≡ new.free ++ frame ∷ []
+  pub rest : new ≡ record old {
+    resident = old.resident ++ page ∷ [];
+    frame_of = slice_set old.frame_of page (Some frame);
+    page_in = slice_set old.page_in frame (Some page);
+    free = new.free;
+  }

@@ -1,0 +1,14 @@
+-- The places that `StorePages` keeps.
+use Rattle.frame_pool.specs.Places.{Places}
+use Rattle.frame_pool.specs.declared.pages.StorePages.{StorePages}
+
+abbrev pub places_of : StorePages → Places
+places_of pages =
+    record {
+      page = pages.page;
+      frames = pages.frames;
+      resident = pages.resident.items;
+      frame_of = pages.frame_of.items;
+      page_in = pages.page_in.items;
+      free = pages.free.items;
+    }

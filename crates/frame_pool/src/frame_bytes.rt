@@ -1,0 +1,60 @@
+ghost use Rattle.std.specs.Prelude.{◌≡◌, ◌+◌, ◌≤◌, slice_range, vec_len, replicate, IfOk, List, ℕ, length};
+ghost use Rattle.std.specs.Borrow.{sem};
+ghost use Rattle.owned_list.specs.Overlay.{overlaid};
+ghost use Rattle.frame_pool.specs.Lending.{LendsPart};
+
+use std::alloc::{AllocError, Global};
+
+/// The bytes of all frames, end to end.
+#[derive(Drop)]
+pub struct FrameBytes {
+    pub items: Vec<u8>,
+}
+
+impl FrameBytes {
+    /// So many zeros.
+    pub fn zeros(alloc: Global, count: usize) -> Result<Self, AllocError>
+        ensures items { IfOk result (λ bytes. bytes.items.items ≡ replicate count 0) }
+        ensures len { IfOk result (λ bytes. vec_len bytes.items ≡ count) }
+    {
+        Ok(FrameBytes {
+            items: vec![in alloc; 0; count]?,
+        })
+    }
+
+    /// A part.
+    pub fn part(&self, at: usize, count: usize) -> &[u8]
+        requires { at + count ≤ vec_len self.now.items }
+        ensures { result.now ≡ slice_range self.now.items.items at (at + count) }
+    {
+        &self.items[at..at + count]
+    }
+
+    /// A part, to be written over.
+    pub fn part_mut(&mut self, at: usize, count: usize) -> &mut [u8]
+        requires { at + count ≤ vec_len self.old.items }
+        ensures* writes_back { sem 𝓛 (LendsPart self.entry at result) }
+        ensures value { result.now ≡ slice_range self.old.items.items at (at + count) }
+    {
+        self.items.slice_mut(at..at + count)
+    }
+
+    /// Writes bytes over those from a place on.
+    pub fn write(&mut self, at: usize, from: &[u8])
+        requires { at + length from.now ≤ vec_len self.old.items }
+        ensures items { self.new.items.items ≡ overlaid self.old.items.items at from.now }
+        ensures len { vec_len self.new.items ≡ vec_len self.old.items }
+    {
+        write_over(self.items.as_mut_slice(), at, from);
+    }
+}
+
+/// Writes bytes over those from a place on.
+fn write_over(items: &mut [u8], at: usize, part: &[u8])
+    requires { at + length part.now ≤ length items.old }
+    ensures { items.new ≡ overlaid items.old at part.now }
+{
+    let (_, rest) = items.split_at_mut(at);
+    let (middle, _) = rest.split_at_mut(part.len());
+    middle.copy_from_slice(part);
+}

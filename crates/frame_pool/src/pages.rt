@@ -1,0 +1,143 @@
+// Which pages of a store are resident, and in which frames.
+ghost use Rattle.std.specs.Prelude.{◌≡◌, ◌+◌, ◌<◌, ◌≤◌, ◌^◌, ◌==◌, false, not, length, position, option_to_list, vec_len, vec_capacity, IfOk, None, replicate};
+ghost use Rattle.std.specs.List.{range_with_len};
+ghost use Rattle.lock_rules.specs.Sets.{has};
+ghost use Rattle.frame_pool.specs.Sound.{IsSound};
+
+use super::sizes::private_frames;
+use line_geometry::PageSize;
+use std::alloc::{AllocError, Global};
+
+/// Which pages of a store are resident, in the order in which they came; the frame of each page and the page of each
+/// frame; and the frames that are free.
+#[derive(Drop)]
+pub struct StorePages {
+    pub page: PageSize,
+    pub frames: u16,
+    pub resident: Vec<u16>,
+    pub frame_of: Vec<Option<u16>>,
+    pub page_in: Vec<Option<u16>>,
+    pub free: Vec<u16>,
+    ghost sound: { IsSound (record { page = page; frames = frames; resident = resident.items; frame_of = frame_of.items; page_in = page_in.items; free = free.items }) },
+    ghost room: { frames ≤ vec_capacity resident },
+    ghost free_room: { frames ≤ vec_capacity free },
+}
+
+/// So many frames from a first on.
+fn frames_from(alloc: Global, first: u16, count: u16) -> Result<Vec<u16>, AllocError>
+    requires { first + count < 2 ^ 16 }
+    ensures items { IfOk result (λ frames. frames.items ≡ range_with_len first count) }
+    ensures room { IfOk result (λ frames. count ≤ vec_capacity frames) }
+{
+    let mut frames = Vec::with_capacity(alloc, usize::from(count))?;
+    for frame in 0..count {
+        frames.push(first + frame)?;
+    }
+    Ok(frames)
+}
+
+/// So many times nothing.
+fn nothings(alloc: Global, count: u16) -> Result<Vec<Option<u16>>, AllocError>
+    ensures { IfOk result (λ list. list.items ≡ replicate count None) }
+{
+    Ok(vec![in alloc; None; usize::from(count)]?)
+}
+
+impl StorePages {
+    ghost use Rattle.frame_pool.specs.Places.{CameIn, fresh_places, place_of, page_at, frame_of_index, left, index_out, resident_at};
+    ghost use Rattle.frame_pool.specs.PlacesView.{places_of};
+
+    /// No page is resident.
+    pub fn new(alloc: Global, page: PageSize, frames: u16, pages: u16) -> Result<Self, AllocError>
+        requires some { 2 ≤ frames }
+        requires few { frames ≤ 1024 }
+        ensures { IfOk result (λ new. places_of new ≡ fresh_places page frames pages) }
+    {
+        let first = private_frames(page);
+        Ok(StorePages {
+            page,
+            frames,
+            resident: Vec::with_capacity(alloc, usize::from(frames))?,
+            frame_of: nothings(alloc, pages)?,
+            page_in: nothings(alloc, first + frames)?,
+            free: frames_from(alloc, first, frames)?,
+        })
+    }
+
+    /// The frame of a page.
+    pub fn frame_of(&self, page: u16) -> Option<u16>
+        ensures { result ≡ place_of (places_of self.now) page }
+    {
+        self.frame_of.get(usize::from(page)).copied().flatten()
+    }
+
+    /// The page of a frame.
+    pub fn page_in(&self, frame: u16) -> Option<u16>
+        ensures { result ≡ page_at (places_of self.now) frame }
+    {
+        self.page_in.get(usize::from(frame)).copied().flatten()
+    }
+
+    /// The index of the page that goes out for another: none while a frame is free, else that of the first that isn't to
+    /// stay.
+    pub fn index_out(&self, keep: Option<u16>) -> Option<usize>
+        ensures { result ≡ index_out (places_of self.now) keep }
+    {
+        if self.resident.len() < usize::from(self.frames) {
+            None
+        } else {
+            first_to_go(&self.resident, keep)
+        }
+    }
+
+    /// The page at an index of the resident ones leaves its frame.
+    pub fn leave(&mut self, index: usize)
+        requires { index < vec_len self.old.resident }
+        ensures { places_of self.new ≡ left (places_of self.old) index (resident_at (places_of self.old) index) (frame_of_index (places_of self.old) index) }
+    {
+        let page = self.resident.remove(index);
+        let place = usize::from(page);
+        let frame = self.frame_of[place].unwrap_or(0);
+        self.frame_of[place] = None;
+        self.page_in[usize::from(frame)] = None;
+        let _ = self.free.push(frame);
+    }
+
+    /// A page that isn't resident comes into a free frame.
+    pub fn come(&mut self, page: u16) -> u16
+        requires page { page < vec_len self.old.frame_of }
+        requires absent { has self.old.resident.items page ≡ false }
+        requires room { vec_len self.old.resident < self.old.frames }
+        ensures { CameIn (places_of self.old) (places_of self.new) page result }
+    {
+        let frame = self.free.pop().unwrap_or(0);
+        let _ = self.resident.push(page);
+        self.frame_of[usize::from(page)] = Some(frame);
+        self.page_in[usize::from(frame)] = Some(page);
+        frame
+    }
+
+    /// The index of a page among the resident ones.
+    pub fn index_of(&self, page: u16) -> Option<usize>
+        ensures { result ≡ position (λ other. other == page) self.now.resident.items }
+    {
+        self.resident.iter().position(|other| *other == page)
+    }
+}
+
+/// The index of the first page that isn't to stay.
+fn first_to_go(pages: &[u16], keep: Option<u16>) -> Option<usize>
+    ensures { result ≡ position (λ page. not (has (option_to_list keep) page)) pages.now }
+{
+    pages.iter().position(|page| !is_to_stay(keep, *page))
+}
+
+/// Whether a page is to stay.
+fn is_to_stay(keep: Option<u16>, page: u16) -> bool
+    ensures { result ≡ has (option_to_list keep) page }
+{
+    match keep {
+        Some(stays) => stays == page,
+        None => false,
+    }
+}

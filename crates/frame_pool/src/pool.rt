@@ -1,0 +1,342 @@
+ghost use Rattle.std.specs.Prelude.{◌≡◌, ◌+◌, ◌*◌, ◌<◌, ◌≤◌, ◌==◌, if◌then◌else◌, [], false, length, slice_index, vec_len, replicate, is_some, IfOk, IfSome};
+ghost use Rattle.std.specs.Borrow.{sem};
+ghost use Rattle.lock_rules.specs.Sets.{has};
+ghost use Rattle.owned_list.specs.Overlay.{overlaid};
+ghost use Rattle.line_geometry.specs.Segments.{page_bytes};
+ghost use Rattle.line_geometry.specs.LineSets.{between};
+ghost use Rattle.frame_pool.specs.Sizes.{private_frames, frame_count, line_place, line_size};
+
+#[cfg(test)]
+mod tests;
+
+use super::frame_bytes::FrameBytes;
+use super::pages::StorePages;
+use super::sizes::{line_bytes, page_bytes, private_frames};
+use line_geometry::{LineSet, PageSize};
+use owned_list::OwnedList;
+use std::alloc::{AllocError, Global};
+
+/// What bringing a page in came to: the frame that it is in, and the page that went out for it.
+#[derive(Debug, Clone, Copy, PartialEq, Eq)]
+pub struct Slot {
+    pub frame: u16,
+    pub out: Option<u16>,
+}
+
+/// A line of a frame.
+#[derive(Debug, Clone, Copy, PartialEq, Eq)]
+pub struct Spot {
+    pub frame: u16,
+    pub line: u8,
+}
+
+/// Frames for the private storage of sixteen seats and for pages of a store, and paging space for lines that are marked as
+/// written and not in a frame (docs/MODEL.md). Private frames have the lowest numbers.
+#[derive(Drop)]
+pub struct FramePool {
+    bytes: FrameBytes,
+    places: StorePages,
+    marked: Vec<LineSet>,
+    kept: OwnedList<u8>,
+    ghost bytes_sized: { vec_len bytes.items ≡ frame_count places.page places.frames * page_bytes places.page },
+    ghost marked_sized: { vec_len marked ≡ vec_len places.frame_of },
+    ghost kept_sized: { length kept ≡ vec_len places.frame_of * page_bytes places.page },
+}
+
+/// So many times no line.
+fn no_lines(alloc: Global, count: u16) -> Result<Vec<LineSet>, AllocError>
+    ensures { IfOk result (λ list. list.items ≡ replicate count []) }
+{
+    Ok(vec![in alloc; LineSet::none(); usize::from(count)]?)
+}
+
+/// So many zeros.
+fn zeros(alloc: Global, count: usize) -> Result<OwnedList<u8>, AllocError>
+    ensures { IfOk result (λ list. list ≡ replicate count 0) }
+{
+    Ok(OwnedList::from_vec(vec![in alloc; 0; count]?))
+}
+
+impl FramePool {
+    ghost use Rattle.frame_pool.specs.Pool.{Brought, fresh, frame_at, page_at, marks_at, part_of, frame_bytes, line_in_frame, line_kept, line_shown, gone, page_out, with_room, settled, undone, emptied, laid, line_laid, lines_of_part};
+    ghost use Rattle.frame_pool.specs.View.{pool_of};
+    ghost use Rattle.frame_pool.specs.PoolLending.{LendsFrame, LendsMarked, with_marked};
+
+    /// A pool with so many frames for pages of a store that has so many. No page is resident. It takes all memory that the
+    /// pool will need.
+    pub fn new(
+        alloc: Global,
+        page: PageSize,
+        frames: u16,
+        pages: u16,
+    ) -> Result<FramePool, AllocError>
+        requires some { 2 ≤ frames }
+        requires few { frames ≤ 1024 }
+        ensures { IfOk result (λ pool. pool_of pool ≡ fresh page frames pages) }
+    {
+        let size = page_bytes(page);
+        Ok(FramePool {
+            bytes: FrameBytes::zeros(alloc, usize::from(private_frames(page) + frames) * size)?,
+            places: StorePages::new(alloc, page, frames, pages)?,
+            marked: no_lines(alloc, pages)?,
+            kept: zeros(alloc, usize::from(pages) * size)?,
+        })
+    }
+
+    /// The resident pages, in the order in which they came.
+    pub fn resident(&self) -> &[u16]
+        ensures { result.now ≡ (pool_of self.now).resident }
+    {
+        &self.places.resident
+    }
+
+    /// The frame that a page is in: some frame of the store, exactly where the page is resident.
+    pub fn frame_of(&self, page: u16) -> Option<u16>
+        ensures value { result ≡ frame_at (pool_of self.now) page }
+        ensures resident { is_some result ≡ has (pool_of self.now).resident page }
+        ensures above { IfSome result (λ frame. private_frames (pool_of self.now).page ≤ frame) }
+        ensures below { IfSome result (λ frame. frame < frame_count (pool_of self.now).page (pool_of self.now).frames) }
+    {
+        self.places.frame_of(page)
+    }
+
+    /// Brings in a page that isn't resident. It comes last; where no frame is free, the first page that isn't to stay goes
+    /// out, and its marked lines are kept. What its frame held is still there: it is to be filled.
+    pub fn bring(&mut self, page: u16, keep: Option<u16>) -> Slot
+        requires page { page < length (pool_of self.old).frame_of }
+        requires absent { has (pool_of self.old).resident page ≡ false }
+        ensures out { result.out ≡ page_out (pool_of self.old) keep }
+        ensures brought { Brought (pool_of self.old) (pool_of self.new) page keep result.frame }
+    {
+        let out = self.make_room(keep);
+        Slot {
+            frame: self.places.come(page),
+            out,
+        }
+    }
+
+    /// The page that isn't to stay goes out, if no frame is free.
+    fn make_room(&mut self, keep: Option<u16>) -> Option<u16>
+        ensures out { result ≡ page_out (pool_of self.old) keep }
+        ensures value { pool_of self.new ≡ with_room (pool_of self.old) keep }
+        ensures room { vec_len self.new.places.resident < self.new.places.frames }
+    {
+        match self.places.index_out(keep) {
+            Some(index) => Some(self.leave(index)),
+            None => None,
+        }
+    }
+
+    /// The page at an index of the resident ones leaves its frame.
+    fn leave(&mut self, index: usize) -> u16
+        requires { index < length (pool_of self.old).resident }
+        ensures page { result ≡ slice_index (pool_of self.old).resident index }
+        ensures value { pool_of self.new ≡ gone (pool_of self.old) (slice_index (pool_of self.old).resident index) }
+        ensures fewer { vec_len self.new.places.resident + 1 ≡ vec_len self.old.places.resident }
+    {
+        let page = self.places.resident[index];
+        let frame = self.places.frame_of(page).unwrap_or(0);
+        let size = page_bytes(self.places.page);
+        let marks = self.written(page);
+        keep_over(
+            &mut self.kept,
+            usize::from(page) * size,
+            self.bytes.part(usize::from(frame) * size, size),
+            marks,
+        );
+        self.places.leave(index);
+        page
+    }
+
+    /// Lends a frame, to be filled.
+    pub fn page_mut(&mut self, frame: u16) -> &mut [u8]
+        requires { frame < frame_count (pool_of self.old).page (pool_of self.old).frames }
+        ensures* writes_back { sem 𝓛 (LendsFrame self.entry (frame * page_bytes (pool_of self.entry.now).page) result) }
+        ensures value { result.now ≡ frame_bytes (pool_of self.old) frame }
+    {
+        let size = page_bytes(self.places.page);
+        self.bytes.part_mut(usize::from(frame) * size, size)
+    }
+
+    /// The marked lines of a page, as they are kept, lie over those of its frame.
+    pub fn lay_kept(&mut self, page: u16)
+        requires { page < length (pool_of self.old).frame_of }
+        ensures { pool_of self.new ≡ laid (pool_of self.old) page }
+    {
+        if let Some(frame) = self.places.frame_of(page) {
+            for line in self.written(page).lines() {
+                self.lay_line(page, frame, line);
+            }
+        }
+    }
+
+    /// A kept line of a page lies over that of a frame.
+    fn lay_line(&mut self, page: u16, frame: u16, line: u8)
+        requires page { page < length (pool_of self.old).frame_of }
+        requires frame { frame < frame_count (pool_of self.old).page (pool_of self.old).frames }
+        requires line { line < 16 }
+        ensures { pool_of self.new ≡ line_laid page frame (pool_of self.old) line }
+    {
+        let at = self.place(Spot { frame, line });
+        let size = page_bytes(self.places.page);
+        let from = usize::from(page) * size + usize::from(line) * line_bytes(self.places.page);
+        self.bytes.write(
+            at,
+            &self.kept.as_slice()[from..from + line_bytes(self.places.page)],
+        );
+    }
+
+    /// Where a line of a frame begins.
+    fn place(&self, at: Spot) -> usize
+        requires frame { at.frame < frame_count (pool_of self.now).page (pool_of self.now).frames }
+        requires line { at.line < 16 }
+        ensures value { result ≡ line_place (pool_of self.now).page at.frame at.line }
+        ensures within { result + line_size (pool_of self.now).page ≤ vec_len self.now.bytes.items }
+    {
+        usize::from(at.frame) * page_bytes(self.places.page)
+            + usize::from(at.line) * line_bytes(self.places.page)
+    }
+
+    /// One line of a frame.
+    pub fn line(&self, at: Spot) -> &[u8]
+        requires frame { at.frame < frame_count (pool_of self.now).page (pool_of self.now).frames }
+        requires line { at.line < 16 }
+        ensures { result.now ≡ line_in_frame (pool_of self.now) at.frame at.line }
+    {
+        self.bytes
+            .part(self.place(at), line_bytes(self.places.page))
+    }
+
+    /// A part of a frame, from an offset on.
+    pub fn part(&self, frame: u16, at: usize, count: usize) -> &[u8]
+        requires frame { frame < frame_count (pool_of self.now).page (pool_of self.now).frames }
+        requires within { at + count ≤ page_bytes (pool_of self.now).page }
+        ensures { result.now ≡ part_of (pool_of self.now) frame at count }
+    {
+        self.bytes.part(
+            usize::from(frame) * page_bytes(self.places.page) + at,
+            count,
+        )
+    }
+
+    /// Lends one line of a frame, to be written. If the frame is a page's of the store, the line is marked.
+    pub fn line_mut(&mut self, at: Spot) -> &mut [u8]
+        requires frame { at.frame < frame_count (pool_of self.old).page (pool_of self.old).frames }
+        requires line { at.line < 16 }
+        ensures* writes_back { sem 𝓛 (LendsMarked self.entry at.frame (between at.line at.line) (line_place (pool_of self.entry.now).page at.frame at.line) result) }
+        ensures value { result.now ≡ line_in_frame (pool_of self.old) at.frame at.line }
+    {
+        let place = self.place(at);
+        let size = line_bytes(self.places.page);
+        self.mark(at.frame, LineSet::between(at.line, at.line));
+        self.bytes.part_mut(place, size)
+    }
+
+    /// Lends a part of a frame, from an offset on, to be written. If the frame is a page's of the store, the lines of the
+    /// part are marked.
+    pub fn part_mut(&mut self, frame: u16, at: usize, count: usize) -> &mut [u8]
+        requires frame { frame < frame_count (pool_of self.old).page (pool_of self.old).frames }
+        requires within { at + count ≤ page_bytes (pool_of self.old).page }
+        ensures* writes_back { sem 𝓛 (LendsMarked self.entry frame (lines_of_part (pool_of self.entry.now).page at count) (frame * page_bytes (pool_of self.entry.now).page + at) result) }
+        ensures value { result.now ≡ part_of (pool_of self.old) frame at count }
+    {
+        let place = usize::from(frame) * page_bytes(self.places.page) + at;
+        self.mark(frame, self.lines_of_part(at, count));
+        self.bytes.part_mut(place, count)
+    }
+
+    /// Marks lines of the page of the store in a frame, if there is one.
+    fn mark(&mut self, frame: u16, lines: LineSet)
+        ensures value { self.new ≡ with_marked self.old frame lines }
+        ensures bytes { self.new.bytes ≡ self.old.bytes }
+        ensures places { self.new.places ≡ self.old.places }
+    {
+        if let Some(page) = self.places.page_in(frame) {
+            let place = usize::from(page);
+            self.marked[place] = self.marked[place].union(lines);
+        }
+    }
+
+    /// The lines in which a part of a page lies.
+    fn lines_of_part(&self, at: usize, count: usize) -> LineSet
+        requires { at + count ≤ page_bytes (pool_of self.now).page }
+        ensures { result ≡ lines_of_part (pool_of self.now).page at count }
+    {
+        if count == 0 {
+            return LineSet::none();
+        }
+        let size = line_bytes(self.places.page);
+        LineSet::between((at / size) as u8, ((at + count - 1) / size) as u8)
+    }
+
+    /// The lines of a page that are marked as written.
+    pub fn written(&self, page: u16) -> LineSet
+        requires { page < length (pool_of self.now).frame_of }
+        ensures { result ≡ marks_at (pool_of self.now) page }
+    {
+        self.marked[usize::from(page)]
+    }
+
+    /// The bytes of a line of a page: in its frame, or where it is in none as they are kept.
+    pub fn written_line(&self, page: u16, line: u8) -> &[u8]
+        requires page { page < length (pool_of self.now).frame_of }
+        requires line { line < 16 }
+        ensures { result.now ≡ line_shown (pool_of self.now) page line }
+    {
+        match self.places.frame_of(page) {
+            Some(frame) => self.line(Spot { frame, line }),
+            None => self.line_kept(page, line),
+        }
+    }
+
+    /// The kept bytes of a line of a page.
+    fn line_kept(&self, page: u16, line: u8) -> &[u8]
+        requires page { page < length (pool_of self.now).frame_of }
+        requires line { line < 16 }
+        ensures { result.now ≡ line_kept (pool_of self.now) page line }
+    {
+        let size = line_bytes(self.places.page);
+        let at = usize::from(page) * page_bytes(self.places.page) + usize::from(line) * size;
+        &self.kept.as_slice()[at..at + size]
+    }
+
+    /// Lines of a page are no longer marked.
+    pub fn settle(&mut self, page: u16, lines: LineSet)
+        requires { page < length (pool_of self.old).frame_of }
+        ensures { pool_of self.new ≡ settled (pool_of self.old) page lines }
+    {
+        let place = usize::from(page);
+        self.marked[place] = self.marked[place].difference(lines);
+    }
+
+    /// A page leaves its frame, if it is in one, and these of its lines are forgotten.
+    pub fn undo(&mut self, page: u16, lines: LineSet)
+        requires { page < length (pool_of self.old).frame_of }
+        ensures { pool_of self.new ≡ undone (pool_of self.old) page lines }
+    {
+        self.settle(page, lines);
+        if let Some(index) = self.places.index_of(page) {
+            let _ = self.leave(index);
+        }
+    }
+
+    /// All pages leave their frames. Their marked lines are kept.
+    pub fn empty(&mut self)
+        ensures { pool_of self.new ≡ emptied (pool_of self.old) }
+    {
+        while !self.places.resident.is_empty() {
+            let _ = self.leave(0);
+        }
+    }
+}
+
+/// Bytes of a page are kept from a place on, if a line of it is marked.
+fn keep_over(kept: &mut OwnedList<u8>, at: usize, bytes: &[u8], marks: LineSet)
+    requires { at + length bytes.now ≤ length kept.old }
+    ensures value { kept.new ≡ (if length marks == 0 then kept.old else overlaid kept.old at bytes.now) }
+    ensures len { length kept.new ≡ length kept.old }
+{
+    if !marks.is_empty() {
+        kept.write(at, bytes);
+    }
+}

@@ -1,0 +1,120 @@
+-- The look-up along a chain is the look-up in the list.
+use Rattle.std.proofs.Common.{◌≡◌, ℕ, zero, suc, ◌+◌, ◌<◌, ◌≤◌, ◌⊎◌, Bool, true, false, List, [], ◌∷◌, length, refl, sym, ◌∙◌, ap, arith, inl, inr, Some, None}
+use Rattle.std.specs.Prelude.{◌==◌, ◌&&◌, ◌||◌, not, cond, find, nat_lt, slice_index_or, Option}
+use Rattle.std.specs.List.{prefix_len}
+use Rattle.std.specs.Option.{option_map_or}
+use Rattle.std.proofs.lemmas.Bool.{and_parts, eqb-true, ltb-true, ltb-false, cases_lt}
+use Rattle.std.proofs.Math.ListN.{get_or-eq_default}
+use Rattle.lock_rules.specs.Sets.{has}
+use Rattle.inverted_table.proofs.ApartLemmas.{equal}
+use Rattle.inverted_table.specs.declared.key.Key.{Key}
+use Rattle.inverted_table.specs.Placed.{holds, key_in, look_up}
+use Rattle.inverted_table.specs.Chains.{chain_of, hash_of, IsChain, IsChained}
+
+-- whether a frame holds a page
+abbrev pub holds_it : List (Option Key) → Key → ℕ → Bool
+holds_it keys wanted frame = holds wanted (key_in keys frame)
+
+-- what holds a page is that page
+held-is : (wanted : Key) (o : Option Key) → holds wanted o ≡ true → o ≡ Some wanted
+held-is wanted None held = absurd (cc)
+held-is wanted (Some key) held =
+    let parts : ((key.segment == wanted.segment) ≡ true) × ((key.page == wanted.page) ≡ true) = and_parts (key.segment == wanted.segment) (key.page == wanted.page) held in
+    let segments : key.segment ≡ wanted.segment = eqb-true key.segment wanted.segment parts.0 in
+    let pages : key.page ≡ wanted.page = eqb-true key.page wanted.page parts.1 in
+    ap (λ (k : Key). Some k) (same key.segment key.page wanted.segment wanted.page segments pages)
+  where
+    same : (a b c d : ℕ) → a ≡ c → b ≡ d → (let k : Key = record { segment = a; page = b } in k) ≡ record { segment = c; page = d }
+    same a b c d e f = rw (e, f) refl
+
+pub is-held : (wanted : Key) (o : Option Key) → o ≡ Some wanted → holds wanted o ≡ true
+is-held wanted o is = ap (holds wanted) is ∙ ap (λ (b : Bool). b && (wanted.page == wanted.page)) (equal wanted.segment) ∙ equal wanted.page
+
+-- the first of a list that passes, and where none does
+find-here : (p : ℕ → Bool) (xs : List ℕ) (x : ℕ) → has xs x ≡ true → p x ≡ true → ((y : ℕ) → p y ≡ true → y ≡ x) → find p xs ≡ Some x
+find-here p [] x inside passes only = absurd (cc)
+find-here p (y ∷ ys) x inside passes only = by_test (p y) refl (λ (later : has ys x ≡ true). find-here p ys x later passes only)
+  where
+    later : p y ≡ false → has ys x ≡ true
+    later fails = by_case (y == x) refl inside
+      where
+        by_case : (b : Bool) → (y == x) ≡ b → (b || has ys x) ≡ true → has ys x ≡ true
+        by_case true same inside = let at : y ≡ x = eqb-true y x same in absurd (let clash : true ≡ false = sym passes ∙ ap p (sym at) ∙ fails in cc)
+        by_case false same inside = inside
+
+    by_test : (b : Bool) → p y ≡ b → (has ys x ≡ true → find p ys ≡ Some x) → cond b (Some y) (find p ys) ≡ Some x
+    by_test true is rest = ap (λ (n : ℕ). Some n) (only y is)
+    by_test false is rest = rest (later is)
+
+find-none : (p : ℕ → Bool) (xs : List ℕ) → ((x : ℕ) → p x ≡ false) → find p xs ≡ None
+find-none p [] none = refl
+find-none p (x ∷ xs) none = ap (λ (b : Bool). cond b (Some x) (find p xs)) (none x) ∙ find-none p xs none
+
+-- along the keys: the first that holds the page, or none does
+prefix-holds : (q : Option Key → Bool) (keys : List (Option Key)) → prefix_len (λ o. not (q o)) keys < length keys → q (slice_index_or keys (prefix_len (λ o. not (q o)) keys) None) ≡ true
+prefix-holds q [] below = absurd (omega arith)
+prefix-holds q (o ∷ keys) below = by_test (q o) refl below (λ inner. prefix-holds q keys inner)
+  where
+    by_test :
+        (b : Bool) → q o ≡ b → cond (not b) (1 + prefix_len (λ o. not (q o)) keys) 0 < suc (length keys)
+        → (prefix_len (λ o. not (q o)) keys < length keys → q (slice_index_or keys (prefix_len (λ o. not (q o)) keys) None) ≡ true)
+        → q (slice_index_or (o ∷ keys) (cond (not b) (1 + prefix_len (λ o. not (q o)) keys) 0) None) ≡ true
+    by_test true is below rest = is
+    by_test false is below rest =
+        let step : 1 + prefix_len (λ o. not (q o)) keys ≡ suc (prefix_len (λ o. not (q o)) keys) = omega arith in
+        ap (λ (n : ℕ). q (slice_index_or (o ∷ keys) n None)) step ∙ rest (omega arith)
+
+prefix-all : (q : Option Key → Bool) (keys : List (Option Key)) (i : ℕ) → length keys ≤ prefix_len (λ o. not (q o)) keys → i < length keys → q (slice_index_or keys i None) ≡ false
+prefix-all q [] i all below = absurd (omega arith)
+prefix-all q (o ∷ keys) zero all below = by_test (q o) refl all
+  where
+    by_test : (b : Bool) → q o ≡ b → suc (length keys) ≤ cond (not b) (1 + prefix_len (λ o. not (q o)) keys) 0 → q o ≡ false
+    by_test true is all = absurd (omega arith)
+    by_test false is all = is
+prefix-all q (o ∷ keys) (suc i) all below = prefix-all q keys i (by_test (q o) all) (omega arith)
+  where
+    by_test : (b : Bool) → suc (length keys) ≤ cond (not b) (1 + prefix_len (λ o. not (q o)) keys) 0 → length keys ≤ prefix_len (λ o. not (q o)) keys
+    by_test true all = absurd (omega arith)
+    by_test false all = omega arith
+
+-- the look-up along the chain of a page's hash is the look-up in the list
+pub chain-look_up :
+    (anchors next : List (Option ℕ)) (keys : List (Option Key)) (wanted : Key) → IsChained anchors next keys → hash_of (length anchors) wanted < length anchors
+    → find (holds_it keys wanted) (chain_of anchors next (hash_of (length anchors) wanted)) ≡ look_up keys wanted
+chain-look_up anchors next keys wanted chained below =
+    by_test (nat_lt (prefix_len (λ o. not (holds wanted o)) keys) (length keys)) refl
+  where
+    chain : IsChain anchors next keys (hash_of (length anchors) wanted)
+    chain = chained.chains (hash_of (length anchors) wanted) below
+
+    by_test :
+        (b : Bool) → nat_lt (prefix_len (λ o. not (holds wanted o)) keys) (length keys) ≡ b
+        → find (holds_it keys wanted) (chain_of anchors next (hash_of (length anchors) wanted)) ≡ cond b (Some (prefix_len (λ o. not (holds wanted o)) keys)) None
+    by_test true is =
+        let frame = prefix_len (λ o. not (holds wanted o)) keys in
+        let held : holds wanted (key_in keys frame) ≡ true = prefix-holds (holds wanted) keys (ltb-true _ _ is) in
+        let at : key_in keys frame ≡ Some wanted = held-is wanted (key_in keys frame) held in
+        let inside : has (chain_of anchors next (hash_of (length anchors) wanted)) frame ≡ true =
+        chain.has_its frame ∙ ap (λ (o : Option Key). option_map_or (λ key. hash_of (length anchors) key == hash_of (length anchors) wanted) o false) at ∙ equal (hash_of (length anchors) wanted) in
+        find-here (holds_it keys wanted) (chain_of anchors next (hash_of (length anchors) wanted)) frame inside held
+        (λ other holds_too. chained.once other frame wanted (held-is wanted (key_in keys other) holds_too) at)
+    by_test false is =
+        find-none (holds_it keys wanted) (chain_of anchors next (hash_of (length anchors) wanted)) (λ frame. none frame (cases_lt frame (length keys)))
+      where
+        none : (frame : ℕ) → (frame < length keys) ⊎ (length keys ≤ frame) → holds_it keys wanted frame ≡ false
+        none frame (inl inside) = prefix-all (holds wanted) keys frame (ltb-false _ _ is) inside
+        none frame (inr past) = ap (holds wanted) (get_or-eq_default keys None past)
+
+-- where no frame holds a page, none does
+pub look_up-none : (keys : List (Option Key)) (wanted : Key) → look_up keys wanted ≡ None → (frame : ℕ) → holds wanted (key_in keys frame) ≡ false
+look_up-none keys wanted absent frame = by_test (nat_lt (prefix_len (λ o. not (holds wanted o)) keys) (length keys)) refl absent
+  where
+    by_test :
+        (b : Bool) → nat_lt (prefix_len (λ o. not (holds wanted o)) keys) (length keys) ≡ b
+        → cond b (Some (prefix_len (λ o. not (holds wanted o)) keys)) None ≡ None → holds wanted (key_in keys frame) ≡ false
+    by_test true is absent = absurd (cc)
+    by_test false is absent = by_place (cases_lt frame (length keys))
+      where
+        by_place : (frame < length keys) ⊎ (length keys ≤ frame) → holds wanted (key_in keys frame) ≡ false
+        by_place (inl inside) = prefix-all (holds wanted) keys frame (ltb-false _ _ is) inside
+        by_place (inr past) = ap (holds wanted) (get_or-eq_default keys None past)

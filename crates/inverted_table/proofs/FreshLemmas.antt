@@ -1,0 +1,49 @@
+-- A table with nothing in it.
+use Rattle.std.proofs.Common.{◌≡◌, ℕ, ◌<◌, ◌≤◌, ◌⊎◌, false, List, [], length, sym, ◌∙◌, ap, arith, inl, inr, Some, None}
+use Rattle.std.specs.Prelude.{◌==◌, replicate, slice_index_or, Option}
+use Rattle.std.specs.Option.{option_map_or}
+use Rattle.std.proofs.lemmas.Bool.{cases_lt}
+use Rattle.std.proofs.lemmas.List.{length-replicate, get_or-replicate}
+use Rattle.std.proofs.Math.ListN.{get_or-eq_default}
+use Rattle.lock_rules.specs.Sets.{has, distinct}
+use Rattle.inverted_table.specs.declared.key.Key.{Key}
+use Rattle.inverted_table.proofs.WalkLemmas.{chain-none, end-none}
+use Rattle.inverted_table.specs.Chains.{chain_from, chain_end, chain_of, hash_of, IsChain, IsChained}
+
+nothing : (X : Type 0) → (count i : ℕ) → slice_index_or (replicate {A = Option X} count None) i None ≡ None
+nothing X count i = by_case (cases_lt i count)
+  where
+    by_case : (i < count) ⊎ (count ≤ i) → slice_index_or (replicate {A = Option X} count None) i None ≡ None
+    by_case (inl below) = get_or-replicate count i None None below
+    by_case (inr above) = get_or-eq_default (replicate {A = Option X} count None) None (let short : length (replicate {A = Option X} count None) ≤ i = omega (arith, length-replicate {A = Option X} count None) in short)
+
+chained-fresh :
+    (anchors frames : ℕ) → 1 ≤ anchors
+    → IsChained (replicate anchors None) (replicate frames None) (replicate frames None)
+chained-fresh anchors frames some =
+    record {
+      some = omega (arith, length-replicate {A = Option ℕ} anchors None);
+      sized = length-replicate {A = Option ℕ} frames None ∙ sym (length-replicate {A = Option Key} frames None);
+      chains = λ hash below. chain hash;
+      once = λ frame other key first second. absurd (let clash : None ≡ Some key = sym (nothing Key frames frame) ∙ first in cc);
+    }
+  where
+    empty : (hash : ℕ) → chain_of (replicate anchors None) (replicate frames None) hash ≡ []
+    empty hash =
+        ap (λ (o : Option ℕ). chain_from (replicate frames None) (length (replicate {A = Option ℕ} frames None)) o) (nothing ℕ anchors hash)
+        ∙ chain-none (replicate frames None) (length (replicate {A = Option ℕ} frames None))
+
+    chain : (hash : ℕ) → IsChain (replicate anchors None) (replicate frames None) (replicate frames None) hash
+    chain hash =
+        record {
+          ends = ap (λ (o : Option ℕ). chain_end (replicate frames None) (length (replicate {A = Option ℕ} frames None)) o) (nothing ℕ anchors hash)
+              ∙ end-none (replicate frames None) (length (replicate {A = Option ℕ} frames None));
+          apart = ap distinct (empty hash) ∙ sym (empty hash);
+          has_its = λ frame. ap (λ (xs : List ℕ). has xs frame) (empty hash)
+              ∙ sym (ap (λ (o : Option Key). option_map_or (λ key. hash_of (length (replicate {A = Option ℕ} anchors None)) key == hash) o false) (nothing Key frames frame));
+        }
+
+pub chained-fresh_by :
+    (anchors frames : ℕ) (list next : List (Option ℕ)) (keys : List (Option Key)) → 1 ≤ anchors
+    → list ≡ replicate anchors None → next ≡ replicate frames None → keys ≡ replicate frames None → IsChained list next keys
+chained-fresh_by anchors frames list next keys some e1 e2 e3 = rw (e1, e2, e3) (chained-fresh anchors frames some)

@@ -1,0 +1,7 @@
+pub mod ClearLemmas
+pub mod FindLemmas
+pub mod FreshLemmas
+pub mod WalkLemmas
+pub mod ApartLemmas
+pub mod EnterLemmas
+pub mod LeaveLemmas

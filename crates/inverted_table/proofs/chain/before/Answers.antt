@@ -1,0 +1,33 @@
+use Rattle.std.proofs.Common.{ℕ, ◌-◌, ◌+◌, List, length, sym, ◌∙◌, ap}
+use Rattle.inverted_table.specs.Chains.{before_in}
+use Rattle.inverted_table.proofs.WalkLemmas.{walked-none, walked-one, ends-one, before-here, before-later, same-option, other-option}
+use Rattle.inverted_table.proofs.chain.before.Goals as goal
+
+pub returns-in_err-at : goal.returns-in_err-at
+returns-in_err-at c =
+    c.from_residual.ensures
+    ∙ sym (ap (λ (frames : List ℕ). before_in frames c.args.frame) (walked-none c.args.next.now (length c.args.next.now - c.loop.counter) c.loop.place c.in_err-at.was))
+    ∙ c.loop.invariant.same
+
+pub returns-then-eq : goal.returns-then-eq
+returns-then-eq c =
+    let after = c.following-after.result in
+    let ends = sym (ends-one c.args.next.now (length c.args.next.now) c.loop.counter c.in_ok-at.at c.loop.place after c.in_ok-at.was c.loop-test.true c.following-after.ensures) ∙ c.loop.invariant.ends in
+    sym (before-here c.args.next.now (length c.args.next.now - (c.loop.counter + 1)) c.in_ok-at.at c.args.frame after
+    (same-option after c.args.frame (sym c.eq.ensures ∙ c.if-eq.true)) ends)
+    ∙ sym (ap (λ (frames : List ℕ). before_in frames c.args.frame)
+    (walked-one c.args.next.now (length c.args.next.now) c.loop.counter c.in_ok-at.at c.loop.place after c.in_ok-at.was c.loop-test.true c.following-after.ensures))
+    ∙ c.loop.invariant.same
+
+pub loop-preserved : goal.loop-preserved
+loop-preserved c =
+    let after = c.following-after.result in
+    record {
+      ends = sym (ends-one c.args.next.now (length c.args.next.now) c.loop.counter c.in_ok-at.at c.loop.place after c.in_ok-at.was c.loop-test.true c.following-after.ensures)
+          ∙ c.loop.invariant.ends;
+      same = sym (before-later c.args.next.now (length c.args.next.now - (c.loop.counter + 1)) c.in_ok-at.at c.args.frame after
+          (other-option after c.args.frame (sym c.eq.ensures ∙ c.if-eq.false)))
+          ∙ sym (ap (λ (frames : List ℕ). before_in frames c.args.frame)
+          (walked-one c.args.next.now (length c.args.next.now) c.loop.counter c.in_ok-at.at c.loop.place after c.in_ok-at.was c.loop-test.true c.following-after.ensures))
+          ∙ c.loop.invariant.same;
+    }

@@ -1,0 +1,28 @@
+use Rattle.std.proofs.Common.{ℕ, ◌-◌, ◌+◌, length, sym, ◌∙◌, ap, cond, Some, refl}
+use Rattle.std.specs.Prelude.{find}
+use Rattle.inverted_table.specs.Placed.{holds, key_in}
+use Rattle.inverted_table.specs.Chains.{chain_from, following}
+use Rattle.inverted_table.proofs.WalkLemmas.{walked-none, walked-one}
+use Rattle.inverted_table.proofs.chain.find_along.Goals as goal
+
+pub returns-in_err-frame : goal.returns-in_err-frame
+returns-in_err-frame c =
+    c.from_residual.ensures
+    ∙ sym (ap (find (λ (frame : ℕ). holds c.args.key (key_in c.args.keys.now frame))) (walked-none c.args.next.now (length c.args.next.now - c.loop.counter) c.loop.place c.in_err-frame.was))
+    ∙ c.loop.invariant
+
+pub returns-then-holds : goal.returns-then-holds
+returns-then-holds c =
+    let rest = find (λ (frame : ℕ). holds c.args.key (key_in c.args.keys.now frame)) (chain_from c.args.next.now (length c.args.next.now - (c.loop.counter + 1)) (following c.args.next.now c.in_ok-frame.frame)) in
+    sym (ap (λ b. cond b (Some c.in_ok-frame.frame) rest) (sym c.holds.ensures ∙ c.if-holds.true))
+    ∙ sym (ap (find (λ (frame : ℕ). holds c.args.key (key_in c.args.keys.now frame)))
+    (walked-one c.args.next.now (length c.args.next.now) c.loop.counter c.in_ok-frame.frame c.loop.place _ c.in_ok-frame.was c.loop-test.true refl))
+    ∙ c.loop.invariant
+
+pub loop-preserved : goal.loop-preserved
+loop-preserved c =
+    let rest = find (λ (frame : ℕ). holds c.args.key (key_in c.args.keys.now frame)) (chain_from c.args.next.now (length c.args.next.now - (c.loop.counter + 1)) c.following-place.result) in
+    sym (ap (λ b. cond b (Some c.in_ok-frame.frame) rest) (sym c.holds.ensures ∙ c.if-holds.false))
+    ∙ sym (ap (find (λ (frame : ℕ). holds c.args.key (key_in c.args.keys.now frame)))
+    (walked-one c.args.next.now (length c.args.next.now) c.loop.counter c.in_ok-frame.frame c.loop.place c.following-place.result c.in_ok-frame.was c.loop-test.true c.following-place.ensures))
+    ∙ c.loop.invariant

@@ -1,0 +1,69 @@
+// Chains through the frames: each frame leads to the one after it.
+ghost use Rattle.std.specs.Prelude.{◌≡◌, ◌==◌, ◌<◌, find, length, None};
+ghost use Rattle.inverted_table.specs.Placed.{key_in, holds};
+ghost use Rattle.inverted_table.specs.Chains.{hash_of, following, chain_from, chain_end, before_in};
+
+use super::key::Key;
+
+/// The hash of a page among so many anchors.
+pub fn hash(key: Key, anchors: usize) -> usize
+    requires { 0 < anchors }
+    ensures value { result ≡ hash_of anchors key }
+    ensures below { result < anchors }
+{
+    (u32::from(key.segment) ^ key.page) as usize % anchors
+}
+
+/// The frame after another.
+pub fn following(next: &[Option<u16>], frame: u16) -> Option<u16>
+    ensures { result ≡ following next.now frame }
+{
+    next.get(usize::from(frame)).copied().flatten()
+}
+
+/// Whether a frame holds a page.
+pub fn holds(keys: &[Option<Key>], frame: u16, key: Key) -> bool
+    ensures { result ≡ holds key (key_in keys.now frame) }
+{
+    match keys.get(usize::from(frame)).copied().flatten() {
+        Some(held) => held.segment == key.segment && held.page == key.page,
+        None => false,
+    }
+}
+
+/// The first frame along a chain that holds a page.
+pub fn find_along(
+    next: &[Option<u16>],
+    keys: &[Option<Key>],
+    first: Option<u16>,
+    key: Key,
+) -> Option<u16>
+    ensures { result ≡ find (λ frame. holds key (key_in keys.now frame)) (chain_from next.now (length next.now) first) }
+{
+    let mut place = first;
+    for _ in 0..next.len() {
+        let frame = place?;
+        if holds(keys, frame, key) {
+            return Some(frame);
+        }
+        place = following(next, frame);
+    }
+    None
+}
+
+/// The frame in front of another along a chain that ends. None where the chain begins with the other, or doesn't have it.
+pub fn before(next: &[Option<u16>], first: Option<u16>, frame: u16) -> Option<u16>
+    requires { chain_end next.now (length next.now) first ≡ None }
+    ensures { result ≡ before_in (chain_from next.now (length next.now) first) frame }
+{
+    let mut place = first;
+    for _ in 0..next.len() {
+        let at = place?;
+        let after = following(next, at);
+        if after == Some(frame) {
+            return Some(at);
+        }
+        place = after;
+    }
+    None
+}

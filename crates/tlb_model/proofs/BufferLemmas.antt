@@ -1,0 +1,216 @@
+-- The buffer after a pair came in, and after the pairs of a frame went.
+use Rattle.std.proofs.Common.{◌≡◌, ◌≢◌, ◌⊎◌, inl, inr, subst, ℕ, suc, ◌+◌, ◌<◌, ◌≤◌, Bool, true, false, List, [], ◌∷◌, ◌++◌, length, take, drop, map, refl, sym, ◌∙◌, ap, arith, Some, None, All}
+use Rattle.std.specs.Prelude.{◌==◌, ◌&&◌, not, cond, filter, find, slice_index_or, slice_set, Option, option_map, option_to_list}
+use Rattle.std.specs.Option.{option_map_or}
+use Rattle.std.proofs.lemmas.List.{take_all, drop_all, append-nil, get_or_default, get_or-map, map-set, length-map}
+use Rattle.std.proofs.lemmas.List.Edits.{map_over_more}
+use Rattle.std.proofs.lemmas.List.Elements.{All-push, All-drop, All-set, All-same, All-get_or, All-nil, All-cons, All-head, All-tail}
+use Rattle.std.proofs.Math.ListN.{get_or-eq_default}
+use Rattle.std.proofs.lemmas.Bool.{and_parts, eqb-true, cases_lt}
+use Rattle.std.proofs.lemmas.List.Kept.{AllPairs-filter}
+use Rattle.std.proofs.lemmas.List.Quantifiers.{all_pairs_push}
+use Rattle.inverted_table.specs.declared.key.Key.{Key}
+use Rattle.inverted_table.specs.Placed.{look_up}
+use Rattle.tlb_model.specs.declared.tlb.Pair.{Pair}
+use Rattle.tlb_model.specs.declared.tlb.Ways.{Ways}
+use Rattle.tlb_model.specs.Buffer.{class_of, page_of, pair_to, is_pair_of, pairs_in, remembered, after_table, after_found, with_newest, forgotten, AreApart, IsOfTable}
+use Rattle.tlb_model.specs.Ways.{pairs_of, unless_of, ways_without, AreClasses}
+
+pub without-more :
+    (frame : ℕ) (classes now : List Ways) (at : ℕ) (new other : Ways) → at < length classes → at < length now
+    → now ≡ map (ways_without frame) (take at classes) ++ drop at classes → new ≡ ways_without frame (slice_index_or now at other)
+    → slice_set now at new ≡ map (ways_without frame) (take (at + 1) classes) ++ drop (at + 1) classes
+without-more frame classes now at new other within stays so_far is =
+    let ways = slice_index_or now at other in
+    ap (slice_set now at) is
+    ∙ map_over_more (ways_without frame) classes now at ways within so_far (get_or_default now at other ways stays)
+
+pub without-all :
+    (frame : ℕ) (classes now : List Ways) (at : ℕ) → length classes ≤ at
+    → now ≡ map (ways_without frame) (take at classes) ++ drop at classes → now ≡ map (ways_without frame) classes
+without-all frame classes now at over so_far =
+    so_far
+    ∙ ap (λ (first : List Ways). map (ways_without frame) first ++ drop at classes) (take_all at classes over)
+    ∙ ap (λ (rest : List Ways). map (ways_without frame) classes ++ rest) (drop_all at classes over)
+    ∙ append-nil (map (ways_without frame) classes)
+
+-- what is left of a class
+without-pair : (frame : ℕ) (o : Option Pair) (rest : List Pair) → option_to_list (unless_of frame o) ++ filter (λ pair. not (pair.frame == frame)) rest ≡ filter (λ pair. not (pair.frame == frame)) (option_to_list o ++ rest)
+without-pair frame None rest = refl
+without-pair frame (Some pair) rest = by_test (pair.frame == frame)
+  where
+    by_test :
+        (b : Bool) → option_to_list (cond b None (Some pair)) ++ filter (λ p. not (p.frame == frame)) rest
+        ≡ cond (not b) (pair ∷ filter (λ p. not (p.frame == frame)) rest) (filter (λ p. not (p.frame == frame)) rest)
+    by_test true = refl
+    by_test false = refl
+
+last-pair : (frame : ℕ) (o : Option Pair) → option_to_list (unless_of frame o) ≡ filter (λ pair. not (pair.frame == frame)) (option_to_list o)
+last-pair frame None = refl
+last-pair frame (Some pair) = by_test (pair.frame == frame)
+  where
+    by_test : (b : Bool) → option_to_list (cond b None (Some pair)) ≡ cond (not b) (pair ∷ []) []
+    by_test true = refl
+    by_test false = refl
+
+pairs-without : (frame : ℕ) (ways : Ways) → pairs_of (ways_without frame ways) ≡ filter (λ pair. not (pair.frame == frame)) (pairs_of ways)
+pairs-without frame ways =
+    ap (λ (rest : List Pair). option_to_list (unless_of frame ways.older) ++ rest) (last-pair frame ways.newer)
+    ∙ without-pair frame ways.older (option_to_list ways.newer)
+
+pub classes-without : (frame : ℕ) (classes : List Ways) → map pairs_of (map (ways_without frame) classes) ≡ forgotten (map pairs_of classes) frame
+classes-without frame [] = refl
+classes-without frame (ways ∷ classes) =
+    ap (λ (pairs : List Pair). pairs ∷ map pairs_of (map (ways_without frame) classes)) (pairs-without frame ways)
+    ∙ ap (λ (rest : List (List Pair)). filter (λ pair. not (pair.frame == frame)) (pairs_of ways) ∷ rest) (classes-without frame classes)
+
+-- classes whose pairs are apart stay so without the pairs of a frame
+pub forgotten-apart : (classes : List (List Pair)) (frame : ℕ) → All AreApart classes → All AreApart (forgotten classes frame)
+forgotten-apart [] frame apart = All-nil AreApart
+forgotten-apart (pairs ∷ classes) frame apart =
+    All-cons AreApart (filter (λ pair. not (pair.frame == frame)) pairs) (forgotten classes frame)
+    (AllPairs-filter (λ pair other. page_of pair ≢ page_of other) (λ pair. not (pair.frame == frame)) pairs (All-head AreApart pairs classes apart))
+    (forgotten-apart classes frame (All-tail AreApart pairs classes apart))
+
+-- a pair is of its page, and of no other
+equal : (n : ℕ) → (n == n) ≡ true
+equal n = grind arith
+
+pair-is : (wanted : Key) (pair : Pair) → page_of pair ≡ wanted → is_pair_of wanted pair ≡ true
+pair-is wanted pair is =
+    ap (λ (key : Key). key.segment == wanted.segment && key.page == wanted.page) is
+    ∙ ap (λ b. b && wanted.page == wanted.page) (equal wanted.segment) ∙ equal wanted.page
+
+page-is : (wanted : Key) (pair : Pair) → is_pair_of wanted pair ≡ true → page_of pair ≡ wanted
+page-is wanted pair is =
+    let parts = and_parts (pair.segment == wanted.segment) (pair.page == wanted.page) is in
+    same pair.segment pair.page wanted.segment wanted.page (eqb-true pair.segment wanted.segment parts.0) (eqb-true pair.page wanted.page parts.1)
+  where
+    same : (a b c d : ℕ) → a ≡ c → b ≡ d → (let key : Key = record { segment = a; page = b } in key) ≡ record { segment = c; page = d }
+    same a b c d first second = rw (first, second) refl
+
+-- where no pair of a class is of a page, each is of another
+others : (wanted : Key) (pairs : List Pair) → find (is_pair_of wanted) pairs ≡ None → All (λ pair. page_of pair ≢ wanted) pairs
+others wanted [] none = All-nil (λ pair. page_of pair ≢ wanted)
+others wanted (pair ∷ pairs) none = by_test (is_pair_of wanted pair) refl none (others wanted pairs)
+  where
+    by_test :
+        (b : Bool) → is_pair_of wanted pair ≡ b → cond b (Some pair) (find (is_pair_of wanted) pairs) ≡ None
+        → (find (is_pair_of wanted) pairs ≡ None → All (λ other. page_of other ≢ wanted) pairs) → All (λ other. page_of other ≢ wanted) (pair ∷ pairs)
+    by_test true is none rest = absurd (cc)
+    by_test false is none rest =
+        All-cons (λ other. page_of other ≢ wanted) pair pairs
+        (λ e. absurd (let clash : true ≡ false = sym (pair-is wanted pair e) ∙ is in cc)) (rest none)
+
+-- what holds of each pair holds of the one that is found, which is of the page
+found-pair : (P : Pair → Type 0) (wanted : Key) (pairs : List Pair) (pair : Pair) → All P pairs → find (is_pair_of wanted) pairs ≡ Some pair → P pair × (page_of pair ≡ wanted)
+found-pair P wanted [] pair all is = absurd (cc)
+found-pair P wanted (first ∷ pairs) pair all is =
+    by_test (is_pair_of wanted first) refl is (λ later. found-pair P wanted pairs pair (All-tail P first pairs all) later)
+  where
+    by_test :
+        (b : Bool) → is_pair_of wanted first ≡ b → cond b (Some first) (find (is_pair_of wanted) pairs) ≡ Some pair
+        → (find (is_pair_of wanted) pairs ≡ Some pair → P pair × (page_of pair ≡ wanted)) → P pair × (page_of pair ≡ wanted)
+    by_test true test is later =
+        let same : first ≡ pair = cc in
+        (subst P same (All-head P first pairs all), ap page_of (sym same) ∙ page-is wanted first test)
+    by_test false test is later = later is
+
+-- what holds of each pair of the classes holds of each pair of one
+pub class-all : (P : Pair → Type 0) (classes : List (List Pair)) (class : ℕ) → All (All P) classes → All P (pairs_in classes class)
+class-all P classes class all = by_case (cases_lt class (length classes))
+  where
+    by_case : (class < length classes) ⊎ (length classes ≤ class) → All P (pairs_in classes class)
+    by_case (inl below) = All-get_or (All P) classes class [] below all
+    by_case (inr past) = All-same P (pairs_in classes class) [] (get_or-eq_default classes [] past) (All-nil P)
+
+-- the frame of a pair that the buffer finds is the table's
+pub remembered-of :
+    (classes : List (List Pair)) (keys : List (Option Key)) (wanted : Key) (pair : Pair) → IsOfTable classes keys
+    → find (is_pair_of wanted) (pairs_in classes (class_of wanted)) ≡ Some pair → look_up keys wanted ≡ Some pair.frame
+remembered-of classes keys wanted pair all is =
+    let told = found-pair (λ p. look_up keys (page_of p) ≡ Some p.frame) wanted (pairs_in classes (class_of wanted)) pair
+    (class-all (λ p. look_up keys (page_of p) ≡ Some p.frame) classes (class_of wanted) all) is in
+    sym (ap (look_up keys) told.1) ∙ told.0
+
+-- the pairs of a class with a new one: what holds of all before and of the new one holds of all
+newest-all : (P : Pair → Type 0) (pairs : List Pair) (pair : Pair) → All P pairs → P pair → All P (with_newest pairs pair)
+newest-all P pairs pair all new = by_test (length pairs == 2)
+  where
+    by_test : (b : Bool) → All P ((cond b (drop 1 pairs) pairs) ++ pair ∷ [])
+    by_test true = All-push P (drop 1 pairs) pair (All-drop P 1 pairs all) new
+    by_test false = All-push P pairs pair all new
+
+apart-rest : (pairs : List Pair) → AreApart pairs → AreApart (drop 1 pairs)
+apart-rest [] apart = apart
+apart-rest (pair ∷ pairs) apart = λ i j d before inside. apart (suc i) (suc j) d (omega arith) (omega arith)
+
+apart-pushed : (pairs : List Pair) (pair : Pair) → AreApart pairs → All (λ other. page_of other ≢ page_of pair) pairs → AreApart (pairs ++ pair ∷ [])
+apart-pushed pairs pair apart different =
+    all_pairs_push (λ one other. page_of one ≢ page_of other) pairs pair apart
+    (λ k d below. All-get_or (λ other. page_of other ≢ page_of pair) pairs k d below different)
+
+-- a class stays apart, if the new pair is of a page of which it had none
+pub newest-apart :
+    (pairs : List Pair) (wanted : Key) (frame : ℕ) → AreApart pairs → find (is_pair_of wanted) pairs ≡ None → AreApart (with_newest pairs (pair_to wanted frame))
+newest-apart pairs wanted frame apart none = by_test (length pairs == 2)
+  where
+    by_test : (b : Bool) → AreApart ((cond b (drop 1 pairs) pairs) ++ pair_to wanted frame ∷ [])
+    by_test true =
+        apart-pushed (drop 1 pairs) (pair_to wanted frame) (apart-rest pairs apart)
+        (All-drop (λ other. page_of other ≢ wanted) 1 pairs (others wanted pairs none))
+    by_test false = apart-pushed pairs (pair_to wanted frame) apart (others wanted pairs none)
+
+-- the pairs of a class by its ways
+pub class-pairs : (classes : List Ways) (class : ℕ) (other : Ways) → class < length classes → pairs_in (map pairs_of classes) class ≡ pairs_of (slice_index_or classes class other)
+class-pairs classes class other below = get_or-map pairs_of classes class other [] below
+
+-- the pairs of a class are of different pages
+pub class-apart : (classes : List Ways) (class : ℕ) (other : Ways) → class < length classes → AreClasses classes → AreApart (pairs_of (slice_index_or classes class other))
+class-apart classes class other below apart =
+    subst AreApart (class-pairs classes class other below)
+    (All-get_or AreApart (map pairs_of classes) class [] (omega (arith, length-map classes pairs_of)) apart)
+
+-- a pair came in for a page that the buffer didn't remember
+pub after-added :
+    (classes : List Ways) (wanted : Key) (frame : ℕ) (other new : Ways) → class_of wanted < length classes
+    → find (is_pair_of wanted) (pairs_of (slice_index_or classes (class_of wanted) other)) ≡ None
+    → pairs_of new ≡ with_newest (pairs_of (slice_index_or classes (class_of wanted) other)) (pair_to wanted frame)
+    → map pairs_of (slice_set classes (class_of wanted) new) ≡ after_found (map pairs_of classes) (Some frame) wanted
+after-added classes wanted frame other new below none added =
+    let there : pairs_in (map pairs_of classes) (class_of wanted) ≡ pairs_of (slice_index_or classes (class_of wanted) other) =
+    class-pairs classes (class_of wanted) other below in
+    let forgot : remembered (map pairs_of classes) wanted ≡ None =
+    ap (λ (pairs : List Pair). option_map (λ pair. pair.frame) (find (is_pair_of wanted) pairs)) there
+    ∙ ap (λ (o : Option Pair). option_map (λ pair. pair.frame) o) none in
+    map-set pairs_of classes (class_of wanted) new
+    ∙ ap (slice_set (map pairs_of classes) (class_of wanted)) (added ∙ ap (λ (pairs : List Pair). with_newest pairs (pair_to wanted frame)) (sym there))
+    ∙ sym (ap (λ (o : Option ℕ). option_map_or (λ _. map pairs_of classes) o (after_table (map pairs_of classes) wanted (Some frame))) forgot)
+
+-- the classes stay apart
+pub added-apart :
+    (classes : List Ways) (wanted : Key) (frame : ℕ) (other new : Ways) → class_of wanted < length classes → AreClasses classes
+    → find (is_pair_of wanted) (pairs_of (slice_index_or classes (class_of wanted) other)) ≡ None
+    → pairs_of new ≡ with_newest (pairs_of (slice_index_or classes (class_of wanted) other)) (pair_to wanted frame)
+    → AreClasses (slice_set classes (class_of wanted) new)
+added-apart classes wanted frame other new below apart none added =
+    let old : AreApart (pairs_of (slice_index_or classes (class_of wanted) other)) = class-apart classes (class_of wanted) other below apart in
+    subst (λ (list : List (List Pair)). All AreApart list) (sym (map-set pairs_of classes (class_of wanted) new))
+    (All-set AreApart (map pairs_of classes) (class_of wanted) (pairs_of new)
+    (subst AreApart (sym added) (newest-apart (pairs_of (slice_index_or classes (class_of wanted) other)) wanted frame old none)) apart)
+
+-- a buffer whose pairs are in the table stays so where the table answered
+pub after-of :
+    (classes : List (List Pair)) (keys : List (Option Key)) (wanted : Key) → IsOfTable classes keys → IsOfTable (after_found classes (look_up keys wanted) wanted) keys
+after-of classes keys wanted all = by_memory (remembered classes wanted)
+  where
+    by_table : (o : Option ℕ) → look_up keys wanted ≡ o → IsOfTable (after_table classes wanted o) keys
+    by_table None is = all
+    by_table (Some frame) is =
+        All-set (All (λ pair. look_up keys (page_of pair) ≡ Some pair.frame)) classes (class_of wanted) (with_newest (pairs_in classes (class_of wanted)) (pair_to wanted frame))
+        (newest-all (λ pair. look_up keys (page_of pair) ≡ Some pair.frame) (pairs_in classes (class_of wanted)) (pair_to wanted frame)
+        (class-all (λ pair. look_up keys (page_of pair) ≡ Some pair.frame) classes (class_of wanted) all) is) all
+
+    by_memory : (o : Option ℕ) → IsOfTable (option_map_or (λ _. classes) o (after_table classes wanted (look_up keys wanted))) keys
+    by_memory None = by_table (look_up keys wanted) refl
+    by_memory (Some frame) = all

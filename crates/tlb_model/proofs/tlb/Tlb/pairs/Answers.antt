@@ -1,0 +1,8 @@
+use Rattle.std.proofs.Common.{sym, subst, arith}
+use Rattle.tlb_model.specs.Buffer.{AreApart}
+use Rattle.tlb_model.proofs.BufferLemmas.{class-apart}
+use Rattle.tlb_model.proofs.tlb.Tlb.pairs.Goals as goal
+
+pub returns-clause-apart : goal.returns-clause-apart
+returns-clause-apart c =
+    subst AreApart (sym c.pairs.ensures) (class-apart c.self.inside.classes c.from.result _ (omega arith) c.self.invariant)

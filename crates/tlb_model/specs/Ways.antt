@@ -1,0 +1,22 @@
+-- The two ways of a class, as the list of its pairs.
+use Rattle.std.specs.Prelude.{◌==◌, if◌then◌else◌, ℕ, List, ◌++◌, All, map, option_to_list, Option, Some, None}
+use Rattle.tlb_model.specs.declared.tlb.Pair.{Pair}
+use Rattle.tlb_model.specs.declared.tlb.Ways.{Ways}
+use Rattle.tlb_model.specs.Buffer.{AreApart}
+
+-- the pairs of a class, the older first
+abbrev pub pairs_of : Ways → List Pair
+pairs_of ways = option_to_list ways.older ++ option_to_list ways.newer
+
+-- in no class two pairs are of the same page
+abbrev pub AreClasses : List Ways → Type 0
+AreClasses classes = All AreApart (map pairs_of classes)
+
+-- a pair, if it isn't of a frame
+abbrev pub unless_of : ℕ → Option Pair → Option Pair
+unless_of frame None = None
+unless_of frame (Some pair) = if pair.frame == frame then None else Some pair
+
+-- the ways of a class without the pairs of a frame
+abbrev pub ways_without : ℕ → Ways → Ways
+ways_without frame ways = record { older = unless_of frame ways.older; newer = unless_of frame ways.newer }

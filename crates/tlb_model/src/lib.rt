@@ -1,0 +1,8 @@
+//! The look-aside buffer: two ways of sixteen classes in front of the page table (docs/MODEL.md).
+#![tactic(auto)]
+
+#[cfg(test)]
+mod tests;
+mod tlb;
+
+pub use tlb::{Pair, Tlb};

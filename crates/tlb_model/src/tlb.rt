@@ -1,0 +1,177 @@
+ghost use Rattle.std.specs.Prelude.{◌≡◌, ◌<◌, [], filter, find, not, ◌==◌, replicate, map};
+ghost use Rattle.inverted_table.specs.Placed.{look_up};
+ghost use Rattle.inverted_table.specs.Keys.{key_of};
+ghost use Rattle.tlb_model.specs.Buffer.{is_pair_of, pairs_in, found, after_found, forgotten, with_newest, AreApart, IsOfTable};
+ghost use Rattle.tlb_model.specs.Ways.{ways_without, unless_of};
+
+use arrayvec::ArrayVec;
+use inverted_table::Table;
+use segment_regs::Virtual;
+use std::marker::Model;
+
+/// A page of a segment and the frame that it is in.
+#[derive(Debug, Clone, Copy, Default, PartialEq, Eq)]
+pub struct Pair {
+    pub segment: u16,
+    pub page: u32,
+    pub frame: u16,
+}
+
+/// The two ways of a class.
+#[derive(Debug, Clone, Copy)]
+struct Ways {
+    older: Option<Pair>,
+    newer: Option<Pair>,
+}
+
+/// The look-aside buffer, seen as sixteen lists of at most two pairs, the older first (docs/MODEL.md).
+#[derive(Debug, Drop)]
+pub struct Tlb {
+    classes: [Ways; 16],
+}
+
+impl Model for Tlb {
+    ghost use Rattle.std.specs.Prelude.{List, map};
+    ghost use Rattle.tlb_model.specs.declared.tlb.Pair.{Pair};
+
+    ghost Value = { List (List Pair) };
+
+    ghost use Rattle.tlb_model.specs.Ways.{pairs_of, AreClasses};
+
+    ghost view = { λ buffer. map pairs_of buffer.classes };
+
+    ghost invariant = { λ buffer. AreClasses buffer.classes };
+}
+
+impl Ways {
+    ghost use Rattle.tlb_model.specs.Ways.{pairs_of};
+
+    const EMPTY: Ways = Ways {
+        older: None,
+        newer: None,
+    };
+
+    /// The pair of the page of an address.
+    fn find(&self, at: Virtual) -> Option<Pair>
+        ensures { result ≡ find (is_pair_of (key_of at)) (pairs_of self.now) }
+    {
+        match self.older {
+            Some(pair) if is_of(pair, at) => Some(pair),
+            _ => match self.newer {
+                Some(pair) if is_of(pair, at) => Some(pair),
+                _ => None,
+            },
+        }
+    }
+
+    /// The pairs, the older first.
+    fn pairs(&self) -> ArrayVec<Pair, 2>
+        ensures { result.items ≡ pairs_of self.now }
+    {
+        let mut pairs = ArrayVec::new();
+        if let Some(pair) = self.older {
+            pairs.push(pair);
+        }
+        if let Some(pair) = self.newer {
+            pairs.push(pair);
+        }
+        pairs
+    }
+
+    /// A new pair comes last, after the first has gone where there were two.
+    fn add(&mut self, pair: Pair)
+        ensures { pairs_of self.new ≡ with_newest (pairs_of self.old) pair }
+    {
+        if self.newer.is_some() {
+            self.older = self.newer;
+        }
+        self.newer = Some(pair);
+    }
+
+    /// The pairs of a frame go.
+    fn forget(&mut self, frame: u16)
+        ensures { self.new ≡ ways_without frame self.old }
+    {
+        self.older = unless_of(self.older, frame);
+        self.newer = unless_of(self.newer, frame);
+    }
+}
+
+impl Tlb {
+    /// A buffer without pairs.
+    pub fn new() -> Tlb
+        ensures { result ≡ replicate 16 [] }
+    {
+        Tlb {
+            classes: [Ways::EMPTY; 16],
+        }
+    }
+
+    /// The pairs of a class, the older first. No two are of the same page.
+    pub fn pairs(&self, class: u8) -> ArrayVec<Pair, 2>
+        requires { class < 16 }
+        ensures value { result.items ≡ pairs_in self.now class }
+        ensures apart { AreApart result.items }
+    {
+        let ways = self.classes[usize::from(class)];
+        ways.pairs()
+    }
+
+    /// The frame of the page of an address: by the buffer, which then stays, else by the table, whose answer comes into the
+    /// buffer.
+    pub fn find(&mut self, table: &Table, at: Virtual) -> Option<u16>
+        ensures answer { result ≡ found self.old (look_up table.now.keys (key_of at)) (key_of at) }
+        ensures after { self.new ≡ after_found self.old (look_up table.now.keys (key_of at)) (key_of at) }
+
+        // Where each pair is in the table, the answer is the table's, and each pair is in it again.
+        ensures same { IsOfTable self.old table.now.keys → result ≡ look_up table.now.keys (key_of at) }
+        ensures kept { IsOfTable self.old table.now.keys → IsOfTable self.new table.now.keys }
+    {
+        let class = (at.page % 16) as usize;
+        let mut ways = self.classes[class];
+        if let Some(pair) = ways.find(at) {
+            return Some(pair.frame);
+        }
+        let frame = table.find(at)?;
+        ways.add(Pair {
+            segment: at.segment,
+            page: at.page,
+            frame,
+        });
+        self.classes[class] = ways;
+        Some(frame)
+    }
+
+    /// The pairs of a frame go, and no others.
+    pub fn forget(&mut self, frame: u16)
+        ensures { self.new ≡ forgotten self.old frame }
+    {
+        forget_all(&mut self.classes, frame);
+    }
+}
+
+/// The pairs of a frame go from all classes.
+fn forget_all(classes: &mut [Ways], frame: u16)
+    ensures { classes.new ≡ map (ways_without frame) classes.old }
+{
+    for ways in classes.iter_mut() {
+        ways.forget(frame);
+    }
+}
+
+/// Whether a pair is of the page of an address.
+fn is_of(pair: Pair, at: Virtual) -> bool
+    ensures { result ≡ is_pair_of (key_of at) pair }
+{
+    pair.segment == at.segment && pair.page == at.page
+}
+
+/// A pair, if it isn't of a frame.
+fn unless_of(pair: Option<Pair>, frame: u16) -> Option<Pair>
+    ensures { result ≡ unless_of frame pair }
+{
+    match pair {
+        Some(held) if held.frame == frame => None,
+        _ => pair,
+    }
+}
