@@ -1,5 +1,5 @@
 -- What printing a range of a store did.
-use Rattle.std.proofs.Common.{◌≡◌, ◌+◌, inl, inr, ℕ, List, [], refl, sym, ◌∙◌, ap, subst}
+use Rattle.std.proofs.Common.{◌≡◌, ◌+◌, ℕ, List, [], refl, sym, ◌∙◌, ap, subst}
 use Rattle.std.specs.Prelude.{Option, IsSome, IsTrue, Result, Ok, Err}
 use Rattle.std.specs.Int.{div_ceil}
 use Rattle.outside.specs.declared.world.Outside.{Ghosts}
@@ -17,7 +17,7 @@ use Rattle.console.specs.declared.status.Status.{Status}
 use Rattle.console.specs.declared.status.Status.TheVariants as status
 use Rattle.console.specs.declared.show.Range.{Range}
 use Rattle.console.specs.Show.{HasRange, IsInside, OnlyShows, PutsBytes, PutsDone, Shown, ShownBy, StopsBy, bytes_in, rows_of}
-use Rattle.console.proofs.ShowLemmas.{held_same, prints_none, shows_asks, shows_on}
+use Rattle.console.proofs.ShowLemmas.{held_same, shows_asks, shows_on}
 
 -- bytes that a store shows stand for one with its directory
 stood : (held : List ℕ) (store : KeptStore) → Shows held store → (number : ℕ) × (flat : FlatStore) × (stands held ≡ Stands number flat) × (flat.directory ≡ store.header.directory)
