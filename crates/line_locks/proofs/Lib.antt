@@ -1,0 +1,3 @@
+pub mod MeetsLemmas
+pub mod CountLemmas
+pub mod SeatLemmas
