@@ -56,7 +56,7 @@ meets-bits a b small =
     ap not (none-bits (bit_and a b) small)
     ∙ meets-some (lines_of_bits a) (lines_of_bits b) (lines_of_bits (bit_and a b)) (has-both a b)
 
-or-parts : (p q r s : Bool) → ((p || q) || (r || s)) ≡ ((p || r) || (q || s))
+pub or-parts : (p q r s : Bool) → ((p || q) || (r || s)) ≡ ((p || r) || (q || s))
 or-parts true q r s = refl
 or-parts false true true s = refl
 or-parts false true false s = refl
