@@ -1,5 +1,5 @@
 -- What sixteen seats hold of the lines of a store.
-use Rattle.std.specs.Prelude.{ℕ, ◌^◌, ◌==◌, ◌&&◌, not, Bool, List, [], sum_by, replicate, slice_set, slice_index_or}
+use Rattle.std.specs.Prelude.{◌≡◌, ℕ, ◌^◌, ◌==◌, ◌&&◌, not, Bool, List, [], length, All, sum_by, replicate, slice_set, slice_index_or}
 use Rattle.line_geometry.specs.LineSets.{passing}
 use Rattle.line_locks.specs.declared.request.Want.{Want}
 use Rattle.line_locks.specs.Held.{nothing, of_page, with_wants, conflicts_with}
@@ -8,6 +8,10 @@ use Rattle.line_locks.specs.Held.{nothing, of_page, with_wants, conflicts_with}
 pub record Holding : Type 0 where
   pub pages : ℕ
   pub seats : List (List (List ℕ × List ℕ))
+
+-- there are sixteen seats, each with that many pages
+abbrev pub IsWhole : Holding → Type 0
+IsWhole holding = (length holding.seats ≡ 16) × All (λ seat. length seat ≡ holding.pages) holding.seats
 
 -- nothing of so many pages
 abbrev pub no_lines_of : ℕ → List (List ℕ × List ℕ)

@@ -1,6 +1,6 @@
 ghost use Rattle.std.specs.Prelude.{◌≡◌, ◌<◌, IfOk};
 ghost use Rattle.line_locks.specs.Held.{write_count, AreWithin};
-ghost use Rattle.line_locks.specs.Holding.{of_seat, nothing_held, held_at, is_in_conflict, in_conflict, bits_of_seats, taken, released};
+ghost use Rattle.line_locks.specs.Holding.{IsWhole, of_seat, nothing_held, held_at, is_in_conflict, in_conflict, bits_of_seats, taken, released};
 
 use super::request::Request;
 use super::seat::SeatLines;
@@ -20,14 +20,13 @@ pub struct Locks {
 }
 
 impl Model for Locks {
-    ghost use Rattle.std.specs.Prelude.{◌≡◌, length, All};
-    ghost use Rattle.line_locks.specs.Holding.{Holding};
+    ghost use Rattle.line_locks.specs.Holding.{Holding, IsWhole};
 
     ghost Value = { Holding };
 
     ghost view = { λ locks. record { pages = locks.pages; seats = locks.seats.items } };
 
-    ghost invariant = { λ locks. (length locks.seats.items ≡ 16) × All (λ seat. length seat ≡ locks.pages) locks.seats.items };
+    ghost invariant = { λ locks. IsWhole (record { pages = locks.pages; seats = locks.seats.items }) };
 }
 
 impl Locks {
@@ -44,7 +43,8 @@ impl Locks {
 
     /// The number of the store's pages.
     pub fn pages(&self) -> u16
-        ensures { result ≡ self.now.pages }
+        ensures value { result ≡ self.now.pages }
+        ensures whole { IsWhole self.now }
     {
         self.pages
     }
