@@ -1,0 +1,4 @@
+pub mod MeetsLemmas
+pub mod CountLemmas
+pub mod SeatLemmas
+pub mod FlatLemmas

@@ -1,0 +1,7 @@
+use Rattle.std.proofs.Common.{◌≡◌, replicate}
+use Rattle.line_locks.specs.Holding.{no_lines_of}
+use Rattle.line_locks.proofs.locks.Locks.new.Given as goal
+
+-- so many seats hold nothing
+abbrev pub invariant-loop : goal.invariant-loop
+invariant-loop l = l.seats.items ≡ replicate l.counter (no_lines_of l.pages)

@@ -1,0 +1,7 @@
+use Rattle.std.proofs.Common.{◌≡◌, take, length}
+use Rattle.line_locks.specs.Held.{with_wants}
+use Rattle.line_locks.proofs.seat.SeatLines.take.Given as goal
+
+-- what was looked at is held too
+abbrev pub invariant-loop-want : goal.invariant-loop-want
+invariant-loop-want l = (l.self ≡ with_wants l.initial.self (take l.want-index l.request.wants.items)) × (length l.self ≡ length l.initial.self)

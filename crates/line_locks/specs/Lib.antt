@@ -1,0 +1,4 @@
+pub mod Held
+pub mod Counted
+pub mod Holding
+pub mod Flat

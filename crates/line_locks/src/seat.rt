@@ -1,0 +1,116 @@
+// What one seat holds.
+ghost use Rattle.std.specs.Prelude.{◌≡◌, ◌<◌, length, replicate, sum_by, IfOk};
+ghost use Rattle.std.specs.List.{list_any};
+ghost use Rattle.lock_rules.specs.Sets.{meets};
+ghost use Rattle.line_locks.specs.Held.{nothing, of_page, with_want, with_wants, conflicts_in, conflicts_with, write_count, AreWithin};
+
+use super::request::{Request, Want};
+use line_geometry::LineSet;
+use std::alloc::{AllocError, Global};
+use std::marker::Model;
+
+/// The lines that a seat holds, seen as the list by page of those to read and those to write.
+#[derive(Drop)]
+pub struct SeatLines {
+    pages: Vec<(LineSet, LineSet)>,
+    written: u32,
+}
+
+impl Model for SeatLines {
+    ghost use Rattle.std.specs.Prelude.{ℕ, List};
+    ghost use Rattle.line_locks.specs.Counted.{IsCounted};
+
+    ghost Value = { List (List ℕ × List ℕ) };
+
+    ghost view = { λ seat. seat.pages.items };
+
+    ghost invariant = { λ seat. IsCounted seat.pages.items seat.written };
+}
+
+impl SeatLines {
+    /// A seat that holds nothing of so many pages.
+    pub fn new(alloc: Global, pages: u16) -> Result<SeatLines, AllocError>
+        ensures { IfOk result (λ seat. seat ≡ replicate pages nothing) }
+    {
+        Ok(SeatLines {
+            pages: vec![in alloc; (LineSet::none(), LineSet::none()); usize::from(pages)]?,
+            written: 0,
+        })
+    }
+
+    /// The lines of a page that it holds, to read and to write.
+    pub fn held(&self, page: u16) -> (LineSet, LineSet)
+        requires { page < length self.now }
+        ensures { result ≡ of_page self.now page }
+    {
+        self.pages[usize::from(page)]
+    }
+
+    /// The number of lines that it holds to write.
+    pub fn written(&self) -> u32
+        ensures { result ≡ write_count self.now }
+    {
+        self.written
+    }
+
+    /// Whether a request conflicts with what it holds.
+    pub fn conflicts(&self, request: &Request) -> bool
+        requires { AreWithin (length self.now) request.now.wants.items }
+        ensures { result ≡ conflicts_with self.now request.now.wants.items }
+    {
+        for want in request.wants.as_slice() {
+            if is_in_conflict(want, self.held(want.page)) {
+                return true;
+            }
+        }
+        false
+    }
+
+    /// What a request wants is held too.
+    pub fn take(&mut self, request: &Request)
+        requires { AreWithin (length self.old) request.now.wants.items }
+        ensures value { self.new ≡ with_wants self.old request.now.wants.items }
+        ensures long { length self.new ≡ length self.old }
+    {
+        for want in request.wants.as_slice() {
+            self.add(want);
+        }
+    }
+
+    /// What is wanted of a page is held too.
+    #[tactic(auto, using(crate::proofs::CountLemmas::all_few))]
+    fn add(&mut self, want: &Want)
+        requires { want.now.page < length self.old }
+        ensures { self.new ≡ with_want self.old want.now }
+    {
+        let page = usize::from(want.page);
+        let (reads, writes) = self.pages[page];
+        let together = writes.union(want.writes);
+        self.pages[page] = (reads.union(want.reads), together);
+        self.written = self.written - writes.count() + together.count();
+    }
+
+    /// Nothing is held any more.
+    pub fn release(&mut self)
+        ensures { self.new ≡ replicate (length self.old) nothing }
+    {
+        self.pages.fill((LineSet::none(), LineSet::none()));
+        self.written = 0;
+    }
+}
+
+/// Whether what is wanted of a page conflicts with what is held of it.
+#[tactic(auto, using(crate::proofs::MeetsLemmas::meets_append))]
+fn is_in_conflict(want: &Want, held: (LineSet, LineSet)) -> bool
+    ensures { result ≡ conflicts_in want.now held }
+{
+    let (reads, writes) = held;
+    meets(want.writes, reads) || meets(want.writes, writes) || meets(want.reads, writes)
+}
+
+/// Whether some line is in both sets.
+fn meets(set: LineSet, other: LineSet) -> bool
+    ensures { result ≡ meets set other }
+{
+    set.bits() & other.bits() != 0
+}
