@@ -9,7 +9,7 @@ use Rattle.asm_parse.specs.declared.token.Token.{Token}
 use Rattle.asm_parse.specs.declared.token.Token.TheVariants as token
 use Rattle.asm_parse.specs.declared.statement.Statement.{Statement}
 use Rattle.asm_parse.specs.declared.statement.Body.{Body}
-use Rattle.asm_parse.specs.declared.statement.Body.TheVariants.{Nothing, Inst, Data, Space, Window, Entry}
+use Rattle.asm_parse.specs.declared.statement.Body.TheVariants.{Nothing, Inst, Data, Space, Window, Entry, Export}
 use Rattle.asm_parse.specs.Form.{form_of, sorts_of}
 use Rattle.asm_parse.specs.Operand.{expression_of, operands_of}
 use Rattle.asm_parse.specs.Token.{tokens}
@@ -43,6 +43,11 @@ abbrev pub space_of : List Token → Option Body
 space_of (token.Number number ∷ []) = Some (Space number)
 space_of _ = None
 
+-- one word
+abbrev pub export_of : List Token → Option Body
+export_of (token.Word word ∷ []) = Some (Export word)
+export_of _ = None
+
 -- whether a window is also to write: `r` or `rw`
 abbrev pub access_of : List ℕ → Option Bool
 access_of word = if bytes_eq word (codes "r") then Some false else if bytes_eq word (codes "rw") then Some true else None
@@ -62,6 +67,7 @@ directive_of word operands =
     else if bytes_eq word (codes ".space") then operands_needed (space_of operands)
     else if bytes_eq word (codes ".window") then operands_needed (window_of operands)
     else if bytes_eq word (codes ".entry") then operands_needed (option_map Entry (expression_of operands))
+    else if bytes_eq word (codes ".export") then operands_needed (export_of operands)
     else Err 2
 
 -- a statement by its word

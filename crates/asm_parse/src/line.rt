@@ -3,7 +3,7 @@ ghost use Rattle.std.specs.List.{before_first, starts_with};
 ghost use Rattle.std.specs.Option.{option_map};
 ghost use Rattle.asm_parse.specs.Cut.{behind_first};
 ghost use Rattle.asm_parse.specs.Operand.{expression_of};
-ghost use Rattle.asm_parse.specs.Statement.{access_of, behind_label, body_of, directive_of, instruction_of, label_of, line_of, named_body, space_of, statement_of, window_of};
+ghost use Rattle.asm_parse.specs.Statement.{access_of, behind_label, body_of, directive_of, export_of, instruction_of, label_of, line_of, named_body, space_of, statement_of, window_of};
 ghost use Rattle.asm_parse.specs.Text.{Gains, at_line, is_feed, parsed};
 ghost use Rattle.asm_parse.specs.Answers.{IsAnswer, IsTextFaultOf};
 
@@ -190,6 +190,8 @@ fn directive_of(word: &str, tokens: &[Token]) -> Result<Body, u8>
         window_of(tokens)
     } else if word == ".entry" {
         entry_of(tokens)
+    } else if word == ".export" {
+        export_of(tokens)
     } else {
         return Err(MNEMONIC);
     };
@@ -213,6 +215,16 @@ fn entry_of(tokens: &[Token]) -> Option<Body>
     match expression_of(tokens) {
         Some(value) => Some(Body::Entry(value)),
         None => None,
+    }
+}
+
+/// A label that is exported.
+fn export_of(tokens: &[Token]) -> Option<Body>
+    ensures { result ≡ export_of tokens.now }
+{
+    match tokens {
+        [Token::Word(word)] => Some(Body::Export(word.copied())),
+        _ => None,
     }
 }
 

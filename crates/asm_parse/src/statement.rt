@@ -26,6 +26,8 @@ pub enum Body {
     Window(u32, u32, bool),
     /// The address at which the program begins.
     Entry(Expr),
+    /// A label that other sources of the program may name.
+    Export(Word),
 }
 
 /// An operand of an instruction.

@@ -6,7 +6,7 @@ use Rattle.std.proofs.lemmas.List.{drop-drop, take_at, length-drop, length-take-
 use Rattle.line_geometry.specs.Lines.{line_count}
 use Rattle.store_format.specs.declared.header.Which.{Which}
 use Rattle.store_format.specs.declared.header.Which.TheVariants.{A, B}
-use Rattle.redo_journal.specs.Kept.{end_of}
+use Rattle.redo_journal.specs.Kept.{KeptBank, end_of}
 use Rattle.store_format.specs.Header.{Header, home_at, bank_at}
 use Rattle.store_format.specs.Bank.{RecordLine}
 use Rattle.store_format.specs.Stands.{IsStore, laid, home_of, stands}
@@ -27,9 +27,9 @@ home_is header image line =
     ap (λ (these : List ℕ). take 128 these) (drop-drop (line * 128) (home_at header 0) image) ∙ ap (λ (n : ℕ). take 128 (drop n image)) place
 
 -- both banks lie in front of the home lines
-pub end_within : (which : Which) (bytes lines : ℕ) → end_of which bytes ≤ home_place bytes lines
-end_within A bytes lines = omega arith
-end_within B bytes lines = omega arith
+pub end_within : (which : Which) (bank : KeptBank) (lines : ℕ) → end_of which bank.bank_bytes ≤ home_place bank lines
+end_within A bank lines = omega arith
+end_within B bank lines = omega arith
 
 -- bytes in the same front
 pub front_bytes : (old new : List ℕ) (k place : ℕ) → take k new ≡ take k old → place + 128 ≤ k → bytes_at new place 128 ≡ bytes_at old place 128
@@ -151,16 +151,16 @@ module _ (header : Header) (which : Which) (base gate : ℕ) (records : List (Li
       line_home line (Some place) below there = home_is header image line ∙ homed.homed line place below below there
 
   -- a line after its bytes were copied, where there are any
-  module _ (bytes line : ℕ) (same : header.bank_bytes ≡ bytes) (below : line < bound) where
-    home_same : home_place bytes line ≡ home_at header line
+  module _ (bank : KeptBank) (line : ℕ) (same : header.bank_bytes ≡ bank.bank_bytes) (below : line < bound) where
+    home_same : home_place bank line ≡ home_at header line
     home_same = omega (arith, same)
 
-    pub step_covered : (place : Option ℕ) → newest_place line records ≡ place → (start image : List ℕ) → IsCovered header records held start → TornLine place (home_place bytes line) start image → IsCovered header records held image
+    pub step_covered : (place : Option ℕ) → newest_place line records ≡ place → (start image : List ℕ) → IsCovered header records held start → TornLine 128 place (home_place bank line) start image → IsCovered header records held image
     step_covered None there start image covered torn = subst (λ (those : List ℕ). IsCovered header records held those) (sym torn) covered
     step_covered (Some place) there start image covered torn =
         torn_covered start image covered line place below there (subst (λ (n : ℕ). Torn n 128 start image) home_same torn)
 
-    pub step_homed : (place : Option ℕ) → newest_place line records ≡ place → (start image : List ℕ) → IsHomed header records held line start → image ≡ copied start place (home_place bytes line) → IsHomed header records held (line + 1) image
+    pub step_homed : (place : Option ℕ) → newest_place line records ≡ place → (start image : List ℕ) → IsHomed header records held line start → image ≡ copied 128 start place (home_place bank line) → IsHomed header records held (line + 1) image
     step_homed None there start image homed is_copied = homed_none line image (subst (λ (those : List ℕ). IsHomed header records held line those) (sym is_copied) homed) there
     step_homed (Some place) there start image homed is_copied =
         subst (λ (those : List ℕ). IsHomed header records held (line + 1) those) (sym (is_copied ∙ ap (λ (n : ℕ). written start n (bytes_at start place 128)) home_same)) (homed_more line place start homed below there)

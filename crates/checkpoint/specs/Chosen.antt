@@ -33,6 +33,7 @@ pub record IsChosen (held : List ℕ) (bank : KeptBank) : Type 0 where
 
 -- the kept bank is one of a store with such a header, and has no record begun
 pub record IsOneOf (header : Header) (bank : KeptBank) : Type 0 where
+  pub page : header.directory.page ≡ bank.page
   pub bank_bytes : header.bank_bytes ≡ bank.bank_bytes
   pub bound : line_count header.directory ≡ length bank.newest
   pub begun : bank.begun ≡ None
@@ -45,6 +46,7 @@ pub record IsIntact (held : List ℕ) (bank : KeptBank) : Type 0 where
   pub gate : ℕ
   pub records : List (List RecordLine)
   pub store : IsStore held header which base gate records
+  pub page : header.directory.page ≡ bank.page
   pub bank_bytes : header.bank_bytes ≡ bank.bank_bytes
   pub bound : line_count header.directory ≡ length bank.newest
 

@@ -1,11 +1,10 @@
 ghost use Rattle.std.specs.Prelude.{◌≡◌, ◌≢◌, ◌↔◌, ◌+◌, ◌≤◌, ◌<◌, [], All, length, slice_set, slice_get, Some, None, IsSome, IfSome, IfOk, IfErr, OnOk};
 ghost use Rattle.std.specs.Option.{option_map};
-ghost use Rattle.store_format.specs.Header.{total};
-ghost use Rattle.store_format.specs.Bank.{record_bytes};
+ghost use Rattle.store_format.specs.Header.{total, line_bytes};
 ghost use Rattle.store_format.specs.Stands.{stands, one_more};
 ghost use Rattle.outside.specs.Causes.{Rose, HasCause};
 ghost use Rattle.outside.specs.Runs.{OnlyAsks, Leaves, held_of};
-ghost use Rattle.redo_journal.specs.Kept.{KeptBank, area_end, number_of, begun_of, needed_end, with_line, unbegun, SameShape};
+ghost use Rattle.redo_journal.specs.Kept.{KeptBank, area_end, number_of, begun_of, needed_end, with_line, unbegun, line_bytes_of, record_bytes_of, SameShape};
 ghost use Rattle.redo_journal.specs.Held.{HoldsAtLeast, OnlyWrites};
 ghost use Rattle.redo_journal.specs.Tracks.{Tracks, IsEither, HoldsOneOf, IsAppended};
 ghost use Rattle.redo_journal.specs.Appended as append;
@@ -17,23 +16,27 @@ use crate::home::write_home;
 use crate::selector::{other_of, read_selector, write_selector};
 use outside::{Failed, Outside};
 use redo_journal::{Appended, Bank, OpenFault, ReopenFault};
-use std::alloc::Global;
+use std::alloc::{AllocError, Global};
 use std::marker::Model;
 use store_format::{Header, Which};
 
-/// The two banks of a store, of which the selector chooses one: it is seen as the bank that is chosen
-/// (docs/MODEL.md, "A bank that is kept").
+/// The two banks of a store, of which the selector chooses one, with a buffer of one line for a checkpoint: it is seen
+/// as the bank that is chosen (docs/MODEL.md, "A bank that is kept").
 #[derive(Drop)]
 pub struct Banks {
     bank: Bank,
+    line: Vec<u8>,
 }
 
 impl Model for Banks {
-    ghost use Rattle.redo_journal.specs.Kept.{KeptBank};
+    ghost use Rattle.std.specs.Prelude.{◌≡◌, vec_len};
+    ghost use Rattle.redo_journal.specs.Kept.{KeptBank, line_bytes_of};
 
     ghost Value = { KeptBank };
 
     ghost view = { λ b. b.bank };
+
+    ghost invariant = { λ b. vec_len b.line ≡ line_bytes_of b.bank };
 }
 
 impl Banks {
@@ -63,7 +66,7 @@ impl Banks {
         };
         match Bank::open(alloc, header, which, outside) {
             Err(fault) => Err(fault),
-            Ok(bank) => Ok(Banks { bank }),
+            Ok(bank) => with_buffer(alloc, header, bank),
         }
     }
 
@@ -103,7 +106,7 @@ impl Banks {
     pub fn newest(&self, line: u32) -> Option<u64>
         requires { line < length self.now.newest }
         ensures place { slice_get self.now.newest line ≡ Some result }
-        ensures within { IfSome result (λ at. at + 128 ≤ area_end self.now) }
+        ensures within { IfSome result (λ at. at + line_bytes_of self.now ≤ area_end self.now) }
     {
         self.bank.newest(line)
     }
@@ -125,10 +128,10 @@ impl Banks {
     /// Adds a line to the record that is begun: a line of the store, above those before it.
     pub fn record_line(&mut self, line: u32, bytes: &[u8])
         requires begun { IsSome self.old.begun }
-        requires whole { length bytes.now ≡ 128 }
+        requires whole { length bytes.now ≡ line_bytes_of self.old }
         requires below { line < length self.old.newest }
         requires ascending { All (λ begun. begun.line < line) (begun_of self.old) }
-        requires room { record_bytes (length (begun_of self.old) + 1) + 1 ≤ self.old.bank_bytes }
+        requires room { record_bytes_of self.old (length (begun_of self.old) + 1) + 1 ≤ self.old.bank_bytes }
         ensures { self.new ≡ with_line self.old line bytes.now }
     {
         self.bank.record_line(line, bytes);
@@ -182,7 +185,7 @@ impl Banks {
         ensures done { OnOk result (Tracks W.Outside self.old outside.old → IsCheckpointed W.Outside self.old self.new outside.old outside.new) }
     {
         let which = other_of(self.bank.which());
-        match move_to(&self.bank, which, outside) {
+        match move_to(&self.bank, self.line.as_mut_slice(), which, outside) {
             Err(Failed) => {
                 self.bank.record_drop();
                 Err(Failed)
@@ -195,8 +198,26 @@ impl Banks {
     }
 }
 
-/// Moves what a bank holds home, and lets the selector choose the other bank.
-fn move_to<W: Outside>(bank: &Bank, which: Which, outside: &mut W) -> Result<(), Failed>
+/// The banks of a store with this header, of which one is chosen, with room for a line.
+fn with_buffer(alloc: Global, header: &Header, bank: Bank) -> Result<Banks, OpenFault>
+    requires { line_bytes header.now.directory.page ≡ line_bytes_of bank }
+    ensures value { IfOk result (λ banks. banks ≡ bank) }
+    ensures fault { IfErr result (λ fault. fault ≡ OpenFault.Memory) }
+{
+    match vec![in alloc; 0; header.line_bytes()] {
+        Err(AllocError) => Err(OpenFault::Memory),
+        Ok(line) => Ok(Banks { bank, line }),
+    }
+}
+
+/// Moves what a bank holds home, through a buffer of one line, and lets the selector choose the other bank.
+fn move_to<W: Outside>(
+    bank: &Bank,
+    buffer: &mut [u8],
+    which: Which,
+    outside: &mut W,
+) -> Result<(), Failed>
+    requires whole { length buffer.old ≡ line_bytes_of bank.now }
     requires other { which ≡ other bank.now.which }
     requires room { HoldsAtLeast W.Outside (store_bytes bank.now) outside.old }
     ensures only { OnlyWrites W.Outside outside.old outside.new }
@@ -204,7 +225,7 @@ fn move_to<W: Outside>(bank: &Bank, which: Which, outside: &mut W) -> Result<(),
     ensures done { OnOk result ((tracks : Tracks W.Outside bank.now outside.old) → IsMoved W.Outside tracks.header bank.now outside.old outside.new) }
     ensures cause { HasCause (W.disk_faults outside.old) (W.disk_faults outside.new) result }
 {
-    write_home(bank, outside)?;
+    write_home(bank, buffer, outside)?;
     bank.write_head(which, outside)?;
     outside.sync()?;
     write_selector(outside, which)

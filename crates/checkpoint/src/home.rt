@@ -6,18 +6,18 @@ ghost use Rattle.outside.specs.Causes.{HasCause};
 ghost use Rattle.outside.specs.Moments.{Follows};
 ghost use Rattle.outside.specs.Runs.{Leaves, held_of};
 ghost use Rattle.redo_journal.specs.Held.{HoldsAtLeast, OnlyWrites};
+ghost use Rattle.redo_journal.specs.Kept.{line_bytes_of};
 ghost use Rattle.redo_journal.specs.Tracks.{Tracks};
 ghost use Rattle.checkpoint.specs.Home.{home_place, store_bytes, copied, TornLine, IsCovered, IsHomed};
 
 use outside::{Failed, Outside};
 use redo_journal::{Bank, write_once};
-
-/// The bytes of a line.
-const LINE_BYTES: usize = 128;
+use store_format::LINE_BYTES;
 
 /// Writes the newest bytes of each line that the bank holds to the line's home, ascending. It takes one read and one
-/// write for each of them, and no call for any other line.
-pub fn write_home<W: Outside>(bank: &Bank, outside: &mut W) -> Result<(), Failed>
+/// write for each of them, through a buffer of one line, and no call for any other line.
+pub fn write_home<W: Outside>(bank: &Bank, buffer: &mut [u8], outside: &mut W) -> Result<(), Failed>
+    requires whole { length buffer.old ≡ line_bytes_of bank.now }
     requires room { HoldsAtLeast W.Outside (store_bytes bank.now) outside.old }
     ensures only { OnlyWrites W.Outside outside.old outside.new }
     ensures crash { (tracks : Tracks W.Outside bank.now outside.old) → Leaves W.Outside (λ image seen. IsCovered tracks.header tracks.records (held_of W.Outside outside.old) image) outside.old outside.new }
@@ -25,44 +25,53 @@ pub fn write_home<W: Outside>(bank: &Bank, outside: &mut W) -> Result<(), Failed
     ensures cause { HasCause (W.disk_faults outside.old) (W.disk_faults outside.new) result }
 {
     for line in 0..bank.lines() {
-        copy_newest(bank, outside, line)?;
+        copy_newest(bank, buffer, outside, line)?;
     }
     Ok(())
 }
 
 /// Writes the newest bytes of a line to its home, where the bank holds the line.
-fn copy_newest<W: Outside>(bank: &Bank, outside: &mut W, line: u32) -> Result<(), Failed>
+fn copy_newest<W: Outside>(
+    bank: &Bank,
+    buffer: &mut [u8],
+    outside: &mut W,
+    line: u32,
+) -> Result<(), Failed>
+    requires whole { length buffer.old ≡ line_bytes_of bank.now }
     requires below { line < length bank.now.newest }
     requires room { HoldsAtLeast W.Outside (store_bytes bank.now) outside.old }
     ensures only { OnlyWrites W.Outside outside.old outside.new }
-    ensures crash { IsTrue (W.is_honest outside.old) → IsSome (W.held outside.old) → Follows (TornLine (slice_index_or bank.now.newest line None) (home_place bank.now.bank_bytes line)) W.moment W.left_since outside.old outside.new }
-    ensures done { OnOk result (IsSome (W.held outside.old) → held_of W.Outside outside.new ≡ copied (held_of W.Outside outside.old) (slice_index_or bank.now.newest line None) (home_place bank.now.bank_bytes line)) }
+    ensures crash { IsTrue (W.is_honest outside.old) → IsSome (W.held outside.old) → Follows (TornLine (line_bytes_of bank.now) (slice_index_or bank.now.newest line None) (home_place bank.now line)) W.moment W.left_since outside.old outside.new }
+    ensures done { OnOk result (IsSome (W.held outside.old) → held_of W.Outside outside.new ≡ copied (line_bytes_of bank.now) (held_of W.Outside outside.old) (slice_index_or bank.now.newest line None) (home_place bank.now line)) }
     ensures cause { HasCause (W.disk_faults outside.old) (W.disk_faults outside.new) result }
 {
     match bank.newest(line) {
         None => Ok(()),
-        Some(place) => copy_line(outside, place, home_place(bank, line)),
+        Some(place) => copy_line(buffer, outside, place, home_place(bank, line)),
     }
 }
 
 /// Where the home of a line is.
 fn home_place(bank: &Bank, line: u32) -> u64
-    ensures { result ≡ home_place bank.now.bank_bytes line }
+    ensures { result ≡ home_place bank.now line }
 {
-    let line_bytes = LINE_BYTES as u64;
-    272 + 2 * u64::from(bank.bank_bytes()) + line_bytes * u64::from(line)
+    272 + 2 * u64::from(bank.bank_bytes()) + LINE_BYTES as u64 * u64::from(line)
 }
 
-/// Writes the bytes of a line from one place of the disk to another.
-fn copy_line<W: Outside>(outside: &mut W, from: u64, to: u64) -> Result<(), Failed>
-    requires from { HoldsAtLeast W.Outside (from + 128) outside.old }
-    requires to { HoldsAtLeast W.Outside (to + 128) outside.old }
+/// Writes as many bytes as a buffer has from one place of the disk to another.
+fn copy_line<W: Outside>(
+    buffer: &mut [u8],
+    outside: &mut W,
+    from: u64,
+    to: u64,
+) -> Result<(), Failed>
+    requires from { HoldsAtLeast W.Outside (from + length buffer.old) outside.old }
+    requires to { HoldsAtLeast W.Outside (to + length buffer.old) outside.old }
     ensures only { OnlyWrites W.Outside outside.old outside.new }
-    ensures crash { IsTrue (W.is_honest outside.old) → IsSome (W.held outside.old) → Follows (Torn to 128) W.moment W.left_since outside.old outside.new }
-    ensures done { OnOk result (IsSome (W.held outside.old) → held_of W.Outside outside.new ≡ written (held_of W.Outside outside.old) to (bytes_at (held_of W.Outside outside.old) from 128)) }
+    ensures crash { IsTrue (W.is_honest outside.old) → IsSome (W.held outside.old) → Follows (Torn to (length buffer.old)) W.moment W.left_since outside.old outside.new }
+    ensures done { OnOk result (IsSome (W.held outside.old) → held_of W.Outside outside.new ≡ written (held_of W.Outside outside.old) to (bytes_at (held_of W.Outside outside.old) from (length buffer.old))) }
     ensures cause { HasCause (W.disk_faults outside.old) (W.disk_faults outside.new) result }
 {
-    let mut bytes = [0; LINE_BYTES];
-    outside.read_at(from, &mut bytes)?;
-    write_once(outside, to, &bytes)
+    outside.read_at(from, buffer)?;
+    write_once(outside, to, buffer)
 }

@@ -61,6 +61,13 @@ struct Case {
     record: [u8; 19],
 }
 
+/// A program of two sources, of which the second has a routine that stores.
+const TWO_SOURCES: &[u8] =
+    b"frames 2\nprogram two\n.window 1, 1, rw\ncau r6, r0, 0x1000\nbali r15, put\nsvc 0\n.part\n.export put\nput: st r2, 0(r6)\nbnbr pz, r15\n; last\nend\nschedule\nbegin two 9\nturn 1 9\nend\n";
+
+/// The record of its commit.
+const NINE: [u8; 19] = [0xA5, 0, 1, 0, 0, 0, 0, 0, 0, 0, 1, 0, 0, 0, 0, 0, 0, 0, 9];
+
 /// Nothing fails, and nothing comes of it.
 const PLAIN: Case = Case {
     name: "",
@@ -76,12 +83,20 @@ const PLAIN: Case = Case {
     record: [0; 19],
 };
 
-const CASES: [Case; 12] = [
+const CASES: [Case; 13] = [
     Case {
         name: "one add",
         printed: b"open 0\nbegin 1 add5\nturn 1 ran 5 page 1 lock 2\ncommit 1 number 1 steps 5 out -\nend 1\n",
         order: &[COMMIT],
         record: RECORD,
+        ..PLAIN
+    },
+    Case {
+        name: "two sources",
+        text: Text::Bytes(TWO_SOURCES),
+        printed: b"open 0\nbegin 1 two\nturn 1 ran 5 page 1 lock 1\ncommit 1 number 1 steps 5 out -\nend 1\n",
+        order: &[COMMIT],
+        record: NINE,
         ..PLAIN
     },
     Case {

@@ -24,7 +24,7 @@ use Rattle.desk_law.specs.Consistent.{IsAmong, due_to}
 use Rattle.desk_law.specs.Current.{IsCurrent}
 use Rattle.desk_law.proofs.Entries.{replaced, found-among}
 use Rattle.desk_law.proofs.LinesThere.{there-held}
-use Rattle.desk_law.proofs.Orderly.{IsOrderly}
+use Rattle.desk_law.specs.Orderly.{IsOrderly}
 use Rattle.desk_law.proofs.Permitted.{held-free}
 use Rattle.desk_law.proofs.RowsThere.{open-row}
 use Rattle.desk_law.proofs.SharedBytes.{RunsOn, row-on-current}

@@ -12,7 +12,8 @@ use Rattle.desk.specs.Run.{turned, begin_if, begins, absent_segment, restarted, 
 use Rattle.desk_law.specs.Consistent.{IsAmong, Ascend, IsConsistent}
 use Rattle.desk_law.specs.Causes.{desk_of}
 use Rattle.desk_law.specs.Laws.{StaysConsistent, IsActive, IsNotIdle, IdleWhereInactive, RunsStayConsistent}
-use Rattle.desk_law.proofs.Orderly.{IsOrderly, orderly}
+use Rattle.desk_law.specs.Orderly.{IsOrderly}
+use Rattle.desk_law.proofs.Orderly.{orderly}
 use Rattle.desk_law.proofs.Entries.{among-found, none-found, found-among}
 use Rattle.desk_law.proofs.Endings.{begins-consistent, refused-consistent, quiet-consistent, opened-consistent}
 use Rattle.desk_law.proofs.TurnsStay.{Stays, stays-turns, stays-instruction}

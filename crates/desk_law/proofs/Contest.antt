@@ -1,16 +1,17 @@
 -- Cycles of waits and their victims.
-use Rattle.std.specs.Prelude.{◌≡◌, refl, ℕ, zero, suc, ◌+◌, ◌<◌, ◌≤◌, ◌==◌, ◌&&◌, ◌||◌, ◌⊎◌, not, max, if◌then◌else◌, Bool, true, false, List, [], ◌∷◌, ◌++◌, length, filter, map, find, fold, Option, Some, None, slice_index_or}
+use Rattle.std.specs.Prelude.{◌≡◌, refl, ℕ, zero, suc, ◌+◌, ◌<◌, ◌≤◌, ◌==◌, ◌⊎◌, not, max, if◌then◌else◌, Bool, true, false, List, [], ◌∷◌, ◌++◌, length, filter, map, find, fold, Option, Some, None, slice_index_or}
 use Rattle.std.specs.Option.{option_map_or}
 use Rattle.std.proofs.Common.{arith, ap, sym, ◌∙◌, subst, inl, inr, length-append}
-use Rattle.std.proofs.lemmas.Bool.{eqb-true, eq-eqb, ne_eqb, both_ways, and_parts, and_from, or_cases, or_left, or_right, not_from_false, not-true, false_from_ne_true, cases_lt, not_from_true, cond-false}
+use Rattle.std.proofs.lemmas.Bool.{eqb-true, eq-eqb, ne_eqb, both_ways, and_parts, and_from, or_left, or_right, not_from_false, not-true, false_from_ne_true, cases_lt, not_from_true, cond-false}
 use Rattle.lock_rules.specs.Sets.{has}
 use Rattle.lock_rules.specs.Waits.{leads, next_shown, shown_after, shown_cycle, victim_of}
+use Rattle.lock_rules.proofs.Cycles.{after-among}
 use Rattle.line_geometry.specs.FlatStore.{IsWhole}
 use Rattle.desk.specs.Desk.{Desk, Entry, Authority, nobody, rolled_back}
 use Rattle.desk.specs.Holdings.{numbers, waits_for}
 use Rattle.desk.specs.Instruction.{Counts, Contest, Contested, Settled, Lost, breaks_cycle, breaks_cycles}
 use Rattle.desk_law.specs.Consistent.{IsAmong, AreConsistent, IsHeld, HasNoCycle}
-use Rattle.desk_law.proofs.Orderly.{IsOrderly}
+use Rattle.desk_law.specs.Orderly.{IsOrderly}
 use Rattle.desk_law.proofs.Entries.{among-filter, filter-among, among-found, none-found, filter-short}
 use Rattle.desk_law.proofs.Walks.{except, no-cycle-fewer, no-cycle-from, no-cycle-leaves, walk-short}
 use Rattle.desk_law.proofs.Others.{rollback-leaves}
@@ -89,34 +90,6 @@ rolled-consistent desk gone is = record {
 }
 
 -- the members of a shown cycle
-pub found-has : (test : ℕ → Bool) (all : List ℕ) (x : ℕ) → find test all ≡ Some x → has all x ≡ true
-found-has test [] x is = absurd (cc)
-found-has test (y ∷ all) x is = by_test (test y) (found-has test all x) is
-  where
-    by_test : (passes : Bool) → (find test all ≡ Some x → has all x ≡ true) → (if passes then Some y else find test all) ≡ Some x → (y == x || has all x) ≡ true
-    by_test true later is = or_left (y == x) (has all x) (eq-eqb y x (cc))
-    by_test false later is = or_right (y == x) (has all x) (later is)
-
-after-has : (waits : ℕ → ℕ → Bool) (all : List ℕ) (steps first last x : ℕ) → has (shown_after waits all steps first last) x ≡ true → has all x ≡ true
-after-has waits all zero first last x inside = absurd (cc)
-after-has waits all (suc steps) first last x inside = by_next (next_shown waits all first last) refl inside (λ next. after-has waits all steps first next x)
-  where
-    by_next :
-        (next : Option ℕ) → next_shown waits all first last ≡ next
-        → has (option_map_or (λ next. next ∷ (if next == first then [] else shown_after waits all steps first next)) next []) x ≡ true
-        → ((next : ℕ) → has (shown_after waits all steps first next) x ≡ true → has all x ≡ true)
-        → has all x ≡ true
-    by_next None is inside later = absurd (cc)
-    by_next (Some next) is inside later =
-        elim (or_cases (next == x) (has (if next == first then [] else shown_after waits all steps first next) x) inside) [
-          | inl here ↦ ap (has all) (sym (eqb-true next x here)) ∙ found-has (λ next. waits last next && leads waits all (length all) next first) all next is
-          | inr rest ↦ by_test (next == first) rest
-        ]
-      where
-        by_test : (round : Bool) → has (if round then [] else shown_after waits all steps first next) x ≡ true → has all x ≡ true
-        by_test true rest = absurd (cc)
-        by_test false rest = later next rest
-
 greatest-in : (xs : List ℕ) (least : ℕ) → (fold max least xs ≡ least) ⊎ (has xs (fold max least xs) ≡ true)
 greatest-in [] least = inl refl
 greatest-in (x ∷ xs) least = elim (greatest-in xs (max least x)) [
@@ -142,7 +115,7 @@ shown-victim waits all first cycle here is = by_test (leads waits all (length al
         subst (λ (c : List ℕ). has all (victim_of c) ≡ true) it
         (elim (greatest-in (shown_after waits all (length all) first first) (max 0 first)) [
           | inl same ↦ ap (has all) (same ∙ least) ∙ here
-          | inr inside ↦ after-has waits all (length all) first first (victim_of (first ∷ shown_after waits all (length all) first first)) inside
+          | inr inside ↦ after-among waits all (length all) first first (victim_of (first ∷ shown_after waits all (length all) first first)) inside
         ])
       where
         least : max 0 first ≡ first

@@ -10,7 +10,7 @@ use Rattle.desk_law.specs.Consistent.{IsAmong}
 use Rattle.desk_law.proofs.Contest.{IsContending, KeepsPages, contending, settled, rolled-contending, gone-consistent, freed-keeps, stays-settled, stays-lost, filter-shorter, some-active, shown-victim, shown-none, without, left_over}
 use Rattle.desk_law.proofs.Entries.{among-found, none-found, filter-among, among-filter, new-among}
 use Rattle.desk_law.proofs.GoesOn.{length-replaced, marked-contending}
-use Rattle.desk_law.proofs.Orderly.{IsOrderly}
+use Rattle.desk_law.specs.Orderly.{IsOrderly}
 use Rattle.desk_law.proofs.Waiting.{number-of, has-number}
 use Rattle.desk_law.proofs.Walks.{walk-short}
 

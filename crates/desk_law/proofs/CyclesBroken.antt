@@ -1,25 +1,15 @@
 -- The members of a shown cycle wait for each other.
 use Rattle.std.specs.Prelude.{◌≡◌, refl, ℕ, zero, suc, ◌==◌, ◌&&◌, if◌then◌else◌, Bool, true, false, List, [], ◌∷◌, ◌++◌, length, find, Option, Some, None}
 use Rattle.std.specs.Option.{option_map_or}
-use Rattle.std.proofs.Common.{ap, sym, ◌∙◌, subst}
+use Rattle.std.proofs.Common.{ap, sym, subst}
 use Rattle.std.proofs.lemmas.Bool.{and_parts}
 use Rattle.lock_rules.specs.Waits.{leads, next_shown, shown_after, shown_cycle, victim_of}
+use Rattle.lock_rules.proofs.Cycles.{found-passes}
 use Rattle.desk.specs.Desk.{Desk, Entry}
 use Rattle.desk.specs.Holdings.{numbers, waits_for}
 use Rattle.desk.specs.Instruction.{Counts}
 use Rattle.desk_law.specs.Laws.{EachWaits, counts_of, BrokenCyclesWere}
 use Rattle.desk_law.proofs.Contest.{left_over}
-
--- a number that is found passes
-pub found-passes : (test : ℕ → Bool) (all : List ℕ) (x : ℕ) → find test all ≡ Some x → test x ≡ true
-found-passes test [] x is = absurd (cc)
-found-passes test (y ∷ all) x is = by_test (test y) refl is (found-passes test all x)
-  where
-    by_test : (passes : Bool) → test y ≡ passes → (if passes then Some y else find test all) ≡ Some x → (find test all ≡ Some x → test x ≡ true) → test x ≡ true
-    by_test true e is later =
-        let same : y ≡ x = cc in
-        ap test (sym same) ∙ e
-    by_test false e is later = later is
 
 after-waits : (waits : ℕ → ℕ → Bool) (all : List ℕ) (steps first last : ℕ) → EachWaits waits (last ∷ shown_after waits all steps first last)
 after-waits waits all zero first last = tt

@@ -6,6 +6,7 @@ use Rattle.std.proofs.lemmas.Bool.{eqb-true, both_ways, and_parts, and_from, cas
 use Rattle.std.proofs.lemmas.Option.{none-some}
 use Rattle.lock_rules.specs.Sets.{has}
 use Rattle.lock_rules.specs.Waits.{leads, next_shown, shown_after, shown_cycle, victim_of}
+use Rattle.lock_rules.proofs.Cycles.{found-has, found-passes}
 use Rattle.lock_rules.proofs.Sets.{has-filter}
 use Rattle.desk.specs.Desk.{Desk, Entry, with_entry, rolled_back}
 use Rattle.desk.specs.Holdings.{numbers, waits_for}
@@ -16,8 +17,7 @@ use Rattle.desk_law.proofs.Entries.{new-among}
 use Rattle.desk_law.proofs.Orderly.{orderly}
 use Rattle.desk_law.proofs.Walks.{except, first-step, one-step, leads-more, walk-short, all-pass}
 use Rattle.desk_law.proofs.SomebodyGoesOn.{reached, leads-to-fewer}
-use Rattle.desk_law.proofs.CyclesBroken.{found-passes}
-use Rattle.desk_law.proofs.Contest.{IsContending, contending, rolled-contending, found-has, stays-settled, stays-lost, left_over}
+use Rattle.desk_law.proofs.Contest.{IsContending, contending, rolled-contending, stays-settled, stays-lost, left_over}
 use Rattle.desk_law.proofs.ContestRounds.{victim-there, asker-left}
 use Rattle.desk_law.proofs.GoesOn.{marked-contending}
 use Rattle.desk_law.proofs.Waiting.{has-number}

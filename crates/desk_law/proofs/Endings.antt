@@ -21,7 +21,7 @@ use Rattle.desk.specs.Instruction.{Attempt}
 use Rattle.desk.specs.Run.{absent_segment}
 use Rattle.desk_law.specs.Changes.{committed_at, gone_on, left_by}
 use Rattle.desk_law.specs.Consistent.{IsAmong, Ascend, due_to, IsLive, AreApart, AreConsistent, IsCovered, IsOwned, IsHeld}
-use Rattle.desk_law.proofs.Orderly.{IsOrderly}
+use Rattle.desk_law.specs.Orderly.{IsOrderly}
 use Rattle.desk_law.proofs.Entries.{among-filter, among-push, push-among, ascend-push, between, one-entry, among-replaced, replaced-among, new-among, filter-short}
 use Rattle.desk_law.proofs.Walks.{except, no-cycle-fewer, no-cycle-leaves, first-step, one-step}
 use Rattle.desk_law.proofs.Others.{touched_of, another-stays, commit-leaves, rollback-leaves}

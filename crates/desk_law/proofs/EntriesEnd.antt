@@ -12,7 +12,7 @@ use Rattle.desk_law.specs.Consistent.{IsAmong, due_to}
 use Rattle.desk_law.proofs.AttemptsOnCurrent.{own-commit, own-check, ends-consistent}
 use Rattle.desk_law.proofs.Contest.{rolled-consistent}
 use Rattle.desk_law.proofs.InstructionStages.{attempt_of}
-use Rattle.desk_law.proofs.Orderly.{IsOrderly}
+use Rattle.desk_law.specs.Orderly.{IsOrderly}
 use Rattle.desk_law.proofs.RowsThere.{commit-row, commit-lines, check-row}
 use Rattle.desk_law.proofs.ToldSteps.{HasCommitted, told-commit, told-rollback}
 

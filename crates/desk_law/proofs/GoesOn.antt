@@ -17,7 +17,7 @@ use Rattle.desk.specs.Holdings.{wanted, held, request, conflicts_with, conflicts
 use Rattle.desk.specs.Instruction.{Attempt, granted, with_grants}
 use Rattle.desk_law.specs.Changes.{gone_on}
 use Rattle.desk_law.specs.Consistent.{IsAmong, due_to, IsLive, AreApart, AreConsistent, IsCovered, IsHeld, HasNoCycle}
-use Rattle.desk_law.proofs.Orderly.{IsOrderly}
+use Rattle.desk_law.specs.Orderly.{IsOrderly}
 use Rattle.desk_law.proofs.Entries.{replaced, among-replaced, new-among, ascend-replaced, numbers-replaced}
 use Rattle.desk_law.proofs.Walks.{except, no-cycle-fewer, no-cycle-leaves}
 use Rattle.desk_law.proofs.Others.{touched_of, others, after-row}

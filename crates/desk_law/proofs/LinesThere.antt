@@ -14,7 +14,7 @@ use Rattle.lock_rules.specs.Resident.{brought}
 use Rattle.desk_law.proofs.Permitted.{any-none, permitted-held}
 use Rattle.desk_law.specs.Beside.{AreThere}
 use Rattle.desk_law.specs.Consistent.{IsAmong, due_to, permitted}
-use Rattle.desk_law.proofs.Orderly.{IsOrderly}
+use Rattle.desk_law.specs.Orderly.{IsOrderly}
 
 -- where none passes
 pub filter-none : (test : ℕ → Bool) (xs : List ℕ) → ((x : ℕ) → test x ≡ false) → filter test xs ≡ []

@@ -24,7 +24,8 @@ use Rattle.desk_law.specs.Consistent.{IsAmong, IsConsistent}
 use Rattle.desk_law.specs.Current.{current_of, current_bytes}
 use Rattle.desk_law.specs.Causes.{desk_of}
 use Rattle.desk_law.specs.Memory.{Machine, Memory, first_machine, with_machine, given_back, row_of, after_instruction, after_turns, after_event, memory_after, memory_of, IsAlone, IsMemory, FindTheirOwn, RunsAreIsolated, CommitsTellTheMachine, SideBySideIsSerial}
-use Rattle.desk_law.proofs.Orderly.{IsOrderly, orderly}
+use Rattle.desk_law.specs.Orderly.{IsOrderly}
+use Rattle.desk_law.proofs.Orderly.{orderly}
 use Rattle.desk_law.proofs.Entries.{among-found, among-filter, filter-among, new-among, among-push, between, found-among, one-entry, numbers-replaced}
 use Rattle.desk_law.proofs.Others.{others}
 use Rattle.desk_law.proofs.Waiting.{number-of, has-number}

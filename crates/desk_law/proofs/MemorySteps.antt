@@ -30,7 +30,7 @@ use Rattle.desk_law.specs.Consistent.{IsAmong, due_to, AreConsistent}
 use Rattle.desk_law.specs.Current.{current_of, current, IsCurrent, current_bytes}
 use Rattle.desk_law.specs.Memory.{Machine, Memory, laid, wrote_by, given_back, went_on, does_row, commit_of, IsAlone, IsMemory}
 use Rattle.desk_law.proofs.Entries.{replaced, among-filter, among-replaced, one-entry}
-use Rattle.desk_law.proofs.Orderly.{IsOrderly}
+use Rattle.desk_law.specs.Orderly.{IsOrderly}
 use Rattle.desk_law.proofs.Others.{others, another-same, after-row}
 use Rattle.desk_law.proofs.Waiting.{number-of, has-number}
 use Rattle.desk_law.proofs.GoesOn.{IsGranted, due-more}

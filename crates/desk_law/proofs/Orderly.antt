@@ -1,17 +1,7 @@
--- What is consistent of a desk beside its resident pages.
-use Rattle.std.specs.Prelude.{◌≤◌, length}
-use Rattle.line_geometry.specs.FlatStore.{IsWhole}
+-- A consistent desk is orderly.
 use Rattle.desk.specs.Desk.{Desk}
-use Rattle.desk.specs.Holdings.{numbers, waits_for}
-use Rattle.desk_law.specs.Consistent.{AreConsistent, IsHeld, HasNoCycle, IsConsistent}
-
--- consistent, but for what is resident
-pub record IsOrderly (desk : Desk) : Type 0 where
-  pub whole : IsWhole desk.committed
-  pub few : length desk.active ≤ desk.most_active
-  pub active : AreConsistent desk.committed desk.most_lines desk.next desk.active
-  pub held : IsHeld desk.committed desk.active desk.authority
-  pub no_cycle : HasNoCycle (waits_for desk) (numbers desk)
+use Rattle.desk_law.specs.Consistent.{IsConsistent}
+use Rattle.desk_law.specs.Orderly.{IsOrderly}
 
 pub orderly : (desk : Desk) → IsConsistent desk → IsOrderly desk
 orderly desk is = record { whole = is.whole; few = is.few; active = is.active; held = is.held; no_cycle = is.no_cycle }

@@ -13,7 +13,8 @@ use Rattle.desk.specs.Desk.{Desk, Entry}
 use Rattle.desk.specs.Holdings.{wanted, request, held, conflicts_with, conflicts_of}
 use Rattle.desk_law.specs.Consistent.{IsAmong, due_to, AreApart}
 use Rattle.desk_law.specs.Laws.{ArePermitted, PermittedIsFree}
-use Rattle.desk_law.proofs.Orderly.{IsOrderly, orderly}
+use Rattle.desk_law.specs.Orderly.{IsOrderly}
+use Rattle.desk_law.proofs.Orderly.{orderly}
 use Rattle.desk_law.proofs.Others.{touched_of}
 
 -- where none passes

@@ -1,13 +1,16 @@
 -- Entries that are told from seats: what becomes of them as one seat changes or is left, and tables by seat as tables by number.
-use Rattle.std.specs.Prelude.{◌≡◌, refl, ℕ, ◌==◌, ◌||◌, not, if◌then◌else◌, Bool, true, false, List, [], ◌∷◌, map, filter, find, Option, Some}
-use Rattle.std.specs.Option.{option_map_or}
+use Rattle.std.specs.Prelude.{◌≡◌, refl, ℕ, ◌==◌, ◌&&◌, ◌||◌, not, if◌then◌else◌, Bool, true, false, List, [], ◌∷◌, map, filter, find, Option, Some}
+use Rattle.std.specs.List.{list_any}
+use Rattle.std.specs.Option.{option_map, option_map_or}
 use Rattle.std.proofs.Common.{ap, sym, ◌∙◌, subst, inl, inr}
-use Rattle.std.proofs.lemmas.Bool.{eqb-true, eq-eqb, both_ways, or_left, or_right}
+use Rattle.std.proofs.lemmas.Bool.{eqb-true, eq-eqb, both_ways, and_from, and_right, or_left, or_right}
 use Rattle.line_geometry.specs.FlatStore.{FlatStore}
 use Rattle.lock_rules.specs.Sets.{has}
-use Rattle.lock_rules.specs.Lines.{Lines, no_lines}
+use Rattle.lock_rules.specs.Lines.{Lines, no_lines, conflicts}
+use Rattle.lock_rules.proofs.Sets.{any-at, any-some}
+use Rattle.lock_rules.proofs.Cycles.{any-named, find-named}
 use Rattle.desk.specs.Desk.{Entry}
-use Rattle.desk_law.specs.Beside.{AreAlike, requested, AreKept, AreSeats, by_number}
+use Rattle.desk_law.specs.Beside.{AreAlike, requested, AreKept, AreSeats, by_number, kept_conflict, kept_waits}
 use Rattle.desk_law.specs.Consistent.{IsAmong, due_to}
 use Rattle.desk_law.proofs.Entries.{replaced}
 use Rattle.desk_law.proofs.Others.{others}
@@ -94,3 +97,99 @@ kept-seats store taken entry_of locks requests are held asked = record {
       (subst (λ (l : Lines). AreAlike l (requested store (entry_of at))) (sym (at-number taken entry_of requests no_lines at are inside))
       (asked at inside (ap (λ (x : Entry). x.waiting) is ∙ waits)));
 }
+
+-- an entry is found by its number where its seat is
+pub told-found : (taken : List ℕ) (entry_of : ℕ → Entry) (number : ℕ)
+    → find (λ (entry : Entry). entry.number == number) (map entry_of taken) ≡ option_map entry_of (find (λ at. (entry_of at).number == number) taken)
+told-found taken entry_of number = find-named entry_of (λ entry. entry.number == number) (λ at. (entry_of at).number == number) taken (λ at inside. refl)
+
+-- where one seat alone may pass, some does where it passes
+one-passes : (p : ℕ → Bool) (value : Bool) (taken : List ℕ) (at : ℕ) → has taken at ≡ true → ((other : ℕ) → has taken other ≡ true → p other ≡ (other == at && value))
+    → list_any p taken ≡ value
+one-passes p true taken at inside same = any-at p taken at inside (same at inside ∙ and_from (at == at) true (eq-eqb at at refl) refl)
+one-passes p false taken at inside same = by_any (list_any p taken) refl
+  where
+    by_any : (any : Bool) → list_any p taken ≡ any → any ≡ false
+    by_any false is = refl
+    by_any true is =
+        let (other, there, passes) = any-some p taken is in
+        absurd (both_ways (p other) (same other there ∙ and_right (other == at) false refl) passes)
+
+module _ (taken : List ℕ) (entry_of : ℕ → Entry) (are : AreSeats taken entry_of) (locks requests : ℕ → Lines) where
+  -- whether what a seat asks for conflicts with what another holds
+  conflict-seats : (asked : Lines) (seat other : ℕ) → has taken seat ≡ true → has taken other ≡ true
+      → kept_conflict asked (by_number taken entry_of locks no_lines) (entry_of seat).number (entry_of other) ≡ (not (other == seat) && conflicts asked (locks other))
+  conflict-seats asked seat other here there =
+      λ i. not (are.apart other seat there here i) && conflicts asked (at-number taken entry_of locks no_lines other are there i)
+
+  -- the numbers of the seats with which it conflicts
+  pub conflicts-seats : (asked : Lines) (seat : ℕ) → has taken seat ≡ true
+      → map (λ (other : Entry). other.number) (filter (kept_conflict asked (by_number taken entry_of locks no_lines) (entry_of seat).number) (map entry_of taken))
+      ≡ map (λ other. (entry_of other).number) (filter (λ other. not (other == seat) && conflicts asked (locks other)) taken)
+  conflicts-seats asked seat here = of_seats taken (λ other there. conflict-seats asked seat other here there)
+    where
+      of_seats : (seats : List ℕ)
+          → ((other : ℕ) → has seats other ≡ true → kept_conflict asked (by_number taken entry_of locks no_lines) (entry_of seat).number (entry_of other) ≡ (not (other == seat) && conflicts asked (locks other)))
+          → map (λ (other : Entry). other.number) (filter (kept_conflict asked (by_number taken entry_of locks no_lines) (entry_of seat).number) (map entry_of seats))
+          ≡ map (λ other. (entry_of other).number) (filter (λ other. not (other == seat) && conflicts asked (locks other)) seats)
+      of_seats [] same = refl
+      of_seats (one ∷ seats) same =
+          step (kept_conflict asked (by_number taken entry_of locks no_lines) (entry_of seat).number (entry_of one)) (not (one == seat) && conflicts asked (locks one))
+          (same one (or_left (one == one) (has seats one) (eq-eqb one one refl)))
+          (of_seats seats (λ other there. same other (or_right (one == other) (has seats other) there)))
+        where
+          step : (a b : Bool) → a ≡ b
+              → map (λ (other : Entry). other.number) (filter (kept_conflict asked (by_number taken entry_of locks no_lines) (entry_of seat).number) (map entry_of seats))
+              ≡ map (λ other. (entry_of other).number) (filter (λ other. not (other == seat) && conflicts asked (locks other)) seats)
+              → map (λ (other : Entry). other.number) (if a then entry_of one ∷ filter (kept_conflict asked (by_number taken entry_of locks no_lines) (entry_of seat).number) (map entry_of seats) else filter (kept_conflict asked (by_number taken entry_of locks no_lines) (entry_of seat).number) (map entry_of seats))
+              ≡ map (λ other. (entry_of other).number) (if b then one ∷ filter (λ other. not (other == seat) && conflicts asked (locks other)) seats else filter (λ other. not (other == seat) && conflicts asked (locks other)) seats)
+          step true true e rest = ap (λ (these : List ℕ). (entry_of one).number ∷ these) rest
+          step true false e rest = absurd (cc)
+          step false true e rest = absurd (cc)
+          step false false e rest = rest
+
+  -- who waits for whom
+  pub waits-seats : (from to : ℕ) → has taken from ≡ true → has taken to ≡ true
+      → kept_waits (by_number taken entry_of locks no_lines) (by_number taken entry_of requests no_lines) (map entry_of taken) (entry_of from).number (entry_of to).number
+      ≡ ((entry_of from).waiting && (not (to == from) && conflicts (requests from) (locks to)))
+  waits-seats from to here there =
+      any-named entry_of
+      (λ entry. entry.number == (entry_of from).number && entry.waiting && list_any (λ other. other.number == (entry_of to).number && kept_conflict (by_number taken entry_of requests no_lines entry.number) (by_number taken entry_of locks no_lines) entry.number other) (map entry_of taken))
+      asks taken (λ at inside. refl)
+      ∙ one-passes asks ((entry_of from).waiting && (not (to == from) && conflicts (requests from) (locks to))) taken from here
+      (λ at inside. by_test at inside (at == from) refl)
+    where
+      meets : ℕ → Bool
+      meets at = list_any (λ (other : Entry). other.number == (entry_of to).number && kept_conflict (by_number taken entry_of requests no_lines (entry_of at).number) (by_number taken entry_of locks no_lines) (entry_of at).number other) (map entry_of taken)
+
+      asks : ℕ → Bool
+      asks at = (entry_of at).number == (entry_of from).number && (entry_of at).waiting && meets at
+
+      here-meets : meets from ≡ (not (to == from) && conflicts (requests from) (locks to))
+      here-meets =
+          any-named entry_of
+          (λ other. other.number == (entry_of to).number && kept_conflict (by_number taken entry_of requests no_lines (entry_of from).number) (by_number taken entry_of locks no_lines) (entry_of from).number other)
+          (λ other. (entry_of other).number == (entry_of to).number && kept_conflict (by_number taken entry_of requests no_lines (entry_of from).number) (by_number taken entry_of locks no_lines) (entry_of from).number (entry_of other))
+          taken (λ at inside. refl)
+          ∙ one-passes
+          (λ other. (entry_of other).number == (entry_of to).number && kept_conflict (by_number taken entry_of requests no_lines (entry_of from).number) (by_number taken entry_of locks no_lines) (entry_of from).number (entry_of other))
+          (not (to == from) && conflicts (requests from) (locks to)) taken to there
+          (λ other inside.
+          (λ i. are.apart other to inside there i && kept_conflict (at-number taken entry_of requests no_lines from are here i) (by_number taken entry_of locks no_lines) (entry_of from).number (entry_of other))
+          ∙ by_same other inside (other == to) refl)
+        where
+          by_same : (other : ℕ) → has taken other ≡ true → (same : Bool) → (other == to) ≡ same
+              → (same && kept_conflict (requests from) (by_number taken entry_of locks no_lines) (entry_of from).number (entry_of other)) ≡ (same && (not (to == from) && conflicts (requests from) (locks to)))
+          by_same other inside true e =
+              conflict-seats (requests from) from other here inside ∙ (λ i. not (eqb-true other to e i == from) && conflicts (requests from) (locks (eqb-true other to e i)))
+          by_same other inside false e = refl
+
+      by_test : (at : ℕ) → has taken at ≡ true → (same : Bool) → (at == from) ≡ same
+          → asks at ≡ (at == from && ((entry_of from).waiting && (not (to == from) && conflicts (requests from) (locks to))))
+      by_test at inside true e =
+          ap asks (eqb-true at from e)
+          ∙ (λ i. eq-eqb (entry_of from).number (entry_of from).number refl i && (entry_of from).waiting && here-meets i)
+          ∙ sym (ap (λ (same : Bool). same && ((entry_of from).waiting && (not (to == from) && conflicts (requests from) (locks to)))) e)
+      by_test at inside false e =
+          (λ i. (are.apart at from inside here ∙ e) i && (entry_of at).waiting && meets at)
+          ∙ sym (ap (λ (same : Bool). same && ((entry_of from).waiting && (not (to == from) && conflicts (requests from) (locks to)))) e)

@@ -29,7 +29,7 @@ use Rattle.desk_law.proofs.Entries.{replaced}
 use Rattle.desk_law.proofs.GoesOn.{IsReady, ready-again, grants-held, row-goes-on}
 use Rattle.desk_law.proofs.Granted.{granted-permits}
 use Rattle.desk_law.proofs.InstructionStages.{attempt_of, stage-gets, stage-on}
-use Rattle.desk_law.proofs.Orderly.{IsOrderly}
+use Rattle.desk_law.specs.Orderly.{IsOrderly}
 use Rattle.desk_law.proofs.Others.{touched_of}
 use Rattle.desk_law.proofs.SharedBytes.{row-on-current}
 use Rattle.desk_law.proofs.TurnsStay.{resident-consistent, resident-granted}

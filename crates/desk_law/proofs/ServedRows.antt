@@ -17,7 +17,7 @@ use Rattle.desk_law.proofs.AttemptsOnCurrent.{wanted-is}
 use Rattle.desk_law.proofs.Contest.{KeepsPages}
 use Rattle.desk_law.proofs.GoesOn.{IsReady}
 use Rattle.desk_law.proofs.KeptTables.{conflicts-kept}
-use Rattle.desk_law.proofs.Orderly.{IsOrderly}
+use Rattle.desk_law.specs.Orderly.{IsOrderly}
 use Rattle.desk_law.proofs.ServedEffect.{got, served-there}
 use Rattle.desk_law.proofs.ServesConflicts.{IsContesting, shows_cycle, contesting-begins, contesting-ready}
 use Rattle.desk_law.proofs.ServesToLocks.{served_attempt, asked_for, serve-asks, serve-ready, serve-ends}

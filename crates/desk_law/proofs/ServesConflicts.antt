@@ -15,7 +15,7 @@ use Rattle.desk_law.proofs.Entries.{among-found}
 use Rattle.desk_law.proofs.GoesOn.{IsReady, marked-contending}
 use Rattle.desk_law.proofs.InstructionStages.{stage-settled}
 use Rattle.desk_law.proofs.KeptTables.{conflicts-kept, cycle-kept}
-use Rattle.desk_law.proofs.Orderly.{IsOrderly}
+use Rattle.desk_law.specs.Orderly.{IsOrderly}
 use Rattle.desk_law.proofs.ServedEffect.{ready-settled}
 use Rattle.desk_law.proofs.ToldSteps.{told-mark, told-rollback}
 

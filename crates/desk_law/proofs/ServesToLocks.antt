@@ -22,7 +22,7 @@ use Rattle.desk_law.proofs.FetchesCounted.{fetched-for, fetched-few}
 use Rattle.desk_law.proofs.GoesOn.{IsReady}
 use Rattle.desk_law.proofs.InstructionStages.{GoesOn, instruction-at, stage-limit, stage-broken, stage-fetched}
 use Rattle.desk_law.proofs.KeptTables.{conflicts-kept}
-use Rattle.desk_law.proofs.Orderly.{IsOrderly}
+use Rattle.desk_law.specs.Orderly.{IsOrderly}
 use Rattle.desk_law.proofs.Others.{touched_of}
 use Rattle.desk_law.proofs.ServedEffect.{got}
 use Rattle.desk_law.proofs.ToldSteps.{HasServed}

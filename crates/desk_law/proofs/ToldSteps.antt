@@ -21,7 +21,7 @@ use Rattle.desk_law.proofs.CurrentSteps.{current-rolled, current-committed, comm
 use Rattle.desk_law.proofs.Entries.{replaced, among-replaced, among-filter, among-push}
 use Rattle.desk_law.proofs.GoesOn.{apart-turned, IsReady}
 use Rattle.desk_law.proofs.KeptTables.{kept-row, kept-mark, kept-rollback, kept-commit, kept-begin, kept-open_row}
-use Rattle.desk_law.proofs.Orderly.{IsOrderly}
+use Rattle.desk_law.specs.Orderly.{IsOrderly}
 use Rattle.desk_law.proofs.Others.{others, another-same, after-row}
 use Rattle.desk_law.proofs.ServedEffect.{got, WasServed, served-goes}
 

@@ -5,7 +5,7 @@ use Rattle.desk.specs.Desk.{Desk, Entry}
 use Rattle.desk.specs.Instruction.{Word, Fine, ReadFailed, Unwritten, Doubt, Failed, Counts, Turning, Going, Over, Ending, Limit, Attempt, no_counts, instruction, turns, turn, turn_of, commits}
 use Rattle.desk_law.specs.Beside.{Reads}
 use Rattle.desk_law.specs.Consistent.{IsAmong}
-use Rattle.desk_law.proofs.Orderly.{IsOrderly}
+use Rattle.desk_law.specs.Orderly.{IsOrderly}
 use Rattle.desk_law.proofs.Entries.{found-among}
 
 -- a turn, from wherever it began, is one of so many instructions from here

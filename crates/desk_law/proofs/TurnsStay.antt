@@ -14,7 +14,7 @@ use Rattle.desk.specs.Instruction.{Word, Fine, ReadFailed, Unwritten, Doubt, Fai
 use Rattle.desk_law.specs.Changes.{gone_on}
 use Rattle.desk_law.specs.Consistent.{IsAmong}
 use Rattle.desk_law.specs.Laws.{IsActive}
-use Rattle.desk_law.proofs.Orderly.{IsOrderly}
+use Rattle.desk_law.specs.Orderly.{IsOrderly}
 use Rattle.desk_law.proofs.Entries.{among-found, none-found, new-among}
 use Rattle.desk_law.proofs.Others.{touched_of}
 use Rattle.desk_law.proofs.Contest.{contending, rolled-consistent, breaks-all, Came}

@@ -1,4 +1,5 @@
 pub mod Consistent
+pub mod Orderly
 pub mod Laws
 pub mod Changes
 pub mod Current

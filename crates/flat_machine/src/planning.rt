@@ -1,4 +1,4 @@
-ghost use Rattle.std.specs.Prelude.{ℕ, List, Option, ◌≡◌, ◌<◌, ◌≤◌, ◌+◌, IfOk, OnOk, IfSome, OnSome, IsTrue};
+ghost use Rattle.std.specs.Prelude.{ℕ, List, Option, ◌≡◌, ◌<◌, ◌≤◌, ◌+◌, IfOk, OnOk, IfSome, OnSome, IsTrue, length};
 ghost use Rattle.std.specs.Option.{ForSome};
 ghost use Rattle.std.specs.Result.{ForOk};
 ghost use Rattle.romp_table.specs.Legal.{HasWidths};
@@ -35,6 +35,7 @@ pub fn start_row<F: Fetch>(code: &F, regs: &mut [u32; 16], cs: &mut Cs, iar: u32
     ensures value { plan (F.halfword_at code.now) regs.old cs.old iar ≡ planned regs.new cs.new result }
     ensures stays { StaysIfPending result regs.old regs.new cs.old cs.new }
     ensures sound { IsSoundPending result }
+    ensures long { length regs.new ≡ 16 }
 {
     match fetch_instruction(code, iar) {
         Err(code) => Pending::Fails(code),

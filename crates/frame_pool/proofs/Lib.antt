@@ -3,3 +3,4 @@ pub mod SoundLemmas
 pub mod PlaceLemmas
 pub mod PoolLemmas
 pub mod LendLemmas
+pub mod SeenLemmas

@@ -4,5 +4,6 @@ pub mod Sound
 pub mod PlacesView
 pub mod Lending
 pub mod Pool
+pub mod Seen
 pub mod View
 pub mod PoolLending

@@ -4,6 +4,7 @@ use Rattle.std.specs.Prelude.{◌==◌, ◌&&◌, ◌||◌, not, cond, find, nat
 use Rattle.std.specs.List.{prefix_len}
 use Rattle.std.specs.Option.{option_map_or}
 use Rattle.std.proofs.lemmas.Bool.{and_parts, eqb-true, ltb-true, ltb-false, cases_lt}
+use Rattle.std.proofs.lemmas.List.Quantifiers.{position-Some}
 use Rattle.std.proofs.Math.ListN.{get_or-eq_default}
 use Rattle.lock_rules.specs.Sets.{has}
 use Rattle.inverted_table.proofs.ApartLemmas.{equal}
@@ -16,7 +17,7 @@ abbrev pub holds_it : List (Option Key) → Key → ℕ → Bool
 holds_it keys wanted frame = holds wanted (key_in keys frame)
 
 -- what holds a page is that page
-held-is : (wanted : Key) (o : Option Key) → holds wanted o ≡ true → o ≡ Some wanted
+pub held-is : (wanted : Key) (o : Option Key) → holds wanted o ≡ true → o ≡ Some wanted
 held-is wanted None held = absurd (cc)
 held-is wanted (Some key) held =
     let parts : ((key.segment == wanted.segment) ≡ true) × ((key.page == wanted.page) ≡ true) = and_parts (key.segment == wanted.segment) (key.page == wanted.page) held in
@@ -118,3 +119,24 @@ look_up-none keys wanted absent frame = by_test (nat_lt (prefix_len (λ o. not (
         by_place : (frame < length keys) ⊎ (length keys ≤ frame) → holds wanted (key_in keys frame) ≡ false
         by_place (inl inside) = prefix-all (holds wanted) keys frame (ltb-false _ _ is) inside
         by_place (inr past) = ap (holds wanted) (get_or-eq_default keys None past)
+
+-- the frame that is found holds the page
+pub look_up-held : (keys : List (Option Key)) (wanted : Key) (frame : ℕ) → look_up keys wanted ≡ Some frame → (frame < length keys) × (key_in keys frame ≡ Some wanted)
+look_up-held keys wanted frame is =
+    let told = position-Some (holds wanted) keys frame None is in
+    (told.0, held-is wanted (key_in keys frame) told.1)
+
+-- a look-up answers the one frame that holds the page, or none
+pub look_up-is :
+    (keys : List (Option Key)) (wanted : Key) (o : Option ℕ) → ((frame : ℕ) → o ≡ Some frame → key_in keys frame ≡ Some wanted)
+    → ((frame : ℕ) → key_in keys frame ≡ Some wanted → o ≡ Some frame) → look_up keys wanted ≡ o
+look_up-is keys wanted o there only = by_found (look_up keys wanted) refl
+  where
+    by_held : (p : Option ℕ) → o ≡ p → look_up keys wanted ≡ None → None ≡ p
+    by_held None is none = refl
+    by_held (Some frame) is none =
+        absurd (let clash : true ≡ false = sym (is-held wanted (key_in keys frame) (there frame is)) ∙ look_up-none keys wanted none frame in cc)
+
+    by_found : (found : Option ℕ) → look_up keys wanted ≡ found → look_up keys wanted ≡ o
+    by_found (Some frame) is = is ∙ sym (only frame (look_up-held keys wanted frame is).1)
+    by_found None is = is ∙ by_held o refl is

@@ -13,12 +13,13 @@ use Rattle.asm_parse.specs.Operand.{place_among}
 use Rattle.asm_parse.specs.Statement.{is_label, line_of}
 use Rattle.asm_parse.specs.Text.{at_line, lines_of, statements_from}
 use Rattle.asm_parse.specs.Token.{tokens}
-use Rattle.romp_asm.specs.Layout.{Parts, assembled}
+use Rattle.romp_asm.specs.Layout.{Parts}
+use Rattle.romp_link.specs.Linked.{linked}
 use Rattle.job_text.specs.declared.stage.Stage.{Stage}
 use Rattle.job_text.specs.declared.stage.Stage.TheVariants.{Frames, Programs, Source, Schedule, Ended}
 use Rattle.job_text.specs.Grammar.{Content, job_of, last_part, read_from, then_read, whole}
-use Rattle.job_text.specs.Reading.{Reading, nothing_read, frames_line, program_begins, programs_line, is_end, program_ends, source_goes_on, source_line, with_event, values_of, four_of, begin_of, begin_line, is_limit, turn_line, rounds_of, drain_line, single_line, schedule_line, ended_line, by_tokens, line_read}
-use Rattle.job_text.specs.Form.{IsBlank, AreBlank, IsOnly, HaveNoEnd, IsFramesLine, HasPrograms, IsLimit, IsEventLine, HasEvents, IsJobText}
+use Rattle.job_text.specs.Reading.{Reading, nothing_read, frames_line, program_begins, programs_line, is_end, is_part, program_ends, source_ends, source_goes_on, source_line, sources_of, with_event, values_of, four_of, begin_of, begin_line, is_limit, turn_line, rounds_of, drain_line, single_line, schedule_line, ended_line, by_tokens, line_read}
+use Rattle.job_text.specs.Form.{IsBlank, AreBlank, IsOnly, HaveNoMark, HasSources, IsFramesLine, HasPrograms, IsLimit, IsEventLine, HasEvents, IsJobText}
 use Rattle.job_text.proofs.DrainLemmas.{length-rounds_of}
 
 -- what a reading says
@@ -58,16 +59,17 @@ record ProgramsLeft (so_far : Content) (begins number : ℕ) (lines : List (List
   left : EventsLeft (record so_far { names = so_far.names ++ names; programs = so_far.programs ++ programs }) begins rest content
 
 -- lines from a place in a source on
-record SourceLeft (statements : List Statement) (so_far : Content) (begins number : ℕ) (lines : List (List ℕ)) (content : Content) : Type 0 where
+record SourceLeft (sources : List (List Statement)) (statements : List Statement) (so_far : Content) (begins number : ℕ) (lines : List (List ℕ)) (content : Content) : Type 0 where
   source : List (List ℕ)
   last : List ℕ
   rest : List (List ℕ)
   all : lines ≡ source ++ last ∷ rest
-  no_end : HaveNoEnd source
   more : List Statement
-  parsed : statements_from number source ≡ Ok more
+  others : List (List Statement)
+  parted : HasSources number source (more ∷ others)
+  few : length sources + 1 + length others ≤ 16
   parts : Parts
-  makes : assembled (statements ++ more) ≡ Ok parts
+  makes : linked (sources ++ (statements ++ more) ∷ others) ≡ Ok parts
   ends : IsOnly (codes "end") last
   left : ProgramsLeft (record so_far { programs = so_far.programs ++ parts ∷ [] }) begins (number + length source + 1) rest content
 
@@ -86,13 +88,13 @@ record FramesLeft (so_far : Content) (begins number : ℕ) (lines : List (List �
 abbrev Left : Stage → Reading → ℕ → List (List ℕ) → Content → Type 0
 Left Frames reading number lines content = FramesLeft (content_read reading) reading.begins number lines content
 Left Programs reading number lines content = ProgramsLeft (content_read reading) reading.begins number lines content
-Left Source reading number lines content = SourceLeft reading.statements (content_read reading) reading.begins number lines content
+Left Source reading number lines content = SourceLeft reading.sources reading.statements (content_read reading) reading.begins number lines content
 Left Schedule reading number lines content = EventsLeft (content_read reading) reading.begins lines content
 Left Ended reading number lines content = TailLeft (content_read reading) lines content
 
--- no more programs and events than may be
+-- no more programs, events and sources than may be
 abbrev IsFew : Reading → Type 0
-IsFew reading = (length reading.names ≤ 64) × (length reading.events ≤ 10000)
+IsFew reading = (length reading.names ≤ 64) × (length reading.events ≤ 10000) × (length reading.sources ≤ 15)
 
 -- what is left behind a line is what is left from it on
 abbrev Back : {E : Type 0} → Stage → Reading → ℕ → List ℕ → List (List ℕ) → Content → Result Reading E → Type 0
@@ -106,6 +108,11 @@ same_word word wanted is = (bytes_eq-Decides word wanted).0 is
 pub end_is : (found : Result (List Token) ℕ) → is_end found ≡ true → found ≡ Ok (Word (codes "end") ∷ [])
 end_is (Ok (Word word ∷ [])) is = ap (λ these. Ok (Word these ∷ [])) (same_word word (codes "end") is)
 end_is _ is = absurd (cc is)
+
+-- `.part` alone
+pub part_is : (found : Result (List Token) ℕ) → is_part found ≡ true → found ≡ Ok (Word (codes ".part") ∷ [])
+part_is (Ok (Word word ∷ [])) is = ap (λ these. Ok (Word these ∷ [])) (same_word word (codes ".part") is)
+part_is _ is = absurd (cc is)
 
 -- behind the schedule
 module _ (number : ℕ) (line : List ℕ) (lines : List (List ℕ)) (content : Content) where
@@ -125,7 +132,7 @@ module _ (number : ℕ) (line : List ℕ) (lines : List (List ℕ)) (content : C
   events_more : (begins : ℕ) (here : List Event) → length (reading.events ++ here) ≤ 10000 → IsEventLine reading.names reading.begins begins found here
       → (IsFew (with_events begins here) → Left reading.stage (with_events begins here) (number + 1) lines content) → EventsLeft (content_read reading) reading.begins (line ∷ lines) content
   events_more begins here room means left =
-      let behind : EventsLeft (content_read (with_events begins here)) begins lines content = subst (λ (stage : Stage). Left stage (with_events begins here) (number + 1) lines content) at (left (small.0, room)) in
+      let behind : EventsLeft (content_read (with_events begins here)) begins lines content = subst (λ (stage : Stage). Left stage (with_events begins here) (number + 1) lines content) at (left (small.0, room, small.2)) in
       let all = append_assoc reading.events here behind.more in
       record {
         more = here ++ behind.more;
@@ -250,60 +257,105 @@ module _ (number : ℕ) (line : List ℕ) (lines : List (List ℕ)) (content : C
   BackSource read = Back Source reading number line lines content read
 
   -- a line that gives these statements, before those of the others
-  source_more : (here : List Statement) → (IsOnly (codes "end") line → ⊥) → ((others : List (List ℕ)) (more : List Statement) → statements_from (number + 1) others ≡ Ok more → statements_from number (line ∷ others) ≡ Ok (here ++ more))
-      → SourceLeft (reading.statements ++ here) (content_read reading) reading.begins (number + 1) lines content → SourceLeft reading.statements (content_read reading) reading.begins number (line ∷ lines) content
-  source_more here no_end gives behind = record {
+  has_line : (here : List Statement) → (IsOnly (codes "end") line → ⊥) → (IsOnly (codes ".part") line → ⊥)
+      → ((others : List (List ℕ)) (more : List Statement) → statements_from (number + 1) others ≡ Ok more → statements_from number (line ∷ others) ≡ Ok (here ++ more))
+      → (source : List (List ℕ)) (more : List Statement) (others : List (List Statement)) → HasSources (number + 1) source (more ∷ others) → HasSources number (line ∷ source) ((here ++ more) ∷ others)
+  has_line here no_end no_part gives source more [] has = (((no_end, no_part), has.0), gives source more has.1)
+  has_line here no_end no_part gives source more (next ∷ others) has = (
+    line ∷ has.0,
+    has.1,
+    has.2,
+    ap (λ these. line ∷ these) has.3,
+    ((no_end, no_part), has.4),
+    gives has.0 more has.5,
+    has.6,
+    subst (λ n. HasSources n has.2 (next ∷ others)) (omega arith) has.7,
+  )
+
+  source_more : (here : List Statement) → (IsOnly (codes "end") line → ⊥) → (IsOnly (codes ".part") line → ⊥)
+      → ((others : List (List ℕ)) (more : List Statement) → statements_from (number + 1) others ≡ Ok more → statements_from number (line ∷ others) ≡ Ok (here ++ more))
+      → SourceLeft reading.sources (reading.statements ++ here) (content_read reading) reading.begins (number + 1) lines content → SourceLeft reading.sources reading.statements (content_read reading) reading.begins number (line ∷ lines) content
+  source_more here no_end no_part gives behind = record {
     source = line ∷ behind.source;
     last = behind.last;
     rest = behind.rest;
     all = ap (λ these. line ∷ these) behind.all;
-    no_end = (no_end, behind.no_end);
     more = here ++ behind.more;
-    parsed = gives behind.source behind.more behind.parsed;
+    others = behind.others;
+    parted = has_line here no_end no_part gives behind.source behind.more behind.others behind.parted;
+    few = behind.few;
     parts = behind.parts;
-    makes = subst (λ (statements : List Statement). assembled statements ≡ Ok behind.parts) (append_assoc reading.statements here behind.more) behind.makes;
+    makes = subst (λ (statements : List Statement). linked (reading.sources ++ statements ∷ behind.others) ≡ Ok behind.parts) (append_assoc reading.statements here behind.more) behind.makes;
     ends = behind.ends;
     left = subst (λ n. ProgramsLeft (record (content_read reading) { programs = reading.programs ++ behind.parts ∷ [] }) reading.begins n behind.rest content) (omega arith) behind.left;
   }
 
-  source_goes : is_end (tokens line) ≡ false → (meaning : Result (Option Statement) ℕ) → line_of number line ≡ meaning → BackSource (source_goes_on reading (at_line number meaning))
+  source_goes : is_end (tokens line) ≡ false → is_part (tokens line) ≡ false → (meaning : Result (Option Statement) ℕ) → line_of number line ≡ meaning → BackSource (source_goes_on reading (at_line number meaning))
   unfolding statements_from
-  source_goes no_end (Ok (Some statement)) is =
+  source_goes no_end no_part (Ok (Some statement)) is =
       λ left.
-      source_more (statement ∷ []) (λ only. cc (no_end, ap is_end only)) (λ others more parsed. rw (is, parsed) refl)
+      source_more (statement ∷ []) (λ only. cc (no_end, ap is_end only)) (λ only. cc (no_part, ap is_part only)) (λ others more parsed. rw (is, parsed) refl)
       (subst (λ (stage : Stage). Left stage (record reading { statements = reading.statements ++ statement ∷ [] }) (number + 1) lines content) at (left small))
-  source_goes no_end (Ok None) is =
+  source_goes no_end no_part (Ok None) is =
       λ left.
-      source_more [] (λ only. cc (no_end, ap is_end only)) (λ others more parsed. rw (is, parsed) refl)
-      (subst (λ (statements : List Statement). SourceLeft statements (content_read reading) reading.begins (number + 1) lines content) (sym (append-nil reading.statements))
+      source_more [] (λ only. cc (no_end, ap is_end only)) (λ only. cc (no_part, ap is_part only)) (λ others more parsed. rw (is, parsed) refl)
+      (subst (λ (statements : List Statement). SourceLeft reading.sources statements (content_read reading) reading.begins (number + 1) lines content) (sym (append-nil reading.statements))
       (subst (λ (stage : Stage). Left stage reading (number + 1) lines content) at (left small)))
-  source_goes no_end (Err kind) is = tt
+  source_goes no_end no_part (Err kind) is = tt
 
-  source_ends : is_end (tokens line) ≡ true → (made : Result Parts (ℕ × ℕ)) → assembled reading.statements ≡ made → BackSource (program_ends reading made)
+  -- a line that ends a source
+  source_parts : is_part (tokens line) ≡ true → (few : Bool) → nat_lt (length reading.sources) 15 ≡ few
+      → BackSource (at_line number (if few then Ok (record reading { sources = sources_of reading; statements = [] }) else Err 11))
   unfolding statements_from
-  source_ends end (Ok parts) is =
+  source_parts part false few = tt
+  source_parts part true few =
+      λ left.
+      let under : length reading.sources + 1 ≤ 15 = grind (arith, nat_tests, few) in
+      let behind : SourceLeft (sources_of reading) [] (content_read reading) reading.begins (number + 1) lines content =
+      subst (λ (stage : Stage). Left stage (record reading { sources = sources_of reading; statements = [] }) (number + 1) lines content) at (left (small.0, small.1, omega (arith, under, length-append reading.sources (reading.statements ∷ [])))) in
+      record {
+        source = line ∷ behind.source;
+        last = behind.last;
+        rest = behind.rest;
+        all = ap (λ these. line ∷ these) behind.all;
+        more = [];
+        others = behind.more ∷ behind.others;
+        parted = ([], line, behind.source, refl, tt, refl, part_is (tokens line) part, subst (λ n. HasSources n behind.source (behind.more ∷ behind.others)) (omega arith) behind.parted);
+        few = omega (arith, behind.few, length-append reading.sources (reading.statements ∷ []));
+        parts = behind.parts;
+        makes = subst (λ (sources : List (List Statement)). linked sources ≡ Ok behind.parts) (append_assoc reading.sources (reading.statements ∷ []) (behind.more ∷ behind.others) ∙ ap (λ these. reading.sources ++ these ∷ behind.more ∷ behind.others) (sym (append-nil reading.statements))) behind.makes;
+        ends = behind.ends;
+        left = subst (λ n. ProgramsLeft (record (content_read reading) { programs = reading.programs ++ behind.parts ∷ [] }) reading.begins n behind.rest content) (omega arith) behind.left;
+      }
+
+  source_done : is_end (tokens line) ≡ true → (made : Result Parts (ℕ × ℕ)) → linked (sources_of reading) ≡ made → BackSource (program_ends reading made)
+  unfolding statements_from
+  source_done end (Ok parts) is =
       λ left.
       record {
         source = [];
         last = line;
         rest = lines;
         all = refl;
-        no_end = tt;
         more = [];
-        parsed = refl;
+        others = [];
+        parted = (tt, refl);
+        few = omega (arith, small.2);
         parts = parts;
-        makes = ap assembled (append-nil reading.statements) ∙ is;
+        makes = ap (λ these. linked (reading.sources ++ these ∷ [])) (append-nil reading.statements) ∙ is;
         ends = end_is (tokens line) end;
-        left = subst (λ n. ProgramsLeft (record (content_read reading) { programs = reading.programs ++ parts ∷ [] }) reading.begins n lines content) (omega arith) (left small);
+        left = subst (λ n. ProgramsLeft (record (content_read reading) { programs = reading.programs ++ parts ∷ [] }) reading.begins n lines content) (omega arith) (left (small.0, small.1, omega arith));
       }
-  source_ends end (Err fault) is = tt
+  source_done end (Err fault) is = tt
 
   source_step : BackSource (source_line reading number line)
-  source_step = by_end (is_end (tokens line)) refl
+  source_step = by_tests (is_end (tokens line)) (is_part (tokens line)) refl refl
     where
-      by_end : (end : Bool) → is_end (tokens line) ≡ end → BackSource (if end then program_ends reading (assembled reading.statements) else source_goes_on reading (at_line number (line_of number line)))
-      by_end true end = source_ends end (assembled reading.statements) refl
-      by_end false end = source_goes end (line_of number line) refl
+      by_tests : (end part : Bool) → is_end (tokens line) ≡ end → is_part (tokens line) ≡ part
+          → BackSource (if end then program_ends reading (linked (sources_of reading)) else if part then at_line number (source_ends reading) else source_goes_on reading (at_line number (line_of number line)))
+      by_tests true part end is = source_done end (linked (sources_of reading)) refl
+      by_tests false true end is = source_parts is (nat_lt (length reading.sources) 15) refl
+      by_tests false false end is = source_goes end is (line_of number line) refl
 
 -- a blank line before programs
 has_blank : (others : List (List ℕ)) (number : ℕ) (line : List ℕ) (lines : List (List ℕ)) (names : List (List ℕ)) (programs : List Parts) → IsBlank line → HasPrograms others (number + 1) names programs lines → HasPrograms others number names programs (line ∷ lines)
@@ -324,9 +376,9 @@ has_blank others number line lines (name ∷ names) (parts ∷ programs) blank h
         blanks = (blank, is.blanks);
         says = is.says;
         label = is.label;
-        no_end = is.no_end;
-        statements = is.statements;
-        parsed = subst (λ n. statements_from n is.source ≡ Ok is.statements) (omega arith) is.parsed;
+        sources = is.sources;
+        parted = subst (λ n. HasSources n is.source is.sources) (omega arith) is.parted;
+        few_sources = is.few_sources;
         makes = is.makes;
         ends = is.ends;
       },
@@ -371,9 +423,9 @@ module _ (number : ℕ) (line : List ℕ) (lines : List (List ℕ)) (content : C
   }
 
   abbrev named : List ℕ → Reading
-  named name = record reading { stage = Source; names = reading.names ++ name ∷ []; statements = [] }
+  named name = record reading { stage = Source; names = reading.names ++ name ∷ []; sources = []; statements = [] }
 
-  program_begun : (name : List ℕ) → found ≡ Word (codes "program") ∷ Word name ∷ [] → is_label name ≡ true → place_among reading.names name ≡ None → SourceLeft [] (content_read (named name)) reading.begins (number + 1) lines content → ProgramsLeft (content_read reading) reading.begins number (line ∷ lines) content
+  program_begun : (name : List ℕ) → found ≡ Word (codes "program") ∷ Word name ∷ [] → is_label name ≡ true → place_among reading.names name ≡ None → SourceLeft [] [] (content_read (named name)) reading.begins (number + 1) lines content → ProgramsLeft (content_read reading) reading.begins number (line ∷ lines) content
   program_begun name says label apart behind =
       let more = behind.left in
       let first = line ∷ behind.source ++ behind.last ∷ [] in
@@ -400,9 +452,9 @@ module _ (number : ℕ) (line : List ℕ) (lines : List (List ℕ)) (content : C
             blanks = tt;
             says = is ∙ ap Ok says;
             label = label;
-            no_end = behind.no_end;
-            statements = behind.more;
-            parsed = subst (λ n. statements_from n behind.source ≡ Ok behind.more) (omega arith) behind.parsed;
+            sources = behind.more ∷ behind.others;
+            parted = subst (λ n. HasSources n behind.source (behind.more ∷ behind.others)) (omega arith) behind.parted;
+            few_sources = omega (arith, behind.few);
             makes = behind.makes;
             ends = behind.ends;
           },
@@ -421,7 +473,7 @@ module _ (number : ℕ) (line : List ℕ) (lines : List (List ℕ)) (content : C
       by_place (Some there) few is_there is_few = tt
       by_place None true is_there is_few =
           let under : length reading.names + 1 ≤ 64 = grind (arith, nat_tests, is_few) in
-          λ left. program_begun name says label is_there (left (omega (arith, under, length-append reading.names (name ∷ [])), small.1))
+          λ left. program_begun name says label is_there (left (omega (arith, under, length-append reading.names (name ∷ [])), small.1, omega arith))
       by_place None false is_there is_few = tt
 
   programs_step : (these : List Token) → found ≡ these → BackPrograms (programs_line reading these)
@@ -528,7 +580,7 @@ lines_left reading number (line ∷ next ∷ lines) content small is =
 -- a job has the form of one
 pub has_form : (text : List ℕ) (content : Content) → job_of text ≡ Ok content → IsJobText text content
 has_form text content is =
-    let frames = lines_left nothing_read 1 (lines_of text) content (omega arith, omega arith) is in
+    let frames = lines_left nothing_read 1 (lines_of text) content (omega arith, omega arith, omega arith) is in
     let programs = frames.left in
     let events = programs.left in
     let tail = events.left in

@@ -10,15 +10,16 @@ use Rattle.asm_parse.specs.Operand.{place_among}
 use Rattle.asm_parse.specs.Statement.{is_label, line_of}
 use Rattle.asm_parse.specs.Text.{at_line, statements_from, then_statements}
 use Rattle.asm_parse.specs.Token.{tokens}
-use Rattle.romp_asm.specs.Layout.{Parts, assembled}
+use Rattle.romp_asm.specs.Layout.{Parts}
+use Rattle.romp_link.specs.Linked.{linked}
 use Rattle.job_text.specs.declared.stage.Stage.{Stage}
 use Rattle.job_text.specs.declared.stage.Stage.TheVariants.{Frames, Programs, Source, Schedule, Ended}
 use Rattle.job_text.specs.Grammar.{Content, job_of, read_from, then_read}
 use Rattle.job_text.specs.Reader.{tokens_read}
-use Rattle.job_text.specs.Reading.{Reading, nothing_read, frames_line, programs_line, is_end, source_goes_on, source_line, with_event, values_of, four_of, is_limit, schedule_line, line_read}
-use Rattle.job_text.specs.Form.{AreBlank, IsOnly, HaveNoEnd, IsProgram, HasPrograms, IsBegin, IsLimit, IsTurn, IsDrain, IsSingle, IsNoBegin, IsEventLine, HasEvents, IsJobText}
+use Rattle.job_text.specs.Reading.{Reading, nothing_read, frames_line, programs_line, is_end, is_part, source_goes_on, source_line, with_event, values_of, four_of, is_limit, schedule_line, line_read}
+use Rattle.job_text.specs.Form.{AreBlank, IsOnly, HaveNoMark, HasSources, IsProgram, HasPrograms, IsBegin, IsLimit, IsTurn, IsDrain, IsSingle, IsNoBegin, IsEventLine, HasEvents, IsJobText}
 use Rattle.job_text.proofs.DrainLemmas.{length-rounds_of}
-use Rattle.job_text.proofs.FormLemmas.{end_is}
+use Rattle.job_text.proofs.FormLemmas.{end_is, part_is}
 use Rattle.job_text.proofs.GrammarLemmas.{read_line}
 
 -- some lines
@@ -69,13 +70,13 @@ reads_blank reading number (line ∷ blank) lines are some by =
 
 -- a reading in each stage
 abbrev at_programs : ℕ → List (List ℕ) → List Parts → Reading
-at_programs frames names programs = record { stage = Programs; frames = frames; names = names; programs = programs; statements = []; events = []; begins = 0 }
+at_programs frames names programs = record { stage = Programs; frames = frames; names = names; programs = programs; sources = []; statements = []; events = []; begins = 0 }
 
-abbrev at_source : ℕ → List (List ℕ) → List Parts → List Statement → Reading
-at_source frames names programs statements = record { stage = Source; frames = frames; names = names; programs = programs; statements = statements; events = []; begins = 0 }
+abbrev at_source : ℕ → List (List ℕ) → List Parts → List (List Statement) → List Statement → Reading
+at_source frames names programs sources statements = record { stage = Source; frames = frames; names = names; programs = programs; sources = sources; statements = statements; events = []; begins = 0 }
 
 abbrev at_schedule : Stage → ℕ → List (List ℕ) → List Parts → ℕ → List Event → Reading
-at_schedule stage frames names programs begins events = record { stage = stage; frames = frames; names = names; programs = programs; statements = []; events = events; begins = begins }
+at_schedule stage frames names programs begins events = record { stage = stage; frames = frames; names = names; programs = programs; sources = []; statements = []; events = events; begins = begins }
 
 -- the frames
 frames_read : (frames : ℕ) → (2 ≤ frames) × (frames ≤ 1024) → frames_line nothing_read (Word (codes "frames") ∷ Number frames ∷ []) ≡ Ok (at_programs frames [] [])
@@ -157,9 +158,9 @@ module _ (frames : ℕ) (names : List (List ℕ)) (programs : List Parts) where
       all = append_assoc events has.1 has.2 ∙ ap (λ these. events ++ these) (sym has.5)
 
 -- a source
-module _ (frames : ℕ) (names : List (List ℕ)) (programs : List Parts) where
+module _ (frames : ℕ) (names : List (List ℕ)) (programs : List Parts) (sources : List (List Statement)) where
   abbrev in_source : List Statement → Reading
-  in_source statements = at_source frames names programs statements
+  in_source statements = at_source frames names programs sources statements
 
   -- what a source line and those behind it give, if they give statements
   record Gives (number : ℕ) (line : List ℕ) (source : List (List ℕ)) (statements more : List Statement) : Type 0 where
@@ -194,39 +195,90 @@ module _ (frames : ℕ) (names : List (List ℕ)) (programs : List Parts) where
       by_end true end = absurd (other (end_is (tokens line) end))
       by_end false end = refl
 
-  reads_source : (number : ℕ) (source lines : List (List ℕ)) (statements more : List Statement) → HaveNoEnd source → statements_from number source ≡ Ok more → AreSome lines → read_from (in_source statements) number (source ++ lines) ≡ read_from (in_source (statements ++ more)) (number + length source) lines
+  not_part : (line : List ℕ) → (IsOnly (codes ".part") line → ⊥) → is_part (tokens line) ≡ false
+  not_part line other = by_part (is_part (tokens line)) refl
+    where
+      by_part : (part : Bool) → is_part (tokens line) ≡ part → part ≡ false
+      by_part true part = absurd (other (part_is (tokens line) part))
+      by_part false part = refl
+
+  reads_source : (number : ℕ) (source lines : List (List ℕ)) (statements more : List Statement) → HaveNoMark source → statements_from number source ≡ Ok more → AreSome lines → read_from (in_source statements) number (source ++ lines) ≡ read_from (in_source (statements ++ more)) (number + length source) lines
   unfolding statements_from
   reads_source number [] lines statements more are parsed some =
       let none : [] ≡ more = cc parsed in
       ap (λ these. read_from (in_source these) number lines) (sym (append-nil statements) ∙ ap (λ these. statements ++ these) none) ∙ ap (λ n. read_from (in_source (statements ++ more)) n lines) (omega arith)
   reads_source number (line ∷ source) lines statements more are parsed some =
       let gives = gives_line number line source statements more (line_of number line) (statements_from (number + 1) source) refl refl parsed in
-      reads_line (in_source statements) (in_source (statements ++ gives.here)) number line (source ++ lines) (some_behind source lines some) (rw (not_end line are.0) gives.goes)
+      reads_line (in_source statements) (in_source (statements ++ gives.here)) number line (source ++ lines) (some_behind source lines some) (rw (not_end line are.0.0, not_part line are.0.1) gives.goes)
       ∙ reads_source (number + 1) source lines (statements ++ gives.here) gives.others are.1 gives.parsed some
       ∙ ap (λ these. read_from (in_source these) (number + 1 + length source) lines) (append_assoc statements gives.here gives.others ∙ ap (λ these. statements ++ these) (sym gives.all))
       ∙ ap (λ n. read_from (in_source (statements ++ more)) n lines) (omega arith)
+
+-- several sources
+module _ (frames : ℕ) (names : List (List ℕ)) (programs : List Parts) where
+  -- what is read at the end of source lines: the sources that have ended, and the one at hand
+  record Parted (number : ℕ) (source lines : List (List ℕ)) (sources : List (List Statement)) (statements more : List Statement) (others : List (List Statement)) : Type 0 where
+    closed : List (List Statement)
+    current : List Statement
+    all : closed ++ current ∷ [] ≡ sources ++ (statements ++ more) ∷ others
+    read : read_from (at_source frames names programs sources statements) number (source ++ lines) ≡ read_from (at_source frames names programs closed current) (number + length source) lines
+
+  mark_read : (number : ℕ) (sources : List (List Statement)) (statements : List Statement) (mark : List ℕ) → IsOnly (codes ".part") mark → length sources + 2 ≤ 16
+      → line_read Source (at_source frames names programs sources statements) number mark ≡ Ok (at_source frames names programs (sources ++ statements ∷ []) [])
+  mark_read number sources statements mark only few = rw (only, lt-ltb (length sources) 15 (omega (arith, few))) refl
+
+  reads_sources : (number : ℕ) (source lines : List (List ℕ)) (sources : List (List Statement)) (statements more : List Statement) (others : List (List Statement)) → HasSources number source (more ∷ others) → length sources + 1 + length others ≤ 16 → AreSome lines
+      → Parted number source lines sources statements more others
+  reads_sources number source lines sources statements more [] has few some = record {
+    closed = sources;
+    current = statements ++ more;
+    all = refl;
+    read = reads_source frames names programs sources number source lines statements more has.0 has.1 some;
+  }
+  reads_sources number source lines sources statements more (next ∷ others) has few some =
+      let behind = reads_sources (number + length has.0 + 1) has.2 lines (sources ++ (statements ++ more) ∷ []) [] next others has.7 (omega (arith, few, length-append sources ((statements ++ more) ∷ []))) some in
+      record {
+        closed = behind.closed;
+        current = behind.current;
+        all = behind.all ∙ append_assoc sources ((statements ++ more) ∷ []) (next ∷ others);
+        read = ap (λ these. read_from (at_source frames names programs sources statements) number these) (ap (λ these. these ++ lines) has.3 ∙ append_assoc has.0 (has.1 ∷ has.2) lines)
+            ∙ reads_source frames names programs sources number has.0 (has.1 ∷ (has.2 ++ lines)) statements more has.4 has.5 (has.1, has.2 ++ lines, refl)
+            ∙ reads_line (at_source frames names programs sources (statements ++ more)) (at_source frames names programs (sources ++ (statements ++ more) ∷ []) []) (number + length has.0) has.1 (has.2 ++ lines) (some_behind has.2 lines some)
+            (mark_read (number + length has.0) sources (statements ++ more) has.1 has.6 (omega (arith, few)))
+            ∙ behind.read
+            ∙ ap (λ n. read_from (at_source frames names programs behind.closed behind.current) n lines) (omega (arith, ap length has.3, length-append has.0 (has.1 ∷ has.2)));
+      }
+
+  parted_read : (number : ℕ) (source lines : List (List ℕ)) (sources : List (List Statement)) → HasSources number source sources → length sources ≤ 16 → AreSome lines
+      → (closed : List (List Statement)) × (current : List Statement) × (closed ++ current ∷ [] ≡ sources) × (read_from (at_source frames names programs [] []) number (source ++ lines) ≡ read_from (at_source frames names programs closed current) (number + length source) lines)
+  parted_read number source lines [] has few some = absurd has
+  parted_read number source lines (more ∷ others) has few some =
+      let parted = reads_sources number source lines [] [] more others has (omega (arith, few)) some in
+      (parted.closed, parted.current, parted.all, parted.read)
 
 -- programs
 module _ (frames : ℕ) where
   -- the first line of a program
   head_read : (before : List (List ℕ)) (done : List Parts) (name : List ℕ) → is_label name ≡ true → place_among before name ≡ None → length before + 1 ≤ 64
-      → programs_line (at_programs frames before done) (Word (codes "program") ∷ Word name ∷ []) ≡ Ok (at_source frames (before ++ name ∷ []) done [])
+      → programs_line (at_programs frames before done) (Word (codes "program") ∷ Word name ∷ []) ≡ Ok (at_source frames (before ++ name ∷ []) done [] [])
   head_read before done name label apart few = rw (label, apart, lt-ltb (length before) 64 (omega (arith, few))) refl
 
   -- its `end`
-  end_read : (number : ℕ) (names : List (List ℕ)) (done : List Parts) (statements : List Statement) (parts : Parts) (last : List ℕ) → assembled statements ≡ Ok parts → IsOnly (codes "end") last → source_line (at_source frames names done statements) number last ≡ Ok (at_programs frames names (done ++ parts ∷ []))
-  end_read number names done statements parts last makes ends = rw (ends, makes) refl
+  end_read : (number : ℕ) (names : List (List ℕ)) (done : List Parts) (sources : List (List Statement)) (statements : List Statement) (parts : Parts) (last : List ℕ) → linked (sources ++ statements ∷ []) ≡ Ok parts → IsOnly (codes "end") last → source_line (at_source frames names done sources statements) number last ≡ Ok (at_programs frames names (done ++ parts ∷ []))
+  end_read number names done sources statements parts last makes ends = rw (ends, makes) refl
 
   reads_program : (number : ℕ) (before : List (List ℕ)) (done : List Parts) (name : List ℕ) (parts : Parts) (first lines : List (List ℕ)) → IsProgram number name parts first → place_among before name ≡ None → length before + 1 ≤ 64 → AreSome lines
       → read_from (at_programs frames before done) number (first ++ lines) ≡ read_from (at_programs frames (before ++ name ∷ []) (done ++ parts ∷ [])) (number + length first) lines
   reads_program number before done name parts first lines is apart few some =
       let names = before ++ name ∷ [] in
       let behind = is.last ∷ lines in
+      let read = parted_read frames names done (number + length is.blank + 1) is.source behind is.sources is.parted is.few_sources (is.last, lines, refl) in
+      let makes : linked (read.0 ++ read.1 ∷ []) ≡ Ok parts = ap linked read.2 ∙ is.makes in
       ap (λ these. read_from (at_programs frames before done) number these) split
       ∙ reads_blank (at_programs frames before done) number is.blank (is.head ∷ (is.source ++ behind)) is.blanks (is.head, is.source ++ behind, refl) tt
-      ∙ reads_tokens (at_programs frames before done) (at_source frames names done []) (number + length is.blank) is.head (is.source ++ behind) (Word (codes "program") ∷ Word name ∷ []) (some_behind is.source behind (is.last, lines, refl)) tt is.says (head_read before done name is.label apart few)
-      ∙ reads_source frames names done (number + length is.blank + 1) is.source behind [] is.statements is.no_end is.parsed (is.last, lines, refl)
-      ∙ reads_line (at_source frames names done is.statements) (at_programs frames names (done ++ parts ∷ [])) (number + length is.blank + 1 + length is.source) is.last lines some (end_read (number + length is.blank + 1 + length is.source) names done is.statements parts is.last is.makes is.ends)
+      ∙ reads_tokens (at_programs frames before done) (at_source frames names done [] []) (number + length is.blank) is.head (is.source ++ behind) (Word (codes "program") ∷ Word name ∷ []) (some_behind is.source behind (is.last, lines, refl)) tt is.says (head_read before done name is.label apart few)
+      ∙ read.3
+      ∙ reads_line (at_source frames names done read.0 read.1) (at_programs frames names (done ++ parts ∷ [])) (number + length is.blank + 1 + length is.source) is.last lines some (end_read (number + length is.blank + 1 + length is.source) names done read.0 read.1 parts is.last makes is.ends)
       ∙ ap (λ n. read_from (at_programs frames names (done ++ parts ∷ [])) n lines) long
     where
       split : first ++ lines ≡ is.blank ++ (is.head ∷ (is.source ++ (is.last ∷ lines)))

@@ -11,6 +11,7 @@ use Rattle.asm_parse.specs.declared.token.Token.TheVariants.{Word, Number, Comma
 use Rattle.asm_parse.proofs.FrontLemmas.{IsToken, IsWord}
 use Rattle.romp_asm.specs.Layout.{Parts}
 use Rattle.romp_asm.proofs.WindowLemmas.{assembled_windows}
+use Rattle.romp_link.proofs.ExportLemmas.{linked_made}
 use Rattle.job_text.specs.Grammar.{Content}
 use Rattle.job_text.specs.Form.{HasPrograms, IsNoBegin, IsEventLine, HasEvents, IsJobText}
 use Rattle.job_text.specs.Reading.{rounds_of, turns_to}
@@ -121,7 +122,7 @@ programs_short others number (name ∷ names) [] lines has sound are = absurd ha
 programs_short others number (name ∷ names) (parts ∷ programs) lines has sound are =
     let first = program_lines (name, parts) in
     let rest = flat_map program_lines (zip names programs) in
-    let here = program_short name parts (all_first AreLine first rest are) sound.0.few (assembled_windows has.3.statements parts has.3.makes).1 in
+    let here = program_short name parts (all_first AreLine first rest are) sound.0.few (assembled_windows _ parts (linked_made has.3.sources parts has.3.makes)).1 in
     omega (arith, both_bytes first rest, here, programs_short (others ++ name ∷ []) (number + length has.0) names programs has.1 has.5 sound.1 (all_second AreLine first rest are))
 
 -- an event that is a begin has four values

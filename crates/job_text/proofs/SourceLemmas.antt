@@ -15,8 +15,10 @@ use Rattle.asm_parse.proofs.FrontLemmas.{IsToken, IsWord}
 use Rattle.asm_parse.proofs.DirectiveLemmas.{byte_stated, entry_stated, window_stated, word_stated}
 use Rattle.romp_asm.specs.Layout.{Parts}
 use Rattle.romp_asm.proofs.MadeLemmas.{IsByte, IsLegalPlace, byte_body, image_bodies, made, plain_at, source_bodies, source_made, window_bodies, word_small}
-use Rattle.job_text.specs.Form.{HaveNoEnd, IsProgram}
-use Rattle.job_text.specs.Reading.{is_end}
+use Rattle.romp_link.specs.Linked.{exported}
+use Rattle.romp_link.proofs.ExportLemmas.{linked_alone}
+use Rattle.job_text.specs.Form.{HaveNoMark, IsProgram}
+use Rattle.job_text.specs.Reading.{is_end, is_part}
 use Rattle.job_text.specs.Written.{access_text, end_line, image_lines, number_line, program_lines, tokens_text, window_line, window_lines}
 use Rattle.job_text.proofs.WrittenLemmas.{written_tokens}
 
@@ -29,16 +31,18 @@ all_both P (x ∷ xs) ys first second = (first.0, all_both P xs ys first.1 secon
 record IsSourceLine (line : List Token) (body : Body) : Type 0 where
   tokens : AllByRecursion IsToken line
   on : is_end (Ok line) ≡ false
+  same : is_part (Ok line) ≡ false
+  plain : exported body ≡ None
   says : (number : ℕ) → statement_of number line ≡ Ok (Some (plain_at number body))
 
 entry_source : (entry : ℕ) → entry ≤ 16382 → IsSourceLine (number_line (codes ".entry") entry) (Entry (Number (pos entry)))
-entry_source entry small = record { tokens = ((refl, refl, omega arith), (omega arith, tt)); on = refl; says = λ number. entry_stated number entry }
+entry_source entry small = record { tokens = ((refl, refl, omega arith), (omega arith, tt)); on = refl; same = refl; plain = refl; says = λ number. entry_stated number entry }
 
 word_source : (word : ℕ) → word < 2 ^ 32 → IsSourceLine (number_line (codes ".word") word) (Data 4 (Number (pos word)))
-word_source word small = record { tokens = ((refl, refl, omega arith), (small, tt)); on = refl; says = λ number. word_stated number word }
+word_source word small = record { tokens = ((refl, refl, omega arith), (small, tt)); on = refl; same = refl; plain = refl; says = λ number. word_stated number word }
 
 byte_source : (byte : ℕ) → byte < 256 → IsSourceLine (number_line (codes ".byte") byte) (byte_body byte)
-byte_source byte small = record { tokens = ((refl, refl, omega arith), (omega arith, tt)); on = refl; says = λ number. byte_stated number byte }
+byte_source byte small = record { tokens = ((refl, refl, omega arith), (omega arith, tt)); on = refl; same = refl; plain = refl; says = λ number. byte_stated number byte }
 
 access_word : (write : Bool) → IsWord (access_text write)
 access_word true = (refl, refl, omega arith)
@@ -48,6 +52,8 @@ window_source : (register : ℕ) (window : Sight) → register < 2 ^ 32 → wind
 window_source register window small legal = record {
   tokens = ((refl, refl, omega arith), (small, (tt, (omega arith, (tt, (access_word window.write, tt))))));
   on = refl;
+  same = refl;
+  plain = refl;
   says = λ number. window_stated number register window.segment window.write;
 }
 
@@ -76,12 +82,22 @@ lines_tokens (line ∷ lines) (body ∷ bodies) are = (are.0.tokens, lines_token
 lines_tokens [] (body ∷ bodies) are = absurd are
 lines_tokens (line ∷ lines) [] are = absurd are
 
--- none of them is `end` alone
-lines_go_on : (lines : List (List Token)) (bodies : List Body) → AllZip IsSourceLine lines bodies → HaveNoEnd (map tokens_text lines)
+-- none of them is `end` or `.part` alone
+lines_go_on : (lines : List (List Token)) (bodies : List Body) → AllZip IsSourceLine lines bodies → HaveNoMark (map tokens_text lines)
 lines_go_on [] [] are = tt
-lines_go_on (line ∷ lines) (body ∷ bodies) are = ((λ only. cc (are.0.on, ap is_end (sym (written_tokens line are.0.tokens) ∙ only))), lines_go_on lines bodies are.1)
+lines_go_on (line ∷ lines) (body ∷ bodies) are = (
+  (λ only. cc (are.0.on, ap is_end (sym (written_tokens line are.0.tokens) ∙ only)), λ only. cc (are.0.same, ap is_part (sym (written_tokens line are.0.tokens) ∙ only))),
+  lines_go_on lines bodies are.1,
+)
 lines_go_on [] (body ∷ bodies) are = absurd are
 lines_go_on (line ∷ lines) [] are = absurd are
+
+-- they export nothing
+lines_plain : (number : ℕ) (lines : List (List Token)) (bodies : List Body) → AllZip IsSourceLine lines bodies → AllByRecursion (λ statement. exported statement.body ≡ None) (made number bodies)
+lines_plain number [] [] are = tt
+lines_plain number (line ∷ lines) (body ∷ bodies) are = (are.0.plain, lines_plain (number + 1) lines bodies are.1)
+lines_plain number [] (body ∷ bodies) are = absurd are
+lines_plain number (line ∷ lines) [] are = absurd are
 
 -- they are their statements
 lines_state : (number : ℕ) (lines : List (List Token)) (bodies : List Body) → AllZip IsSourceLine lines bodies → statements_from number (map tokens_text lines) ≡ Ok (made number bodies)
@@ -128,9 +144,12 @@ module _ (number : ℕ) (name : List ℕ) (parts : Parts) (is_word : IsWord name
     blanks = tt;
     says = written_tokens head head_tokens;
     label = label;
-    no_end = lines_go_on source (source_bodies parts) sources;
-    statements = made (number + 1) (source_bodies parts);
-    parsed = subst (λ n. statements_from n (map tokens_text source) ≡ Ok (made (number + 1) (source_bodies parts))) (omega arith) (lines_state (number + 1) source (source_bodies parts) sources);
-    makes = source_made (number + 1) parts sound.bytes sound.few sound.entry sound.even legal long;
+    sources = made (number + 1) (source_bodies parts) ∷ [];
+    parted = (
+      lines_go_on source (source_bodies parts) sources,
+      subst (λ n. statements_from n (map tokens_text source) ≡ Ok (made (number + 1) (source_bodies parts))) (omega arith) (lines_state (number + 1) source (source_bodies parts) sources),
+    );
+    few_sources = omega arith;
+    makes = linked_alone (made (number + 1) (source_bodies parts)) (lines_plain (number + 1) source (source_bodies parts) sources) ∙ source_made (number + 1) parts sound.bytes sound.few sound.entry sound.even legal long;
     ends = written_tokens end_line end_tokens;
   }

@@ -16,6 +16,7 @@ use Rattle.asm_parse.proofs.FoundLemmas.{found_tokens}
 use Rattle.asm_parse.proofs.FrontLemmas.{IsToken, IsWord}
 use Rattle.romp_asm.specs.Layout.{Parts}
 use Rattle.romp_asm.proofs.WindowLemmas.{assembled_windows}
+use Rattle.romp_link.proofs.ExportLemmas.{linked_made}
 use Rattle.job_text.specs.Grammar.{Content}
 use Rattle.job_text.specs.Form.{HasPrograms, IsBegin, IsLimit, IsNoBegin, IsEventLine, HasEvents, IsJobText}
 use Rattle.job_text.specs.Reading.{four_of, rounds_of, turns_to}
@@ -47,7 +48,7 @@ programs_form others number there (name ∷ names) [] lines has sound = absurd h
 programs_form others number there (name ∷ names) (parts ∷ programs) lines has sound =
     let is = has.3 in
     let is_word : IsWord name = (found_tokens is.head (Word (codes "program") ∷ Word name ∷ []) is.says).1.0 in
-    let legal = assembled_windows is.statements parts is.makes in
+    let legal = assembled_windows _ parts (linked_made is.sources parts is.makes) in
     let first = program_lines (name, parts) in
     let rest = flat_map program_lines (zip names programs) in
     let more = programs_form (others ++ name ∷ []) (number + length (map tokens_text first)) (there + length has.0) names programs has.1 has.5 sound.1 in (

@@ -1,10 +1,10 @@
--- A fault of a program's source as one of its job.
-use Rattle.asm_parse.specs.declared.fault.AsmFault.{AsmFault}
-use Rattle.asm_parse.specs.declared.fault.AsmFault.TheVariants as asm
+-- A fault of a program's sources as one of its job.
+use Rattle.romp_link.specs.declared.fault.LinkFault.{LinkFault}
+use Rattle.romp_link.specs.declared.fault.LinkFault.TheVariants as link
 use Rattle.job_text.specs.declared.job.JobFault.{JobFault}
 use Rattle.job_text.specs.declared.job.JobFault.TheVariants.{Fault, Memory}
 
 -- the same line and kind
-abbrev pub job_fault : AsmFault → JobFault
-job_fault (asm.Fault line kind) = Fault line kind
-job_fault asm.Memory = Memory
+abbrev pub job_fault : LinkFault → JobFault
+job_fault (link.Fault line kind) = Fault line kind
+job_fault link.Memory = Memory

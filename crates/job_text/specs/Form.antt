@@ -10,7 +10,8 @@ use Rattle.asm_parse.specs.Operand.{place_among}
 use Rattle.asm_parse.specs.Statement.{is_label}
 use Rattle.asm_parse.specs.Text.{lines_of, statements_from}
 use Rattle.asm_parse.specs.Token.{tokens}
-use Rattle.romp_asm.specs.Layout.{Parts, assembled}
+use Rattle.romp_asm.specs.Layout.{Parts}
+use Rattle.romp_link.specs.Linked.{linked}
 use Rattle.job_text.specs.Grammar.{Content, job_of}
 use Rattle.job_text.specs.Reading.{four_of, rounds_of}
 
@@ -26,16 +27,24 @@ AreBlank lines = AllByRecursion IsBlank lines
 abbrev pub IsOnly : List ℕ → List ℕ → Type 0
 IsOnly word line = tokens line ≡ Ok (Word word ∷ [])
 
--- no line is `end` alone
-abbrev pub HaveNoEnd : List (List ℕ) → Type 0
-HaveNoEnd lines = AllByRecursion (λ line. IsOnly (codes "end") line → ⊥) lines
+-- no line is `end` or `.part` alone
+abbrev pub HaveNoMark : List (List ℕ) → Type 0
+HaveNoMark lines = AllByRecursion (λ line. (IsOnly (codes "end") line → ⊥) × (IsOnly (codes ".part") line → ⊥)) lines
+
+-- source lines and the statements of their sources, with a `.part` alone between two; the first line has this number
+abbrev pub HasSources : (number : ℕ) → (lines : List (List ℕ)) → List (List Statement) → Type 0
+HasSources number lines [] = ⊥
+HasSources number lines (statements ∷ []) = HaveNoMark lines × (statements_from number lines ≡ Ok statements)
+HasSources number lines (statements ∷ next ∷ others) =
+    (first : List (List ℕ)) × (mark : List ℕ) × (rest : List (List ℕ)) × (lines ≡ first ++ mark ∷ rest) × HaveNoMark first × (statements_from number first ≡ Ok statements)
+    × IsOnly (codes ".part") mark × HasSources (number + length first + 1) rest (next ∷ others)
 
 -- `frames C`, C from 2 to 1,024
 pub record IsFramesLine (frames : ℕ) (line : List ℕ) : Type 0 where
   pub says : tokens line ≡ Ok (Word (codes "frames") ∷ Number frames ∷ [])
   pub range : (2 ≤ frames) × (frames ≤ 1024)
 
--- blank lines, `program NAME`, source lines whose program these parts are, and `end`; the first line has this number
+-- blank lines, `program NAME`, lines of one to 16 sources whose program these parts are, and `end`; the first line has this number
 pub record IsProgram (number : ℕ) (name : List ℕ) (parts : Parts) (lines : List (List ℕ)) : Type 0 where
   pub blank : List (List ℕ)
   pub head : List ℕ
@@ -45,10 +54,10 @@ pub record IsProgram (number : ℕ) (name : List ℕ) (parts : Parts) (lines : L
   pub blanks : AreBlank blank
   pub says : tokens head ≡ Ok (Word (codes "program") ∷ Word name ∷ [])
   pub label : is_label name ≡ true
-  pub no_end : HaveNoEnd source
-  pub statements : List Statement
-  pub parsed : statements_from (number + length blank + 1) source ≡ Ok statements
-  pub makes : assembled statements ≡ Ok parts
+  pub sources : List (List Statement)
+  pub parted : HasSources (number + length blank + 1) source sources
+  pub few_sources : length sources ≤ 16
+  pub makes : linked sources ≡ Ok parts
   pub ends : IsOnly (codes "end") last
 
 -- programs with their names, one after another and behind others, whose names are no names of theirs; then blank lines

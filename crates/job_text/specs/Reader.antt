@@ -1,18 +1,19 @@
 -- What a reader of jobs has read.
-use Rattle.std.specs.Prelude.{◌≡◌, ℕ, if◌then◌else◌, List, map, Result, Ok, Err}
+use Rattle.std.specs.Prelude.{◌≡◌, ℕ, ◌+◌, if◌then◌else◌, List, length, sum_by, map, Result, Ok, Err}
 use Rattle.arrayvec.specs.ArrayVec.{ArrayVec}
 use Rattle.asm_parse.specs.declared.fault.LineFault.{LineFault}
 use Rattle.asm_parse.specs.declared.token.Token.{Token}
 use Rattle.asm_parse.specs.Answers.{IsFaultOf}
 use Rattle.asm_parse.specs.Statement.{statement_by}
 use Rattle.asm_parse.specs.Text.{at_line}
-use Rattle.romp_asm.specs.Layout.{assembled, parts_of}
+use Rattle.romp_asm.specs.Layout.{parts_of}
+use Rattle.romp_link.specs.Linked.{linked}
 use Rattle.job_text.specs.declared.job.JobFault.{JobFault}
 use Rattle.job_text.specs.declared.reader.Reader.{Reader}
 use Rattle.job_text.specs.declared.stage.Stage.{Stage}
 use Rattle.job_text.specs.declared.stage.Stage.TheVariants.{Frames, Programs, Source, Schedule, Ended}
 use Rattle.job_text.specs.JobAnswers.{IsJobFaultOf}
-use Rattle.job_text.specs.Reading.{Reading, by_tokens, ended_line, frames_line, is_end, program_ends, programs_line, schedule_line, source_goes_on}
+use Rattle.job_text.specs.Reading.{Reading, by_tokens, ended_line, frames_line, is_end, is_part, program_ends, programs_line, schedule_line, source_ends, source_goes_on, sources_of}
 
 -- what a reader has read
 abbrev pub reading_of : Reader → Reading
@@ -21,10 +22,15 @@ reading_of reader = record {
   frames = reader.frames;
   names = map (λ (name : ArrayVec ℕ). name.items) reader.names.items;
   programs = map parts_of reader.programs.items;
+  sources = reader.sources.items;
   statements = reader.statements;
   events = reader.events.items;
   begins = reader.begins;
 }
+
+-- how many statements a reader holds
+abbrev pub held : Reader → ℕ
+held reader = sum_by (λ source. length source) reader.sources.items + length reader.statements
 
 -- what tokens give where no source line is due
 abbrev pub tokens_read : Stage → Reading → List Token → Result Reading ℕ
@@ -37,7 +43,8 @@ tokens_read Ended reading tokens = ended_line reading tokens
 -- what the tokens of a line between `program` and its `end` give, or the kind of the first that is bad
 abbrev pub source_found : Reading → ℕ → Result (List Token) ℕ → Result Reading (ℕ × ℕ)
 source_found reading number found =
-    if is_end found then program_ends reading (assembled reading.statements)
+    if is_end found then program_ends reading (linked (sources_of reading))
+    else if is_part found then at_line number (source_ends reading)
     else source_goes_on reading (at_line number (statement_by number found))
 
 -- what the tokens of a line give, by which lines are due

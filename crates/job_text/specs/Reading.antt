@@ -10,23 +10,25 @@ use Rattle.asm_parse.specs.Operand.{place_among}
 use Rattle.asm_parse.specs.Statement.{is_label, line_of}
 use Rattle.asm_parse.specs.Text.{at_line}
 use Rattle.asm_parse.specs.Token.{tokens}
-use Rattle.romp_asm.specs.Layout.{Parts, assembled}
+use Rattle.romp_asm.specs.Layout.{Parts}
+use Rattle.romp_link.specs.Linked.{linked}
 use Rattle.job_text.specs.declared.stage.Stage.{Stage}
 use Rattle.job_text.specs.declared.stage.Stage.TheVariants.{Frames, Programs, Source, Schedule, Ended}
 
--- what has been read: which lines are due, the frames, the names and programs so far, the statements of the program that is being read, the events so far and how many of them are begins
+-- what has been read: which lines are due, the frames, the names and programs so far, of the program that is being read the statements of each source that has ended and those of the one at hand, the events so far and how many of them are begins
 pub record Reading : Type 0 where
   pub stage : Stage
   pub frames : ℕ
   pub names : List (List ℕ)
   pub programs : List Parts
+  pub sources : List (List Statement)
   pub statements : List Statement
   pub events : List Event
   pub begins : ℕ
 
 -- nothing has been read
 abbrev pub nothing_read : Reading
-nothing_read = record { stage = Frames; frames = 0; names = []; programs = []; statements = []; events = []; begins = 0 }
+nothing_read = record { stage = Frames; frames = 0; names = []; programs = []; sources = []; statements = []; events = []; begins = 0 }
 
 -- `frames C`, C in 2..=1,024
 abbrev pub frames_line : Reading → List Token → Result Reading ℕ
@@ -42,7 +44,7 @@ abbrev pub program_begins : Reading → List ℕ → Result Reading ℕ
 program_begins reading name =
     if is_some (place_among reading.names name) then Err 13
     else if nat_lt (length reading.names) 64
-    then Ok (record reading { stage = Source; names = reading.names ++ name ∷ []; statements = [] })
+    then Ok (record reading { stage = Source; names = reading.names ++ name ∷ []; sources = []; statements = [] })
     else Err 11
 
 -- `program NAME` or `schedule`
@@ -58,9 +60,23 @@ abbrev pub is_end : Result (List Token) ℕ → Bool
 is_end (Ok (Word word ∷ [])) = bytes_eq word (codes "end")
 is_end _ = false
 
+-- whether a line is `.part` alone
+abbrev pub is_part : Result (List Token) ℕ → Bool
+is_part (Ok (Word word ∷ [])) = bytes_eq word (codes ".part")
+is_part _ = false
+
+-- a source ends and the next begins; a `.part` with which 16 sources are passed is kind 11
+abbrev pub source_ends : Reading → Result Reading ℕ
+source_ends reading =
+    if nat_lt (length reading.sources) 15 then Ok (record reading { sources = reading.sources ++ reading.statements ∷ []; statements = [] }) else Err 11
+
+-- the sources of the program that is being read
+abbrev pub sources_of : Reading → List (List Statement)
+sources_of reading = reading.sources ++ reading.statements ∷ []
+
 -- a program at its `end`
 abbrev pub program_ends : Reading → Result Parts (ℕ × ℕ) → Result Reading (ℕ × ℕ)
-program_ends reading (Ok parts) = Ok (record reading { stage = Programs; programs = reading.programs ++ parts ∷ []; statements = [] })
+program_ends reading (Ok parts) = Ok (record reading { stage = Programs; programs = reading.programs ++ parts ∷ []; sources = []; statements = [] })
 program_ends reading (Err fault) = Err fault
 
 -- a source line of a program
@@ -72,7 +88,8 @@ source_goes_on reading (Err fault) = Err fault
 -- a line between `program` and its `end`
 abbrev pub source_line : Reading → ℕ → List ℕ → Result Reading (ℕ × ℕ)
 source_line reading number line =
-    if is_end (tokens line) then program_ends reading (assembled reading.statements)
+    if is_end (tokens line) then program_ends reading (linked (sources_of reading))
+    else if is_part (tokens line) then at_line number (source_ends reading)
     else source_goes_on reading (at_line number (line_of number line))
 
 -- one event more; with more than 10,000 it is kind 11

@@ -65,6 +65,7 @@ fn finish(reader: Reader, number: u32, left: &[u8]) -> Result<Job, JobFault>
         frames,
         names,
         programs,
+        sources: _,
         statements: _,
         events,
         begins: _,

@@ -3,9 +3,9 @@ ghost use Rattle.job_text.specs.declared.job.JobFault.TheVariants.{Memory};
 ghost use Rattle.job_text.specs.Faults.{job_fault};
 
 use arrayvec::ArrayVec;
-use asm_parse::AsmFault;
 use desk::Event;
 use flat_machine::Program;
+use romp_link::LinkFault;
 use std::alloc::{AllocError, AllocFailed};
 
 /// The name of a program: 1 to 31 bytes.
@@ -46,13 +46,13 @@ impl<T: Drop> From<AllocFailed<T>> for JobFault {
     }
 }
 
-impl From<AsmFault> for JobFault {
+impl From<LinkFault> for JobFault {
     ghost from_gives = { λ fault told. told ≡ job_fault fault };
 
-    fn from(fault: AsmFault) -> Self {
+    fn from(fault: LinkFault) -> Self {
         match fault {
-            AsmFault::Fault { line, kind } => JobFault::Fault { line, kind },
-            AsmFault::Memory => JobFault::Memory,
+            LinkFault::Fault { line, kind } => JobFault::Fault { line, kind },
+            LinkFault::Memory => JobFault::Memory,
         }
     }
 }

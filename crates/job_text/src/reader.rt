@@ -2,15 +2,16 @@ ghost use Rattle.std.specs.Prelude.{◌≡◌, ℕ, ◌+◌, ◌*◌, ◌≤◌,
 ghost use Rattle.std.specs.Option.{option_map};
 ghost use Rattle.std.specs.Str.{bytes_eq};
 ghost use Rattle.asm_parse.specs.Operand.{place_among};
-ghost use Rattle.job_text.specs.Reading.{bad_token, four_of, is_end, is_limit, rounds_of, turns_to, values_of};
+ghost use Rattle.job_text.specs.Reading.{bad_token, four_of, is_end, is_limit, is_part, rounds_of, turns_to, values_of};
 
 use super::job::{JobFault, Name};
 use super::stage::Stage;
 use asm_parse::{LineFault, Statements, Token, Word, statement_of, tokens_into};
 use desk::Event;
 use flat_machine::Program;
-use romp_asm::assemble_kept;
+use romp_link::link;
 use std::alloc::{AllocError, Global};
+use std::mem;
 
 /// A line of another form than those that are due.
 pub(crate) const FORM: u8 = 10;
@@ -23,6 +24,8 @@ const DUPLICATE_PROGRAM: u8 = 13;
 /// No begin before makes the activation.
 const UNKNOWN_ACTIVATION: u8 = 14;
 
+/// The most sources of a program.
+const MOST_SOURCES: usize = 16;
 /// The most programs of a job.
 const MOST_PROGRAMS: usize = 64;
 /// The most events of a job.
@@ -35,7 +38,9 @@ pub(crate) struct Reader {
     pub frames: u16,
     pub names: Vec<Name>,
     pub programs: Vec<Program>,
-    /// The statements of the program that is being read.
+    /// The sources that have ended of the program that is being read.
+    pub sources: Vec<Statements>,
+    /// The statements of its source at hand.
     pub statements: Statements,
     pub events: Vec<Event>,
     /// How many of the events are begins.
@@ -46,8 +51,9 @@ pub(crate) struct Reader {
 }
 
 impl Reader {
-    ghost use Rattle.job_text.specs.Reading.{begin_line, begin_of, drain_line, ended_line, frames_line, line_read, nothing_read, program_begins, programs_line, schedule_line, single_line, turn_line, with_event};
-    ghost use Rattle.job_text.specs.Reader.{IsRead, IsStep, found_read, reading_of, source_found, tokens_read};
+    ghost use Rattle.romp_link.specs.Linked.{linked};
+    ghost use Rattle.job_text.specs.Reading.{begin_line, begin_of, drain_line, ended_line, frames_line, line_read, nothing_read, program_begins, program_ends, programs_line, schedule_line, single_line, source_ends, sources_of, turn_line, with_event};
+    ghost use Rattle.job_text.specs.Reader.{IsRead, IsStep, found_read, held, reading_of, source_found, tokens_read};
 
     /// Nothing yet.
     pub fn new(alloc: Global) -> Self
@@ -58,6 +64,7 @@ impl Reader {
             frames: 0,
             names: Vec::new(alloc),
             programs: Vec::new(alloc),
+            sources: Vec::new(alloc),
             statements: Statements::new(alloc),
             events: Vec::new(alloc),
             begins: 0,
@@ -72,9 +79,9 @@ impl Reader {
         number: u32,
         line: &[u8],
     ) -> Result<(), JobFault>
-        requires { length self.old.statements ≤ 2 ^ 30 }
+        requires { held self.old ≤ 2 ^ 30 }
         ensures read { IsRead result self.new (line_read self.old.stage (reading_of self.old) number line.now) }
-        ensures few { length self.new.statements ≤ length self.old.statements + 1 }
+        ensures few { held self.new ≤ held self.old + 1 }
     {
         match tokens_into(room, line) {
             Ok(()) => self.found(alloc, number, room.as_slice()),
@@ -88,9 +95,9 @@ impl Reader {
 
     /// Reads the tokens of one line more.
     fn found(&mut self, alloc: Global, number: u32, found: &[Token]) -> Result<(), JobFault>
-        requires { length self.old.statements ≤ 2 ^ 30 }
+        requires { held self.old ≤ 2 ^ 30 }
         ensures read { IsRead result self.new (found_read self.old.stage (reading_of self.old) number (Ok found.now)) }
-        ensures few { length self.new.statements ≤ length self.old.statements + 1 }
+        ensures few { held self.new ≤ held self.old + 1 }
     {
         if self.stage == Stage::Source {
             return self.source_line(alloc, number, found);
@@ -105,7 +112,7 @@ impl Reader {
     /// Reads the tokens of a line that is no source line.
     fn tokens(&mut self, tokens: &[Token]) -> Result<(), LineFault>
         ensures read { IsStep result self.new (tokens_read self.old.stage (reading_of self.old) tokens.now) }
-        ensures few { length self.new.statements ≤ length self.old.statements }
+        ensures few { held self.new ≤ held self.old }
     {
         match self.stage {
             Stage::Frames => self.frames_line(tokens),
@@ -119,7 +126,7 @@ impl Reader {
     /// `frames C`.
     fn frames_line(&mut self, tokens: &[Token]) -> Result<(), LineFault>
         ensures read { IsStep result self.new (frames_line (reading_of self.old) tokens.now) }
-        ensures few { length self.new.statements ≤ length self.old.statements }
+        ensures few { held self.new ≤ held self.old }
     {
         match tokens {
             [] => Ok(()),
@@ -138,7 +145,7 @@ impl Reader {
     /// `program NAME` or `schedule`.
     fn programs_line(&mut self, tokens: &[Token]) -> Result<(), LineFault>
         ensures read { IsStep result self.new (programs_line (reading_of self.old) tokens.now) }
-        ensures few { length self.new.statements ≤ length self.old.statements }
+        ensures few { held self.new ≤ held self.old }
     {
         match tokens {
             [] => Ok(()),
@@ -155,7 +162,7 @@ impl Reader {
     /// A program of this name begins.
     fn program_begins(&mut self, name: &Word) -> Result<(), LineFault>
         ensures read { IsStep result self.new (program_begins (reading_of self.old) name.now) }
-        ensures few { length self.new.statements ≤ length self.old.statements }
+        ensures few { held self.new ≤ held self.old }
     {
         if place_of(self.names.as_slice(), name.as_bytes()).is_some() {
             return Err(LineFault::Kind(DUPLICATE_PROGRAM));
@@ -164,6 +171,7 @@ impl Reader {
             return Err(LineFault::Kind(LIMIT));
         }
         self.names.push(name_of(name))?;
+        self.sources.clear();
         self.statements.clear();
         self.stage = Stage::Source;
         Ok(())
@@ -171,16 +179,19 @@ impl Reader {
 
     /// A line between `program` and its `end`.
     fn source_line(&mut self, alloc: Global, number: u32, found: &[Token]) -> Result<(), JobFault>
-        requires { length self.old.statements ≤ 2 ^ 30 }
+        requires { held self.old ≤ 2 ^ 30 }
         ensures read { IsRead result self.new (source_found (reading_of self.old) number (Ok found.now)) }
-        ensures few { length self.new.statements ≤ length self.old.statements + 1 }
+        ensures few { held self.new ≤ held self.old + 1 }
     {
         if is_end(found) {
-            let program = assemble_kept(alloc, &self.statements)?;
-            self.programs.push(program)?;
-            self.statements.clear();
-            self.stage = Stage::Programs;
-            return Ok(());
+            return self.program_ends(alloc);
+        }
+        if is_part(found) {
+            return match self.source_ends(alloc) {
+                Ok(()) => Ok(()),
+                Err(LineFault::Kind(kind)) => Err(JobFault::Fault { line: number, kind }),
+                Err(LineFault::Memory) => Err(JobFault::Memory),
+            };
         }
         match statement_of(number, found) {
             Ok(Some(statement)) => self.statements.push(statement)?,
@@ -190,10 +201,38 @@ impl Reader {
         Ok(())
     }
 
+    /// The `end` of a program.
+    fn program_ends(&mut self, alloc: Global) -> Result<(), JobFault>
+        requires { held self.old ≤ 2 ^ 30 }
+        ensures read { IsRead result self.new (program_ends (reading_of self.old) (linked (sources_of (reading_of self.old)))) }
+        ensures few { held self.new ≤ held self.old }
+    {
+        let last = mem::replace(&mut self.statements, Statements::new(alloc));
+        self.sources.push(last)?;
+        let program = link(alloc, self.sources.as_slice())?;
+        self.programs.push(program)?;
+        self.sources.clear();
+        self.stage = Stage::Programs;
+        Ok(())
+    }
+
+    /// A `.part`, which ends a source.
+    fn source_ends(&mut self, alloc: Global) -> Result<(), LineFault>
+        ensures read { IsStep result self.new (source_ends (reading_of self.old)) }
+        ensures few { held self.new ≤ held self.old }
+    {
+        if self.sources.len() + 1 >= MOST_SOURCES {
+            return Err(LineFault::Kind(LIMIT));
+        }
+        let last = mem::replace(&mut self.statements, Statements::new(alloc));
+        self.sources.push(last)?;
+        Ok(())
+    }
+
     /// An event, or the `end` of the schedule.
     fn schedule_line(&mut self, tokens: &[Token]) -> Result<(), LineFault>
         ensures read { IsStep result self.new (schedule_line (reading_of self.old) tokens.now) }
-        ensures few { self.new.statements ≡ self.old.statements }
+        ensures few { held self.new ≡ held self.old }
     {
         match tokens {
             [] => Ok(()),
@@ -216,7 +255,7 @@ impl Reader {
     /// `end`, `checkpoint` or `crash`.
     fn single_line(&mut self, word: &str) -> Result<(), LineFault>
         ensures read { IsStep result self.new (single_line (reading_of self.old) word.now) }
-        ensures few { self.new.statements ≡ self.old.statements }
+        ensures few { held self.new ≡ held self.old }
     {
         if word == "end" {
             self.stage = Stage::Ended;
@@ -234,7 +273,7 @@ impl Reader {
     /// `begin NAME v ..`.
     fn begin_line(&mut self, name: &Word, values: &[Token]) -> Result<(), LineFault>
         ensures read { IsStep result self.new (begin_line (reading_of self.old) name.now (values_of values.now)) }
-        ensures few { self.new.statements ≡ self.old.statements }
+        ensures few { held self.new ≡ held self.old }
     {
         let Some(args) = args_of(values) else {
             return Err(LineFault::Kind(FORM));
@@ -256,7 +295,7 @@ impl Reader {
     /// `turn A K`.
     fn turn_line(&mut self, activation: u32, limit: u32) -> Result<(), LineFault>
         ensures read { IsStep result self.new (turn_line (reading_of self.old) activation limit) }
-        ensures few { self.new.statements ≡ self.old.statements }
+        ensures few { held self.new ≡ held self.old }
     {
         if activation < 1 || activation > self.begins {
             return Err(LineFault::Kind(UNKNOWN_ACTIVATION));
@@ -270,7 +309,7 @@ impl Reader {
     /// `drain R K`.
     fn drain_line(&mut self, rounds: u32, limit: u32) -> Result<(), LineFault>
         ensures read { IsStep result self.new (drain_line (reading_of self.old) rounds limit) }
-        ensures few { self.new.statements ≡ self.old.statements }
+        ensures few { held self.new ≡ held self.old }
     {
         if rounds < 1 || rounds > 10_000 || !is_limit(limit) {
             return Err(LineFault::Kind(LIMIT));
@@ -285,7 +324,7 @@ impl Reader {
     /// Nothing behind the schedule's `end`.
     fn ended_line(&mut self, tokens: &[Token]) -> Result<(), LineFault>
         ensures read { IsStep result self.new (ended_line (reading_of self.old) tokens.now) }
-        ensures few { length self.new.statements ≤ length self.old.statements }
+        ensures few { held self.new ≤ held self.old }
     {
         match tokens {
             [] => Ok(()),
@@ -296,7 +335,7 @@ impl Reader {
     /// One event more that is no begin.
     fn add(&mut self, event: Event) -> Result<(), LineFault>
         ensures read { IsStep result self.new (with_event (reading_of self.old) event) }
-        ensures few { self.new.statements ≡ self.old.statements }
+        ensures few { held self.new ≡ held self.old }
     {
         if self.events.len() >= MOST_EVENTS {
             return Err(LineFault::Kind(LIMIT));
@@ -319,6 +358,16 @@ fn is_end(tokens: &[Token]) -> bool
 {
     match tokens {
         [Token::Word(word)] => word.as_str() == "end",
+        _ => false,
+    }
+}
+
+/// Whether tokens are `.part` alone.
+fn is_part(tokens: &[Token]) -> bool
+    ensures { result ≡ is_part (Ok tokens.now) }
+{
+    match tokens {
+        [Token::Word(word)] => word.as_str() == ".part",
         _ => false,
     }
 }

@@ -6,7 +6,7 @@ use std::alloc::Global;
 use std::test::Fail;
 
 /// Texts that are no job, and the line and the kind of the fault.
-const REFUSED: [(&str, u32, u8); 36] = [
+const REFUSED: [(&str, u32, u8); 50] = [
     ("", 1, 10),
     ("frames 1\n", 1, 11),
     ("frames 1025\n", 1, 11),
@@ -74,12 +74,99 @@ const REFUSED: [(&str, u32, u8); 36] = [
     ("frames 2\nschedule\ncheckpoint x\n", 3, 10),
     ("frames 2\nschedule\nend\nend\n", 4, 10),
     ("frames 2\nschedule\nend\n; behind", 4, 10),
+    (
+        "frames 2\nprogram two\n.window 1, 1, rw\ncau r6, r0, 0x1000\nbali r15, put\nsvc 0\n.part\n; put\nput: st r2, 0(r6)\nbnbr pz, r15\n; last\nend\nschedule\nbegin two 9\nturn 1 9\nend\n",
+        5,
+        6,
+    ),
+    (
+        "frames 2\nprogram two\n.window 1, 1, rw\ncau r6, r0, 0x1000\nbali r15, put\nsvc 0\n.part\n.export put\nput: st r2, 0(r6)\nbnbr pz, r15\n.export get\nend\nschedule\nbegin two 9\nturn 1 9\nend\n",
+        11,
+        15,
+    ),
+    (
+        "frames 2\nprogram two\n.window 1, 1, rw\ncau r6, r0, 0x1000\nbali r15, put\nsvc 0\n.part\n.export put\nput: st r2, 0(r6)\nbnbr pz, r15\n.export put\nend\nschedule\nbegin two 9\nturn 1 9\nend\n",
+        11,
+        16,
+    ),
+    (
+        "frames 2\nprogram two\n.word x\n.part\n.export x\n.part\n.export x\nx: svc 0\nend\nschedule\nbegin two 9\nturn 1 9\nend\n",
+        3,
+        6,
+    ),
+    (
+        "frames 2\nprogram two\nx:\nx: .export y\nend\nschedule\nbegin two 9\nturn 1 9\nend\n",
+        4,
+        5,
+    ),
+    (
+        "frames 2\nprogram two\n.export y\n.part\n.word z\nend\nschedule\nbegin two 9\nturn 1 9\nend\n",
+        3,
+        15,
+    ),
+    (
+        "frames 2\nprogram two\n.entry 0\n.part\n.entry 0\nend\nschedule\nbegin two 9\nturn 1 9\nend\n",
+        5,
+        5,
+    ),
+    (
+        "frames 2\nprogram two\n.window 1, 1, r\n.part\n.window 1, 2, r\nend\nschedule\nbegin two 9\nturn 1 9\nend\n",
+        5,
+        9,
+    ),
+    (
+        "frames 2\nprogram two\n.part\n.part\n.part\n.part\n.part\n.part\n.part\n.part\n.part\n.part\n.part\n.part\n.part\n.part\n.part\n.part\nend\nschedule\nbegin two 9\nturn 1 9\nend\n",
+        18,
+        11,
+    ),
+    (
+        "frames 2\nprogram two\nx: .part\nend\nschedule\nbegin two 9\nturn 1 9\nend\n",
+        3,
+        2,
+    ),
+    (
+        "frames 2\nprogram two\n.part x\nend\nschedule\nbegin two 9\nturn 1 9\nend\n",
+        3,
+        2,
+    ),
+    (
+        "frames 2\nprogram two\n.export\nend\nschedule\nbegin two 9\nturn 1 9\nend\n",
+        3,
+        3,
+    ),
+    (
+        "frames 2\nprogram two\n.export 5\nend\nschedule\nbegin two 9\nturn 1 9\nend\n",
+        3,
+        3,
+    ),
+    ("frames 2\n.part\n", 2, 10),
     ("schedule\n", 1, 10),
 ];
 
 /// A job with comments and blank lines, an entry address, and drains over the begins before them.
 const ACCEPTED: &str =
     "; a job\n\nframes 0x3 ; frames\nprogram a\n.window 1, 1, rw\nhere: svc 0\n.entry here\nend ; of a\nprogram _b\nend\n schedule\nbegin a 1 2\ndrain 2 050\nbegin _b\nturn 2 7\ndrain 1 9\nend\n ; behind\n";
+
+/// Programs of several sources, and of one that is laid by hand as they are: an export, labels of one name that are
+/// private, one that is exported and private elsewhere, and sixteen sources.
+const LINKED: [(&str, &str); 4] = [
+    (
+        "frames 2\nprogram two\n.window 1, 1, rw\ncau r6, r0, 0x1000\nbali r15, put\nsvc 0\n.part\n.export put\nput: st r2, 0(r6)\nbnbr pz, r15\n; last\nend\nschedule\nend\n",
+        "frames 2\nprogram two\n.window 1, 1, rw\ncau r6, r0, 0x1000\nbali r15, put\nsvc 0\nput: st r2, 0(r6)\nbnbr pz, r15\nend\nschedule\nend\n",
+    ),
+    (
+        "frames 2\nprogram two\nloop: jnb eq, loop\n.export out\nout: svc 0\n.part\nloop: .byte 1\n.byte 2\njnb eq, loop\nbala out\nend\nschedule\nend\n",
+        "frames 2\nprogram two\none: jnb eq, one\nout: svc 0\ntwo: .byte 1\n.byte 2\njnb eq, two\nbala out\nend\nschedule\nend\n",
+    ),
+    (
+        "frames 2\nprogram two\n.word x\n.part\n.export x\nx: .word 7\n.part\nx: .word x\nend\nschedule\nend\n",
+        "frames 2\nprogram two\n.word one\none: .word 7\ntwo: .word two\nend\nschedule\nend\n",
+    ),
+    (
+        "frames 2\nprogram two\n.word 1\n.part\n.word 1\n.part\n.word 1\n.part\n.word 1\n.part\n.word 1\n.part\n.word 1\n.part\n.word 1\n.part\n.word 1\n.part\n.word 1\n.part\n.word 1\n.part\n.word 1\n.part\n.word 1\n.part\n.word 1\n.part\n.word 1\n.part\n.word 1\n.part\n.word 1\nend\nschedule\nend\n",
+        "frames 2\nprogram two\n.word 1\n.word 1\n.word 1\n.word 1\n.word 1\n.word 1\n.word 1\n.word 1\n.word 1\n.word 1\n.word 1\n.word 1\n.word 1\n.word 1\n.word 1\n.word 1\nend\nschedule\nend\n",
+    ),
+];
 
 /// What a text is refused for.
 fn fault_of(alloc: Global, text: &str) -> Option<JobFault> {
@@ -180,6 +267,21 @@ fn is_same(one: &Job, other: &Job) -> bool {
             .zip(other.programs.iter())
             .all(|(program, wanted)| is_same_program(program, wanted))
         && one.events.as_slice() == other.events.as_slice()
+}
+
+#[test]
+fn sources_are_linked(rt: HostRuntime) -> Result<(), Fail> {
+    for (several, one) in LINKED {
+        let linked = read(rt.alloc(), several)?;
+        let wanted = read(rt.alloc(), one)?;
+        assert_eq!(rt; linked.programs.len(), 1);
+        assert_eq!(rt; wanted.programs.len(), 1);
+        assert!(rt;
+            is_same_program(&linked.programs[0], &wanted.programs[0]),
+            "{several}"
+        );
+    }
+    Ok(())
 }
 
 /// The worked run's job.

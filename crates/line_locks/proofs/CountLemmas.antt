@@ -1,10 +1,22 @@
 -- How many lines are held to write.
-use Rattle.std.specs.Prelude.{ℕ, ◌*◌, ◌≤◌, List, length}
-use Rattle.std.proofs.Common.{arith}
+use Rattle.std.specs.Prelude.{◌≡◌, ℕ, ◌*◌, ◌<◌, ◌≤◌, List, length, replicate}
+use Rattle.std.proofs.Common.{arith, sym, ◌∙◌}
 use Rattle.std.proofs.lemmas.List.Sums.{sum_by-le}
+use Rattle.std.proofs.lemmas.List.Folds.{sum_by-replicate}
+use Rattle.std.proofs.lemmas.List.{length-replicate}
+use Rattle.std.proofs.lemmas.List.Elements.{All-replicate}
+use Rattle.line_locks.specs.Held.{nothing}
 use Rattle.line_locks.specs.Counted.{IsCounted}
 
 -- they are few
 pub all_few : (pages : List (List ℕ × List ℕ)) (written : ℕ) → IsCounted pages written → written ≤ 16 * 65535
 all_few pages written kept =
     omega (arith, kept.counted, kept.few, sum_by-le (λ (held : List ℕ × List ℕ). length held.1) 16 pages kept.lines)
+
+-- none are held where nothing is
+pub none-counted : (count : ℕ) → count < 65536 → IsCounted (replicate count nothing) 0
+none-counted count few = record {
+  few = omega (arith, few, length-replicate count nothing);
+  lines = All-replicate (λ (held : List ℕ × List ℕ). length held.1 ≤ 16) count nothing (omega arith);
+  counted = sym (sum_by-replicate (λ (held : List ℕ × List ℕ). length held.1) count nothing ∙ (let none : count * 0 ≡ 0 = omega arith in none));
+}

@@ -68,14 +68,14 @@ conflict-flat pages lines wants flat reads writes =
         ∙ sym (has-append lines.reads lines.writes (want.page * 16 + line))
 
 -- a line of the page is among the flat lines
-has-page : (page line : ℕ) (wanted : List ℕ) → has (flat_lines page wanted) (page * 16 + line) ≡ has wanted line
+pub has-page : (page line : ℕ) (wanted : List ℕ) → has (flat_lines page wanted) (page * 16 + line) ≡ has wanted line
 has-page page line [] = refl
 has-page page line (x ∷ xs) =
     let first : (page * 16 + x == page * 16 + line) ≡ (x == line) = grind (arith, nat_tests) in
     ap (λ c. c || has (flat_lines page xs) (page * 16 + line)) first ∙ ap (λ c. x == line || c) (has-page page line xs)
 
 -- a line of another page isn't
-has-other_page :
+pub has-other_page :
     (page other line : ℕ) (wanted : List ℕ) → other ≢ page → line < 16 → ((x : ℕ) → has wanted x ≡ true → x < 16)
     → has (flat_lines page wanted) (other * 16 + line) ≡ false
 has-other_page page other line [] apart below few = refl

@@ -2,3 +2,4 @@ pub mod MeetsLemmas
 pub mod CountLemmas
 pub mod SeatLemmas
 pub mod FlatLemmas
+pub mod ListedLemmas

@@ -1,5 +1,5 @@
 -- What one seat holds, page by page: of each page the lines to read and the lines to write.
-use Rattle.std.specs.Prelude.{ℕ, ◌<◌, Bool, List, [], length, fold, sum_by, slice_set, slice_index_or, All}
+use Rattle.std.specs.Prelude.{ℕ, ◌<◌, ◌==◌, ◌||◌, not, Bool, List, [], length, fold, sum_by, slice_set, slice_index_or, All}
 use Rattle.std.specs.List.{list_any}
 use Rattle.lock_rules.specs.Lines.{conflicts}
 use Rattle.line_geometry.specs.LineSets.{union}
@@ -12,6 +12,10 @@ nothing = ([], [])
 -- what is held of a page
 abbrev pub of_page : List (List ℕ × List ℕ) → ℕ → List ℕ × List ℕ
 of_page pages page = slice_index_or pages page nothing
+
+-- whether something is held of a page
+abbrev pub holds_some : List ℕ × List ℕ → Bool
+holds_some held = not (length held.0 == 0) || not (length held.1 == 0)
 
 -- how many lines are held to write, over all pages
 abbrev pub write_count : List (List ℕ × List ℕ) → ℕ

@@ -1,5 +1,6 @@
-ghost use Rattle.std.specs.Prelude.{◌≡◌, ◌<◌, IfOk};
-ghost use Rattle.line_locks.specs.Held.{write_count, AreWithin};
+ghost use Rattle.std.specs.Prelude.{◌≡◌, ◌<◌, ℕ, length, IfOk};
+ghost use Rattle.lock_rules.specs.Sets.{has, size};
+ghost use Rattle.line_locks.specs.Held.{holds_some, write_count, AreWithin};
 ghost use Rattle.line_locks.specs.Holding.{IsWhole, of_seat, nothing_held, held_at, is_in_conflict, in_conflict, bits_of_seats, taken, released};
 
 use super::request::Request;
@@ -56,6 +57,15 @@ impl Locks {
         ensures { result ≡ held_at self.now seat page }
     {
         self.seats[usize::from(seat)].held(page)
+    }
+
+    /// The pages of which a seat holds something, each once.
+    pub fn held_pages(&self, seat: u8) -> &[u16]
+        requires { seat < 16 }
+        ensures each { (page : ℕ) → has result.now page ≡ holds_some (held_at self.now seat page) }
+        ensures once { size result.now ≡ length result.now }
+    {
+        self.seats[usize::from(seat)].held_pages()
     }
 
     /// The other seats with which a request of a seat conflicts, as the number in which their bits are on.

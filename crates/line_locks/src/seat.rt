@@ -1,8 +1,11 @@
 // What one seat holds.
-ghost use Rattle.std.specs.Prelude.{◌≡◌, ◌<◌, length, replicate, sum_by, IfOk};
+ghost use Rattle.std.specs.Prelude.{◌≡◌, ◌<◌, ◌≤◌, ◌∷◌, ◌++◌, if◌then◌else◌, [], ℕ, true, false, All, length, replicate, sum_by, vec_len, IfOk};
+ghost use Rattle.std.specs.Vec.{vec_capacity};
 ghost use Rattle.std.specs.List.{list_any};
-ghost use Rattle.lock_rules.specs.Sets.{meets};
-ghost use Rattle.line_locks.specs.Held.{nothing, of_page, with_want, with_wants, conflicts_in, conflicts_with, write_count, AreWithin};
+ghost use Rattle.line_geometry.specs.LineSets.{IsOfPage};
+ghost use Rattle.lock_rules.specs.Sets.{has, meets};
+ghost use Rattle.line_locks.specs.Counted.{AreListed};
+ghost use Rattle.line_locks.specs.Held.{nothing, of_page, holds_some, with_want, with_wants, conflicts_in, conflicts_with, write_count, AreWithin};
 
 use super::request::{Request, Want};
 use line_geometry::LineSet;
@@ -13,18 +16,21 @@ use std::marker::Model;
 #[derive(Drop)]
 pub struct SeatLines {
     pages: Vec<(LineSet, LineSet)>,
+    held: Vec<u16>,
     written: u32,
 }
 
 impl Model for SeatLines {
     ghost use Rattle.std.specs.Prelude.{ℕ, List};
-    ghost use Rattle.line_locks.specs.Counted.{IsCounted};
+    ghost use Rattle.std.specs.Prelude.{◌≤◌, length};
+    ghost use Rattle.std.specs.Vec.{vec_capacity};
+    ghost use Rattle.line_locks.specs.Counted.{IsCounted, AreListed};
 
     ghost Value = { List (List ℕ × List ℕ) };
 
     ghost view = { λ seat. seat.pages.items };
 
-    ghost invariant = { λ seat. IsCounted seat.pages.items seat.written };
+    ghost invariant = { λ seat. IsCounted seat.pages.items seat.written × AreListed seat.pages.items seat.held.items × (length seat.pages.items ≤ vec_capacity seat.held) };
 }
 
 impl SeatLines {
@@ -34,6 +40,7 @@ impl SeatLines {
     {
         Ok(SeatLines {
             pages: vec![in alloc; (LineSet::none(), LineSet::none()); usize::from(pages)]?,
+            held: Vec::with_capacity(alloc, usize::from(pages))?,
             written: 0,
         })
     }
@@ -44,6 +51,14 @@ impl SeatLines {
         ensures { result ≡ of_page self.now page }
     {
         self.pages[usize::from(page)]
+    }
+
+    /// The pages of which it holds something, each once.
+    pub fn held_pages(&self) -> &[u16]
+        ensures { AreListed self.now result.now }
+    {
+        let _pages = &self.pages;
+        &self.held
     }
 
     /// The number of lines that it holds to write.
@@ -86,17 +101,54 @@ impl SeatLines {
         let page = usize::from(want.page);
         let (reads, writes) = self.pages[page];
         let together = writes.union(want.writes);
-        self.pages[page] = (reads.union(want.reads), together);
+        let all = reads.union(want.reads);
+        let is_first = !holds_some(reads, writes) & holds_some(all, together);
+        self.pages[page] = (all, together);
         self.written = self.written - writes.count() + together.count();
+        list_if(is_first, &mut self.held, want.page);
     }
 
     /// Nothing is held any more.
     pub fn release(&mut self)
         ensures { self.new ≡ replicate (length self.old) nothing }
     {
-        self.pages.fill((LineSet::none(), LineSet::none()));
+        clear(&mut self.pages, &self.held);
+        self.held.clear();
         self.written = 0;
     }
+}
+
+/// Lists a page where it is the first time that something is held of it.
+fn list_if(is_first: bool, list: &mut Vec<u16>, page: u16)
+    requires { is_first ≡ true → vec_len list.old < vec_capacity list.old }
+    ensures items { list.new.items ≡ (if is_first then list.old.items ++ page ∷ [] else list.old.items) }
+    ensures capacity { vec_capacity list.old ≤ vec_capacity list.new }
+{
+    if is_first {
+        let _room = list.push(page);
+    }
+}
+
+/// Nothing is held any more of the listed pages.
+fn clear(pages: &mut Vec<(LineSet, LineSet)>, list: &[u16])
+    requires { All (λ page. page < vec_len pages.old) list.now }
+    ensures long { vec_len pages.new ≡ vec_len pages.old }
+    ensures listed { (page : ℕ) → has list.now page ≡ true → of_page pages.new.items page ≡ nothing }
+    ensures others { (page : ℕ) → has list.now page ≡ false → of_page pages.new.items page ≡ of_page pages.old.items page }
+{
+    for page in list {
+        pages[usize::from(*page)] = (LineSet::none(), LineSet::none());
+    }
+}
+
+/// Whether something is held of a page.
+fn holds_some(reads: LineSet, writes: LineSet) -> bool
+    ensures value { result ≡ holds_some (reads, writes) }
+    ensures reads { IsOfPage reads }
+    ensures writes { IsOfPage writes }
+{
+    let (no_reads, no_writes) = (reads.is_empty(), writes.is_empty());
+    !no_reads || !no_writes
 }
 
 /// Whether what is wanted of a page conflicts with what is held of it.

@@ -68,7 +68,7 @@ shows-begun d held shows = record {
   header = shows.header;
   chosen_is = shows.chosen_is;
   read = record { base = shows.read.base; records = shows.read.records; holds = shows.read.holds; count = shows.read.count; newest = shows.read.newest };
-  fits = record { bank_bytes = shows.fits.bank_bytes; lines = shows.fits.lines };
+  fits = record { page = shows.fits.page; bank_bytes = shows.fits.bank_bytes; lines = shows.fits.lines };
 }
 
 -- the record of a commit

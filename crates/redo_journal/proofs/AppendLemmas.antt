@@ -184,6 +184,7 @@ fields_tracked G bank kept outside is tracks = record {
   header = tracks.header;
   records = tracks.records;
   store = subst (λ (those : KeptBank). IsStore (held_of G outside) tracks.header those.which those.base those.gate tracks.records) (sym is) tracks.store;
+  page = tracks.page ∙ ap (λ (those : KeptBank). those.page) (sym is);
   bank_bytes = tracks.bank_bytes ∙ ap (λ (those : KeptBank). those.bank_bytes) (sym is);
   bound = tracks.bound ∙ ap (λ (those : KeptBank). length those.newest) (sym is);
   count = tracks.count ∙ ap (λ (those : KeptBank). those.count) (sym is);

@@ -1,6 +1,8 @@
 -- The fields of a bank, and what is kept of them.
 use Rattle.std.specs.Prelude.{◌≡◌, ℕ, ◌+◌, ◌*◌, ◌<◌, ◌≤◌, ◌^◌, List, length, drop, None, unwrap_or}
 use Rattle.std.specs.Option.{option_map}
+use Rattle.line_geometry.specs.declared.directory.PageSize.TheVariants.{Two}
+use Rattle.store_format.specs.Header.{entry_bytes}
 use Rattle.store_format.specs.Bank.{RecordLine, lines_from, wrong_line}
 use Rattle.redo_journal.specs.declared.bank.Bank.TheInside.{Inside}
 use Rattle.redo_journal.specs.Kept.{KeptBank, end_of}
@@ -17,10 +19,11 @@ begun_count bank = unwrap_or bank.begun 0
 abbrev pub begun_lines : Inside → List RecordLine
 begun_lines bank = buffered bank (begun_count bank)
 
--- the bank that the fields are
+-- the bank that the fields are: its store is of version 1, with pages of one size
 abbrev pub kept_of : Inside → KeptBank
 kept_of bank = record {
   which = bank.which;
+  page = Two;
   bank_bytes = bank.bank_bytes;
   base = bank.base;
   count = bank.count;
@@ -38,5 +41,5 @@ pub record IsWhole (bank : Inside) : Type 0 where
   pub few_lines : length bank.newest < 2 ^ 32
   pub few_records : bank.count ≤ bank.gate
   pub buffer : length bank.body ≡ bank.bank_bytes
-  pub fits : 12 + 132 * begun_count bank ≤ bank.bank_bytes
+  pub fits : 12 + entry_bytes Two * begun_count bank ≤ bank.bank_bytes
   pub ordered : wrong_line (length bank.newest) 0 (begun_lines bank) ≡ None

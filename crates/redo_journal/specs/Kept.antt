@@ -2,19 +2,30 @@
 use Rattle.std.specs.Prelude.{◌≡◌, ℕ, ◌+◌, ◌*◌, ◌%◌, ◌^◌, List, [], ◌∷◌, ◌++◌, length, Option, None, Some, unwrap_or}
 use Rattle.store_format.specs.declared.header.Which.{Which}
 use Rattle.store_format.specs.declared.header.Which.TheVariants.{A, B}
-use Rattle.store_format.specs.Bank.{RecordLine, record_bytes}
+use Rattle.line_geometry.specs.declared.directory.PageSize.{PageSize}
+use Rattle.store_format.specs.Header.{line_bytes, entry_bytes}
+use Rattle.store_format.specs.Bank.{RecordLine}
 use Rattle.redo_journal.specs.Noted.{noted}
 
--- Which bank it is, the bytes of its record area, its base number, how many records it has, where its closed gate is,
+-- Which bank it is, the size of the store's pages, the bytes of its record area, its base number, how many records it has, where its closed gate is,
 -- the newest place of each line of the store, and the lines of the record that is begun, where one is, as they will lie behind the gate.
 pub record KeptBank : Type 0 where
   pub which : Which
+  pub page : PageSize
   pub bank_bytes : ℕ
   pub base : ℕ
   pub count : ℕ
   pub gate : ℕ
   pub newest : List (Option ℕ)
   pub begun : Option (List RecordLine)
+
+-- the bytes of a line of the store
+abbrev pub line_bytes_of : KeptBank → ℕ
+line_bytes_of bank = line_bytes bank.page
+
+-- the bytes of a record with so many lines
+abbrev pub record_bytes_of : KeptBank → ℕ → ℕ
+record_bytes_of bank count = 11 + entry_bytes bank.page * count
 
 -- where a bank with so many bytes lies, and where its area ends
 abbrev pub place_of : Which → ℕ → ℕ
@@ -39,12 +50,12 @@ begun_of bank = unwrap_or bank.begun []
 
 -- where the begun record ends, with the gate behind it
 abbrev pub needed_end : KeptBank → ℕ
-needed_end bank = bank.gate + record_bytes (length (begun_of bank)) + 1
+needed_end bank = bank.gate + record_bytes_of bank (length (begun_of bank)) + 1
 
 -- the bank with one line more in its begun record
 abbrev pub with_line : KeptBank → ℕ → List ℕ → KeptBank
 with_line bank line bytes =
-    record bank { begun = Some (begun_of bank ++ record { line = line; at = bank.gate + record_bytes (length (begun_of bank)); bytes = bytes } ∷ []) }
+    record bank { begun = Some (begun_of bank ++ record { line = line; at = bank.gate + record_bytes_of bank (length (begun_of bank)); bytes = bytes } ∷ []) }
 
 -- the bank without a begun record
 abbrev pub unbegun : KeptBank → KeptBank
@@ -54,12 +65,13 @@ unbegun bank = record bank { begun = None }
 abbrev pub with_record : KeptBank → KeptBank
 with_record bank = record bank {
   count = bank.count + 1;
-  gate = bank.gate + record_bytes (length (begun_of bank));
+  gate = bank.gate + record_bytes_of bank (length (begun_of bank));
   newest = noted bank.newest (begun_of bank);
   begun = None;
 }
 
--- a bank of the same size, of a store with as many lines
+-- a bank of the same size, of a store with pages of the same size and as many lines
 pub record SameShape (old new : KeptBank) : Type 0 where
+  pub page : new.page ≡ old.page
   pub bank_bytes : new.bank_bytes ≡ old.bank_bytes
   pub lines : length new.newest ≡ length old.newest

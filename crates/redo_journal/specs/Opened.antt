@@ -32,6 +32,7 @@ NewestLaw = (held : List ℕ) (bank : KeptBank) (read : IsRead held bank) (line 
 
 -- the bank is this one of a store with such a header, and has no record begun
 pub record IsBankOf (header : Header) (which : Which) (bank : KeptBank) : Type 0 where
+  pub page : header.directory.page ≡ bank.page
   pub bank_bytes : header.bank_bytes ≡ bank.bank_bytes
   pub bound : line_count header.directory ≡ length bank.newest
   pub which_is : bank.which ≡ which

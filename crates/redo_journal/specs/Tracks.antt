@@ -17,6 +17,7 @@ pub record Tracks {W : Type 0} (G : Ghosts W) (bank : KeptBank) (outside : W) : 
   pub header : Header
   pub records : List (List RecordLine)
   pub store : IsStore (held_of G outside) header bank.which bank.base bank.gate records
+  pub page : header.directory.page ≡ bank.page
   pub bank_bytes : header.bank_bytes ≡ bank.bank_bytes
   pub bound : line_count header.directory ≡ length bank.newest
   pub count : length records ≡ bank.count

@@ -3,13 +3,15 @@ use Rattle.std.specs.Prelude.{ℕ, ◌+◌, List, [], ◌∷◌, ◌++◌, lengt
 use Rattle.std.specs.Option.{option_map}
 use Rattle.byteorder.specs.Endian.{big_bytes}
 use Rattle.store_format.specs.declared.header.Which.{Which}
+use Rattle.line_geometry.specs.declared.directory.PageSize.TheVariants.{Two}
+use Rattle.store_format.specs.Header.{entry_bytes}
 use Rattle.store_format.specs.Bank.{RecordLine}
 use Rattle.redo_journal.specs.Kept.{KeptBank, place_of, number_of}
 
 -- these lines one behind another, from an offset on
 abbrev pub placed : ℕ → List RecordLine → List RecordLine
 placed at [] = []
-placed at (line ∷ lines) = record line { at = at } ∷ placed (at + 132) lines
+placed at (line ∷ lines) = record line { at = at } ∷ placed (at + entry_bytes Two) lines
 
 -- the bank at this place with the number as its base, no record, and the begun record behind its gate
 abbrev pub turned : Which → KeptBank → KeptBank

@@ -5,7 +5,7 @@ ghost use Rattle.store_format.specs.Bank.{record_bytes};
 ghost use Rattle.store_format.specs.Stands.{stands, one_more};
 ghost use Rattle.outside.specs.Causes.{Rose};
 ghost use Rattle.outside.specs.Runs.{OnlyAsks, Leaves, held_of};
-ghost use Rattle.redo_journal.specs.Kept.{KeptBank, place_of, end_of, area_end, number_of, begun_of, needed_end, with_line, unbegun, SameShape};
+ghost use Rattle.redo_journal.specs.Kept.{KeptBank, place_of, end_of, area_end, number_of, begun_of, needed_end, with_line, unbegun, line_bytes_of, record_bytes_of, SameShape};
 ghost use Rattle.redo_journal.specs.Appended.{kept_after};
 ghost use Rattle.redo_journal.specs.Turned.{turned, head_bytes};
 ghost use Rattle.redo_journal.specs.Held.{HoldsAtLeast, OnlyWrites, WritesOnce};
@@ -21,7 +21,7 @@ use outside::{Failed, Outside};
 use owned_list::OwnedList;
 use std::alloc::{AllocError, Global};
 use std::marker::Model;
-use store_format::{Header, Which};
+use store_format::{ENTRY_BYTES, Header, Which};
 
 /// One bank of a store: its base number and the place of its closed gate, the newest place of each line of the store,
 /// and a record that is begun (docs/MODEL.md, "A bank that is kept").
@@ -183,22 +183,22 @@ impl Bank {
     pub fn newest(&self, line: u32) -> Option<u64>
         requires { line < length self.now.newest }
         ensures place { slice_get self.now.newest line ≡ Some result }
-        ensures within { IfSome result (λ at. at + 128 ≤ area_end self.now) }
+        ensures within { IfSome result (λ at. at + line_bytes_of self.now ≤ area_end self.now) }
     {
         self.newest.as_slice()[line as usize]
     }
 
     /// How many lines a record may have to fit the rest of the bank; none where not even an empty one fits.
     pub fn room(&self) -> Option<u32>
-        ensures none { IsNone result ↔ (area_end self.now < self.now.gate + record_bytes 0 + 1) }
-        ensures fits { IfSome result (λ lines. self.now.gate + record_bytes lines + 1 ≤ area_end self.now) }
-        ensures most { IfSome result (λ lines. area_end self.now < self.now.gate + record_bytes (lines + 1) + 1) }
+        ensures none { IsNone result ↔ (area_end self.now < self.now.gate + record_bytes_of self.now 0 + 1) }
+        ensures fits { IfSome result (λ lines. self.now.gate + record_bytes_of self.now lines + 1 ≤ area_end self.now) }
+        ensures most { IfSome result (λ lines. area_end self.now < self.now.gate + record_bytes_of self.now (lines + 1) + 1) }
     {
         let left = end_of(self.which, self.bank_bytes) - self.gate;
         if left < 12 {
             None
         } else {
-            Some(((left - 12) / 132) as u32)
+            Some(((left - 12) / ENTRY_BYTES as u64) as u32)
         }
     }
 
@@ -248,14 +248,14 @@ impl Bank {
     /// Adds a line to the record that is begun: a line of the store, above those before it.
     pub fn record_line(&mut self, line: u32, bytes: &[u8])
         requires begun { IsSome self.old.begun }
-        requires whole { length bytes.now ≡ 128 }
+        requires whole { length bytes.now ≡ line_bytes_of self.old }
         requires below { line < length self.old.newest }
         requires ascending { All (λ begun. begun.line < line) (begun_of self.old) }
-        requires room { record_bytes (length (begun_of self.old) + 1) + 1 ≤ self.old.bank_bytes }
+        requires room { record_bytes_of self.old (length (begun_of self.old) + 1) + 1 ≤ self.old.bank_bytes }
         ensures { self.new ≡ with_line self.old line bytes.now }
     {
         let begun = self.begun.unwrap();
-        let at = 10 + 132 * usize::from(begun);
+        let at = 10 + ENTRY_BYTES * usize::from(begun);
         self.body.write(at, &word(line));
         self.body.write(at + 4, bytes);
         self.begun = Some(begun + 1);
@@ -285,7 +285,7 @@ impl Bank {
         ensures done { result ≡ Appended.Done → Tracks W.Outside self.old outside.old → IsAppended W.Outside self.old self.new outside.old outside.new }
     {
         let begun = self.begun.unwrap();
-        let bytes = 11 + 132 * u64::from(begun);
+        let bytes = 11 + ENTRY_BYTES as u64 * u64::from(begun);
         if end_of(self.which, self.bank_bytes) < self.gate + bytes + 1 {
             return Appended::Full;
         }
@@ -342,5 +342,5 @@ fn record_of(body: &OwnedList<u8>, count: u16) -> &[u8]
     requires { record_bytes count ≤ length body.now }
     ensures { result.now ≡ take (record_bytes count) body.now }
 {
-    &body.as_slice()[..11 + 132 * usize::from(count)]
+    &body.as_slice()[..11 + ENTRY_BYTES * usize::from(count)]
 }

@@ -1,6 +1,7 @@
 // Reading the records of a bank.
 ghost use Rattle.std.specs.Prelude.{◌≡◌, ℕ, ◌+◌, ◌*◌, ◌==◌, ◌≤◌, ◌<◌, ◌^◌, length, drop, slice_index, None, IsSome, IfOk};
-ghost use Rattle.store_format.specs.Header.{number_at};
+ghost use Rattle.line_geometry.specs.declared.directory.PageSize.TheVariants.{Two};
+ghost use Rattle.store_format.specs.Header.{number_at, entry_bytes};
 ghost use Rattle.store_format.specs.Bank.{lines_from, wrong_line, gate_if, bank_held};
 ghost use Rattle.outside.specs.Causes.{HasCause};
 ghost use Rattle.outside.specs.Runs.{OnlyAsks, held_of};
@@ -12,6 +13,7 @@ use crate::keep::OPEN;
 use byteorder::{BigEndian, ByteOrder};
 use outside::{Failed, Outside};
 use owned_list::OwnedList;
+use store_format::ENTRY_BYTES;
 
 /// What stands at a gate: nothing, a fault, or a record with a next gate.
 #[derive(Debug, Clone, Copy, PartialEq, Eq)]
@@ -90,7 +92,7 @@ fn read_gate<W: Outside>(
     let mut head = [0; 10];
     outside.read_at(gate + 1, &mut head)?;
     let count = BigEndian::read_u16(&head);
-    let next = gate + 11 + 132 * u64::from(count);
+    let next = gate + 11 + ENTRY_BYTES as u64 * u64::from(count);
     if end < next + 1 {
         return Ok(Gate::Wrong(gate + 1));
     }
@@ -110,18 +112,18 @@ fn read_lines<W: Outside>(
     at: u64,
     count: u16,
 ) -> Result<Option<u64>, Failed>
-    requires room { HoldsAtLeast W.Outside (at + 132 * count) outside.old }
+    requires room { HoldsAtLeast W.Outside (at + entry_bytes Two * count) outside.old }
     requires few { at < 2 ^ 20 }
     ensures asks { OnlyAsks W.Outside outside.old outside.new }
     ensures len { length newest.new ≡ length newest.old }
-    ensures placed { (end : ℕ) → at + 132 * count ≤ end → AreWithin end newest.old → AreWithin end newest.new }
+    ensures placed { (end : ℕ) → at + entry_bytes Two * count ≤ end → AreWithin end newest.old → AreWithin end newest.new }
     ensures fault { IfOk result (λ fault. IsSome (W.held outside.old) → fault ≡ wrong_line (length newest.old) 0 (lines_from count at (drop at (held_of W.Outside outside.old)))) }
     ensures noted { IfOk result (λ fault. IsSome (W.held outside.old) → fault ≡ None → newest.new ≡ noted newest.old (lines_from count at (drop at (held_of W.Outside outside.old)))) }
     ensures cause { HasCause (W.disk_faults outside.old) (W.disk_faults outside.new) result }
 {
     let mut least = 0;
     for i in 0..count {
-        let place = at + 132 * u64::from(i);
+        let place = at + ENTRY_BYTES as u64 * u64::from(i);
         let mut number = [0; 4];
         outside.read_at(place, &mut number)?;
         let line = BigEndian::read_u32(&number);

@@ -42,7 +42,7 @@ composed_none image header newest first page is = record {
 }
 
 pub composed_more : (image home : List ℕ) (newest : List (Option ℕ)) (first i : ℕ) (page new : List ℕ) (place : Option ℕ) → i < 16 → length page ≡ 2048 → place ≡ get_or newest (first + i) None
-    → ((at : ℕ) → place ≡ Some at → at + 128 ≤ length image) → new ≡ newest_over image place page (i * 128) → Composed image home newest first i page → Composed image home newest first (i + 1) new
+    → ((at : ℕ) → place ≡ Some at → at + 128 ≤ length image) → new ≡ newest_over 128 image place page (i * 128) → Composed image home newest first i page → Composed image home newest first (i + 1) new
 composed_more image home newest first i page new None more long place_is within is composed = record {
   done = λ k few. elim (cases_eq k i) [
     | inl same ↦

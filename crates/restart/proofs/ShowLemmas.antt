@@ -60,6 +60,7 @@ bank_tracked G store outside tracks = record {
   header = store.header;
   records = tracks.shows.read.records;
   store = shown_store (held_of G outside) store tracks.shows;
+  page = tracks.shows.fits.page;
   bank_bytes = tracks.shows.fits.bank_bytes;
   bound = tracks.shows.fits.lines;
   count = tracks.shows.read.count;

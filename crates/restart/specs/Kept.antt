@@ -9,8 +9,9 @@ pub record KeptStore : Type 0 where
   pub header : Header
   pub bank : KeptBank
 
--- the bank has the size that the header says, and a newest place for each of its lines
+-- the bank has the sizes that the header says, of pages and of its area, and a newest place for each of its lines
 pub record Fits (header : Header) (bank : KeptBank) : Type 0 where
+  pub page : header.directory.page ≡ bank.page
   pub bank_bytes : header.bank_bytes ≡ bank.bank_bytes
   pub lines : line_count header.directory ≡ length bank.newest
 

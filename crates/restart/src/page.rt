@@ -1,15 +1,18 @@
 // Pages of the committed store: home lines, with the newest lines of the bank over them.
 ghost use Rattle.std.specs.Prelude.{◌≡◌, ◌+◌, ◌≤◌, ◌<◌, length, slice_index_or, None, IsSome, IfSome, OnOk};
 ghost use Rattle.owned_list.specs.Overlay.{overlaid};
+ghost use Rattle.line_geometry.specs.declared.directory.PageSize.TheVariants.{Two};
+ghost use Rattle.store_format.specs.Header.{line_bytes};
 ghost use Rattle.outside.specs.Bytes.{bytes_at};
 ghost use Rattle.outside.specs.Causes.{HasCause};
 ghost use Rattle.outside.specs.Runs.{OnlyAsks, held_of};
 ghost use Rattle.redo_journal.specs.Held.{HoldsAtLeast};
-ghost use Rattle.redo_journal.specs.Kept.{area_end};
+ghost use Rattle.redo_journal.specs.Kept.{area_end, line_bytes_of};
 ghost use Rattle.restart.specs.Page.{newest_over};
 
 use checkpoint::Banks;
 use outside::{Failed, Outside};
+use store_format::LINE_BYTES;
 
 /// Reads the newest bytes of a line, where the bank holds it, over a part of a page.
 pub fn read_newest<W: Outside>(
@@ -21,10 +24,10 @@ pub fn read_newest<W: Outside>(
 ) -> Result<(), Failed>
     requires room { HoldsAtLeast W.Outside (area_end banks.now) outside.old }
     requires below { line < length banks.now.newest }
-    requires within { at + 128 ≤ length page.old }
+    requires within { at + line_bytes_of banks.now ≤ length page.old }
     ensures asks { OnlyAsks W.Outside outside.old outside.new }
-    ensures placed { IfSome (slice_index_or banks.now.newest line None) (λ place. place + 128 ≤ area_end banks.now) }
-    ensures read { OnOk result (IsSome (W.held outside.old) → page.new ≡ newest_over (held_of W.Outside outside.old) (slice_index_or banks.now.newest line None) page.old at) }
+    ensures placed { IfSome (slice_index_or banks.now.newest line None) (λ place. place + line_bytes_of banks.now ≤ area_end banks.now) }
+    ensures read { OnOk result (IsSome (W.held outside.old) → page.new ≡ newest_over (line_bytes_of banks.now) (held_of W.Outside outside.old) (slice_index_or banks.now.newest line None) page.old at) }
     ensures cause { HasCause (W.disk_faults outside.old) (W.disk_faults outside.new) result }
 {
     match banks.newest(line) {
@@ -40,13 +43,13 @@ fn read_line<W: Outside>(
     page: &mut [u8],
     at: usize,
 ) -> Result<(), Failed>
-    requires room { HoldsAtLeast W.Outside (place + 128) outside.old }
-    requires within { at + 128 ≤ length page.old }
+    requires room { HoldsAtLeast W.Outside (place + line_bytes Two) outside.old }
+    requires within { at + line_bytes Two ≤ length page.old }
     ensures asks { OnlyAsks W.Outside outside.old outside.new }
-    ensures read { OnOk result (IsSome (W.held outside.old) → page.new ≡ overlaid page.old at (bytes_at (held_of W.Outside outside.old) place 128)) }
+    ensures read { OnOk result (IsSome (W.held outside.old) → page.new ≡ overlaid page.old at (bytes_at (held_of W.Outside outside.old) place (line_bytes Two))) }
     ensures cause { HasCause (W.disk_faults outside.old) (W.disk_faults outside.new) result }
 {
     let (_, rest) = page.split_at_mut(at);
-    let (line, _) = rest.split_at_mut(128);
+    let (line, _) = rest.split_at_mut(LINE_BYTES);
     outside.read_at(place, line)
 }

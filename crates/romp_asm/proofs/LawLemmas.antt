@@ -1,7 +1,7 @@
 -- What the definitions say of all statements and sources.
 use Rattle.std.proofs.Common.{◌≡◌, ℕ, ◌⊎◌, Result, Ok, Err, refl, ap, inl, inr}
 use Rattle.asm_parse.specs.declared.statement.Body.{Body}
-use Rattle.asm_parse.specs.declared.statement.Body.TheVariants.{Nothing, Inst, Data, Space, Window, Entry}
+use Rattle.asm_parse.specs.declared.statement.Body.TheVariants.{Nothing, Inst, Data, Space, Window, Entry, Export}
 use Rattle.asm_parse.specs.Form.{form_of}
 use Rattle.romp_asm.specs.Layout.{Parts}
 use Rattle.romp_asm.specs.Size.{SameMnemonic, form_size, size_of}
@@ -14,6 +14,7 @@ same_size (Data count value) (Data count' value') same = same
 same_size (Space count) (Space count') same = same
 same_size (Window register segment write) (Window register' segment' write') same = refl
 same_size (Entry value) (Entry value') same = refl
+same_size (Export word) (Export word') same = refl
 same_size _ _ same = absurd same
 
 -- an answer is a program or a fault

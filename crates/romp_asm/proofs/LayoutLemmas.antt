@@ -1,10 +1,10 @@
 -- A program, as its statements are laid one after the other.
-use Rattle.std.proofs.Common.{◌≡◌, ℕ, ℤ, pos, suc, zero, ◌+◌, ◌<◌, ◌≤◌, nat_lt, Bool, true, false, is_some, cond, List, [], ◌∷◌, ◌++◌, length, take, drop, get_or, Option, Some, None, Result, Ok, Err, refl, sym, ap, ◌∙◌, arith, append_assoc, append-nil, add-one, length-append, replicate, unwrap_or}
-use Rattle.std.specs.Option.{option_map, option_map_or}
+use Rattle.std.proofs.Common.{◌≡◌, ℕ, ℤ, pos, suc, zero, ◌+◌, ◌<◌, ◌≤◌, nat_lt, Bool, true, false, is_some, cond, List, [], ◌∷◌, ◌++◌, length, take, drop, get_or, Option, Some, None, Result, Ok, Err, refl, sym, ap, subst, ◌∙◌, arith, append_assoc, append-nil, add-one, length-append, replicate, unwrap_or}
+use Rattle.std.specs.Option.{option_map, option_map_or, option_or}
 use Rattle.std.proofs.Math.Path.{fun_ext}
 use Rattle.std.proofs.Math.Seq.{drop-cons}
 use Rattle.std.proofs.lemmas.Bool.Decides.{nat_tests}
-use Rattle.std.proofs.lemmas.List.{take_more}
+use Rattle.std.proofs.lemmas.List.{drop_all, get_or_default, take_all, take_more}
 use Rattle.std.proofs.lemmas.List.Sums.{sum_by_push, fold_push}
 use Rattle.asm_parse.specs.declared.statement.Statement.{Statement}
 use Rattle.asm_parse.specs.declared.statement.Body.{Body}
@@ -20,18 +20,16 @@ use Rattle.romp_asm.specs.declared.output.Output.{Output}
 use Rattle.std.specs.BTreeMap.{BTreeMap}
 use denote.Ref.{Bor}
 use Rattle.romp_asm.specs.Labels.{addresses_in, found_in, place_from, place_of, repeated_in, stands_before}
-use Rattle.romp_asm.specs.Laid.{IsLaid}
+use Rattle.romp_asm.specs.Laid.{AreReadAs, IsLaid, IsReadAs, LaidTo, image_joined}
+use Rattle.romp_asm.specs.declared.value.Scope.{Scope}
+use Rattle.romp_asm.specs.declared.value.Table.{Table}
+use Rattle.std.specs.Prelude.{option_and_then, slice_get}
 use Rattle.romp_asm.specs.Layout.{Parts, assembled, entry_of, has_label_of, image_behind, parts_of, piece_before, piece_of, windows_of, with_entry, with_image, with_window}
 use Rattle.romp_asm.specs.Size.{size_of, total}
 use Rattle.romp_asm.specs.Value.{address_from, address_of, addresses_of, is_labelled}
 
--- bytes before those of statements
-abbrev pub image_joined : List ℕ → Result (List ℕ) (ℕ × ℕ) → Result (List ℕ) (ℕ × ℕ)
-image_joined image (Ok others) = Ok (image ++ others)
-image_joined image (Err fault) = Err fault
-
 -- a label's address is that of its place
-address_same : (index at : ℕ) (statements : List Statement) (word : List ℕ) → option_map (λ (place : Place). place.address) (place_from index at statements word) ≡ option_map pos (address_from at statements word)
+pub address_same : (index at : ℕ) (statements : List Statement) (word : List ℕ) → option_map (λ (place : Place). place.address) (place_from index at statements word) ≡ option_map pos (address_from at statements word)
 unfolding place_from address_from
 address_same index at [] word = refl
 address_same index at (x ∷ statements) word = by_test (is_labelled word x) (address_same (index + 1) (at + size_of x.body) statements word)
@@ -57,7 +55,7 @@ not_earlier bound index at (x ∷ statements) word h = by_test (is_labelled word
     by_test false e = e
 
 -- a label stands among the first n statements where its place is before the n-th
-among_first : (bound index at : ℕ) (statements : List Statement) (n : ℕ) (word : List ℕ) → bound ≡ index + n → stands_before bound (place_from index at statements word) ≡ is_some (address_from at (take n statements) word)
+pub among_first : (bound index at : ℕ) (statements : List Statement) (n : ℕ) (word : List ℕ) → bound ≡ index + n → stands_before bound (place_from index at statements word) ≡ is_some (address_from at (take n statements) word)
 unfolding place_from address_from
 among_first bound index at [] zero word h = refl
 among_first bound index at [] (suc n) word h = refl
@@ -68,9 +66,18 @@ among_first bound index at (x ∷ statements) (suc n) word h = by_test (is_label
     by_test true e = below index bound (omega arith)
     by_test false e = e
 
--- the table tells the addresses of all labels
-pub all_addresses : (labels : BTreeMap (Bor (List ℕ)) Place) (statements : List Statement) → ((word : List ℕ) → found_in labels word ≡ place_of statements word) → addresses_in labels ≡ addresses_of statements
-all_addresses labels statements table = fun_ext (λ word. ap (option_map (λ (place : Place). place.address)) (table word) ∙ address_same 0 0 statements word)
+-- where no source gives a word, the table tells the addresses of all labels
+pub all_addresses : (scope : Scope) (statements : List Statement) → ((word : List ℕ) → found_in scope.own.now.labels word ≡ place_of statements word) → ((word : List ℕ) → found_in scope.givers.now word ≡ None) → addresses_in scope ≡ addresses_of statements
+all_addresses scope statements table none =
+    fun_ext (λ word.
+    ap (λ (given : Option ℕ). option_map (λ (place : Place). place.address) (option_or (found_in scope.own.now.labels word) (option_and_then (λ source. option_and_then (λ (those : Table). found_in those.labels word) (slice_get scope.tables.now source)) given))) (none word)
+    ∙ alone (found_in scope.own.now.labels word)
+    ∙ ap (option_map (λ (place : Place). place.address)) (table word)
+    ∙ address_same 0 0 statements word)
+  where
+    alone : (found : Option Place) → option_map (λ (place : Place). place.address) (option_or found None) ≡ option_map (λ (place : Place). place.address) found
+    alone None = refl
+    alone (Some place) = refl
 
 -- the table tells whether a statement's label stands before it
 pub repeated_told : (labels : BTreeMap (Bor (List ℕ)) Place) (statements : List Statement) (i : ℕ) (statement : Statement) → ((word : List ℕ) → found_in labels word ≡ place_of statements word) → repeated_in labels i statement ≡ has_label_of (take i statements) statement
@@ -83,26 +90,6 @@ repeated_told labels statements i statement table = by_label statement.label
 joined_more : (image bytes : List ℕ) (line : ℕ) (others : Result (List ℕ) (ℕ × ℕ)) → image_joined (image ++ bytes) others ≡ image_joined image (piece_before line (Ok bytes) others)
 joined_more image bytes line (Ok others) = ap Ok (append_assoc image bytes others)
 joined_more image bytes line (Err fault) = refl
-
--- the bytes of statements from the i-th on
-by_piece : (all : List Statement) (i : ℕ) (statement : Statement) → i < length all → statement ≡ get_or all i statement → image_behind all (take i all) (drop i all) ≡ piece_before statement.line (piece_of (addresses_of all) (has_label_of (take i all) statement) (total (take i all)) (entry_of (addresses_of all) (take i all)) (windows_of (take i all)) statement.body) (image_behind all (take (i + 1) all) (drop (i + 1) all))
-unfolding image_behind
-by_piece all i statement inside here = rw (drop-cons all i statement, ← here, take_more all i statement inside, ← here, add-one) refl
-
--- what is told of the statements before the i-th
-pub record Before (all : List Statement) (i : ℕ) (output : Output) : Type 0 where
-  pub size : length output.image.items ≡ total (take i all)
-  pub entry : output.entry ≡ entry_of (addresses_of all) (take i all)
-  pub windows : output.windows ≡ windows_of (take i all)
-
--- the reading of a statement from what was made so far is that of the definition
-pub same_reading : (labels : BTreeMap (Bor (List ℕ)) Place) (all : List Statement) (i : ℕ) (statement : Statement) (output : Output) → ((word : List ℕ) → found_in labels word ≡ place_of all word) → Before all i output → piece_of (addresses_in labels) (repeated_in labels i statement) (length output.image.items) output.entry output.windows statement.body ≡ piece_of (addresses_of all) (has_label_of (take i all) statement) (total (take i all)) (entry_of (addresses_of all) (take i all)) (windows_of (take i all)) statement.body
-same_reading labels all i statement output table before =
-    ap (λ addresses. piece_of addresses (repeated_in labels i statement) (length output.image.items) output.entry output.windows statement.body) (all_addresses labels all table)
-    ∙ ap (λ repeated. piece_of (addresses_of all) repeated (length output.image.items) output.entry output.windows statement.body) (repeated_told labels all i statement table)
-    ∙ ap (λ at. piece_of (addresses_of all) (has_label_of (take i all) statement) at output.entry output.windows statement.body) before.size
-    ∙ ap (λ entry. piece_of (addresses_of all) (has_label_of (take i all) statement) (total (take i all)) entry output.windows statement.body) before.entry
-    ∙ ap (λ windows. piece_of (addresses_of all) (has_label_of (take i all) statement) (total (take i all)) (entry_of (addresses_of all) (take i all)) windows statement.body) before.windows
 
 image_by : (addresses : List ℕ → Option ℤ) (old new : Output) (body : Body) (line : ℕ) (reading : Result (List ℕ) ℕ) (others whole : Result (List ℕ) (ℕ × ℕ)) → IsLaid addresses old new body reading → image_joined old.image.items (piece_before line reading others) ≡ whole → image_joined new.image.items others ≡ whole
 image_by addresses old new body line (Ok bytes) others whole laid so_far =
@@ -121,21 +108,6 @@ windows_by : (addresses : List ℕ → Option ℤ) (old new : Output) (body : Bo
 windows_by addresses old new body (Ok bytes) laid = laid.windows
 windows_by addresses old new body (Err kind) laid = absurd laid
 
--- one statement more was laid
-pub image_more : (labels : BTreeMap (Bor (List ℕ)) Place) (all : List Statement) (i : ℕ) (statement : Statement) (old new : Output) → ((word : List ℕ) → found_in labels word ≡ place_of all word) → i < length all → statement ≡ get_or all i statement → Before all i old → IsLaid (addresses_in labels) old new statement.body (piece_of (addresses_in labels) (repeated_in labels i statement) (length old.image.items) old.entry old.windows statement.body) → image_joined old.image.items (image_behind all (take i all) (drop i all)) ≡ image_behind all [] all → image_joined new.image.items (image_behind all (take (i + 1) all) (drop (i + 1) all)) ≡ image_behind all [] all
-image_more labels all i statement old new table inside here before laid so_far =
-    image_by (addresses_in labels) old new statement.body statement.line _ (image_behind all (take (i + 1) all) (drop (i + 1) all)) _ laid
-    (ap (λ reading. image_joined old.image.items (piece_before statement.line reading (image_behind all (take (i + 1) all) (drop (i + 1) all)))) (same_reading labels all i statement old table before)
-    ∙ ap (image_joined old.image.items) (sym (by_piece all i statement inside here))
-    ∙ so_far)
-
-pub before_more : (labels : BTreeMap (Bor (List ℕ)) Place) (all : List Statement) (i : ℕ) (statement : Statement) (old new : Output) → ((word : List ℕ) → found_in labels word ≡ place_of all word) → i < length all → statement ≡ get_or all i statement → Before all i old → IsLaid (addresses_in labels) old new statement.body (piece_of (addresses_in labels) (repeated_in labels i statement) (length old.image.items) old.entry old.windows statement.body) → Before all (i + 1) new
-before_more labels all i statement old new table inside here before laid = record {
-  size = rw (take_more all i statement inside, ← here, sum_by_push (λ (statement : Statement). size_of statement.body) (take i all) statement) (size_by _ old new _ _ laid ∙ ap (λ n. n + size_of statement.body) before.size);
-  entry = rw (take_more all i statement inside, ← here, fold_push (λ entry (statement : Statement). with_entry (addresses_of all) entry statement.body) None (take i all) statement) (entry_by _ old new _ _ laid ∙ ap (λ addresses. with_entry addresses old.entry statement.body) (all_addresses labels all table) ∙ ap (λ entry. with_entry (addresses_of all) entry statement.body) before.entry);
-  windows = rw (take_more all i statement inside, ← here, fold_push (λ windows (statement : Statement). with_window windows statement.body) (replicate 15 None) (take i all) statement) (windows_by _ old new _ _ laid ∙ ap (λ windows. with_window windows statement.body) before.windows);
-}
-
 fault_by : (line : ℕ) (image : List ℕ) (reading : Result (List ℕ) ℕ) (others : Result (List ℕ) (ℕ × ℕ)) (all : List Statement) (whole : Result (List ℕ) (ℕ × ℕ)) (fault : AsmFault) → IsTextFaultOf fault (at_line line reading) → image_joined image (piece_before line reading others) ≡ whole → IsTextFaultOf fault (with_image all whole)
 fault_by line image reading others all whole Memory told so_far = tt
 fault_by line image (Ok bytes) others all whole (Fault at kind) told so_far = absurd (cc told)
@@ -143,28 +115,130 @@ fault_by line image (Err kind') others all whole (Fault at kind) told so_far =
     let same : (line, kind') ≡ (at, kind) = cc told in
     ap (with_image all) (sym so_far) ∙ ap Err same
 
--- a statement has a fault
-pub fault_told : (labels : BTreeMap (Bor (List ℕ)) Place) (all : List Statement) (i : ℕ) (statement : Statement) (old : Output) (fault : AsmFault) → ((word : List ℕ) → found_in labels word ≡ place_of all word) → i < length all → statement ≡ get_or all i statement → Before all i old → IsTextFaultOf fault (at_line statement.line (piece_of (addresses_in labels) (repeated_in labels i statement) (length old.image.items) old.entry old.windows statement.body)) → image_joined old.image.items (image_behind all (take i all) (drop i all)) ≡ image_behind all [] all → IsTextFaultOf fault (assembled all)
-fault_told labels all i statement old fault table inside here before told so_far =
-    fault_by statement.line old.image.items _ (image_behind all (take (i + 1) all) (drop (i + 1) all)) all _ fault told
-    (ap (λ reading. image_joined old.image.items (piece_before statement.line reading (image_behind all (take (i + 1) all) (drop (i + 1) all)))) (same_reading labels all i statement old table before)
-    ∙ ap (image_joined old.image.items) (sym (by_piece all i statement inside here))
-    ∙ so_far)
+-- a statement that is another one among all, behind those that were laid
+module _ (addresses : List ℕ → Option ℤ) (repeated : Bool) (statement : Statement) (all before rest : List Statement) (named : Statement) (reads : IsReadAs addresses repeated statement all before named) (old : Output) (to : LaidTo all before (named ∷ rest) old) where
+  abbrev reading : Result (List ℕ) ℕ
+  reading = piece_of addresses repeated (length old.image.items) old.entry old.windows statement.body
+
+  same_reading : reading ≡ piece_of (addresses_of all) (has_label_of before named) (total before) (entry_of (addresses_of all) before) (windows_of before) named.body
+  same_reading =
+      reads.piece (length old.image.items) old.entry old.windows
+      ∙ ap (λ at. piece_of (addresses_of all) (has_label_of before named) at old.entry old.windows named.body) to.size
+      ∙ ap (λ entry. piece_of (addresses_of all) (has_label_of before named) (total before) entry old.windows named.body) to.entry
+      ∙ ap (λ windows. piece_of (addresses_of all) (has_label_of before named) (total before) (entry_of (addresses_of all) before) windows named.body) to.windows
+
+  so_far : image_joined old.image.items (piece_before statement.line reading (image_behind all (before ++ named ∷ []) rest)) ≡ image_behind all [] all
+  unfolding image_behind
+  so_far =
+      ap (λ line. image_joined old.image.items (piece_before line reading (image_behind all (before ++ named ∷ []) rest))) reads.line
+      ∙ ap (λ made. image_joined old.image.items (piece_before named.line made (image_behind all (before ++ named ∷ []) rest))) same_reading
+      ∙ to.so_far
+
+  -- it was laid
+  pub laid_more : (new : Output) → IsLaid addresses old new statement.body reading → LaidTo all (before ++ named ∷ []) rest new
+  laid_more new laid = record {
+    so_far = image_by addresses old new statement.body statement.line reading (image_behind all (before ++ named ∷ []) rest) _ laid so_far;
+    size = size_by addresses old new statement.body reading laid ∙ omega (arith, to.size, reads.size, sum_by_push (λ (statement : Statement). size_of statement.body) before named);
+    entry = entry_by addresses old new statement.body reading laid ∙ reads.entry old.entry ∙ ap (λ entry. with_entry (addresses_of all) entry named.body) to.entry ∙ sym (fold_push (λ entry (statement : Statement). with_entry (addresses_of all) entry statement.body) None before named);
+    windows = windows_by addresses old new statement.body reading laid ∙ reads.windows old.windows ∙ ap (λ windows. with_window windows named.body) to.windows ∙ sym (fold_push (λ windows (statement : Statement). with_window windows statement.body) (replicate 15 None) before named);
+  }
+
+  -- it has a fault
+  pub laid_fault : (fault : AsmFault) → IsTextFaultOf fault (at_line statement.line reading) → IsTextFaultOf fault (assembled all)
+  laid_fault fault told = fault_by statement.line old.image.items reading (image_behind all (before ++ named ∷ []) rest) all _ fault told so_far
+
+-- nothing was laid
+pub laid_none : (all : List Statement) (output : Output) → output.image.items ≡ [] → output.entry ≡ None → output.windows ≡ replicate 15 None → LaidTo all [] all output
+laid_none all output image entry windows = record {
+  so_far = ap (λ image. image_joined image (image_behind all [] all)) image ∙ empty (image_behind all [] all);
+  size = ap length image;
+  entry = entry;
+  windows = windows;
+}
+  where
+    empty : (others : Result (List ℕ) (ℕ × ℕ)) → image_joined [] others ≡ others
+    empty (Ok others) = refl
+    empty (Err fault) = refl
 
 abbrev with_parts : List ℕ → ℕ → List (Option Sight) → Result Parts (ℕ × ℕ)
 with_parts image entry windows = Ok (record { image = image; entry = entry; windows = windows })
 
 -- all statements were laid
-pub all_laid : (all : List Statement) (i : ℕ) (output : Output) (program : Program) → length all ≤ i → Before all i output → program.image ≡ output.image.items → program.entry ≡ unwrap_or output.entry 0 → program.windows ≡ output.windows → image_joined output.image.items (image_behind all (take i all) (drop i all)) ≡ image_behind all [] all → assembled all ≡ Ok (parts_of program)
+pub laid_all : (all : List Statement) (output : Output) (program : Program) → LaidTo all all [] output → program.image ≡ output.image.items → program.entry ≡ unwrap_or output.entry 0 → program.windows ≡ output.windows → assembled all ≡ Ok (parts_of program)
 unfolding image_behind
-all_laid all i output program past before image entry windows so_far =
-    let front : take i all ≡ all = grind (arith, common_steps) in
-    let none : drop i all ≡ [] = grind (arith, common_steps) in
-    let laid = rw (none, append-nil) at so_far in
-    let same_image : output.image.items ≡ program.image = sym image in
-    let same_entry = ap (λ statements. unwrap_or (entry_of (addresses_of all) statements) 0) (sym front) ∙ ap (λ entry. unwrap_or entry 0) (sym before.entry) ∙ sym entry in
-    let same_windows = ap windows_of (sym front) ∙ sym before.windows ∙ sym windows in
+laid_all all output program to image entry windows =
+    let laid : Ok output.image.items ≡ image_behind all [] all = ap Ok (sym (append-nil output.image.items)) ∙ to.so_far in
+    let same_entry = ap (λ entry. unwrap_or entry 0) (sym to.entry) ∙ sym entry in
     ap (with_image all) (sym laid)
-    ∙ ap (λ image. with_parts image (unwrap_or (entry_of (addresses_of all) all) 0) (windows_of all)) same_image
+    ∙ ap (λ image. with_parts image (unwrap_or (entry_of (addresses_of all) all) 0) (windows_of all)) (sym image)
     ∙ ap (λ entry. with_parts program.image entry (windows_of all)) same_entry
-    ∙ ap (λ windows. with_parts program.image program.entry windows) same_windows
+    ∙ ap (λ windows. with_parts program.image program.entry windows) (sym to.windows ∙ sym windows)
+
+-- a statement of a text, read by the table of the text, is itself
+pub read_as_itself : (scope : Scope) (all : List Statement) (i : ℕ) (statement : Statement) → ((word : List ℕ) → found_in scope.own.now.labels word ≡ place_of all word) → ((word : List ℕ) → found_in scope.givers.now word ≡ None)
+    → IsReadAs (addresses_in scope) (repeated_in scope.own.now.labels i statement) statement all (take i all) statement
+read_as_itself scope all i statement table none =
+    let same = all_addresses scope all table none in
+    record {
+      line = refl;
+      piece = λ at entry windows.
+          ap (λ addresses. piece_of addresses (repeated_in scope.own.now.labels i statement) at entry windows statement.body) same
+          ∙ ap (λ repeated. piece_of (addresses_of all) repeated at entry windows statement.body) (repeated_told scope.own.now.labels all i statement table);
+      size = refl;
+      entry = λ entry. ap (λ addresses. with_entry addresses entry statement.body) same;
+      windows = λ windows. refl;
+    }
+
+-- the statements of a text are read as themselves
+pub text_as_itself : (scope : Scope) (all : List Statement) → ((word : List ℕ) → found_in scope.own.now.labels word ≡ place_of all word) → ((word : List ℕ) → found_in scope.givers.now word ≡ None) → AreReadAs scope all all [] all
+text_as_itself scope all table none = record {
+  many = refl;
+  each = λ index one other within here there.
+      let same : one ≡ other = here ∙ get_or_default all index one other within ∙ sym there in
+      subst (λ (that : Statement). IsReadAs (addresses_in scope) (repeated_in scope.own.now.labels index one) one all (take index all) that) same (read_as_itself scope all index one table none);
+}
+
+-- statements of a source, laid one by one
+module _ (scope : Scope) (statements all before rest named : List Statement) (are : AreReadAs scope statements all before named) (i : ℕ) where
+  module _ (one : Statement) (within : i < length statements) (here : one ≡ get_or statements i one) (old : Output) (to : LaidTo all (before ++ take i named) (drop i named ++ rest) old) where
+    other : Statement
+    other = get_or named i one
+
+    inside : i < length named
+    inside = omega (arith, are.many, within)
+
+    there : other ≡ get_or named i other
+    unfolding other
+    there = get_or_default named i one (get_or named i one) inside
+
+    reads : IsReadAs (addresses_in scope) (repeated_in scope.own.now.labels i one) one all (before ++ take i named) other
+    reads = are.each i one other within here there
+
+    behind : drop i named ++ rest ≡ other ∷ (drop (i + 1) named ++ rest)
+    behind = let within_named : i < length named = inside in rw (drop-cons named i other, ← there, add-one) refl
+
+    front : before ++ take (i + 1) named ≡ (before ++ take i named) ++ other ∷ []
+    front = rw (take_more named i other inside, ← there) (sym (append_assoc before (take i named) (other ∷ [])))
+
+    to_other : LaidTo all (before ++ take i named) (other ∷ (drop (i + 1) named ++ rest)) old
+    to_other = subst (λ (these : List Statement). LaidTo all (before ++ take i named) these old) behind to
+
+    abbrev reading_of : Result (List ℕ) ℕ
+    reading_of = piece_of (addresses_in scope) (repeated_in scope.own.now.labels i one) (length old.image.items) old.entry old.windows one.body
+
+    pub source_more : (new : Output) → IsLaid (addresses_in scope) old new one.body reading_of → LaidTo all (before ++ take (i + 1) named) (drop (i + 1) named ++ rest) new
+    source_more new laid =
+        subst (λ (these : List Statement). LaidTo all these (drop (i + 1) named ++ rest) new) (sym front)
+        (laid_more (addresses_in scope) (repeated_in scope.own.now.labels i one) one all (before ++ take i named) (drop (i + 1) named ++ rest) other reads old to_other new laid)
+
+    pub source_fault : (fault : AsmFault) → IsTextFaultOf fault (at_line one.line reading_of) → IsTextFaultOf fault (assembled all)
+    source_fault fault told = laid_fault (addresses_in scope) (repeated_in scope.own.now.labels i one) one all (before ++ take i named) (drop (i + 1) named ++ rest) other reads old to_other fault told
+
+  pub source_laid : (output : Output) → length statements ≤ i → LaidTo all (before ++ take i named) (drop i named ++ rest) output → LaidTo all (before ++ named) rest output
+  source_laid output past to =
+      let front : take i named ≡ named = take_all i named (omega (arith, are.many, past)) in
+      let none : drop i named ≡ [] = drop_all i named (omega (arith, are.many, past)) in
+      subst (λ (these : List Statement). LaidTo all (before ++ these) rest output) front (subst (λ (these : List Statement). LaidTo all (before ++ take i named) (these ++ rest) output) none to)
+
+pub source_start : (all before rest named : List Statement) (output : Output) → LaidTo all before (named ++ rest) output → LaidTo all (before ++ take 0 named) (drop 0 named ++ rest) output
+source_start all before rest named output to = subst (λ (these : List Statement). LaidTo all these (named ++ rest) output) (sym (append-nil before)) to

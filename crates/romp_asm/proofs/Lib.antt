@@ -7,3 +7,5 @@ pub mod AloneLemmas
 pub mod LawLemmas
 pub mod MadeLemmas
 pub mod WindowLemmas
+pub mod RenamedLemmas
+pub mod SourcesLemmas

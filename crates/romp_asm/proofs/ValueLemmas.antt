@@ -6,7 +6,7 @@ use Rattle.std.proofs.lemmas.List.Sums.{sum_by-cons, sum_by_push}
 use Rattle.asm_parse.specs.declared.statement.Statement.{Statement}
 use Rattle.romp_asm.specs.declared.value.Known.{Known}
 use Rattle.romp_asm.specs.declared.value.Place.{Place}
-use Rattle.romp_asm.specs.Labels.{noted, place_from, place_of}
+use Rattle.romp_asm.specs.Labels.{noted, place_from}
 use Rattle.romp_asm.specs.Size.{size_of, total}
 use Rattle.romp_asm.specs.Value.{is_labelled, known_before, least_kind}
 
@@ -51,18 +51,18 @@ place_push index at (y ∷ xs) x word =
     let same_address : at + total (y ∷ xs) ≡ at + size_of y.body + total xs = omega (arith, sum_by-cons (λ (statement : Statement). size_of statement.body) y xs) in
     rw (same_index, same_address) (noted_first (is_labelled word y) (is_labelled word x) (record { statement = index; address = pos at }) _ _ _ (place_push (index + 1) (at + size_of y.body) xs x word))
 
--- the first label is noted at address 0
-pub no_place : (word : List ℕ) → place_of [] word ≡ None
+-- no label is noted yet
+pub no_place : (start : ℕ) (word : List ℕ) → place_from 0 start [] word ≡ None
 unfolding place_from
-no_place word = refl
+no_place start word = refl
 
 -- the table after one statement more
-pub place_more : (statements : List Statement) (i : ℕ) (statement : Statement) (word : List ℕ) (address : ℕ) → i < length statements → statement ≡ get_or statements i statement → address ≡ total (take i statements) → place_of (take (i + 1) statements) word ≡ noted (place_of (take i statements) word) (is_labelled word statement) (record { statement = i; address = pos address })
-place_more statements i statement word address inside here is =
+pub place_more : (start : ℕ) (statements : List Statement) (i : ℕ) (statement : Statement) (word : List ℕ) (address : ℕ) → i < length statements → statement ≡ get_or statements i statement → address ≡ start + total (take i statements)
+    → place_from 0 start (take (i + 1) statements) word ≡ noted (place_from 0 start (take i statements) word) (is_labelled word statement) (record { statement = i; address = pos address })
+place_more start statements i statement word address inside here is =
     let front : length (take i statements) ≡ i = length-take-le i statements (omega arith) in
     let same_index : 0 + length (take i statements) ≡ i = omega arith in
-    let same_address : 0 + total (take i statements) ≡ address = omega arith in
-    rw (take_more statements i statement inside, ← here, place_push 0 0 (take i statements) statement word, same_index, same_address) refl
+    rw (take_more statements i statement inside, ← here, place_push 0 start (take i statements) statement word, same_index, ← is) refl
 
 -- a number below 2^63 keeps its value with a sign
 pub signed_same : (n : ℕ) → n < 2 ^ 63 → to_z w64 n ≡ pos n

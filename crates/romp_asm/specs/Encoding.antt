@@ -5,7 +5,7 @@ use Rattle.std.specs.Int.{to_be_bytes, w16, w32}
 use Rattle.romp_table.specs.declared.inst.Code.{Code}
 use Rattle.romp_table.specs.Encode.{bits_of, encoded}
 use Rattle.asm_parse.specs.declared.statement.Body.{Body}
-use Rattle.asm_parse.specs.declared.statement.Body.TheVariants.{Nothing, Inst, Data, Space, Window, Entry}
+use Rattle.asm_parse.specs.declared.statement.Body.TheVariants.{Nothing, Inst, Data, Space, Window, Entry, Export}
 use Rattle.asm_parse.specs.Form.{form_of}
 use Rattle.romp_asm.specs.Value.{is_between, knowns_of, value_of}
 use Rattle.romp_asm.specs.Field.{even_at_most}
@@ -43,3 +43,4 @@ encoding_of addresses at (Space count) = Ok (replicate count 0)
 encoding_of addresses at (Window register segment write) = Ok []
 encoding_of addresses at (Entry value) =
     then_value (λ number. in_range (option_map (λ entry. []) (even_at_most 16382 number))) (value_of addresses value)
+encoding_of addresses at (Export word) = Ok []

@@ -1,22 +1,30 @@
 -- The labels as they are looked up.
-use Rattle.std.specs.Prelude.{◌≡◌, ℕ, ℤ, pos, ◌<◌, IfSome, slice_index_or, ◌+◌, nat_lt, false, if◌then◌else◌, Bool, List, [], ◌∷◌, Option, Some, None}
-use Rattle.std.specs.Option.{option_map, option_map_or}
+use Rattle.std.specs.Prelude.{◌≡◌, ℕ, ℤ, pos, ◌<◌, IfSome, slice_get, slice_index_or, length, take, sum_by, option_and_then, ◌+◌, nat_lt, false, if◌then◌else◌, Bool, List, [], ◌∷◌, Option, Some, None}
+use Rattle.std.specs.Option.{option_map, option_map_or, option_or}
 use denote.Ref.{Bor}
 use Rattle.std.specs.Ordering.{nat_cmp}
 use Rattle.std.specs.BTreeMap.{BTreeMap, get_by}
 use Rattle.std.specs.Cmp.Lexicographic.{slice_cmp}
 use Rattle.asm_parse.specs.declared.statement.Statement.{Statement}
-use Rattle.romp_asm.specs.Size.{size_of}
+use Rattle.romp_asm.specs.Size.{size_of, total}
 use Rattle.romp_asm.specs.Value.{is_labelled}
 use Rattle.romp_asm.specs.declared.value.Place.{Place}
+use Rattle.romp_asm.specs.declared.value.Scope.{Scope}
+use Rattle.romp_asm.specs.declared.value.Table.{Table}
 
 -- what a table has at a word
-abbrev pub found_in : BTreeMap (Bor (List ℕ)) Place → List ℕ → Option Place
+abbrev pub found_in : {V : Type 0} → BTreeMap (Bor (List ℕ)) V → List ℕ → Option V
 found_in labels word = get_by (λ key. slice_cmp nat_cmp word key.now) labels
 
--- the addresses that a table has
-abbrev pub addresses_in : BTreeMap (Bor (List ℕ)) Place → List ℕ → Option ℤ
-addresses_in labels word = option_map (λ place. place.address) (found_in labels word)
+-- where a word stands in the source that gives it to the others
+abbrev pub given_in : Scope → List ℕ → Option Place
+given_in scope word =
+    option_and_then (λ source. option_and_then (λ table. found_in table.labels word) (slice_get scope.tables.now source))
+    (found_in scope.givers.now word)
+
+-- the addresses of the labels that the statements of a source may name
+abbrev pub addresses_in : Scope → List ℕ → Option ℤ
+addresses_in scope word = option_map (λ place. place.address) (option_or (found_in scope.own.now.labels word) (given_in scope word))
 
 -- whether a place is that of an earlier statement than the one with this number
 abbrev pub stands_before : ℕ → Option Place → Bool
@@ -51,3 +59,14 @@ place_from index at (statement ∷ statements) word =
 -- the first statement that has a label, and its address
 abbrev pub place_of : List Statement → List ℕ → Option Place
 place_of statements word = place_from 0 0 statements word
+
+-- the table has the labels of statements, of which the first stands at an address
+pub record IsTable (table : Table) (start : ℕ) (statements : List Statement) : Type 0 where
+  pub found : (word : List ℕ) → found_in table.labels word ≡ place_from 0 start statements word
+  pub alone : table.repeats ≡ false → AreAlone table.labels statements (length statements)
+  pub end : table.end ≡ start + total statements
+
+-- there is a table of each source, which stand one behind the other
+pub record AreTables (tables : List Table) (sources : List (List Statement)) : Type 0 where
+  pub many : length tables ≡ length sources
+  pub each : (source : ℕ) (table : Table) → source < length tables → table ≡ slice_index_or tables source table → IsTable table (sum_by total (take source sources)) (slice_index_or sources source [])

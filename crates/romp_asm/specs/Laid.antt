@@ -1,9 +1,14 @@
 -- What is laid, statement by statement.
-use Rattle.std.specs.Prelude.{◌≡◌, ℕ, ℤ, ◌++◌, List, length, Option, Result, Ok, Err}
+use Rattle.std.specs.Prelude.{◌≡◌, ℕ, ℤ, ◌++◌, List, [], ◌∷◌, length, take, Bool, Option, slice_index_or, ◌<◌, Result, Ok, Err}
 use Rattle.asm_parse.specs.declared.statement.Body.{Body}
-use Rattle.romp_asm.specs.Layout.{with_entry, with_window}
-use Rattle.romp_asm.specs.Size.{size_of}
+use Rattle.asm_parse.specs.declared.statement.Statement.{Statement}
+use Rattle.romp_asm.specs.Labels.{addresses_in, repeated_in}
+use Rattle.romp_asm.specs.Layout.{entry_of, has_label_of, image_behind, piece_of, windows_of, with_entry, with_window}
+use Rattle.romp_asm.specs.Size.{size_of, total}
+use Rattle.romp_asm.specs.Value.{addresses_of}
+use Rattle.flat_machine.specs.declared.machine.Window.{Window as Sight}
 use Rattle.romp_asm.specs.declared.output.Output.{Output}
+use Rattle.romp_asm.specs.declared.value.Scope.{Scope}
 
 -- the bytes of a statement were laid behind the others, and its entry address or window was noted
 pub record Lays (addresses : List ℕ → Option ℤ) (old new : Output) (body : Body) (bytes : List ℕ) : Type 0 where
@@ -16,3 +21,28 @@ pub record Lays (addresses : List ℕ → Option ℤ) (old new : Output) (body :
 abbrev pub IsLaid : (List ℕ → Option ℤ) → Output → Output → Body → Result (List ℕ) ℕ → Type 0
 IsLaid addresses old new body (Ok bytes) = Lays addresses old new body bytes
 IsLaid addresses old new body (Err kind) = ⊥
+
+-- bytes before those of statements
+abbrev pub image_joined : List ℕ → Result (List ℕ) (ℕ × ℕ) → Result (List ℕ) (ℕ × ℕ)
+image_joined image (Ok others) = Ok (image ++ others)
+image_joined image (Err fault) = Err fault
+
+-- of all statements some were laid, and the rest is to be laid behind them
+pub record LaidTo (all before rest : List Statement) (output : Output) : Type 0 where
+  pub so_far : image_joined output.image.items (image_behind all before rest) ≡ image_behind all [] all
+  pub size : length output.image.items ≡ total before
+  pub entry : output.entry ≡ entry_of (addresses_of all) before
+  pub windows : output.windows ≡ windows_of before
+
+-- a statement that is read with these addresses, and whether its label is repeated, is another one among all, which stands behind some
+pub record IsReadAs (addresses : List ℕ → Option ℤ) (repeated : Bool) (statement : Statement) (all before : List Statement) (named : Statement) : Type 0 where
+  pub line : statement.line ≡ named.line
+  pub piece : (at : ℕ) (entry : Option ℕ) (windows : List (Option Sight)) → piece_of addresses repeated at entry windows statement.body ≡ piece_of (addresses_of all) (has_label_of before named) at entry windows named.body
+  pub size : size_of statement.body ≡ size_of named.body
+  pub entry : (entry : Option ℕ) → with_entry addresses entry statement.body ≡ with_entry (addresses_of all) entry named.body
+  pub windows : (windows : List (Option Sight)) → with_window windows statement.body ≡ with_window windows named.body
+
+-- statements of a source are others, one by one, which stand behind some
+pub record AreReadAs (scope : Scope) (statements all before named : List Statement) : Type 0 where
+  pub many : length statements ≡ length named
+  pub each : (index : ℕ) (one other : Statement) → index < length statements → one ≡ slice_index_or statements index one → other ≡ slice_index_or named index other → IsReadAs (addresses_in scope) (repeated_in scope.own.now.labels index one) one all (before ++ take index named) other

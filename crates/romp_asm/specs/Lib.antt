@@ -8,3 +8,4 @@ pub mod Piece
 pub mod Layout
 pub mod Laid
 pub mod Source
+pub mod Sources

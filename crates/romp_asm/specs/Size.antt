@@ -3,7 +3,7 @@ use Rattle.std.specs.Prelude.{◌≡◌, ℕ, List, sum_by}
 use Rattle.asm_parse.specs.declared.form.Form.{Form}
 use Rattle.asm_parse.specs.declared.statement.Statement.{Statement}
 use Rattle.asm_parse.specs.declared.statement.Body.{Body}
-use Rattle.asm_parse.specs.declared.statement.Body.TheVariants.{Nothing, Inst, Data, Space, Window, Entry}
+use Rattle.asm_parse.specs.declared.statement.Body.TheVariants.{Nothing, Inst, Data, Space, Window, Entry, Export}
 use Rattle.asm_parse.specs.Form.{form_of}
 
 -- the bytes of an instruction of this form
@@ -32,6 +32,7 @@ size_of (Data count value) = count
 size_of (Space count) = count
 size_of (Window register segment write) = 0
 size_of (Entry value) = 0
+size_of (Export word) = 0
 
 -- the bytes of statements together
 abbrev pub total : List Statement → ℕ
@@ -45,4 +46,5 @@ SameMnemonic (Data count value) (Data count' value') = count ≡ count'
 SameMnemonic (Space count) (Space count') = count ≡ count'
 SameMnemonic (Window register segment write) (Window register' segment' write') = Unit {0}
 SameMnemonic (Entry value) (Entry value') = Unit {0}
+SameMnemonic (Export word) (Export word') = Unit {0}
 SameMnemonic _ _ = ⊥

@@ -12,7 +12,7 @@ ghost use Rattle.asm_parse.specs.declared.statement.Body.TheVariants as body_is;
 
 use super::field::{OUT_OF_REACH, even_at_most, is_between};
 use super::instruction::inst_of;
-use super::value::{Labels, knowns_of, value_of};
+use super::value::{Scope, knowns_of, value_of};
 use arrayvec::ArrayVec;
 use asm_parse::{Body, Expr, Operand};
 use romp_table::{Inst, Op, encode};
@@ -25,30 +25,30 @@ pub(crate) enum Piece {
 }
 
 /// The bytes of a statement at an address.
-pub(crate) fn piece_of(labels: &Labels<'_>, at: u32, body: &Body) -> Result<Piece, u8>
-    ensures value { IsReading result (encoding_of (addresses_in labels.now) at body.now) }
+pub(crate) fn piece_of(scope: &Scope<'_, '_, '_, '_>, at: u32, body: &Body) -> Result<Piece, u8>
+    ensures value { IsReading result (encoding_of (addresses_in scope.now) at body.now) }
     ensures size { IfOk result (λ piece. length (piece_bytes piece) ≡ size_of body.now) }
 {
     match body {
-        Body::Nothing | Body::Window(..) => Ok(Piece::Zeros(0)),
+        Body::Nothing | Body::Window(..) | Body::Export(_) => Ok(Piece::Zeros(0)),
         Body::Space(count) => Ok(Piece::Zeros(*count)),
-        Body::Inst(op, operands) => inst_piece(labels, at, *op, operands),
-        Body::Data(count, value) => data_piece(labels, *count, value),
-        Body::Entry(value) => entry_piece(labels, value),
+        Body::Inst(op, operands) => inst_piece(scope, at, *op, operands),
+        Body::Data(count, value) => data_piece(scope, *count, value),
+        Body::Entry(value) => entry_piece(scope, value),
     }
 }
 
 /// The bytes of an instruction.
 fn inst_piece(
-    labels: &Labels<'_>,
+    scope: &Scope<'_, '_, '_, '_>,
     at: u32,
     op: Op,
     operands: &ArrayVec<Operand, 4>,
 ) -> Result<Piece, u8>
-    ensures value { IsReading result (encoding_of (addresses_in labels.now) at (body_is.Inst op operands.now)) }
+    ensures value { IsReading result (encoding_of (addresses_in scope.now) at (body_is.Inst op operands.now)) }
     ensures size { IfOk result (λ piece. length (piece_bytes piece) ≡ form_size (form_of op)) }
 {
-    match knowns_of(labels, operands.as_slice()) {
+    match knowns_of(scope, operands.as_slice()) {
         Ok(knowns) => match inst_of(op, at, knowns.as_slice()) {
             Some(inst) => Ok(code_piece(&inst)),
             None => Err(OUT_OF_REACH),
@@ -68,11 +68,11 @@ fn code_piece(inst: &Inst) -> Piece
 }
 
 /// The bytes of a value.
-fn data_piece(labels: &Labels<'_>, count: u8, value: &Expr) -> Result<Piece, u8>
-    ensures value { IsReading result (encoding_of (addresses_in labels.now) 0 (body_is.Data count value.now)) }
+fn data_piece(scope: &Scope<'_, '_, '_, '_>, count: u8, value: &Expr) -> Result<Piece, u8>
+    ensures value { IsReading result (encoding_of (addresses_in scope.now) 0 (body_is.Data count value.now)) }
     ensures size { IfOk result (λ piece. length (piece_bytes piece) ≡ count) }
 {
-    match value_of(labels, value) {
+    match value_of(scope, value) {
         Ok(number) => match data_bytes(count, number) {
             Some(piece) => Ok(piece),
             None => Err(OUT_OF_REACH),
@@ -135,11 +135,11 @@ fn byte_of(value: i64) -> u8
 }
 
 /// No bytes, if a value may be the entry address.
-fn entry_piece(labels: &Labels<'_>, value: &Expr) -> Result<Piece, u8>
-    ensures value { IsReading result (encoding_of (addresses_in labels.now) 0 (body_is.Entry value.now)) }
+fn entry_piece(scope: &Scope<'_, '_, '_, '_>, value: &Expr) -> Result<Piece, u8>
+    ensures value { IsReading result (encoding_of (addresses_in scope.now) 0 (body_is.Entry value.now)) }
     ensures size { IfOk result (λ piece. length (piece_bytes piece) ≡ 0) }
 {
-    match value_of(labels, value) {
+    match value_of(scope, value) {
         Ok(number) => match even_at_most(16_382, number) {
             Some(_) => Ok(Piece::Zeros(0)),
             None => Err(OUT_OF_REACH),

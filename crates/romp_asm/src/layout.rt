@@ -1,17 +1,20 @@
-ghost use Rattle.std.specs.Prelude.{◌≡◌, false, ◌<◌, ◌≤◌, ◌^◌, length, MatchResult};
+ghost use Rattle.std.specs.Prelude.{◌≡◌, false, ◌<◌, ◌≤◌, ◌^◌, List, ◌++◌, length, sum_by, MatchResult};
 ghost use Rattle.asm_parse.specs.Answers.{IsAnswer, IsTextFaultOf};
 ghost use Rattle.asm_parse.specs.Kept.{stated};
 ghost use Rattle.asm_parse.specs.Text.{at_line};
-ghost use Rattle.romp_asm.specs.Labels.{addresses_in, found_in, repeated_in, stands_before};
-ghost use Rattle.romp_asm.specs.Laid.{IsLaid};
+ghost use Rattle.romp_asm.specs.Labels.{addresses_in, found_in, repeated_in, stands_before, AreAlone};
+ghost use Rattle.romp_asm.specs.Laid.{AreReadAs, IsLaid, LaidTo};
+ghost use Rattle.asm_parse.specs.declared.statement.Statement.{Statement as Stated};
 ghost use Rattle.romp_asm.specs.Source.{source_of};
+ghost use Rattle.romp_asm.specs.Sources.{joined};
 ghost use Rattle.romp_asm.specs.Layout.{assembled, parts_of, piece_of};
 
 use super::output::Output;
-use super::value::{Labels, Table, labels_kept, labels_of};
+use super::value::{Givers, Labels, Scope, labels_of, tables_of};
 use asm_parse::{AsmFault, LineFault, Part, Statement, Statements, parse};
 use flat_machine::Program;
 use std::alloc::Global;
+use std::collections::BTreeMap;
 
 /// The program of a source.
 ///
@@ -32,7 +35,7 @@ pub fn assemble_text(alloc: Global, text: &[u8]) -> Result<Program, AsmFault>
     }
 }
 
-/// The program that statements make.
+/// The program that statements make. An `.export` says nothing here.
 ///
 /// The rules are in docs/FORMATS.md, "Assembler". What follows a statement with which the image passes 16,384 bytes is
 /// not laid out.
@@ -46,45 +49,92 @@ pub fn assemble(alloc: Global, statements: &[Statement]) -> Result<Program, AsmF
     ensures { IsAnswer parts_of result (assembled statements.now) }
 {
     let table = labels_of(alloc, statements)?;
+    let givers = BTreeMap::new(alloc);
+    let scope = Scope {
+        own: &table,
+        tables: &[],
+        givers: &givers,
+    };
     let mut output = Output::new(alloc);
-    for (index, statement) in statements.iter().enumerate() {
-        add(&mut output, &table, index, &Part::of(statement))?;
-    }
+    add_text(&mut output, &scope, statements)?;
     Ok(output.finish())
 }
 
-/// The program that statements make which are kept. It answers as [`assemble`] does.
+/// The program that several sources make: they stand end to end, and each sees its own labels, and of the others those
+/// that `givers` says, by the number of the source, counted from 0. An `.export` says nothing here.
 ///
 /// # Errors
 ///
 /// As [`assemble`].
-pub fn assemble_kept(alloc: Global, statements: &Statements) -> Result<Program, AsmFault>
-    requires { length statements.now ≤ 2 ^ 30 }
-    ensures { IsAnswer parts_of result (assembled statements.now) }
+pub fn assemble_sources(
+    alloc: Global,
+    sources: &[Statements],
+    givers: &Givers<'_>,
+) -> Result<Program, AsmFault>
+    requires { sum_by (λ source. length source) sources.now ≤ 2 ^ 30 }
+    ensures { IsAnswer parts_of result (assembled (joined (found_in givers.now) sources.now)) }
 {
-    let table = labels_kept(alloc, statements)?;
+    let kept = tables_of(alloc, sources)?;
+    let tables = kept.as_slice();
     let mut output = Output::new(alloc);
-    for index in 0..statements.len() {
-        add(&mut output, &table, index, &statements.at(index))?;
+    for (source, statements) in sources.iter().enumerate() {
+        let scope = Scope {
+            own: &tables[source],
+            tables,
+            givers,
+        };
+        add_source(&mut output, &scope, statements)?;
     }
     Ok(output.finish())
+}
+
+/// Lays the statements of a text.
+fn add_text(
+    output: &mut Output,
+    scope: &Scope<'_, '_, '_, '_>,
+    statements: &[Statement],
+) -> Result<(), AsmFault>
+    requires { scope.now.own.now.repeats ≡ false → AreAlone scope.now.own.now.labels statements.now (length statements.now) }
+    ensures { (all before rest named : List Stated) → AreReadAs scope.now statements.now all before named → LaidTo all before (named ++ rest) output.old →
+        MatchResult result (λ _. LaidTo all (before ++ named) rest output.new) (λ fault. IsTextFaultOf fault (assembled all)) }
+{
+    for (index, statement) in statements.iter().enumerate() {
+        add(output, scope, index, &Part::of(statement))?;
+    }
+    Ok(())
+}
+
+/// Lays the statements of a source behind the others.
+fn add_source(
+    output: &mut Output,
+    scope: &Scope<'_, '_, '_, '_>,
+    statements: &Statements,
+) -> Result<(), AsmFault>
+    requires { scope.now.own.now.repeats ≡ false → AreAlone scope.now.own.now.labels statements.now (length statements.now) }
+    ensures { (all before rest named : List Stated) → AreReadAs scope.now statements.now all before named → LaidTo all before (named ++ rest) output.old →
+        MatchResult result (λ _. LaidTo all (before ++ named) rest output.new) (λ fault. IsTextFaultOf fault (assembled all)) }
+{
+    for index in 0..statements.len() {
+        add(output, scope, index, &statements.at(index))?;
+    }
+    Ok(())
 }
 
 /// Lays one statement behind the others.
 fn add(
     output: &mut Output,
-    table: &Table<'_>,
+    scope: &Scope<'_, '_, '_, '_>,
     index: usize,
     part: &Part<'_>,
 ) -> Result<(), AsmFault>
-    requires alone { table.now.repeats ≡ false → repeated_in table.now.labels index (stated part.now) ≡ false }
+    requires alone { scope.now.own.now.repeats ≡ false → repeated_in scope.now.own.now.labels index (stated part.now) ≡ false }
     ensures { let statement = stated part.now in
-        let reading = piece_of (addresses_in table.now.labels) (repeated_in table.now.labels index statement) (length output.old.image.items) output.old.entry output.old.windows statement.body in
-        MatchResult result (λ _. IsLaid (addresses_in table.now.labels) output.old output.new statement.body reading)
+        let reading = piece_of (addresses_in scope.now) (repeated_in scope.now.own.now.labels index statement) (length output.old.image.items) output.old.entry output.old.windows statement.body in
+        MatchResult result (λ _. IsLaid (addresses_in scope.now) output.old output.new statement.body reading)
         (λ fault. IsTextFaultOf fault (at_line statement.line reading)) }
 {
-    let repeated = table.repeats && is_repeated(&table.labels, index, part);
-    match output.add(&table.labels, repeated, part.body) {
+    let repeated = scope.own.repeats && is_repeated(&scope.own.labels, index, part);
+    match output.add(scope, repeated, part.body) {
         Ok(()) => Ok(()),
         Err(LineFault::Kind(kind)) => Err(AsmFault::Fault {
             line: part.line,

@@ -13,4 +13,5 @@ mod tests;
 mod value;
 
 pub use law::{a_source_has_one_answer, size_is_by_mnemonic};
-pub use layout::{assemble, assemble_kept, assemble_text};
+pub use layout::{assemble, assemble_sources, assemble_text};
+pub use value::Givers;

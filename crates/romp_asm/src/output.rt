@@ -8,7 +8,7 @@ ghost use Rattle.romp_asm.specs.Piece.{piece_bytes};
 use super::encoding::{Piece, piece_of};
 use super::field::{DUPLICATE, IMAGE_TOO_LONG, WINDOW, even_at_most};
 use super::size::size_of;
-use super::value::{Labels, value_of};
+use super::value::{Scope, value_of};
 use asm_parse::{Body, Expr, LineFault};
 use flat_machine::{Program, Window};
 use owned_list::OwnedList;
@@ -46,14 +46,19 @@ impl Output {
     }
 
     /// Lays a statement behind the others. `repeated` says whether its label stood before.
-    pub fn add(&mut self, labels: &Labels<'_>, repeated: bool, body: &Body) -> Result<(), LineFault>
-        ensures { let reading = piece_of (addresses_in labels.now) repeated (length self.old.image.items) self.old.entry self.old.windows body.now in
-            MatchResult result (λ _. IsLaid (addresses_in labels.now) self.old self.new body.now reading) (λ fault. IsFaultOf fault reading) }
+    pub fn add(
+        &mut self,
+        scope: &Scope<'_, '_, '_, '_>,
+        repeated: bool,
+        body: &Body,
+    ) -> Result<(), LineFault>
+        ensures { let reading = piece_of (addresses_in scope.now) repeated (length self.old.image.items) self.old.entry self.old.windows body.now in
+            MatchResult result (λ _. IsLaid (addresses_in scope.now) self.old self.new body.now reading) (λ fault. IsFaultOf fault reading) }
     {
         if repeated || (is_entry(body) && self.entry.is_some()) {
             return Err(LineFault::Kind(DUPLICATE));
         }
-        let piece = match piece_of(labels, self.image.len() as u32, body) {
+        let piece = match piece_of(scope, self.image.len() as u32, body) {
             Ok(piece) => piece,
             Err(kind) => return Err(LineFault::Kind(kind)),
         };
@@ -64,19 +69,19 @@ impl Output {
             return Err(LineFault::Kind(WINDOW));
         }
         lay(&mut self.image, piece)?;
-        self.note(labels, body);
+        self.note(scope, body);
         Ok(())
     }
 
     /// Notes an entry address or a window.
-    fn note(&mut self, labels: &Labels<'_>, body: &Body)
+    fn note(&mut self, scope: &Scope<'_, '_, '_, '_>, body: &Body)
         requires { takes_window self.old.windows body.now ≡ true }
         ensures image { self.new.image ≡ self.old.image }
-        ensures entry { self.new.entry ≡ with_entry (addresses_in labels.now) self.old.entry body.now }
+        ensures entry { self.new.entry ≡ with_entry (addresses_in scope.now) self.old.entry body.now }
         ensures windows { self.new.windows ≡ with_window self.old.windows body.now }
     {
         match body {
-            Body::Entry(value) => self.entry = entry_in(labels, value),
+            Body::Entry(value) => self.entry = entry_in(scope, value),
             Body::Window(register, segment, write) => {
                 self.windows[*register as usize - 1] = Some(Window {
                     segment: *segment as u16,
@@ -136,12 +141,12 @@ fn is_entry(body: &Body) -> bool
 }
 
 /// The entry address that a value is.
-fn entry_in(labels: &Labels<'_>, value: &Expr) -> Option<u16>
-    ensures value { result ≡ entry_by (value_of (addresses_in labels.now) value.now) }
+fn entry_in(scope: &Scope<'_, '_, '_, '_>, value: &Expr) -> Option<u16>
+    ensures value { result ≡ entry_by (value_of (addresses_in scope.now) value.now) }
     ensures fits { unwrap_or result 0 < 16384 }
     ensures even { unwrap_or result 0 % 2 ≡ 0 }
 {
-    match value_of(labels, value) {
+    match value_of(scope, value) {
         Ok(number) => match even_at_most(16_382, number) {
             Some(entry) => Some(entry as u16),
             None => None,

@@ -12,7 +12,7 @@ pub(crate) fn size_of(body: &Body) -> u32
         Body::Inst(op, _) => form_size(form_of(*op)),
         Body::Data(count, _) => u32::from(*count),
         Body::Space(count) => *count,
-        Body::Nothing | Body::Window(..) | Body::Entry(_) => 0,
+        Body::Nothing | Body::Window(..) | Body::Entry(_) | Body::Export(_) => 0,
     }
 }
 

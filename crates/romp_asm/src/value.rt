@@ -1,8 +1,9 @@
-ghost use Rattle.std.specs.Prelude.{◌≡◌, false, ◌≤◌, ◌<◌, ◌^◌, ◌+ℤ◌, ℕ, List, length, IfOk, OnOk, MatchResult, Ok, Err};
+ghost use Rattle.std.specs.Prelude.{◌≡◌, false, ◌+◌, ◌*◌, ◌≤◌, ◌<◌, ◌^◌, ◌+ℤ◌, sum_by, ℕ, List, length, IfOk, OnOk, MatchResult, Ok, Err};
 ghost use Rattle.std.specs.Option.{option_map};
 ghost use Rattle.asm_parse.specs.Kept.{stated};
 ghost use Rattle.romp_asm.specs.Value.{is_labelled, known_of, knowns_of, least_kind, value_of, within_reach};
-ghost use Rattle.romp_asm.specs.Labels.{addresses_in, found_in, noted, place_of, IsNew, AreAlone};
+ghost use Rattle.romp_asm.specs.Size.{total};
+ghost use Rattle.romp_asm.specs.Labels.{addresses_in, found_in, given_in, noted, place_of, AreAlone, AreTables, IsNew, IsTable};
 
 use super::field::{OUT_OF_REACH, UNKNOWN_LABEL};
 use super::size::size_of;
@@ -21,11 +22,23 @@ pub(crate) struct Place {
 /// The labels of statements, each where it stands first.
 pub(crate) type Labels<'a> = BTreeMap<&'a str, Place>;
 
-/// The labels of statements, and whether one of them stands twice.
+/// The source that gives a word to the others, by its number.
+pub type Givers<'a> = BTreeMap<&'a str, usize>;
+
+/// The labels of statements, whether one of them stands twice, and where the statements end.
 #[derive(Drop)]
 pub(crate) struct Table<'a> {
     pub labels: Labels<'a>,
     pub repeats: bool,
+    pub end: u64,
+}
+
+/// The labels that the statements of a source may name: its own, and those that other sources give.
+#[derive(Clone, Copy)]
+pub(crate) struct Scope<'s, 'g, 'a, 'b> {
+    pub own: &'s Table<'a>,
+    pub tables: &'s [Table<'a>],
+    pub givers: &'g Givers<'b>,
 }
 
 /// An operand whose labels are replaced by their addresses.
@@ -61,18 +74,37 @@ pub(crate) fn labels_of(alloc: Global, statements: &[Statement]) -> Result<Table
         repeats |= again;
         address += u64::from(size_of(&statement.body));
     }
-    Ok(Table { labels, repeats })
+    Ok(Table {
+        labels,
+        repeats,
+        end: address,
+    })
 }
 
-/// The labels of statements that are kept.
-pub(crate) fn labels_kept(alloc: Global, statements: &Statements) -> Result<Table<'_>, AllocError>
-    requires { length statements.now ≤ 2 ^ 30 }
-    ensures found { IfOk result (λ table. (word : List ℕ) → found_in table.labels word ≡ place_of statements.now word) }
-    ensures alone { IfOk result (λ table. table.repeats ≡ false → AreAlone table.labels statements.now (length statements.now)) }
+/// The tables of sources, which stand one behind the other.
+pub(crate) fn tables_of(alloc: Global, sources: &[Statements]) -> Result<Vec<Table<'_>>, AllocError>
+    requires { sum_by (λ source. length source) sources.now ≤ 2 ^ 30 }
+    ensures { IfOk result (λ tables. AreTables tables.items sources.now) }
+{
+    let mut tables = Vec::new(alloc);
+    let mut address = 0;
+    for statements in sources {
+        let table = labels_kept(alloc, statements, address)?;
+        address = table.end;
+        tables.push(table)?;
+    }
+    Ok(tables)
+}
+
+/// The labels of statements that are kept, of which the first stands at an address.
+fn labels_kept(alloc: Global, statements: &Statements, start: u64) -> Result<Table<'_>, AllocError>
+    requires { start + length statements.now * 2 ^ 32 ≤ 2 ^ 62 }
+    ensures table { IfOk result (λ table. IsTable table start statements.now) }
+    ensures small { IfOk result (λ table. total statements.now ≤ length statements.now * 2 ^ 32) }
 {
     let mut labels = BTreeMap::new(alloc);
     let mut repeats = false;
-    let mut address: u64 = 0;
+    let mut address = start;
     for index in 0..statements.len() {
         let part = statements.at(index);
         let place = Place {
@@ -83,7 +115,11 @@ pub(crate) fn labels_kept(alloc: Global, statements: &Statements) -> Result<Tabl
         repeats |= again;
         address += u64::from(size_of(part.body));
     }
-    Ok(Table { labels, repeats })
+    Ok(Table {
+        labels,
+        repeats,
+        end: address,
+    })
 }
 
 /// Notes the label of a statement, if it has one and no statement had it before. The answer is whether one had it.
@@ -105,26 +141,36 @@ fn note<'a>(labels: &mut Labels<'a>, part: &Part<'a>, place: Place) -> Result<bo
 }
 
 /// The value of an expression.
-pub(crate) fn value_of(labels: &Labels<'_>, value: &Expr) -> Result<i64, u8>
-    ensures { result ≡ value_of (addresses_in labels.now) value.now }
+pub(crate) fn value_of(scope: &Scope<'_, '_, '_, '_>, value: &Expr) -> Result<i64, u8>
+    ensures { result ≡ value_of (addresses_in scope.now) value.now }
 {
     match value {
         Expr::Number(number) => Ok(*number),
-        Expr::Label(word, more) => match address_in(labels, word.as_str()) {
+        Expr::Label(word, more) => match address_in(scope, word.as_str()) {
             Some(address) => sum_of(address, *more),
             None => Err(UNKNOWN_LABEL),
         },
     }
 }
 
-/// The address of a label.
-fn address_in(labels: &Labels<'_>, word: &str) -> Option<i64>
-    ensures { result ≡ addresses_in labels.now word.now }
+/// The address of a label: the source's own, or that of the source that gives it.
+fn address_in(scope: &Scope<'_, '_, '_, '_>, word: &str) -> Option<i64>
+    ensures { result ≡ addresses_in scope.now word.now }
 {
-    match labels.get(word) {
+    match scope.own.labels.get(word) {
         Some(place) => Some(place.address),
-        None => None,
+        None => given_in(scope, word),
     }
+}
+
+/// The address of a label that a source gives to the others.
+fn given_in(scope: &Scope<'_, '_, '_, '_>, word: &str) -> Option<i64>
+    ensures { result ≡ option_map (λ place. place.address) (given_in scope.now word.now) }
+{
+    let source = scope.givers.get(word)?;
+    let table = scope.tables.get(*source)?;
+    let place = table.labels.get(word)?;
+    Some(place.address)
 }
 
 /// An address and what is added to it.
@@ -138,17 +184,17 @@ fn sum_of(address: i64, more: i64) -> Result<i64, u8>
 }
 
 /// An operand with its value.
-fn known_of(labels: &Labels<'_>, operand: &Operand) -> Result<Known, u8>
-    ensures { result ≡ known_of (addresses_in labels.now) operand.now }
+fn known_of(scope: &Scope<'_, '_, '_, '_>, operand: &Operand) -> Result<Known, u8>
+    ensures { result ≡ known_of (addresses_in scope.now) operand.now }
 {
     match operand {
         Operand::Register(register) => Ok(Known::Register(*register)),
         Operand::Condition(condition) => Ok(Known::Condition(*condition)),
-        Operand::Value(value) => match value_of(labels, value) {
+        Operand::Value(value) => match value_of(scope, value) {
             Ok(number) => Ok(Known::Value(number)),
             Err(kind) => Err(kind),
         },
-        Operand::Place(displacement, register) => match value_of(labels, displacement) {
+        Operand::Place(displacement, register) => match value_of(scope, displacement) {
             Ok(number) => Ok(Known::Place(number, *register)),
             Err(kind) => Err(kind),
         },
@@ -156,15 +202,18 @@ fn known_of(labels: &Labels<'_>, operand: &Operand) -> Result<Known, u8>
 }
 
 /// Operands with their values, or the least kind of those that have none.
-pub(crate) fn knowns_of(labels: &Labels<'_>, operands: &[Operand]) -> Result<ArrayVec<Known, 4>, u8>
+pub(crate) fn knowns_of(
+    scope: &Scope<'_, '_, '_, '_>,
+    operands: &[Operand],
+) -> Result<ArrayVec<Known, 4>, u8>
     requires { length operands.now ≤ 4 }
-    ensures { MatchResult result (λ knowns. knowns_of (addresses_in labels.now) operands.now ≡ Ok knowns.items)
-        (λ kind. knowns_of (addresses_in labels.now) operands.now ≡ Err kind) }
+    ensures { MatchResult result (λ knowns. knowns_of (addresses_in scope.now) operands.now ≡ Ok knowns.items)
+        (λ kind. knowns_of (addresses_in scope.now) operands.now ≡ Err kind) }
 {
     let mut knowns = ArrayVec::new();
     let mut fault = None;
     for operand in operands {
-        match known_of(labels, operand) {
+        match known_of(scope, operand) {
             Ok(known) => knowns.push(known),
             Err(kind) => fault = Some(least(fault, kind)),
         }

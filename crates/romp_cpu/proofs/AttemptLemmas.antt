@@ -49,7 +49,7 @@ halfword-shown f n a =
         rw (first, second) refl
 
 -- so the plan is the same
-plan-same :
+pub plan-same :
     (f : ℕ → ℕ) (plain : Plain) (cpu : Cpu) → IsCpuOf plain cpu → plain.private ≡ bytes_from f 0 16384
     → plan (halfword_of f) cpu.regs cpu.cs cpu.iar ≡ plan_at plain
 plan-same f plain cpu same shown =

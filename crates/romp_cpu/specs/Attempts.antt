@@ -76,6 +76,11 @@ GivesRow Commit plain Attempt.Commit old new = new ≡ old
 GivesRow (Check code) plain (Attempt.Check other) old new = (other ≡ code) × (new ≡ old)
 GivesRow _ plain attempt old new = ⊥
 
+-- the single store of a plan has some bytes, as many as its access
+abbrev pub StoresAll : Plan → Type 0
+StoresAll (Does regs cs (Act.Store address bytes from) next link) = (0 < bytes) × (length (stored_bytes regs bytes from) ≡ bytes)
+StoresAll _ = Unit {0}
+
 -- the state that the single store of a plan leaves, and the state before where the plan stores nothing
 abbrev pub left_by : {S : Type 0} → Seen S → Plan → S
 left_by seen (Does regs cs (Act.Store address bytes from) next link) = seen.stored address (stored_bytes regs bytes from)

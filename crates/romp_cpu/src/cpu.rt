@@ -8,7 +8,7 @@ ghost use Rattle.flat_machine.specs.Row.{plan, stored_bytes};
 ghost use Rattle.romp_cpu.specs.Shown.{bytes_from, halfword_of, access_to};
 ghost use Rattle.romp_cpu.specs.Answers.{answer_in};
 ghost use Rattle.romp_cpu.specs.Tried.{linked, seen_in, tried, tried_act};
-ghost use Rattle.romp_cpu.specs.Attempts.{GivesEveryRow, UndoesUnlessWent, IsOfFewBytes};
+ghost use Rattle.romp_cpu.specs.Attempts.{GivesEveryRow, UndoesUnlessWent, IsOfFewBytes, StoresAll};
 
 use super::storage::{Access, Fault, Probe, Storage};
 use flat_machine::{Act, Cs, Fetch, Pending, fill, gather, start_row};
@@ -65,6 +65,7 @@ impl Cpu {
         ensures row { GivesEveryRow self.old (seen_in S.byte_at (answer_in S.registers S.is_in_frame S.refuses) S.stored (S.state storage.old)) (record { attempt = result; cpu = self.new; state = S.state storage.new }) }
         ensures undone { UndoesUnlessWent result self.old self.new (S.state storage.old) (S.state storage.new) }
         ensures few { IsOfFewBytes result }
+        ensures whole { StoresAll (plan (halfword_of (S.byte_at (S.state storage.old))) self.old.regs self.old.cs self.old.iar) }
     {
         self.carry_out(storage)
     }
@@ -74,6 +75,7 @@ impl Cpu {
     fn carry_out<S: Storage>(&mut self, storage: &mut S) -> Attempt
         ensures tried { record { attempt = result; cpu = self.new; state = S.state storage.new } ≡ tried (seen_in S.byte_at (answer_in S.registers S.is_in_frame S.refuses) S.stored (S.state storage.old)) self.old (plan (halfword_of (S.byte_at (S.state storage.old))) self.old.regs self.old.cs self.old.iar) }
         ensures few { IsOfFewBytes result }
+        ensures whole { StoresAll (plan (halfword_of (S.byte_at (S.state storage.old))) self.old.regs self.old.cs self.old.iar) }
     {
         match self.start(storage) {
             Pending::Fails(code) => Attempt::Check(code),
@@ -88,6 +90,7 @@ impl Cpu {
         ensures others { self.new ≡ record self.old { regs = self.new.regs; cs = self.new.cs } }
         ensures stays { StaysIfPending result self.old.regs self.new.regs self.old.cs self.new.cs }
         ensures sound { IsSoundPending result }
+        ensures long { length self.new.regs ≡ 16 }
     {
         start_row(&Shown { storage }, &mut self.regs, &mut self.cs, self.iar)
     }

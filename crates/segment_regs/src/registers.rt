@@ -1,4 +1,4 @@
-ghost use Rattle.std.specs.Prelude.{◌≡◌, ◌<◌};
+ghost use Rattle.std.specs.Prelude.{◌≡◌, ◌<◌, None, replicate};
 ghost use Rattle.segment_regs.specs.Registers.{register_at, register_with, registers_with, located_under, located_by};
 
 use std::marker::Model;
@@ -41,6 +41,15 @@ impl Model for SegmentRegs {
 }
 
 impl SegmentRegs {
+    /// Registers with nothing under them: no address is reached.
+    pub fn none() -> SegmentRegs
+        ensures { result ≡ replicate 16 None }
+    {
+        SegmentRegs {
+            registers: [None; 16],
+        }
+    }
+
     /// The private segment of 16,384 bytes under register 0, to read and write, and under the others the windows: each
     /// is a register, a segment, the segment's bytes, and whether it is to write.
     pub fn new(private: u16, windows: &[(u8, u16, u32, bool)]) -> SegmentRegs

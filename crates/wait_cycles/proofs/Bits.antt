@@ -1,6 +1,5 @@
 -- Rows of bits over the sixteen places.
-use Rattle.std.proofs.Common.{◌≡◌, ◌≢◌, ℕ, zero, suc, ◌+◌, ◌*◌, ◌%◌, ◌^◌, ◌<◌, ◌≤◌, ◌==◌, ◌&&◌, ◌||◌, min, max, nat_lt, cond, Bool, true, false, List, [], ◌∷◌, refl, sym, ap, ◌∙◌, subst, arith, inl, inr, bit_and, bit_or, w16, Option, Some, None, find}
-use Rattle.std.specs.Prelude.{if◌then◌else◌}
+use Rattle.std.proofs.Common.{◌≡◌, ℕ, zero, suc, ◌+◌, ◌*◌, ◌%◌, ◌^◌, ◌<◌, ◌≤◌, ◌==◌, ◌&&◌, ◌||◌, min, cond, Bool, true, false, refl, sym, ap, ◌∙◌, arith, inl, inr, bit_and, bit_or, w16, Option, Some, None, find}
 use Rattle.std.specs.List.{range_with_len, list_any}
 use Rattle.std.specs.Int.{bit_at, trailing_zeros}
 use Rattle.std.proofs.lemmas.Bool.{eq-eqb, ne_eqb, cases_eq, cases_lt}
@@ -36,19 +35,6 @@ find-within p low (suc n) k found = by_test (p low) found (λ later. let within 
     by_test : (here : Bool) → cond here (Some low) (find p (range_with_len (low + 1) n)) ≡ Some k → (find p (range_with_len (low + 1) n) ≡ Some k → k < low + suc n) → k < low + suc n
     by_test true is later = let same : low ≡ k = cc in omega (arith, same)
     by_test false is later = later is
-
--- tests that answer alike
-pub find-alike : (p q : ℕ → Bool) (low n : ℕ) → ((i : ℕ) → i < low + n → p i ≡ q i) → find p (range_with_len low n) ≡ find q (range_with_len low n)
-find-alike p q low zero alike = refl
-find-alike p q low (suc n) alike =
-    ap (λ (here : Bool). cond here (Some low) (find p (range_with_len (low + 1) n))) (alike low (omega arith))
-    ∙ ap (λ (rest : Option ℕ). cond (q low) (Some low) rest) (find-alike p q (low + 1) n (λ i below. alike i (omega (arith, below))))
-
-pub any-alike : (p q : ℕ → Bool) (low n : ℕ) → ((i : ℕ) → i < low + n → p i ≡ q i) → list_any p (range_with_len low n) ≡ list_any q (range_with_len low n)
-any-alike p q low zero alike = refl
-any-alike p q low (suc n) alike =
-    ap (λ (here : Bool). here || list_any p (range_with_len (low + 1) n)) (alike low (omega arith))
-    ∙ ap (λ (rest : Bool). q low || rest) (any-alike p q (low + 1) n (λ i below. alike i (omega (arith, below))))
 
 pub any-some : (p : ℕ → Bool) (low n k : ℕ) → low ≤ k → k < low + n → p k ≡ true → list_any p (range_with_len low n) ≡ true
 any-some p low zero k from within passes = absurd (omega arith)
@@ -106,3 +92,26 @@ on-set bits place other small = elim (cases_eq other place) [
       ap (λ (x : ℕ). x == 1) (bit_at_set_other w16 bits place small other differs)
       ∙ sym (ap (λ (here : Bool). here || is_on bits other) (ne_eqb other place differs))
 ]
+
+-- tests that answer alike up to an end, behind which nothing passes
+pub any-cut : (p q : ℕ → Bool) (low n total : ℕ) → n ≤ total → ((i : ℕ) → low ≤ i → i < low + n → p i ≡ q i) → ((i : ℕ) → low + n ≤ i → i < low + total → p i ≡ false)
+    → list_any p (range_with_len low total) ≡ list_any q (range_with_len low n)
+any-cut p q low zero zero le alike none = refl
+any-cut p q low zero (suc total) le alike none =
+    ap (λ (here : Bool). here || list_any p (range_with_len (low + 1) total)) (none low (omega arith) (omega arith))
+    ∙ any-cut p q (low + 1) zero total (omega arith) (λ i above below. alike i (omega (arith, above)) (omega (arith, below))) (λ i above below. none i (omega (arith, above)) (omega (arith, below)))
+any-cut p q low (suc n) zero le alike none = absurd (omega arith)
+any-cut p q low (suc n) (suc total) le alike none =
+    ap (λ (here : Bool). here || list_any p (range_with_len (low + 1) total)) (alike low (omega arith) (omega arith))
+    ∙ ap (λ (rest : Bool). q low || rest) (any-cut p q (low + 1) n total (omega arith) (λ i above below. alike i (omega (arith, above)) (omega (arith, below))) (λ i above below. none i (omega (arith, above)) (omega (arith, below))))
+
+pub find-cut : (p q : ℕ → Bool) (low n total : ℕ) → n ≤ total → ((i : ℕ) → low ≤ i → i < low + n → p i ≡ q i) → ((i : ℕ) → low + n ≤ i → i < low + total → p i ≡ false)
+    → find p (range_with_len low total) ≡ find q (range_with_len low n)
+find-cut p q low zero zero le alike none = refl
+find-cut p q low zero (suc total) le alike none =
+    ap (λ (here : Bool). cond here (Some low) (find p (range_with_len (low + 1) total))) (none low (omega arith) (omega arith))
+    ∙ find-cut p q (low + 1) zero total (omega arith) (λ i above below. alike i (omega (arith, above)) (omega (arith, below))) (λ i above below. none i (omega (arith, above)) (omega (arith, below)))
+find-cut p q low (suc n) zero le alike none = absurd (omega arith)
+find-cut p q low (suc n) (suc total) le alike none =
+    ap (λ (here : Bool). cond here (Some low) (find p (range_with_len (low + 1) total))) (alike low (omega arith) (omega arith))
+    ∙ ap (λ (rest : Option ℕ). cond (q low) (Some low) rest) (find-cut p q (low + 1) n total (omega arith) (λ i above below. alike i (omega (arith, above)) (omega (arith, below))) (λ i above below. none i (omega (arith, above)) (omega (arith, below))))

@@ -1,18 +1,19 @@
-ghost use Rattle.std.specs.Prelude.{◌≡◌, ◌==◌, ◌||◌, ◌&&◌, ◌<◌, ◌^◌, ℕ, find, slice_index_or};
+ghost use Rattle.std.specs.Prelude.{◌≡◌, ◌==◌, ◌||◌, ◌&&◌, ◌<◌, ◌≤◌, ◌^◌, ℕ, nat_lt, length, find, slice_index_or};
 ghost use Rattle.std.specs.List.{list_any};
 ghost use Rattle.std.specs.Option.{option_map};
 ghost use Rattle.lock_rules.specs.Waits.{leads, shown_cycle};
-ghost use Rattle.wait_cycles.specs.Rows.{is_on, waits_in, places};
+ghost use Rattle.wait_cycles.specs.Rows.{is_on, waits_in, places, places_of};
 
 use arrayvec::ArrayVec;
 
 /// The shown cycle from a place: it begins and ends with it, and each next member is the least place that the last one
-/// waits for and from which waits lead back. None exactly where waits don't lead from the place to itself. Place i waits
-/// for place j where bit j of row i is on; places ascend by activation. It takes no memory (docs/MODEL.md, "The shown
-/// cycle").
-pub fn shown_cycle(from: u8, waits: &[u16; 16]) -> Option<ArrayVec<u8, 17>>
-    requires { from < 16 }
-    ensures { option_map (λ cycle. cycle.items) result ≡ shown_cycle (waits_in waits.now) places from }
+/// waits for and from which waits lead back. None exactly where waits don't lead from the place to itself. There are as
+/// many places as rows, sixteen at most, and place i waits for place j where bit j of row i is on; places ascend by
+/// activation. It takes no memory (docs/MODEL.md, "The shown cycle").
+pub fn shown_cycle(from: u8, waits: &[u16]) -> Option<ArrayVec<u8, 17>>
+    requires from { from < length waits.now }
+    requires few { length waits.now ≤ 16 }
+    ensures { option_map (λ cycle. cycle.items) result ≡ shown_cycle (waits_in waits.now) (places_of waits.now) from }
 {
     let leading = leading_to(from, waits);
     if !is_on(leading, from) {
@@ -21,7 +22,7 @@ pub fn shown_cycle(from: u8, waits: &[u16; 16]) -> Option<ArrayVec<u8, 17>>
     let mut cycle = ArrayVec::new();
     cycle.push(from);
     let mut last = from;
-    for _step in 0u8..16 {
+    for _step in 0..waits.len() {
         match least_on(waits[usize::from(last)] & leading) {
             None => return Some(cycle),
             Some(next) => {
@@ -37,20 +38,22 @@ pub fn shown_cycle(from: u8, waits: &[u16; 16]) -> Option<ArrayVec<u8, 17>>
 }
 
 /// The places from which waits lead to one, as bits.
-fn leading_to(to: u8, waits: &[u16; 16]) -> u16
-    requires { to < 16 }
-    ensures { (place : ℕ) → place < 16 → is_on result place ≡ leads (waits_in waits.now) places 16 place to }
+fn leading_to(to: u8, waits: &[u16]) -> u16
+    requires to { to < length waits.now }
+    requires few { length waits.now ≤ 16 }
+    ensures { (place : ℕ) → place < 16 → is_on result place ≡ (nat_lt place (length waits.now) && leads (waits_in waits.now) (places_of waits.now) (length waits.now) place to) }
 {
     let mut leading = 0;
-    for _step in 0u8..16 {
+    for _step in 0..waits.len() {
         leading = waiting_for(leading | 1 << to, waits);
     }
     leading
 }
 
 /// The places that wait for one of these, as bits.
-fn waiting_for(goals: u16, waits: &[u16; 16]) -> u16
-    ensures { (place : ℕ) → place < 16 → is_on result place ≡ list_any (λ next. waits_in waits.now place next && is_on goals next) places }
+fn waiting_for(goals: u16, waits: &[u16]) -> u16
+    requires { length waits.now ≤ 16 }
+    ensures { (place : ℕ) → place < 16 → is_on result place ≡ (nat_lt place (length waits.now) && list_any (λ next. waits_in waits.now place next && is_on goals next) places) }
 {
     let mut waiting = 0;
     for (place, row) in waits.iter().enumerate() {

@@ -69,7 +69,7 @@ third g c tracks before so_far =
     (λ (image seen : List ℕ). IsSame tracks.header c.args.bank.now tracks.records (held_of G c.args.outside.now) image) so_far (c.sync.ensures.crash (before.told tracks.sure.told))
 
 pub write_head-requires-clause-room : goal.write_head-requires-clause-room
-write_head-requires-clause-room g c = c.write_home.ensures.only.longer (end_of c.args.which c.args.bank.now.bank_bytes) (λ held is. omega (arith, c.requires.room held is, end_within c.args.which c.args.bank.now.bank_bytes (length c.args.bank.now.newest)))
+write_head-requires-clause-room g c = c.write_home.ensures.only.longer (end_of c.args.which c.args.bank.now.bank_bytes) (λ held is. omega (arith, c.requires.room held is, end_within c.args.which c.args.bank.now (length c.args.bank.now.newest)))
 
 pub returns-in_err-write_home-clause-crash : goal.returns-in_err-write_home-clause-crash
 returns-in_err-write_home-clause-crash g c tracks = first g (goal.at.returns-in_err-write_home-clause-crash g c).After-write_home tracks

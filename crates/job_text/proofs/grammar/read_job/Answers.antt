@@ -1,4 +1,4 @@
-use Rattle.std.proofs.Common.{arith, ap, length}
+use Rattle.std.proofs.Common.{◌+◌, arith, ap, length, sum_by}
 use Rattle.job_text.specs.Reading.{Reading}
 use Rattle.job_text.specs.Grammar.{read_from}
 use Rattle.asm_parse.specs.Text.{lines_of}
@@ -11,7 +11,7 @@ pub loop-line-init : goal.loop-line-init
 loop-line-init c = record {
   so_far = ap (λ reading. read_from reading 1 (lines_of c.args.text.now)) c.new-reader.ensures;
   number = omega arith;
-  few = omega (arith, ap (λ (reading : Reading). length reading.statements) c.new-reader.ensures);
+  few = omega (arith, ap (λ (reading : Reading). sum_by (λ source. length source) reading.sources + length reading.statements) c.new-reader.ensures);
 }
 
 pub loop-line-preserved : goal.loop-line-preserved

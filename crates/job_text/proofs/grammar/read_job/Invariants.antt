@@ -1,14 +1,14 @@
 use Rattle.std.proofs.Common.{◌≡◌, ◌+◌, ◌≤◌, length}
 use Rattle.asm_parse.specs.Text.{lines_of}
 use Rattle.job_text.specs.Grammar.{job_of, read_from}
-use Rattle.job_text.specs.Reader.{reading_of}
+use Rattle.job_text.specs.Reader.{held, reading_of}
 use Rattle.job_text.proofs.grammar.read_job.Given as goal
 
 abbrev pub invariant-loop-line : goal.invariant-loop-line
 invariant-loop-line l = record {
   so_far : read_from (reading_of l.reader) l.number (lines_of l.left) ≡ job_of l.text;
   number : l.number + length l.left ≤ length l.text + 1;
-  few : length l.reader.statements + length l.left ≤ length l.text;
+  few : held l.reader + length l.left ≤ length l.text;
 }
 
 abbrev pub decreases-loop-line : goal.decreases-loop-line

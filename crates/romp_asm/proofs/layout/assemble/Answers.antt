@@ -1,35 +1,23 @@
-use Rattle.std.proofs.Common.{◌≡◌, get_or, sym, ap, ◌∙◌}
+use Rattle.std.proofs.Common.{List, [], ◌++◌, append-nil, refl, sym, subst}
 use Rattle.std.proofs.lemmas.Result.{err_from_is_err_and}
-use Rattle.asm_parse.specs.Kept.{stated}
-use Rattle.romp_asm.proofs.LayoutLemmas.{Before, all_laid, before_more, fault_told, image_more}
+use Rattle.asm_parse.specs.declared.statement.Statement.{Statement}
+use Rattle.romp_asm.specs.Laid.{LaidTo}
+use Rattle.romp_asm.proofs.LayoutLemmas.{laid_all, laid_none, text_as_itself}
 use Rattle.romp_asm.proofs.layout.assemble.Goals as goal
+use Rattle.romp_asm.proofs.layout.assemble.Goals.{After-add_text}
 
-pub loop-index-preserved : goal.loop-index-preserved
-loop-index-preserved c =
-    let all = c.args.statements.now in
-    let i = c.loop-index.index in
-    let statement = stated c.of.result in
-    let here : statement ≡ get_or all i statement = c.of.ensures ∙ c.index-statements-index.is ∙ ap (get_or all i) (sym c.of.ensures) in
-    let before : Before all i c.loop-index.output = record { size = c.loop-index.invariant.size; entry = c.loop-index.invariant.entry; windows = c.loop-index.invariant.windows } in
-    let after = before_more c.in_ok-table.table.labels all i statement c.loop-index.output c.add.new.output c.in_ok-table.ensures.found c.loop-index-test.true here before c.in_ok-add.ensures in
-    record {
-      so_far = image_more c.in_ok-table.table.labels all i statement c.loop-index.output c.add.new.output c.in_ok-table.ensures.found c.loop-index-test.true here before c.in_ok-add.ensures c.loop-index.invariant.so_far;
-      size = after.size;
-      entry = after.entry;
-      windows = after.windows;
-    }
+start : (c : goal.After-add_text) → LaidTo c.args.statements.now [] (c.args.statements.now ++ []) c.new-output.result
+start c =
+    subst (λ (these : List Statement). LaidTo c.args.statements.now [] these c.new-output.result) (sym (append-nil c.args.statements.now))
+    (laid_none c.args.statements.now c.new-output.result c.new-output.ensures.image c.new-output.ensures.entry c.new-output.ensures.windows)
 
-pub returns-in_err-add : goal.returns-in_err-add
-returns-in_err-add c =
+pub returns-in_err-add_text : goal.returns-in_err-add_text
+returns-in_err-add_text c =
     let all = c.args.statements.now in
-    let statement = stated c.of.result in
-    let here : statement ≡ get_or all c.loop-index.index statement = c.of.ensures ∙ c.index-statements-index.is ∙ ap (get_or all c.loop-index.index) (sym c.of.ensures) in
-    let before : Before all c.loop-index.index c.loop-index.output = record { size = c.loop-index.invariant.size; entry = c.loop-index.invariant.entry; windows = c.loop-index.invariant.windows } in
-    let told = err_from_is_err_and c.from_residual-in_err-add.result c.from_residual-in_err-add.ensures.1 in
-    rw (told.1, told.2) (fault_told c.in_ok-table.table.labels all c.loop-index.index statement c.loop-index.output c.in_err-add.field-0.0 c.in_ok-table.ensures.found c.loop-index-test.true here before c.in_err-add.ensures c.loop-index.invariant.so_far)
+    let told = err_from_is_err_and c.from_residual-in_err-add_text.result c.from_residual-in_err-add_text.ensures.1 in
+    rw (told.1, told.2) (c.in_err-add_text.ensures all [] [] all (text_as_itself _ all c.in_ok-table.ensures.found (λ word. rw c.new-givers.ensures.empty refl)) (start (goal.at.returns-in_err-add_text c).After-add_text))
 
 pub returns : goal.returns
 returns c =
     let all = c.args.statements.now in
-    let before : Before all c.loop-index.index c.loop-index.output = record { size = c.loop-index.invariant.size; entry = c.loop-index.invariant.entry; windows = c.loop-index.invariant.windows } in
-    all_laid all c.loop-index.index c.loop-index.output c.finish.result c.loop-index-test.false before c.finish.ensures.image c.finish.ensures.entry c.finish.ensures.windows c.loop-index.invariant.so_far
+    laid_all all c.add_text.new.output c.finish.result (c.in_ok-add_text.ensures all [] [] all (text_as_itself _ all c.in_ok-table.ensures.found (λ word. rw c.new-givers.ensures.empty refl)) (start (goal.at.returns c).After-add_text)) c.finish.ensures.image c.finish.ensures.entry c.finish.ensures.windows

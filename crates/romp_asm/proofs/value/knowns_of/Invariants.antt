@@ -7,5 +7,5 @@ use Rattle.romp_asm.proofs.value.knowns_of.Given as goal
 abbrev pub invariant-loop-operand : goal.invariant-loop-operand
 invariant-loop-operand l = record {
   count : length l.knowns.items ≤ l.operand-index;
-  so_far : knowns_behind l.knowns.items l.fault (knowns_of (addresses_in l.labels) (drop l.operand-index l.operands)) ≡ knowns_of (addresses_in l.labels) l.operands;
+  so_far : knowns_behind l.knowns.items l.fault (knowns_of (addresses_in l.scope) (drop l.operand-index l.operands)) ≡ knowns_of (addresses_in l.scope) l.operands;
 }

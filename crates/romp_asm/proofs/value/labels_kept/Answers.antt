@@ -1,11 +1,15 @@
-use Rattle.std.proofs.Common.{arith, refl, sym, ◌∙◌}
+use Rattle.std.proofs.Common.{◌≡◌, ℕ, ◌+◌, List, length, take, arith, refl, sym, ap, subst, ◌∙◌}
+use Rattle.std.proofs.lemmas.List.{take_all}
+use Rattle.asm_parse.specs.declared.statement.Statement.{Statement}
+use Rattle.romp_asm.specs.Labels.{place_from, AreAlone}
+use Rattle.romp_asm.specs.Size.{total}
 use Rattle.asm_parse.specs.Kept.{stated}
 use Rattle.romp_asm.proofs.AloneLemmas.{or_none, alone_more}
 use Rattle.romp_asm.proofs.ValueLemmas.{no_place, place_more, signed_same, total_more}
 use Rattle.romp_asm.proofs.value.labels_kept.Goals as goal
 
 pub loop-index-init : goal.loop-index-init
-loop-index-init c = record { table = λ word. rw c.new-labels.ensures.empty (sym (no_place word)); alone = λ none index statement below. absurd (omega (arith, below)); address = refl; small = omega arith }
+loop-index-init c = record { table = λ word. rw c.new-labels.ensures.empty (sym (no_place c.args.start word)); alone = λ none index statement below. absurd (omega (arith, below)); address = omega arith; small = omega arith }
 
 pub loop-index-preserved : goal.loop-index-preserved
 loop-index-preserved c =
@@ -13,10 +17,26 @@ loop-index-preserved c =
     let statement = stated c.at-part.result in
     let more = total_more c.args.statements.now i statement (omega arith) c.at-part.ensures in
     record {
-      table = λ word. c.in_ok-again.ensures.noted word ∙ rw (signed_same c.loop-index.address (omega arith), c.loop-index.invariant.table word) (sym (place_more c.args.statements.now i statement word c.loop-index.address (omega arith) c.at-part.ensures c.loop-index.invariant.address));
+      table = λ word. c.in_ok-again.ensures.noted word ∙ rw (signed_same c.loop-index.address (omega arith), c.loop-index.invariant.table word) (sym (place_more c.args.start c.args.statements.now i statement word c.loop-index.address (omega arith) c.at-part.ensures c.loop-index.invariant.address));
       alone = λ none.
           let (one, two) = or_none c.loop-index.repeats c.in_ok-again.again none in
           alone_more c.loop-index.labels c.note.new.labels statement _ c.in_ok-again.ensures.noted c.args.statements.now (omega arith) c.at-part.ensures (c.loop-index.invariant.alone one) (c.in_ok-again.ensures.again two);
       address = omega arith;
       small = omega arith;
     }
+
+pub returns-clause-table : goal.returns-clause-table
+returns-clause-table c =
+    let all : take c.loop-index.index c.args.statements.now ≡ c.args.statements.now = take_all c.loop-index.index c.args.statements.now (omega arith) in
+    let last : c.loop-index.index ≡ length c.args.statements.now = omega arith in
+    record {
+      found = λ word. c.loop-index.invariant.table word ∙ ap (λ (these : List Statement). place_from 0 c.args.start these word) all;
+      alone = λ none. subst (λ (n : ℕ). AreAlone c.loop-index.labels c.args.statements.now n) last (c.loop-index.invariant.alone none);
+      end = c.loop-index.invariant.address ∙ ap (λ (these : List Statement). c.args.start + total these) all;
+    }
+
+pub returns-clause-small : goal.returns-clause-small
+returns-clause-small c =
+    let all : take c.loop-index.index c.args.statements.now ≡ c.args.statements.now = take_all c.loop-index.index c.args.statements.now (omega arith) in
+    let last : c.loop-index.index ≡ length c.args.statements.now = omega arith in
+    omega (arith, ap total all, c.loop-index.invariant.small)

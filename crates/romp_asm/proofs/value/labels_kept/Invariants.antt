@@ -1,13 +1,13 @@
-use Rattle.std.proofs.Common.{◌≡◌, ◌≤◌, ◌*◌, ◌^◌, ℕ, List, take}
-use Rattle.romp_asm.specs.Labels.{found_in, place_of, AreAlone}
+use Rattle.std.proofs.Common.{◌≡◌, ◌+◌, ◌≤◌, ◌*◌, ◌^◌, ℕ, List, take}
+use Rattle.romp_asm.specs.Labels.{found_in, place_from, AreAlone}
 use Rattle.std.specs.Prelude.{false}
 use Rattle.romp_asm.specs.Size.{total}
 use Rattle.romp_asm.proofs.value.labels_kept.Given as goal
 
 abbrev pub invariant-loop-index : goal.invariant-loop-index
 invariant-loop-index l = record {
-  table : (word : List ℕ) → found_in l.labels word ≡ place_of (take l.index l.statements) word;
+  table : (word : List ℕ) → found_in l.labels word ≡ place_from 0 l.start (take l.index l.statements) word;
   alone : l.repeats ≡ false → AreAlone l.labels l.statements l.index;
-  address : l.address ≡ total (take l.index l.statements);
+  address : l.address ≡ l.start + total (take l.index l.statements);
   small : total (take l.index l.statements) ≤ l.index * 2 ^ 32;
 }

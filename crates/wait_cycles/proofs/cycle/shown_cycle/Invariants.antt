@@ -1,12 +1,12 @@
-use Rattle.std.proofs.Common.{◌≡◌, ◌<◌, ◌+◌, ◌-◌, ◌∷◌, ◌++◌, ℕ, length}
+use Rattle.std.proofs.Common.{◌≡◌, ◌<◌, ◌+◌, ◌-◌, ◌∷◌, ◌++◌, length}
 use Rattle.lock_rules.specs.Waits.{shown_after}
-use Rattle.wait_cycles.specs.Rows.{waits_in, places}
+use Rattle.wait_cycles.specs.Rows.{waits_in, places_of}
 use Rattle.wait_cycles.proofs.cycle.shown_cycle.Given as goal
 
 -- the members so far, and those that follow the last one, are the cycle
 abbrev pub invariant-loop-step : goal.invariant-loop-step
 invariant-loop-step l = record {
   long : length l.cycle.items ≡ l._step + 1;
-  last : l.last < 16;
-  whole : l.cycle.items ++ shown_after (waits_in l.waits) places (16 - l._step) l.from l.last ≡ l.from ∷ shown_after (waits_in l.waits) places 16 l.from l.from;
+  last : l.last < length l.waits;
+  whole : l.cycle.items ++ shown_after (waits_in l.waits) (places_of l.waits) (length l.waits - l._step) l.from l.last ≡ l.from ∷ shown_after (waits_in l.waits) (places_of l.waits) (length l.waits) l.from l.from;
 }

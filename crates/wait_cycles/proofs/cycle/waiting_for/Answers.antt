@@ -1,4 +1,4 @@
-use Rattle.std.proofs.Common.{◌≡◌, ◌<◌, ◌+◌, ◌^◌, ◌&&◌, ◌==◌, ℕ, Bool, slice_index_or, nat_lt, arith, sym, ap, ◌∙◌, subst, bit_and}
+use Rattle.std.proofs.Common.{◌&&◌, ℕ, Bool, slice_index_or, arith, ap, ◌∙◌}
 use Rattle.std.specs.List.{list_any}
 use Rattle.std.proofs.lemmas.Nat.{and_le_r}
 use Rattle.wait_cycles.specs.Rows.{is_on, waits_in, places}
@@ -14,10 +14,10 @@ loop-place-preserved c =
       | then-row-goals-ne0 w ↦
           λ p below.
           ap (λ (bits : ℕ). is_on bits p) w.waiting-is
-          ∙ marked waits_for c.loop-place.waiting c.loop-place.place c.loop-place-test.true c.loop-place.invariant
+          ∙ marked waits_for c.loop-place.waiting c.loop-place.place (omega (arith, c.loop-place-test.true, c.requires)) c.loop-place.invariant
           (let row : ℕ = slice_index_or c.args.waits.now c.loop-place.place 0 in meets-some row c.args.goals (omega (arith, w.if-row-goals-ne0.true)) (let less = and_le_r row c.args.goals in omega (arith, less, c.ranges.goals.fits))) p below
       | else-row-goals-ne0 w ↦
           λ p below.
           ap (λ (bits : ℕ). is_on bits p) w.waiting-is
-          ∙ unmarked waits_for c.loop-place.waiting c.loop-place.place c.loop-place-test.true c.loop-place.invariant (meets-none _ c.args.goals w.if-row-goals-ne0.false) p below
+          ∙ unmarked waits_for c.loop-place.waiting c.loop-place.place (omega (arith, c.loop-place-test.true, c.requires)) c.loop-place.invariant (meets-none _ c.args.goals w.if-row-goals-ne0.false) p below
     ]

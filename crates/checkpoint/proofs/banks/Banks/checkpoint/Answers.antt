@@ -60,6 +60,7 @@ returns-in-Ok-clause-done g c tracks =
       header = tracks.header;
       records = [];
       store = subst (λ (n : ℕ). IsStore new tracks.header away (number_of bank) n []) gate moved.store;
+      page = tracks.page;
       bank_bytes = tracks.bank_bytes;
       bound = tracks.bound ∙ sym lines;
       count = refl;

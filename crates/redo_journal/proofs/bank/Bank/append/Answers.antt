@@ -169,6 +169,7 @@ returns-in-Done-clause-done g c is tracks =
         header = now.tracks.header;
         records = now.tracks.records ++ begun_lines bank ∷ [];
         store = subst (λ (n : ℕ). IsStore held now.tracks.header bank.which bank.base n (now.tracks.records ++ begun_lines bank ∷ [])) gate store;
+        page = now.tracks.page;
         bank_bytes = now.tracks.bank_bytes;
         bound = now.tracks.bound ∙ sym c.note.ensures.len;
         count = omega (arith, length-append now.tracks.records (begun_lines bank ∷ []), now.tracks.count);

@@ -41,6 +41,7 @@ returns-clause-fits c =
 
 pub returns-clause-shape : goal.returns-clause-shape
 returns-clause-shape c = record {
+  page = ap (λ (bank : KeptBank). bank.page) c.self.view_is;
   bank_bytes = ap (λ (bank : KeptBank). bank.bank_bytes) c.self.view_is;
   lines = ap length c.forget.ensures ∙ length-replicate {A = Option ℕ} (length c.self.inside.newest) None ∙ ap (λ (bank : KeptBank). length bank.newest) c.self.view_is;
 }

@@ -52,7 +52,7 @@ returns-clause-done g c =
     let is = makes (bank_tracked G old c.args.outside.now tracks) in
     let said : header_of (take 128 (held_of G c.args.outside.now)) ≡ c.self.inside.header = tracks.shows.header.said ∙ header in
     record {
-      tracks = store_tracked G c.self.inside.header c.checkpoint.new.self c.checkpoint.new.outside (record { bank_bytes = c.self.invariant.bank_bytes ∙ sym c.checkpoint.ensures.shape.bank_bytes; lines = c.self.invariant.lines ∙ sym c.checkpoint.ensures.shape.lines }) (is.header ∙ said) is.tracks;
+      tracks = store_tracked G c.self.inside.header c.checkpoint.new.self c.checkpoint.new.outside (record { page = c.self.invariant.page ∙ sym c.checkpoint.ensures.shape.page; bank_bytes = c.self.invariant.bank_bytes ∙ sym c.checkpoint.ensures.shape.bank_bytes; lines = c.self.invariant.lines ∙ sym c.checkpoint.ensures.shape.lines }) (is.header ∙ said) is.tracks;
       stood = is.stood;
       emptied = subst (λ (those : Header). Leaves G (λ image seen. journal.HoldsRecords those (other old.bank.which) (number_of old.bank) [] image) c.checkpoint.new.outside c.checkpoint.new.outside) said is.emptied;
     })

@@ -48,7 +48,7 @@ returns-clause-done g c is tracks =
     record {
       tracks =
           store_tracked G c.self.inside.header c.add_record.new.banks c.add_record.new.outside
-          (record { bank_bytes = c.self.invariant.bank_bytes ∙ sym shape.bank_bytes; lines = c.self.invariant.lines ∙ sym shape.lines })
+          (record { page = c.self.invariant.page ∙ sym shape.page; bank_bytes = c.self.invariant.bank_bytes ∙ sym shape.bank_bytes; lines = c.self.invariant.lines ∙ sym shape.lines })
           (added.header ∙ tracks.shows.header.said ∙ header)
           added.tracks;
       stood = added.stood;

@@ -28,6 +28,6 @@ returns-in-Ok-clause-tracks g c honest told =
       sure = sure_on G g.met.W.Outside.fewer_later c.start.new.outside c.open.new.outside (begun.sure honest told) c.open.ensures.asks;
       shows =
           subst (λ (held : List ℕ). Shows held (record { header = c.in_ok-header.header; bank = c.in-Ok.banks })) (sym same)
-          (shows_read (held_of G c.args.outside.now) c.in_ok-header.header c.in-Ok.banks (begun.header told) (record { bank_bytes = opened.bank_bytes; lines = opened.bound })
+          (shows_read (held_of G c.args.outside.now) c.in_ok-header.header c.in-Ok.banks (begun.header told) (record { page = opened.page; bank_bytes = opened.bank_bytes; lines = opened.bound })
           (subst (λ (held : List ℕ). IsChosen held c.in-Ok.banks) first (c.in-Ok.ensures.read still)));
     }

@@ -53,7 +53,7 @@ loop-i-preserved g c =
           let header : total c.self.inside.header ≡ total c.args.self.now.header = ap (λ (store : KeptStore). total store.header) c.self.view_is in
           composed_more held (home_of held c.self.inside.header) bank.newest (c.from-first.result * 16) c.loop-i.i c.loop-i.into c.read_newest.new.page place c.loop-i-test.true so_far.len refl
           (λ at is. let fits = placed_at place at (area_end bank) is read.placed in omega (arith, fits, end, header, room))
-          (read.read still ∙ ap (λ (image : List ℕ). newest_over image place c.loop-i.into (c.loop-i.i * 128)) same)
+          (read.read still ∙ ap (λ (image : List ℕ). newest_over 128 image place c.loop-i.into (c.loop-i.i * 128)) same)
           (so_far.composed told);
     }
 

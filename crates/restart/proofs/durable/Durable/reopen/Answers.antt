@@ -24,7 +24,7 @@ still : (g : Over) (c : goal.After-reopen g) → IsSome (g.W.Outside.held c.args
 still g c told = subst (λ (those : Option (List ℕ)). IsSome those) (sym c.synced.ensures.asks.held) told
 
 fits : (g : Over) (c : goal.After-reopen g) → Fits c.self.inside.header c.reopen.new.self
-fits g c = record { bank_bytes = c.self.invariant.bank_bytes ∙ sym c.reopen.ensures.shape.bank_bytes; lines = c.self.invariant.lines ∙ sym c.reopen.ensures.shape.lines }
+fits g c = record { page = c.self.invariant.page ∙ sym c.reopen.ensures.shape.page; bank_bytes = c.self.invariant.bank_bytes ∙ sym c.reopen.ensures.shape.bank_bytes; lines = c.self.invariant.lines ∙ sym c.reopen.ensures.shape.lines }
 
 -- a fault of the banks is one of the store
 fault_is : (g : Over) (c : goal.After-reopen g) (fault : ReopenFault) → opened.IsReopenFault g.W.Outside c.synced.new.outside c.reopen.new.outside c.self.inside.banks fault → IsReopenFault g.W.Outside c.args.outside.now c.reopen.new.outside c.args.self.now.header fault

@@ -1,0 +1,104 @@
+-- The bytes of a unit in which a seat begins: its private bytes are new, and all others stay.
+use Rattle.std.specs.Prelude.{◌≡◌, refl, ℕ, ◌+◌, ◌-◌, ◌*◌, ◌%◌, ◌<◌, ◌≤◌, ◌==◌, ◌⊎◌, false, List, ◌++◌, length, map, replicate, drop, slice_index, slice_range, if◌then◌else◌, Option, Some, None}
+use Rattle.std.specs.List.{range_with_len}
+use Rattle.std.specs.Option.{option_map_or}
+use Rattle.std.proofs.Common.{arith, ap, sym, ◌∙◌, subst, inl, inr}
+use Rattle.std.proofs.lemmas.Bool.{cases_lt, eq-eqb, both_ways}
+use Rattle.std.proofs.lemmas.List.{get_or-take, get_or-drop, length-take, length-drop, length-append, length-replicate}
+use Rattle.std.proofs.lemmas.Grind.{same_number_lists}
+use Rattle.owned_list.proofs.Overlay.{length-overlaid, overlaid_before, overlaid_within, overlaid_behind}
+use Rattle.line_geometry.specs.declared.directory.PageSize.{PageSize}
+use Rattle.line_geometry.specs.declared.directory.PageSize.TheVariants.{Two}
+use Rattle.line_geometry.specs.Directory.{Layout, byte_count}
+use Rattle.line_geometry.specs.Lines.{page_of}
+use Rattle.line_geometry.specs.Segments.{page_bytes}
+use Rattle.frame_pool.specs.declared.model.Pool.{Pool}
+use Rattle.frame_pool.specs.Pool.{frame_at, with_bytes}
+use Rattle.frame_pool.specs.Sizes.{private_frames, frame_count}
+use Rattle.storage_unit.specs.Bytes.{byte_in_frame, byte_over, bytes_over, private_bytes, is_marked}
+use Rattle.storage_unit.specs.Laws.{Fits}
+
+-- a byte of a part of a list
+in-range : (xs : List ℕ) (from count k : ℕ) → k < count → slice_index (slice_range xs from (from + count)) k ≡ slice_index xs (from + k)
+in-range xs from count k below =
+    let short : k < from + count - from = omega (arith, below) in
+    get_or-take (from + count - from) (drop from xs) k 0 short ∙ get_or-drop from xs k 0
+
+long-range : (xs : List ℕ) (from count : ℕ) → from + count ≤ length xs → length (slice_range xs from (from + count)) ≡ count
+long-range xs from count within =
+    let same : from + count - from ≡ count = omega arith in
+    let few : from + count - from ≤ length (drop from xs) = rw length-drop (omega (arith, within)) in
+    rw length-take (omega (arith, few, same))
+
+-- an image and zeros after it
+abbrev pub first_bytes : List ℕ → List ℕ
+first_bytes image = image ++ replicate (16384 - length image) 0
+
+long-first : (image : List ℕ) → length image ≤ 16384 → length (first_bytes image) ≡ 16384
+long-first image few = length-append image (replicate (16384 - length image) 0) ∙ ap (λ (n : ℕ). length image + n) (length-replicate (16384 - length image) 0) ∙ omega (arith, few)
+
+module _ (directory : Layout) (pool : Pool) (fits : Fits directory pool) (two : directory.page ≡ Two) (seat : ℕ) (below : seat < 16) (image : List ℕ) (few : length image ≤ 16384) where
+  abbrev pub filled : Pool
+  filled = with_bytes pool (seat * 16384) (first_bytes image)
+
+  long-part : length (first_bytes image) ≡ 16384
+  long-part = long-first image few
+
+  size : pool.page ≡ Two
+  size = fits.size ∙ two
+
+  -- the private bytes of all seats are there
+  long-all : 262144 ≤ length pool.bytes
+  long-all = let is : length pool.bytes ≡ (128 + pool.frames) * 2048 = fits.seen.bytes ∙ ap (λ (s : PageSize). frame_count s pool.frames * page_bytes s) size in omega (arith, is)
+
+  long-filled : length filled.bytes ≡ length pool.bytes
+  long-filled = length-overlaid pool.bytes (seat * 16384) (first_bytes image) (omega (arith, long-part, long-all, below))
+
+  pub private-there : private_bytes filled seat ≡ first_bytes image
+  private-there =
+      same_number_lists (private_bytes filled seat) (first_bytes image)
+      (long-range filled.bytes (seat * 16384) 16384 (omega (arith, long-filled, long-all, below)) ∙ sym long-part)
+      (λ k inside.
+      let short : k < 16384 = omega (arith, inside, long-range filled.bytes (seat * 16384) 16384 (omega (arith, long-filled, long-all, below))) in
+      let rest : seat * 16384 + k - seat * 16384 ≡ k = omega arith in
+      in-range filled.bytes (seat * 16384) 16384 k short
+      ∙ overlaid_within pool.bytes (seat * 16384) (first_bytes image) (seat * 16384 + k) 0 (omega (arith, long-all, below)) (omega arith) (omega (arith, long-part, short))
+      ∙ ap (slice_index (first_bytes image)) rest)
+
+  pub private-other : (at : ℕ) → at < 16 → (at == seat) ≡ false → private_bytes filled at ≡ private_bytes pool at
+  private-other at other differs =
+      same_number_lists (private_bytes filled at) (private_bytes pool at)
+      (long-range filled.bytes (at * 16384) 16384 (omega (arith, long-filled, long-all, other)) ∙ sym (long-range pool.bytes (at * 16384) 16384 (omega (arith, long-all, other))))
+      (λ k inside.
+      let short : k < 16384 = omega (arith, inside, long-range filled.bytes (at * 16384) 16384 (omega (arith, long-filled, long-all, other))) in
+      in-range filled.bytes (at * 16384) 16384 k short ∙ stays k short (cases_lt at seat) ∙ sym (in-range pool.bytes (at * 16384) 16384 k short))
+    where
+      stays : (k : ℕ) → k < 16384 → (at < seat) ⊎ (seat ≤ at) → slice_index filled.bytes (at * 16384 + k) ≡ slice_index pool.bytes (at * 16384 + k)
+      stays k short (inl before) =
+          overlaid_before pool.bytes (seat * 16384) (first_bytes image) (at * 16384 + k) 0 (omega (arith, long-all, below)) (omega (arith, before, short))
+      stays k short (inr after) =
+          let apart : seat < at = by_test (cases_lt seat at) in
+          overlaid_behind pool.bytes (seat * 16384) (first_bytes image) (at * 16384 + k) 0 (omega (arith, long-all, below)) (omega (arith, long-part, apart))
+        where
+          by_test : (seat < at) ⊎ (at ≤ seat) → seat < at
+          by_test (inl less) = less
+          by_test (inr more) = let same : at ≡ seat = omega (arith, after, more) in absurd (both_ways (at == seat) differs (eq-eqb at seat same))
+
+  -- a frame of a page of the store has what it had
+  pub store-frame : (place frame : ℕ) → frame_at pool (page_of directory place) ≡ Some frame → byte_in_frame directory filled place frame ≡ byte_in_frame directory pool place frame
+  store-frame place frame there =
+      let first : 128 ≤ frame = subst (λ (s : PageSize). private_frames s ≤ frame) size (fits.seen.above (page_of directory place) frame (fits.seen.there (page_of directory place) frame there)) in
+      let behind : 262144 ≤ frame * page_bytes directory.page + place % page_bytes directory.page =
+      subst (λ (s : PageSize). 262144 ≤ frame * page_bytes s + place % page_bytes s) (sym two) (omega (arith, first)) in
+      overlaid_behind pool.bytes (seat * 16384) (first_bytes image) (frame * page_bytes directory.page + place % page_bytes directory.page) 0 (omega (arith, long-all, below)) (omega (arith, long-part, behind, below))
+
+  -- and all see what they saw
+  pub shown-same : (committed : List ℕ) → bytes_over directory filled committed ≡ bytes_over directory pool committed
+  shown-same committed = λ i. map (λ place. one place i) (range_with_len 0 (byte_count directory))
+    where
+      one : (place : ℕ) → byte_over directory filled committed place ≡ byte_over directory pool committed place
+      one place = by_frame (if is_marked directory pool place then slice_index pool.kept place else slice_index committed place) (frame_at pool (page_of directory place)) refl
+        where
+          by_frame : (rest : ℕ) (frame : Option ℕ) → frame_at pool (page_of directory place) ≡ frame → option_map_or (byte_in_frame directory filled place) frame rest ≡ option_map_or (byte_in_frame directory pool place) frame rest
+          by_frame rest None e = refl
+          by_frame rest (Some frame) e = store-frame place frame e

@@ -1,0 +1,432 @@
+-- A program begins.
+use Rattle.std.specs.Prelude.{◌≡◌, ◌≢◌, refl, ℕ, zero, suc, ◌+◌, ◌*◌, ◌/◌, ◌%◌, ◌<◌, ◌≤◌, ◌==◌, ◌||◌, ◌⊎◌, nat_lt, if◌then◌else◌, Bool, true, false, List, [], ◌∷◌, ◌++◌, All, length, map, slice_index_or, Option, Some, None}
+use Rattle.std.specs.List.{list_any}
+use Rattle.std.proofs.Common.{arith, ap, sym, ◌∙◌, subst, inl, inr, get_or-set_same, get_or-set_other}
+use Rattle.std.proofs.lemmas.Bool.{eqb-true, eqb-false, eq-eqb, both_ways, or_left, or_right, or_cases, or_parts}
+use Rattle.std.proofs.lemmas.Bool.Decides.{nat_tests}
+use Rattle.std.proofs.lemmas.List.{length-map, length-set, map-append, get_or_read}
+use Rattle.std.proofs.lemmas.List.Elements.{All-from_get_or}
+use Rattle.std.proofs.lemmas.List.Folds.{list_any-append}
+use Rattle.std.proofs.lemmas.Option.{slice_get-get_or}
+use Rattle.line_geometry.specs.declared.directory.PageSize.TheVariants.{Two}
+use Rattle.line_geometry.specs.FlatStore.{FlatStore}
+use Rattle.lock_rules.specs.Sets.{has}
+use Rattle.lock_rules.specs.Lines.{no_lines}
+use Rattle.lock_rules.proofs.Sets.{has-append}
+use Rattle.line_locks.specs.Holding.{no_lines_of}
+use Rattle.lockbit_rules.specs.declared.Authority.{Authority}
+use Rattle.inverted_table.specs.Placed.{unowned}
+use Rattle.flat_machine.specs.declared.machine.Program.{Program}
+use Rattle.flat_machine.specs.After.{start}
+use Rattle.flat_machine.specs.Serial.{Activation}
+use Rattle.romp_cpu.specs.Segments.{registers_of_program}
+use Rattle.desk.specs.declared.event.Event.TheVariants.{Begin}
+use Rattle.desk.specs.declared.answers.Begun.{Begun}
+use Rattle.desk.specs.declared.answers.Begun.TheVariants as answer
+use Rattle.desk.specs.Desk.{Desk, Entry, nobody}
+use Rattle.desk.specs.Desk as desk
+use Rattle.desk.specs.Instruction.{Fine}
+use Rattle.desk.specs.Run.{absent_segment, begin, begins, begin_if, step, Busy, Begun as Began}
+use Rattle.desk_law.specs.Beside.{AreAlike, AreMarked, IsState, requested}
+use Rattle.desk_law.specs.Consistent.{due_to}
+use Rattle.desk_law.specs.Current.{IsCurrent}
+use Rattle.desk_law.specs.Orderly.{IsOrderly}
+use Rattle.desk_law.proofs.CurrentSteps.{current-begun}
+use Rattle.desk_law.proofs.Endings.{first_entry, with_first, begins-consistent, refused-consistent}
+use Rattle.desk_law.proofs.Identifiers.{told-taken}
+use Rattle.seats.specs.declared.seat.Seat.{Seat}
+use Rattle.seats.specs.Seating.{IsSeating, sitter, number_in, newcomer, next_seat}
+use Rattle.seats.proofs.Ascending.{all-has, none-free, some-free}
+use Rattle.seats.proofs.Kept.{has-at, few-taken, taken-below, kept-seated}
+use Rattle.seats.proofs.Numbers.{apart-taken}
+use Rattle.storage_unit.specs.Bytes.{is_line_marked}
+use Rattle.storage_unit.specs.Laws.{Fits}
+use Rattle.storage_unit.specs.Places.{private_segment}
+use Rattle.activations.specs.declared.live.Live.{Live}
+use Rattle.activations.specs.Activity.{Activity, no_program, program_at, live_in, entry_for, entry_in, entries, number_under, authority_under, authority_told, store_over, desk_over, lines_held, locks_in, request_for, request_in, state_in, shown}
+use Rattle.activations.specs.Begins.{given, started, begun_in, IsBegin}
+use Rattle.activations.specs.Begins as begun
+use Rattle.activations.specs.Follows.{IsSound, IsSetUp, IsIdentified, IsKept, Follows}
+use Rattle.activations.proofs.BeginBytes.{private-there, private-other, store-frame, shown-same}
+use Rattle.activations.proofs.HoldingLemmas.{held-flat}
+use Rattle.activations.proofs.SittingLemmas.{sitter-there, sitter-other, live-other, live-there}
+use Rattle.activations.proofs.TableLemmas.{under-page}
+use Rattle.activations.proofs.VacateLemmas.{none-of-page, none-of-pages}
+
+pub all-of : (P : ℕ → Type 0) (xs : List ℕ) → ((x : ℕ) → has xs x ≡ true → P x) → All P xs
+all-of P xs each = All-from_get_or P xs 0 (λ k within. each (slice_index_or xs k 0) (has-at xs k 0 within))
+
+map-same : (f g : ℕ → Entry) (xs : List ℕ) → ((x : ℕ) → has xs x ≡ true → f x ≡ g x) → map f xs ≡ map g xs
+map-same f g [] same = refl
+map-same f g (x ∷ xs) same = λ i. same x (or_left (x == x) (has xs x) (eq-eqb x x refl)) i ∷ map-same f g xs (λ y inside. same y (or_right (x == y) (has xs y) inside)) i
+
+-- nothing that is held is no line
+pub held-none : (pages : ℕ) → AreAlike (lines_held (no_lines_of pages)) no_lines
+held-none pages = record {
+  reads = λ line.
+      let whole : line ≡ line / 16 * 16 + line % 16 = omega arith in
+      ap (has (lines_held (no_lines_of pages)).reads) whole
+      ∙ sym ((held-flat (no_lines_of pages) (none-of-pages pages)).reads (line / 16) (line % 16) (omega arith))
+      ∙ ap (λ (held : List ℕ × List ℕ). has held.0 (line % 16)) (none-of-page pages (line / 16));
+  writes = λ line.
+      let whole : line ≡ line / 16 * 16 + line % 16 = omega arith in
+      ap (has (lines_held (no_lines_of pages)).writes) whole
+      ∙ sym ((held-flat (no_lines_of pages) (none-of-pages pages)).writes (line / 16) (line % 16) (omega arith))
+      ∙ ap (λ (held : List ℕ × List ℕ). has held.1 (line % 16)) (none-of-page pages (line / 16));
+}
+
+-- a number that is given to nobody
+pub sound-given : (a : Activity) → IsSound a → IsSound (given a)
+sound-given a sound = record {
+  seating = sound.seating;
+  seats = sound.seats;
+  numbers = all-of (λ seat. number_in a.seating seat < a.next + 1) a.seating.taken (λ seat inside. let was = all-has (λ seat. number_in a.seating seat < a.next) a.seating.taken seat sound.numbers inside in omega (arith, was));
+  live = sound.live;
+  pages = sound.pages;
+  lines = sound.lines;
+  requests = sound.requests;
+  begun = sound.begun;
+  entries = sound.entries;
+  set_up = λ seat inside. let was = sound.set_up seat inside in record { program = was.program; begun = was.begun; registers = was.registers; printed = was.printed; few = was.few };
+  free = sound.free;
+  identified = sound.identified;
+}
+
+pub follows-given : (a : Activity) (committed : List ℕ) → Follows a committed → Follows (given a) committed
+follows-given a committed follows = record {
+  orderly = refused-consistent (desk_over a committed []) follows.orderly;
+  kept = record {
+    long = follows.kept.long;
+    held = follows.kept.held;
+    asked = follows.kept.asked;
+    stand = follows.kept.stand;
+    is_current = follows.kept.is_current;
+    marked = record { is = follows.kept.marked.is };
+    clean = follows.kept.clean;
+  };
+}
+
+-- A program takes a free seat.
+module _ (a : Activity) (program : ℕ) (args : List ℕ) (seat : ℕ) (sound : IsSound a) (below : seat < 16) (free : has a.seating.taken seat ≡ false) where
+  abbrev new : Activity
+  new = begun_in a program args seat
+
+  abbrev who : Seat
+  who = newcomer a.next program args
+
+  abbrev runs : Activation
+  runs = record { program = program_at a.programs program; args = args }
+
+  elsewhere : (at : ℕ) → has a.seating.taken at ≡ true → (at == seat) ≡ false
+  elsewhere at inside = by_test (at == seat) refl
+    where
+      by_test : (same : Bool) → (at == seat) ≡ same → same ≡ false
+      by_test true e = absurd (both_ways (has a.seating.taken seat) free (ap (has a.seating.taken) (sym (eqb-true at seat e)) ∙ inside))
+      by_test false e = refl
+
+  sits : sitter new.seating seat ≡ who
+  sits = sitter-there a.seating seat who sound.seating.sixteen below
+
+  entry-last : entry_in new seat ≡ first_entry a.next runs
+  entry-last = ap (entry_for a.programs) sits
+
+  entry-old : (at : ℕ) → (at == seat) ≡ false → entry_in new at ≡ entry_in a at
+  entry-old at differs = ap (entry_for a.programs) (sitter-other a.seating seat who at differs)
+
+  entries-begun : entries new ≡ entries a ++ first_entry a.next runs ∷ []
+  entries-begun =
+      map-append (entry_in new) a.seating.taken (seat ∷ [])
+      ∙ (λ i. map-same (entry_in new) (entry_in a) a.seating.taken (λ at inside. entry-old at (elsewhere at inside)) i ++ entry-last i ∷ [])
+
+  -- who is there now
+  seated-old : (at : ℕ) → has new.seating.taken at ≡ true → has a.seating.taken at ≡ true ⊎ (seat ≡ at)
+  seated-old at inside = elim (or_cases (has a.seating.taken at) (has (seat ∷ []) at) (sym (has-append a.seating.taken (seat ∷ []) at) ∙ inside)) [
+    | inl old ↦ inl old
+    | inr last ↦ inr (eqb-true seat at (last_is (seat == at) last))
+  ]
+    where
+      last_is : (b : Bool) → (b || false) ≡ true → b ≡ true
+      last_is true e = refl
+      last_is false e = e
+
+  -- no page is that seat's
+  unused : (page : ℕ) → ((slice_index_or (authority_under a.reach.entries) page nobody).owner == seat + 1) ≡ false
+  unused page = ap (λ (one : desk.Authority). one.owner == seat + 1) (under-page a.reach.entries page) ∙ by_owner (slice_index_or a.reach.entries page unowned) (sound.identified page)
+    where
+      by_owner : (one : Authority) → IsIdentified a.seating.taken one → (one.tid == seat + 1) ≡ false
+      by_owner one (inl none) = ap (λ (e : Authority). e.tid == seat + 1) none ∙ (let no : (0 == seat + 1) ≡ false = grind (arith, nat_tests) in no)
+      by_owner one (inr (other, inside, is)) =
+          let shift : (other + 1 == seat + 1) ≡ (other == seat) = grind (arith, nat_tests) in
+          ap (λ (n : ℕ). n == seat + 1) is ∙ shift ∙ elsewhere other inside
+
+  under-other : (tid : ℕ) → (tid == seat + 1) ≡ false → number_under new tid ≡ number_under a tid
+  under-other zero differs = refl
+  under-other (suc at) differs =
+      let shift : (suc at == seat + 1) ≡ (at == seat) = grind (arith, nat_tests) in
+      ap (λ (s : Seat). s.number) (sitter-other a.seating seat who at (sym shift ∙ differs))
+
+  authority-begun : authority_told new ≡ authority_told a
+  authority-begun = told-taken (number_under a) refl (seat + 1) (number_under new) (authority_under a.reach.entries) under-other unused
+
+  pub desk-begun : (committed : List ℕ) (order : List (ℕ × ℕ)) → desk_over new committed order ≡ with_first (desk_over a committed order) runs
+  desk-begun committed order i = record (desk_over a committed order) { next = a.next + 1; active = entries-begun i; authority = authority-begun i }
+
+  live-begun : live_in new seat ≡ started a program args seat
+  live-begun = live-there a.live seat (started a program args seat) (omega (arith, sound.live, below))
+
+  pub sound-begun : program < length a.programs → IsSound new
+  sound-begun known = record {
+    seating = kept;
+    seats = record { apart = λ at other inside there. apart-taken new.seating kept at other inside there };
+    numbers = all-of (λ at. number_in new.seating at < a.next + 1) new.seating.taken (λ at inside. elim (seated-old at inside) [
+      | inl old ↦
+          let was = all-has (λ at. number_in a.seating at < a.next) a.seating.taken at sound.numbers old in
+          let same : number_in new.seating at ≡ number_in a.seating at = ap (λ (s : Seat). s.number) (sitter-other a.seating seat who at (elsewhere at old)) in
+          omega (arith, was, same)
+      | inr last ↦ subst (λ (n : ℕ). number_in new.seating n < a.next + 1) last (let is : number_in new.seating seat ≡ a.next = ap (λ (s : Seat). s.number) sits in omega (arith, is))
+    ]);
+    live = length-set a.live seat (started a program args seat) ∙ sound.live;
+    pages = sound.pages;
+    lines = sound.lines;
+    requests = λ at request inside waits. elim (seated-old at inside) [
+      | inl old ↦ sound.requests at request old (sym (ap (λ (s : Seat). s.waits) (sitter-other a.seating seat who at (elsewhere at old))) ∙ waits)
+      | inr last ↦ absurd (let none : (sitter new.seating at).waits ≡ None = ap (λ (n : ℕ). (sitter new.seating n).waits) (sym last) ∙ ap (λ (s : Seat). s.waits) sits in cc)
+    ];
+    begun = length-set a.reach.begun seat true ∙ sound.begun;
+    entries = sound.entries;
+    set_up = λ at inside. elim (seated-old at inside) [
+      | inl old ↦ set-up-old at old
+      | inr last ↦ subst (IsSetUp new) last set-up-last
+    ];
+    free = λ at gone.
+        let none = or_parts (has a.seating.taken at) (has (seat ∷ []) at) (sym (has-append a.seating.taken (seat ∷ []) at) ∙ gone) in
+        get_or-set_other a.reach.begun seat at true false (λ same. both_ways (has new.seating.taken at) gone (has-append a.seating.taken (seat ∷ []) at ∙ or_right (has a.seating.taken at) (has (seat ∷ []) at) (or_left (seat == at) false (eq-eqb seat at (sym same)))))
+        ∙ sound.free at none.0;
+    identified = λ page. elim (sound.identified page) [
+      | inl none ↦ inl none
+      | inr some ↦ inr (some.0, has-append a.seating.taken (seat ∷ []) some.0 ∙ or_left (has a.seating.taken some.0) (has (seat ∷ []) some.0) some.1, some.2)
+    ];
+  }
+    where
+      kept : IsSeating new.seating
+      kept = kept-seated a.seating sound.seating seat a.next program args below free sound.numbers
+
+      set-up-old : (at : ℕ) → has a.seating.taken at ≡ true → IsSetUp new at
+      set-up-old at old =
+          let was = sound.set_up at old in
+          let differs = elsewhere at old in
+          let sitter_is : sitter new.seating at ≡ sitter a.seating at = sitter-other a.seating seat who at differs in
+          let live_is : live_in new at ≡ live_in a at = live-other a.live seat (started a program args seat) at differs in
+          record {
+            program = subst (λ (s : Seat). s.program < length a.programs) (sym sitter_is) was.program;
+            begun = get_or-set_other a.reach.begun seat at true false (eqb-false at seat differs) ∙ was.begun;
+            registers = ap (λ (l : Live). l.registers) live_is ∙ was.registers ∙ ap (λ (e : Entry). registers_of_program e.runs.program a.reach.directory (private_segment at)) (sym (entry-old at differs));
+            printed = ap (λ (l : Live). length l.out) live_is ∙ was.printed ∙ ap (λ (l : Live). l.cpu.printed) (sym live_is);
+            few = subst (λ (l : Live). length l.out ≤ 4096) (sym live_is) was.few;
+          }
+
+      set-up-last : IsSetUp new seat
+      set-up-last = record {
+        program = subst (λ (s : Seat). s.program < length a.programs) (sym sits) known;
+        begun = get_or-set_same a.reach.begun seat true false (omega (arith, sound.begun, below));
+        registers = ap (λ (l : Live). l.registers) live-begun ∙ ap (λ (e : Entry). registers_of_program e.runs.program a.reach.directory (private_segment seat)) (sym entry-last);
+        printed = ap (λ (l : Live). length l.out) live-begun ∙ ap (λ (l : Live). l.cpu.printed) (sym live-begun);
+        few = subst (λ (l : Live). length l.out ≤ 4096) (sym live-begun) (omega arith);
+      }
+
+  -- What it shows, over a store with pages of 2,048 bytes.
+  module _ (committed : List ℕ) (follows : Follows a committed) (fits : Fits a.reach.directory a.reach.pool) (two : a.reach.directory.page ≡ Two) (known : program < length a.programs) where
+    abbrev store : FlatStore
+    store = store_over a committed
+
+    abbrev code : Program
+    code = program_at a.programs program
+
+    abbrev last : Entry
+    last = first_entry a.next runs
+
+    module _ (room : length a.seating.taken < 16) (present : absent_segment a.reach.directory code.windows ≡ None) where
+      orderly-begun : IsOrderly (with_first (desk_over a committed []) runs)
+      orderly-begun =
+          begins-consistent (desk_over a committed []) runs follows.orderly (let long : length (entries a) ≡ length a.seating.taken = length-map a.seating.taken (entry_in a) in omega (arith, room, long)) present
+
+      state-last : IsState store (entry_in new seat) (state_in new seat)
+      state-last =
+          subst (λ (e : Entry). IsState store e (state_in new seat)) (sym entry-last)
+          (record {
+            bytes = committed;
+            at = λ i. Some (record (start code args store) {
+              regs = (sym live-begun i).cpu.regs;
+              cs = (sym live-begun i).cpu.cs;
+              iar = (sym live-begun i).cpu.iar;
+              private = sym (private-there a.reach.directory a.reach.pool fits two seat below code.image code.image_fits) i;
+              out = (sym live-begun i).out;
+            });
+          })
+
+      state-old : (at : ℕ) → has a.seating.taken at ≡ true → state_in a at ≡ state_in new at
+      state-old at old i = record {
+        regs = (sym live_is i).cpu.regs;
+        cs = (sym live_is i).cpu.cs;
+        iar = (sym live_is i).cpu.iar;
+        private = sym (private-other a.reach.directory a.reach.pool fits two seat below code.image code.image_fits at (taken-below a.seating sound.seating at old) (elsewhere at old)) i;
+        store = [];
+        out = (sym live_is i).out;
+      }
+        where
+          live_is : live_in new at ≡ live_in a at
+          live_is = live-other a.live seat (started a program args seat) at (elsewhere at old)
+
+      by_seat : {P : ℕ → Type 0} → P seat → ((at : ℕ) → has a.seating.taken at ≡ true → P at) → (at : ℕ) → has new.seating.taken at ≡ true → P at
+      by_seat {P} this others at inside = elim (seated-old at inside) [
+        | inl old ↦ others at old
+        | inr it ↦ subst P it this
+      ]
+
+      kept-begun : IsKept new committed
+      kept-begun = record {
+        long = follows.kept.long;
+        held = by_seat {P = λ at. AreAlike (locks_in new at) (due_to store (entry_in new at))}
+            (subst (λ (e : Entry). AreAlike (locks_in new seat) (due_to store e)) (sym entry-last)
+            (subst (λ (pages : List (List ℕ × List ℕ)). AreAlike (lines_held pages) no_lines) (sym (sound.seating.free seat below free)) (held-none a.seating.holding.pages)))
+            (λ at old. subst (λ (e : Entry). AreAlike (locks_in a at) (due_to store e)) (sym (entry-old at (elsewhere at old))) (follows.kept.held at old));
+        asked = by_seat {P = λ at. (entry_in new at).waiting ≡ true → AreAlike (request_in new at) (requested store (entry_in new at))}
+            (λ waits. absurd (both_ways (entry_in new seat).waiting (ap (λ (e : Entry). e.waiting) entry-last) waits))
+            (λ at old waits.
+            subst (λ (e : Entry). AreAlike (request_in new at) (requested store e)) (sym (entry-old at (elsewhere at old)))
+            (subst (λ (s : Seat). AreAlike (request_for s) (requested store (entry_in a at))) (sym (sitter-other a.seating seat who at (elsewhere at old)))
+            (follows.kept.asked at old (sym (ap (λ (e : Entry). e.waiting) (entry-old at (elsewhere at old))) ∙ waits))));
+        stand = by_seat {P = λ at. IsState store (entry_in new at) (state_in new at)} state-last
+            (λ at old. subst (λ (e : Entry). IsState store e (state_in new at)) (sym (entry-old at (elsewhere at old))) (subst (IsState store (entry_in a at)) (state-old at old) (follows.kept.stand at old)));
+        is_current =
+            subst (λ (these : List Entry). IsCurrent store these (shown new committed)) (sym entries-begun)
+            (subst (IsCurrent store (entries a ++ last ∷ [])) (sym (shown-same a.reach.directory a.reach.pool fits two seat below code.image code.image_fits committed))
+            (current-begun store a.most_lines a.next (entries a) follows.orderly.active (shown a committed) last refl orderly-begun.active follows.kept.is_current));
+        marked =
+            subst (λ (these : List Entry). AreMarked store these (is_line_marked new.reach.pool)) (sym entries-begun)
+            (record {
+              is = λ line.
+                  follows.kept.marked.is line
+                  ∙ sym (list_any-append (λ (one : Entry). has (due_to store one).writes line) (entries a) (last ∷ []) ∙ or_no (list_any (λ (one : Entry). has (due_to store one).writes line) (entries a)));
+            });
+        clean = λ place frame within there unmarked.
+            store-frame a.reach.directory a.reach.pool fits two seat below code.image code.image_fits place frame there ∙ follows.kept.clean place frame within there unmarked;
+      }
+        where
+          or_no : (b : Bool) → (b || false) ≡ b
+          or_no true = refl
+          or_no false = refl
+
+      pub follows-begun : Follows new committed
+      follows-begun = record { orderly = subst IsOrderly (sym (desk-begun committed [])) orderly-begun; kept = kept-begun }
+
+-- the next seat is free, and there is none where sixteen are taken
+none-next : (a : Activity) → IsSound a → next_seat a.seating ≡ None → 16 ≤ length a.seating.taken
+unfolding next_seat
+none-next a sound none = none-free (number_in a.seating) a.seating.taken sound.seating.ascending none
+
+pub some-next : (a : Activity) (seat : ℕ) → IsSound a → next_seat a.seating ≡ Some seat → (seat < 16) × (has a.seating.taken seat ≡ false) × (length a.seating.taken < 16)
+unfolding next_seat
+some-next a seat sound found = some-free (number_in a.seating) a.seating.taken seat sound.seating.among sound.seating.ascending found
+
+-- whatever a begin comes to
+module _ (a : Activity) (program : ℕ) (args : List ℕ) (sound : IsSound a) (known : program < length a.programs) where
+  abbrev this : Activation
+  this = record { program = program_at a.programs program; args = args }
+
+  pub sound-begins : IsSound (begun.begins a program args).1
+  sound-begins = by_cases (next_seat a.seating) refl (absent_segment a.reach.directory (program_at a.programs program).windows)
+    where
+      by_cases : (free : Option ℕ) → next_seat a.seating ≡ free → (absent : Option ℕ) → IsSound (begun.begins_by free absent a program args).1
+      by_cases None e absent = sound-given a sound
+      by_cases (Some seat) e (Some segment) = sound-given a sound
+      by_cases (Some seat) e None = let (below, free, room) = some-next a seat sound e in sound-begun a program args seat sound below free known
+
+  module _ (committed : List ℕ) (follows : Follows a committed) (fits : Fits a.reach.directory a.reach.pool) (two : a.reach.directory.page ≡ Two) where
+    begin-is : (order : List (ℕ × ℕ)) → step a.programs (Begin program args) Fine (desk_over a committed order) ≡ begin program this (desk_over a committed order)
+    begin-is order = ap (λ (found : Option Program). begin_if program args found (desk_over a committed order)) (slice_get-get_or a.programs program no_program known)
+
+    pub is-begin : IsBegin a (begun.begins a program args).1 program args (begun.begins a program args).0 committed
+    is-begin = by_cases (next_seat a.seating) refl (absent_segment a.reach.directory (program_at a.programs program).windows) refl
+      where
+        long : length (entries a) ≡ length a.seating.taken
+        long = length-map a.seating.taken (entry_in a)
+
+        with_room : (order : List (ℕ × ℕ)) (absent : Option ℕ) → length a.seating.taken < 16 → absent_segment a.reach.directory (program_at a.programs program).windows ≡ absent
+            → step a.programs (Begin program args) Fine (desk_over a committed order) ≡ begins absent program this (desk_over a committed order)
+        with_room order absent room e =
+            let some : nat_lt (length (entries a)) 16 ≡ true = grind (arith, nat_tests, room, long) in
+            begin-is order
+            ∙ ap (λ (b : Bool). if b then begins (absent_segment a.reach.directory (program_at a.programs program).windows) program this (desk_over a committed order)
+            else record { desk = desk_over (given a) committed order; happening = Busy a.next program }) some
+            ∙ ap (λ (found : Option ℕ). begins found program this (desk_over a committed order)) e
+
+        by_cases : (free : Option ℕ) → next_seat a.seating ≡ free → (absent : Option ℕ) → absent_segment a.reach.directory (program_at a.programs program).windows ≡ absent
+            → IsBegin a (begun.begins_by free absent a program args).1 program args (begun.begins_by free absent a program args).0 committed
+        by_cases None e absent lacks = record {
+          is_step = λ order.
+              let none = none-next a sound e in
+              let full : nat_lt (length (entries a)) 16 ≡ false = grind (arith, nat_tests, none, long) in
+              begin-is order
+              ∙ ap (λ (b : Bool). if b then begins (absent_segment a.reach.directory (program_at a.programs program).windows) program this (desk_over a committed order)
+              else record { desk = desk_over (given a) committed order; happening = Busy a.next program }) full;
+          follows = follows-given a committed follows;
+        }
+        by_cases (Some seat) e (Some segment) lacks =
+            let (below, free, room) = some-next a seat sound e in
+            record { is_step = λ order. with_room order (Some segment) room lacks; follows = follows-given a committed follows }
+        by_cases (Some seat) e None lacks =
+            let (below, free, room) = some-next a seat sound e in
+            record {
+              is_step = λ order.
+                  with_room order None room lacks
+                  ∙ (λ i. record { desk = sym (desk-begun a program args seat sound below free committed order) i; happening = Began a.next program });
+              follows = follows-begun a program args seat sound below free committed follows fits two known room lacks;
+            }
+
+-- Which of the three it comes to.
+module _ (a : Activity) (program : ℕ) (args : List ℕ) (sound : IsSound a) where
+  next-full : 16 ≤ length a.seating.taken → next_seat a.seating ≡ None
+  next-full full = by_seat (next_seat a.seating) refl
+    where
+      by_seat : (free : Option ℕ) → next_seat a.seating ≡ free → free ≡ None
+      by_seat None e = refl
+      by_seat (Some seat) e = absurd (let room = (some-next a seat sound e).2 in omega (arith, room, full))
+
+  pub begins-full : 16 ≤ length a.seating.taken → begun.begins a program args ≡ (answer.Busy a.next, given a)
+  begins-full full = ap (λ (free : Option ℕ). begun.begins_by free (absent_segment a.reach.directory (program_at a.programs program).windows) a program args) (next-full full)
+
+  pub begins-refused : (segment : ℕ) → length a.seating.taken < 16 → absent_segment a.reach.directory (program_at a.programs program).windows ≡ Some segment
+      → begun.begins a program args ≡ (answer.NoSegment a.next segment, given a)
+  begins-refused segment room lacks =
+      ap (λ (absent : Option ℕ). begun.begins_by (next_seat a.seating) absent a program args) lacks ∙ by_seat (next_seat a.seating) refl
+    where
+      by_seat : (free : Option ℕ) → next_seat a.seating ≡ free → begun.begins_by free (Some segment) a program args ≡ (answer.NoSegment a.next segment, given a)
+      by_seat None e = absurd (let full = none-next a sound e in omega (arith, room, full))
+      by_seat (Some seat) e = refl
+
+  pub begins-started : (seat : ℕ) → next_seat a.seating ≡ Some seat → absent_segment a.reach.directory (program_at a.programs program).windows ≡ None
+      → begun.begins a program args ≡ (answer.Started a.next, begun_in a program args seat)
+  begins-started seat free present = λ i. begun.begins_by (free i) (present i) a program args
+
+  -- so it is the desk's
+  pub begin-goes : (now : Activity) (told : Begun) → program < length a.programs → Fits a.reach.directory a.reach.pool → a.reach.directory.page ≡ Two
+      → told ≡ (begun.begins a program args).0 → now ≡ (begun.begins a program args).1 → (committed : List ℕ) → Follows a committed → IsBegin a now program args told committed
+  begin-goes now told known fits two is_told is_new committed follows =
+      subst (λ (n : Activity). IsBegin a n program args told committed) (sym is_new)
+      (subst (λ (t : Begun). IsBegin a (begun.begins a program args).1 program args t committed) (sym is_told) (is-begin a program args sound known committed follows fits two))
+
+-- the program that was read at a place
+pub is-code : (programs : List Program) (place at : ℕ) (code : Program) → place < length programs → at ≡ place → code ≡ slice_index_or programs at code → code ≡ program_at programs place
+is-code programs place at code known same is =
+    get_or_read programs at code (subst (λ (n : ℕ). n < length programs) (sym same) known) is no_program ∙ ap (program_at programs) same
+
+-- a seat that isn't taken isn't begun
+pub is-fresh : (a : Activity) (seat : ℕ) → IsSound a → next_seat a.seating ≡ Some seat → slice_index_or a.reach.begun seat true ≡ false
+is-fresh a seat sound found =
+    let (below, free, room) = some-next a seat sound found in
+    sym (get_or_read a.reach.begun seat false (omega (arith, below, sound.begun)) (sym (sound.free seat free)) true)
+
+-- not all sixteen are taken
+pub has-room : (a : Activity) → IsSound a → length a.seating.taken ≢ 16 → length a.seating.taken < 16
+has-room a sound apart = let few = few-taken a.seating sound.seating in omega (arith, few, apart)

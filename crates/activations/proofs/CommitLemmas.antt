@@ -1,0 +1,188 @@
+-- A commit.
+use Rattle.std.specs.Prelude.{◌≡◌, refl, ℕ, ◌%◌, ◌<◌, ◌==◌, ◌&&◌, ◌||◌, not, Bool, true, false, List, [], ◌∷◌, ◌++◌, length, slice_index, Some}
+use Rattle.std.proofs.Common.{ap, sym, ◌∙◌, subst}
+use Rattle.std.proofs.lemmas.Bool.{both_ways, eqb-true}
+use Rattle.std.proofs.lemmas.List.FromFn.{length-map-range_with_len}
+use Rattle.line_geometry.specs.Directory.{Layout, byte_count, page_count}
+use Rattle.line_geometry.specs.FlatStore.{FlatStore}
+use Rattle.line_geometry.specs.Lines.{line_of}
+use Rattle.line_geometry.proofs.Within.{line-bytes-pos}
+use Rattle.lock_rules.specs.Sets.{has}
+use Rattle.lock_rules.specs.Lines.{Lines, page_of_line}
+use Rattle.flat_machine.specs.declared.machine.Plain.{Plain}
+use Rattle.flat_machine.specs.After.{after}
+use Rattle.flat_machine.proofs.Agreement.{after-whole}
+use Rattle.frame_pool.specs.declared.model.Pool.{Pool}
+use Rattle.frame_pool.specs.Pool.{settled}
+use Rattle.flat_machine.specs.Row.{Commit, row}
+use Rattle.desk.specs.Desk.{Entry}
+use Rattle.desk.specs.Instruction.{Counts, no_counts}
+use Rattle.desk_law.specs.Beside.{AreAlike, AreMarked, IsState, IsTold, requested, by_number, over_all}
+use Rattle.desk_law.specs.Changes.{left_by, committed_at}
+use Rattle.desk_law.specs.Consistent.{IsAmong, due_to}
+use Rattle.desk_law.specs.Current.{IsCurrent}
+use Rattle.desk_law.specs.Orderly.{IsOrderly}
+use Rattle.desk_law.proofs.LaidPlaces.{place-laid}
+use Rattle.desk_law.proofs.MarkedLines.{marked-commit}
+use Rattle.desk_law.proofs.Others.{others}
+use Rattle.desk_law.proofs.Seats.{seat-told, told-seat, at-number, kept-seats}
+use Rattle.desk_law.proofs.EntriesEnd.{commit-ends}
+use Rattle.desk_law.proofs.EntriesEnd as law
+use Rattle.lock_rules.specs.Lines.{no_lines}
+use Rattle.storage_unit.specs.Bytes.{is_line_marked, bytes_over, byte_over}
+use Rattle.storage_unit.specs.Laws.{Fits, SettleKeeps, Keeps}
+use Rattle.activations.specs.Activity.{Activity, program_in, entry_in, entries, store_over, desk_over, locks_in, request_in, state_for, state_in, live_in, shown}
+use Rattle.activations.specs.Follows.{IsSound, IsKept, Follows}
+use Rattle.activations.specs.Steps.{wrote, is_of, AreWritten, WereSettled, rolled, Commits}
+use Rattle.activations.proofs.RollbackLemmas.{wrote-due, locks-left, of-written}
+use Rattle.activations.proofs.RowLemmas.{orderly-order}
+use Rattle.activations.proofs.TableLemmas.{stands-for}
+use Rattle.activations.proofs.UndoLemmas.{of-then, settled-marks}
+use Rattle.activations.proofs.VacateLemmas.{left-taken, entries-left, authority-left}
+
+-- what is kept by seat, told by number
+module _ (a : Activity) (committed : List ℕ) (sound : IsSound a) (kept : IsKept a committed) where
+  pub told-kept : IsTold (store_over a committed) (entries a)
+      (by_number a.seating.taken (entry_in a) (locks_in a) no_lines) (by_number a.seating.taken (entry_in a) (request_in a) no_lines)
+      (by_number a.seating.taken (entry_in a) (state_in a) (state_in a 16)) (shown a committed)
+  told-kept = record {
+    kept = kept-seats (store_over a committed) a.seating.taken (entry_in a) (locks_in a) (request_in a) sound.seats kept.held kept.asked;
+    stand = λ entry among.
+        let (at, inside, is) = told-seat a.seating.taken (entry_in a) entry among in
+        subst (λ (x : Entry). IsState (store_over a committed) x (by_number a.seating.taken (entry_in a) (state_in a) (state_in a 16) x.number)) is
+        (subst (IsState (store_over a committed) (entry_in a at)) (sym (at-number a.seating.taken (entry_in a) (state_in a) (state_in a 16) at sound.seats inside)) (kept.stand at inside));
+    is_current = kept.is_current;
+  }
+
+-- one page more whose lines are marked no more
+pub were-settled : (directory : Layout) (lines : ℕ → List ℕ) (pages : List ℕ) (old pool : Pool) → Fits directory pool → (page : ℕ) → page < page_count directory
+    → WereSettled lines pages old pool → WereSettled lines (pages ++ page ∷ []) old (settled pool page (lines page))
+were-settled directory lines pages old pool fits page below were = record {
+  marks = λ line.
+      settled-marks directory pool fits page below (lines page) line
+      ∙ ap (λ (b : Bool). b && not ((page == page_of_line line) && has (lines page) (line % 16))) (were.marks line)
+      ∙ neither (is_line_marked old line) (is_of pages lines line) ((page == page_of_line line) && has (lines page) (line % 16))
+      ∙ sym (ap (λ (b : Bool). is_line_marked old line && not b) (of-then lines pages page line));
+  rest = ap (λ (p : Pool). record p { marked = (settled pool page (lines page)).marked }) were.rest;
+}
+  where
+    neither : (m a b : Bool) → ((m && not a) && not b) ≡ (m && not (a || b))
+    neither true true b = refl
+    neither true false b = refl
+    neither false a b = refl
+
+-- and nothing is seen of it where these lines are as committed
+pub settled-unseen : SettleKeeps → (directory : Layout) (lines : ℕ → List ℕ) (old pool : Pool) (committed : List ℕ) → Fits directory pool → (page : ℕ) → page < page_count directory
+    → ((place : ℕ) → place < byte_count directory → has (lines (page_of_line (line_of directory place))) (line_of directory place % 16) ≡ true
+    → slice_index (bytes_over directory old committed) place ≡ slice_index committed place)
+    → Keeps directory old pool committed → Keeps directory old (settled pool page (lines page)) committed
+settled-unseen settle directory lines old pool committed fits page below as_committed keeps =
+    let more = settle directory pool committed page (lines page) fits keeps.clean below
+    (λ place within among.
+    ap (λ (bytes : List ℕ). slice_index bytes place) keeps.same
+    ∙ as_committed place within (by_parts place (page == page_of_line (line_of directory place)) refl among)) in
+    record { same = more.same ∙ keeps.same; clean = more.clean }
+  where
+    by_parts : (place : ℕ) (same : Bool) → (page == page_of_line (line_of directory place)) ≡ same → (same && has (lines page) (line_of directory place % 16)) ≡ true
+        → has (lines (page_of_line (line_of directory place))) (line_of directory place % 16) ≡ true
+    by_parts place true e wrote_it = ap (λ (p : ℕ). has (lines p) (line_of directory place % 16)) (sym (eqb-true page (page_of_line (line_of directory place)) e)) ∙ wrote_it
+    by_parts place false e none = absurd (both_ways false refl none)
+
+module _ (a : Activity) (seat : ℕ) (pool : Pool) (pages : List ℕ) (committed : List ℕ) (now : Plain)
+    (sound : IsSound a) (taken : has a.seating.taken seat ≡ true) (follows : Follows a committed)
+    (at : after (entry_in a seat).runs.program (entry_in a seat).runs.args (store_over a committed) (entry_in a seat).rows ≡ Some now)
+    (call : row (program_in a seat) a.reach.directory (over_all now (shown a committed)) ≡ Commit) where
+  abbrev store : FlatStore
+  store = store_over a committed
+
+  abbrev entry : Entry
+  entry = entry_in a seat
+
+  here : IsAmong (entries a) entry
+  here = seat-told a.seating.taken (entry_in a) seat taken
+
+  kept : IsKept a committed
+  kept = follows.kept
+
+  -- what the commit call comes to
+  pub ends : (order : List (ℕ × ℕ)) (counts : Counts) → law.Commits (desk_over a committed order) counts entry now
+      (by_number a.seating.taken (entry_in a) (locks_in a) no_lines) (by_number a.seating.taken (entry_in a) (request_in a) no_lines)
+      (by_number a.seating.taken (entry_in a) (state_in a) (state_in a 16)) (shown a committed)
+  ends order counts =
+      commit-ends (desk_over a committed order) counts entry now
+      (by_number a.seating.taken (entry_in a) (locks_in a) no_lines) (by_number a.seating.taken (entry_in a) (request_in a) no_lines)
+      (by_number a.seating.taken (entry_in a) (state_in a) (state_in a 16)) (shown a committed)
+      (orderly-order a committed order follows.orderly) here at (told-kept a committed sound kept) call
+
+  first : law.Commits (desk_over a committed []) no_counts entry now
+      (by_number a.seating.taken (entry_in a) (locks_in a) no_lines) (by_number a.seating.taken (entry_in a) (request_in a) no_lines)
+      (by_number a.seating.taken (entry_in a) (state_in a) (state_in a 16)) (shown a committed)
+  first = ends [] no_counts
+
+  now-long : length now.store ≡ byte_count a.reach.directory
+  now-long = after-whole entry.runs.program entry.runs.args store entry.rows now follows.orderly.whole at
+
+  shown-long : length (shown a committed) ≡ byte_count a.reach.directory
+  shown-long = length-map-range_with_len (byte_over a.reach.directory a.reach.pool committed) 0 (byte_count a.reach.directory)
+
+  -- where it wrote, what is committed now is what all see
+  pub wrote-seen : (place : ℕ) → place < byte_count a.reach.directory → has (wrote a seat (page_of_line (line_of a.reach.directory place))) (line_of a.reach.directory place % 16) ≡ true
+      → slice_index (shown a committed) place ≡ slice_index now.store place
+  wrote-seen place within wrote_it =
+      sym (place-laid store (due_to store entry).writes (shown a committed) committed now.store (line-bytes-pos a.reach.directory) first.record_lines place
+      (sym (wrote-due a seat committed sound (kept.held seat taken) (line_of a.reach.directory place)) ∙ wrote_it))
+
+  module _ (written : AreWritten a seat pages) (were : WereSettled (wrote a seat) pages a.reach.pool pool)
+      (keeps : Keeps a.reach.directory a.reach.pool pool now.store) (unseen : bytes_over a.reach.directory a.reach.pool now.store ≡ shown a committed) where
+    abbrev left : Activity
+    left = rolled a seat pool
+
+    desk-is : (order : List (ℕ × ℕ)) → desk_over left now.store order ≡ committed_at (desk_over a committed order) entry now
+    desk-is order i = record (desk_over a committed order) {
+      frames = ap (λ (p : Pool). p.frames) were.rest i;
+      committed = left_by store now;
+      active = entries-left a seat sound taken i;
+      authority = authority-left a seat sound taken (stands-for a sound committed follows.orderly.active.ascend seat taken) i;
+      resident = ap (λ (p : Pool). p.resident) were.rest i;
+    }
+
+    private-same : (at : ℕ) → state_in left at ≡ state_in a at
+    private-same at = ap (λ (bytes : List ℕ). state_for (record a.reach.pool { bytes = bytes }) at (live_in a at)) (ap (λ (p : Pool). p.bytes) were.rest)
+
+    kept-left : IsKept left now.store
+    kept-left = record {
+      long = now-long;
+      held = λ other inside.
+          let (there, differs) = left-taken a seat sound taken other inside in
+          subst (λ (l : Lines). AreAlike l (due_to (left_by store now) (entry_in a other))) (sym (locks-left a seat pool sound other differs))
+          (subst (λ (l : Lines). AreAlike l (due_to (left_by store now) (entry_in a other))) (at-number a.seating.taken (entry_in a) (locks_in a) no_lines other sound.seats there)
+          (first.told.kept.held (entry_in a other) (among-left other inside)));
+      asked = λ other inside waits.
+          let (there, differs) = left-taken a seat sound taken other inside in
+          subst (λ (l : Lines). AreAlike l (requested (left_by store now) (entry_in a other))) (at-number a.seating.taken (entry_in a) (request_in a) no_lines other sound.seats there)
+          (first.told.kept.asked (entry_in a other) (among-left other inside) waits);
+      stand = λ other inside.
+          let (there, differs) = left-taken a seat sound taken other inside in
+          subst (IsState (left_by store now) (entry_in a other)) (at-number a.seating.taken (entry_in a) (state_in a) (state_in a 16) other sound.seats there ∙ sym (private-same other))
+          (first.told.stand (entry_in a other) (among-left other inside));
+      is_current =
+          subst (λ (these : List Entry). IsCurrent (left_by store now) these (shown left now.store)) (sym (entries-left a seat sound taken))
+          (subst (IsCurrent (left_by store now) (others entry (entries a))) (sym (keeps.same ∙ unseen)) first.told.is_current);
+      marked =
+          subst (λ (these : List Entry). AreMarked (left_by store now) these (is_line_marked pool)) (sym (entries-left a seat sound taken))
+          (marked-commit store a.most_lines a.next (entries a) follows.orderly.active (is_line_marked a.reach.pool) kept.marked entry now (is_line_marked pool) follows.orderly.whole here at
+          (λ line. were.marks line ∙ ap (λ (b : Bool). is_line_marked a.reach.pool line && not b) (of-written a seat pages committed sound (kept.held seat taken) written line)));
+      clean = keeps.clean;
+    }
+      where
+        among-left : (other : ℕ) → has left.seating.taken other ≡ true → IsAmong (others entry (entries a)) (entry_in a other)
+        among-left other inside = subst (λ (these : List Entry). IsAmong these (entry_in a other)) (entries-left a seat sound taken) (seat-told left.seating.taken (entry_in a) other inside)
+
+    pub commits-here : Commits a seat pool committed now
+    commits-here = record {
+      desk = desk-is;
+      follows = record {
+        orderly = subst IsOrderly (sym (desk-is [])) (record { whole = first.consistent.whole; few = first.consistent.few; active = first.consistent.active; held = first.consistent.held; no_cycle = first.consistent.no_cycle });
+        kept = kept-left;
+      };
+    }

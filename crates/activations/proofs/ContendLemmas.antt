@@ -1,0 +1,145 @@
+-- A contest as its loop keeps it, whatever is committed.
+use Rattle.std.specs.Prelude.{◌≡◌, refl, ℕ, ◌<◌, ◌≤◌, ◌==◌, ◌&&◌, ◌||◌, not, if◌then◌else◌, Bool, true, false, List, [], ◌∷◌, ◌++◌, filter, length, map, Option, Some, None, IsSome}
+use Rattle.std.proofs.Common.{arith, ap, sym, ◌∙◌}
+use Rattle.std.proofs.lemmas.Bool.{eqb-true, eq-eqb, both_ways}
+use Rattle.lock_rules.specs.Sets.{has}
+use Rattle.lock_rules.specs.Waits.{victim_of}
+use Rattle.lock_rules.proofs.Sets.{has-filter}
+use Rattle.frame_pool.specs.declared.model.Pool.{Pool}
+use Rattle.desk.specs.Desk.{Desk}
+use Rattle.desk.specs.Instruction.{Word, Counts, Attempt, Turning, Victim, Waits}
+use Rattle.desk_law.specs.Consistent.{AreConsistent}
+use Rattle.desk_law.proofs.ContestRounds.{with_cycle}
+use Rattle.seats.specs.Seating.{number_in, seat_of, sitter}
+use Rattle.seats.specs.Waiting.{cycle_of, holders}
+use Rattle.seats.proofs.Numbers.{seat-found}
+use Rattle.activations.specs.Activity.{Activity, entries, store_over}
+use Rattle.activations.specs.Follows.{IsSound, IsKept}
+use Rattle.activations.specs.Serving.{IsContested, IsOver, IsFree}
+use Rattle.activations.specs.Steps.{rolled, RollsBack}
+use Rattle.activations.specs.Turning.{Contests}
+use Rattle.line_locks.specs.declared.request.Request.{Request}
+use Rattle.desk.specs.declared.answers.Cycle.{Cycle}
+use Rattle.activations.proofs.ContestLemmas.{round-goes, round-loses, cycle-sits, contest-waits, contest-frees}
+
+-- fewer are taken where one that was is left
+pub fewer : (taken : List ℕ) (seat : ℕ) → has taken seat ≡ true → length (filter (λ other. not (other == seat)) taken) < length taken
+fewer [] seat inside = absurd (cc)
+fewer (one ∷ taken) seat inside = by_test (one == seat) refl inside (fewer taken seat)
+  where
+    no_more : (xs : List ℕ) → length (filter (λ other. not (other == seat)) xs) ≤ length xs
+    no_more [] = omega arith
+    no_more (x ∷ xs) = keeps (x == seat) (no_more xs)
+      where
+        keeps : (same : Bool) → length (filter (λ other. not (other == seat)) xs) ≤ length xs
+            → length (if not same then x ∷ filter (λ other. not (other == seat)) xs else filter (λ other. not (other == seat)) xs) ≤ length (x ∷ xs)
+        keeps true few = omega (arith, few)
+        keeps false few = omega (arith, few)
+
+    by_test : (same : Bool) → (one == seat) ≡ same → (same || has taken seat) ≡ true → (has taken seat ≡ true → length (filter (λ other. not (other == seat)) taken) < length taken)
+        → length (if not same then one ∷ filter (λ other. not (other == seat)) taken else filter (λ other. not (other == seat)) taken) < length (one ∷ taken)
+    by_test true e inside rest = omega (arith, no_more taken)
+    by_test false e inside rest = let few = rest inside in omega (arith, few)
+
+module _ (seat : ℕ) (first now : Activity) (before after : Counts) (cycle : List ℕ) (loser : ℕ) (pool : Pool)
+    (sound : IsSound now) (taken : has now.seating.taken seat ≡ true) (number : number_in now.seating seat ≡ number_in first.seating seat)
+    (contests : Contests seat first before now after)
+    (found : cycle_of now.seating seat ≡ Some cycle) (sits : seat_of now.seating (victim_of cycle) ≡ Some loser)
+    (rolls : (committed : List ℕ) → AreConsistent (store_over now committed) now.most_lines now.next (entries now) → IsKept now committed → RollsBack now loser pool committed) where
+  pub loser-taken : has now.seating.taken loser ≡ true
+  loser-taken = (seat-found now.seating sound.seating (victim_of cycle) loser sits).0
+
+  -- another is rolled back: the contest goes on
+  pub contests-on : (victim_of cycle == number_in now.seating seat) ≡ false → Contests seat first before (rolled now loser pool) (with_cycle after cycle)
+  contests-on other begins attempt refused desk committed order is contested =
+      let here = contests begins attempt refused desk committed order is contested in
+      round-goes begins attempt refused desk now seat committed order after sound taken (is ∙ sym number) here cycle found loser sits pool
+      (rolls committed here.under_way.contending.active here.kept)
+      (ap (λ (n : ℕ). victim_of cycle == n) (is ∙ sym number) ∙ other)
+
+  -- it is rolled back itself
+  pub contests-lost : (victim_of cycle == number_in now.seating seat) ≡ true
+      → (begins : Word → Turning) (attempt : Attempt) (refused : List ℕ) (desk : Desk) (committed : List ℕ) (order : List (ℕ × ℕ))
+      → attempt.entry.number ≡ number_in first.seating seat → IsContested begins attempt refused desk first committed order before
+      → IsOver begins (rolled now loser pool) committed order (with_cycle after cycle) Victim
+  contests-lost it begins attempt refused desk committed order is contested =
+      let here = contests begins attempt refused desk committed order is contested in
+      round-loses begins attempt refused desk now seat committed order after sound taken (is ∙ sym number) here cycle found loser sits pool
+      (rolls committed here.under_way.contending.active here.kept)
+      (ap (λ (n : ℕ). victim_of cycle == n) (is ∙ sym number) ∙ it)
+
+  -- and who isn't stays
+  pub stays-taken : (victim_of cycle == number_in now.seating seat) ≡ false → has (rolled now loser pool).seating.taken seat ≡ true
+  stays-taken other =
+      has-filter (λ other. not (other == loser)) now.seating.taken seat
+      ∙ (λ i. taken i && not (by_test (seat == loser) refl i))
+    where
+      by_test : (same : Bool) → (seat == loser) ≡ same → same ≡ false
+      by_test true e =
+          absurd (both_ways (victim_of cycle == number_in now.seating seat) other
+          (eq-eqb (victim_of cycle) (number_in now.seating seat)
+          (sym ((seat-found now.seating sound.seating (victim_of cycle) loser sits).1) ∙ ap (number_in now.seating) (sym (eqb-true seat loser e)))))
+      by_test false e = refl
+
+-- a cycle more is recorded
+pub recorded : (before : List Cycle) (members : List ℕ) (after : List Cycle) (cycle : Cycle) → cycle.members.items ≡ members → after ≡ before ++ cycle ∷ []
+    → map (λ (c : Cycle). c.members.items) after ≡ map (λ (c : Cycle). c.members.items) before ++ members ∷ []
+recorded before members after cycle is same = ap (map (λ (c : Cycle). c.members.items)) same ∙ pushed before
+  where
+    pushed : (xs : List Cycle) → map (λ (c : Cycle). c.members.items) (xs ++ cycle ∷ []) ≡ map (λ (c : Cycle). c.members.items) xs ++ members ∷ []
+    pushed [] = ap (λ (m : List ℕ). m ∷ []) is
+    pushed (x ∷ xs) = ap (λ (rest : List (List ℕ)). x.members.items ∷ rest) (pushed xs)
+
+-- at the end: nobody sits in the victim's place only where there is no cycle
+module _ (seat : ℕ) (first now : Activity) (before after : Counts)
+    (sound : IsSound now) (taken : has now.seating.taken seat ≡ true) (number : number_in now.seating seat ≡ number_in first.seating seat)
+    (contests : Contests seat first before now after) where
+  -- the victim of a contested cycle sits somewhere
+  pub victim-sits : (cycle : List ℕ) → cycle_of now.seating seat ≡ Some cycle → seat_of now.seating (victim_of cycle) ≡ None
+      → (begins : Word → Turning) (attempt : Attempt) (refused : List ℕ) (desk : Desk) (committed : List ℕ) (order : List (ℕ × ℕ))
+      → attempt.entry.number ≡ number_in first.seating seat → IsContested begins attempt refused desk first committed order before → ⊥
+  victim-sits cycle found none begins attempt refused desk committed order is contested =
+      let here = contests begins attempt refused desk committed order is contested in
+      cycle-sits begins attempt refused desk now seat committed order after sound taken (is ∙ sym number) here cycle found none
+
+  module _ (request : Request) (waits : (sitter now.seating seat).waits ≡ Some request) (found : cycle_of now.seating seat ≡ None) where
+    pub contest-settles : holders now.seating seat request.wants.items ≡ []
+        → (begins : Word → Turning) (attempt : Attempt) (refused : List ℕ) (desk : Desk) (committed : List ℕ) (order : List (ℕ × ℕ))
+        → attempt.entry.number ≡ number_in first.seating seat → IsContested begins attempt refused desk first committed order before → IsFree begins attempt refused now committed order after
+    contest-settles none begins attempt refused desk committed order is contested =
+        contest-frees begins attempt refused desk now seat committed order after sound taken (is ∙ sym number) (contests begins attempt refused desk committed order is contested) found request waits none
+
+    pub contest-stays : (these : List ℕ) → holders now.seating seat request.wants.items ≡ these → (length these ≡ 0 → ⊥)
+        → (begins : Word → Turning) (attempt : Attempt) (refused : List ℕ) (desk : Desk) (committed : List ℕ) (order : List (ℕ × ℕ))
+        → attempt.entry.number ≡ number_in first.seating seat → IsContested begins attempt refused desk first committed order before → IsOver begins now committed order after (Waits these)
+    contest-stays [] is_these some begins attempt refused desk committed order is contested = absurd (some refl)
+    contest-stays (holder ∷ others) is_these some begins attempt refused desk committed order is contested =
+        contest-waits begins attempt refused desk now seat committed order after sound taken (is ∙ sym number) (contests begins attempt refused desk committed order is contested) found request waits holder others is_these
+
+  module _ (waiting : IsSome (sitter now.seating seat).waits) (found : cycle_of now.seating seat ≡ None) (these : List ℕ)
+      (told : (request : Request) → (sitter now.seating seat).waits ≡ Some request → these ≡ holders now.seating seat request.wants.items) where
+    pub told-settles : (length these == 0) ≡ true
+        → (begins : Word → Turning) (attempt : Attempt) (refused : List ℕ) (desk : Desk) (committed : List ℕ) (order : List (ℕ × ℕ))
+        → attempt.entry.number ≡ number_in first.seating seat → IsContested begins attempt refused desk first committed order before → IsFree begins attempt refused now committed order after
+    told-settles none = by_waits (sitter now.seating seat).waits refl waiting
+      where
+        nothing : (xs : List ℕ) → (length xs == 0) ≡ true → xs ≡ []
+        nothing [] is = refl
+        nothing (x ∷ xs) is = let e : length (x ∷ xs) ≡ 0 = eqb-true (length (x ∷ xs)) 0 is in absurd (omega (arith, e))
+
+        by_waits : (waits : Option Request) → (sitter now.seating seat).waits ≡ waits → IsSome waits
+            → (begins : Word → Turning) (attempt : Attempt) (refused : List ℕ) (desk : Desk) (committed : List ℕ) (order : List (ℕ × ℕ))
+            → attempt.entry.number ≡ number_in first.seating seat → IsContested begins attempt refused desk first committed order before → IsFree begins attempt refused now committed order after
+        by_waits (Some request) is some = contest-settles request is found (sym (told request is) ∙ nothing these none)
+        by_waits None is none = let e : false ≡ true = none in absurd (cc (e))
+
+    pub told-stays : (length these == 0) ≡ false
+        → (begins : Word → Turning) (attempt : Attempt) (refused : List ℕ) (desk : Desk) (committed : List ℕ) (order : List (ℕ × ℕ))
+        → attempt.entry.number ≡ number_in first.seating seat → IsContested begins attempt refused desk first committed order before → IsOver begins now committed order after (Waits these)
+    told-stays some = by_waits (sitter now.seating seat).waits refl waiting
+      where
+        by_waits : (waits : Option Request) → (sitter now.seating seat).waits ≡ waits → IsSome waits
+            → (begins : Word → Turning) (attempt : Attempt) (refused : List ℕ) (desk : Desk) (committed : List ℕ) (order : List (ℕ × ℕ))
+            → attempt.entry.number ≡ number_in first.seating seat → IsContested begins attempt refused desk first committed order before → IsOver begins now committed order after (Waits these)
+        by_waits (Some request) is any = contest-stays request is found these (sym (told request is)) (λ e. both_ways (length these == 0) some (eq-eqb (length these) 0 e))
+        by_waits None is none = let e : false ≡ true = none in absurd (cc (e))

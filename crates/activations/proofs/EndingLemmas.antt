@@ -1,0 +1,184 @@
+-- What a seat that is left leaves, once its written lines are forgotten or committed.
+use Rattle.std.specs.Prelude.{◌≡◌, refl, ℕ, ◌+◌, ◌<◌, ◌==◌, ◌&&◌, not, Bool, true, false, List, [], ◌∷◌, slice_index, is_some, Some}
+use Rattle.std.proofs.Common.{arith, ap, sym, ◌∙◌, subst}
+use Rattle.std.proofs.lemmas.Bool.{both_ways, eqb-true, eqb-false, eq-eqb, or_left}
+use Rattle.line_geometry.specs.Directory.{byte_count}
+use Rattle.line_geometry.specs.Lines.{line_of}
+use Rattle.line_geometry.proofs.Within.{line-bytes-pos}
+use Rattle.lock_rules.specs.Sets.{has}
+use Rattle.lock_rules.proofs.Sets.{has-filter}
+use Rattle.flat_machine.specs.declared.machine.Plain.{Plain}
+use Rattle.flat_machine.specs.After.{after}
+use Rattle.flat_machine.specs.Row.{Commit, row}
+use Rattle.frame_pool.specs.declared.model.Pool.{Pool}
+use Rattle.frame_pool.specs.Pool.{emptied}
+use Rattle.frame_pool.specs.Seen.{IsSeen}
+use Rattle.frame_pool.proofs.SeenLemmas.{Stays}
+use Rattle.desk.specs.Desk.{Entry}
+use Rattle.desk.specs.Instruction.{no_counts}
+use Rattle.desk_law.specs.Beside.{over_all}
+use Rattle.desk_law.specs.Consistent.{AreConsistent, due_to}
+use Rattle.desk_law.proofs.LaidPlaces.{place-kept}
+use Rattle.desk_law.proofs.Seats.{seat-told}
+use Rattle.desk_law.proofs.Waiting.{among-any}
+use Rattle.seats.proofs.Kept.{taken-below}
+use Rattle.storage_unit.specs.declared.model.Reach.{Reach}
+use Rattle.storage_unit.specs.Bytes.{IsClean, is_line_marked, is_marked, bytes_over, private_bytes}
+use Rattle.storage_unit.specs.Laws.{Fits, Keeps}
+use Rattle.storage_unit.proofs.CommitIsUnseen.{commit-is-unseen}
+use Rattle.storage_unit.proofs.EmptyKeeps.{empty-keeps}
+use Rattle.storage_unit.proofs.LeaveLemmas.{emptied-frame}
+use Rattle.storage_unit.proofs.StateLemmas.{emptied-stays}
+use Rattle.activations.specs.Activity.{Activity, program_in, entry_in, entries, store_over, shown}
+use Rattle.activations.specs.Ends.{HasUndone, HasSettled, WereRolled, IsRestarted, IsDeserted}
+use Rattle.activations.specs.Follows.{IsSound, IsKept, Follows}
+use Rattle.activations.specs.Steps.{rolled, vacated, with_pool, RollsBack, Commits}
+use Rattle.activations.proofs.CommitLemmas.{ends, wrote-seen, commits-here}
+use Rattle.activations.proofs.EndLemmas.{sound-pool, sound-rolled, rolled-more}
+use Rattle.activations.proofs.IdleLemmas.{restarts}
+use Rattle.activations.proofs.RollbackLemmas.{rolls-back}
+
+-- A seat was left, after the unit came to another state.
+module _ (a : Activity) (seat : ℕ) (mid : Reach) (new : Activity) (is : new ≡ vacated (record a { reach = mid }) seat) where
+  pool-is : new.reach.pool ≡ mid.pool
+  pool-is = ap (λ (n : Activity). n.reach.pool) is
+
+  pub shape-left : mid ≡ record a.reach { pool = mid.pool } → new ≡ rolled a seat new.reach.pool
+  shape-left rest = is ∙ ap (λ (r : Reach). vacated (record a { reach = r }) seat) rest ∙ (λ i. rolled a seat (sym pool-is i))
+
+  pub sound-after : mid ≡ record a.reach { pool = mid.pool } → IsSound a → has a.seating.taken seat ≡ true → IsSound new
+  sound-after rest sound taken = subst IsSound (sym (shape-left rest)) (sound-rolled a seat new.reach.pool sound taken)
+
+  -- the lines that it wrote were forgotten
+  pub rolls-left : HasUndone a.seating.holding seat a.reach mid → IsSound a → has a.seating.taken seat ≡ true → (committed : List ℕ)
+      → AreConsistent (store_over a committed) a.most_lines a.next (entries a) → IsKept a committed → RollsBack a seat new.reach.pool committed
+  rolls-left undone sound taken committed consistent kept =
+      subst (λ (pool : Pool). RollsBack a seat pool committed) (sym pool-is)
+      (rolls-back a seat mid.pool undone.pages committed sound taken consistent kept (record { all = undone.all; only = undone.only }) undone.were (undone.are committed kept.long kept.clean))
+
+  -- they were committed
+  pub commits-left : HasSettled a.seating.holding seat a.reach mid → IsSound a → has a.seating.taken seat ≡ true → (committed : List ℕ) (now : Plain) → Follows a committed
+      → after (program_in a seat) (entry_in a seat).runs.args (store_over a committed) (entry_in a seat).rows ≡ Some now
+      → row (program_in a seat) a.reach.directory (over_all now (shown a committed)) ≡ Commit → Commits a seat new.reach.pool committed now
+  commits-left settled sound taken committed now follows at call =
+      subst (λ (pool : Pool). Commits a seat pool committed now) (sym pool-is)
+      (commits-here a seat mid.pool settled.pages committed now sound taken follows at call (record { all = settled.all; only = settled.only }) settled.were keeps unseen.0)
+    where
+      unwritten : (line : ℕ) → is_line_marked a.reach.pool line ≡ false → has (due_to (store_over a committed) (entry_in a seat)).writes line ≡ false
+      unwritten line clear = by_test (has (due_to (store_over a committed) (entry_in a seat)).writes line) refl
+        where
+          by_test : (wrote_it : Bool) → has (due_to (store_over a committed) (entry_in a seat)).writes line ≡ wrote_it → wrote_it ≡ false
+          by_test false e = refl
+          by_test true e =
+              absurd (both_ways (is_line_marked a.reach.pool line) clear
+              (follows.kept.marked.is line
+              ∙ among-any (λ (entry : Entry). has (due_to (store_over a committed) entry).writes line) (entries a) (entry_in a seat) (seat-told a.seating.taken (entry_in a) seat taken) e))
+
+      same : (place : ℕ) → place < byte_count a.reach.directory → is_marked a.reach.directory a.reach.pool place ≡ false → slice_index now.store place ≡ slice_index committed place
+      same place within clear =
+          place-kept (store_over a committed) (due_to (store_over a committed) (entry_in a seat)).writes (shown a committed) committed now.store (line-bytes-pos a.reach.directory)
+          (ends a seat mid.pool settled.pages committed now sound taken follows at call [] no_counts).record_lines place (unwritten (line_of a.reach.directory place) clear)
+
+      unseen : (bytes_over a.reach.directory a.reach.pool now.store ≡ shown a committed) × IsClean a.reach.directory a.reach.pool now.store
+      unseen = commit-is-unseen a.reach.directory a.reach.pool committed now.store follows.kept.clean same
+
+      keeps : Keeps a.reach.directory a.reach.pool mid.pool now.store
+      keeps = settled.keeps now.store unseen.1
+          (λ place within wrote_it. ap (λ (bytes : List ℕ). slice_index bytes place) unseen.0 ∙ wrote-seen a seat mid.pool settled.pages committed now sound taken follows at call place within wrote_it)
+
+-- One after another is rolled back, of the seats below a bound.
+pub record RolledSo (below : ℕ) (old now : Activity) : Type 0 where
+  pub sound : IsSound now
+  pub programs : now.programs ≡ old.programs
+  pub next : now.next ≡ old.next
+  pub gone : (seat : ℕ) → seat < below → has now.seating.taken seat ≡ false
+  pub were : (committed : List ℕ) → Follows old committed → WereRolled old now committed
+
+pub rolled-none : (a : Activity) → IsSound a → RolledSo 0 a a
+rolled-none a sound = record {
+  sound = sound;
+  programs = refl;
+  next = refl;
+  gone = λ seat below. absurd (omega (arith, below));
+  were = λ committed follows. record { restarts = λ order. refl; follows = follows };
+}
+
+module _ (old now : Activity) (seat : ℕ) (so : RolledSo seat old now) where
+  -- nobody is in the seat
+  pub rolled-past : has now.seating.taken seat ≡ false → RolledSo (seat + 1) old now
+  rolled-past none = record {
+    sound = so.sound;
+    programs = so.programs;
+    next = so.next;
+    gone = λ at below. by_test at below (at == seat) refl;
+    were = so.were;
+  }
+    where
+      by_test : (at : ℕ) → at < seat + 1 → (same : Bool) → (at == seat) ≡ same → has now.seating.taken at ≡ false
+      by_test at below true e = ap (has now.seating.taken) (eqb-true at seat e) ∙ none
+      by_test at below false e = so.gone at (let apart = eqb-false at seat e in omega (arith, below, apart))
+
+  -- who is in it is rolled back
+  pub rolled-step : (new : Activity) → has now.seating.taken seat ≡ true → new ≡ rolled now seat new.reach.pool → IsSound new
+      → ((committed : List ℕ) → AreConsistent (store_over now committed) now.most_lines now.next (entries now) → IsKept now committed → RollsBack now seat new.reach.pool committed)
+      → RolledSo (seat + 1) old new
+  rolled-step new taken is sound rolls = record {
+    sound = sound;
+    programs = ap (λ (n : Activity). n.programs) is ∙ so.programs;
+    next = ap (λ (n : Activity). n.next) is ∙ so.next;
+    gone = λ at below. ap (λ (n : Activity). has n.seating.taken at) is ∙ by_test at below (at == seat) refl;
+    were = λ committed follows.
+        let past = so.were committed follows in
+        subst (λ (n : Activity). WereRolled old n committed) (sym is)
+        (rolled-more now seat new.reach.pool old committed past (rolls committed past.follows.orderly.active past.follows.kept));
+  }
+    where
+      by_test : (at : ℕ) → at < seat + 1 → (same : Bool) → (at == seat) ≡ same → has (rolled now seat new.reach.pool).seating.taken at ≡ false
+      by_test at below true e =
+          has-filter (λ other. not (other == seat)) now.seating.taken at
+          ∙ ap (λ (b : Bool). has now.seating.taken at && not b) e ∙ and_no (has now.seating.taken at)
+        where
+          and_no : (b : Bool) → (b && false) ≡ false
+          and_no true = refl
+          and_no false = refl
+      by_test at below false e =
+          has-filter (λ other. not (other == seat)) now.seating.taken at
+          ∙ ap (λ (b : Bool). b && not (at == seat)) (so.gone at (let apart = eqb-false at seat e in omega (arith, below, apart)))
+
+none-has : (xs : List ℕ) → ((x : ℕ) → has xs x ≡ true → ⊥) → xs ≡ []
+none-has [] none = refl
+none-has (x ∷ xs) none = absurd (none x (or_left (x == x) (has xs x) (eq-eqb x x refl)))
+
+-- All sixteen are left, and the pages go out.
+module _ (old now new : Activity) (so : RolledSo 16 old now) (fits : Fits now.reach.directory now.reach.pool) (is : new ≡ with_pool now (emptied now.reach.pool)) where
+  nobody : now.seating.taken ≡ []
+  nobody = none-has now.seating.taken (λ seat inside. both_ways (has now.seating.taken seat) (so.gone seat (taken-below now.seating so.sound.seating seat inside)) inside)
+
+  stays : Stays now.reach.pool (emptied now.reach.pool)
+  stays = emptied-stays now.reach.pool
+
+  pub sound-emptied : IsSound new
+  sound-emptied = subst IsSound (sym is) (sound-pool now (emptied now.reach.pool) so.sound)
+
+  pub deserted : IsDeserted old new
+  deserted = record {
+    taken = ap (λ (n : Activity). n.seating.taken) is ∙ nobody;
+    programs = ap (λ (n : Activity). n.programs) is ∙ so.programs;
+    next = ap (λ (n : Activity). n.next) is ∙ so.next;
+  }
+
+  pub restarted-left : IsSeen new.reach.pool → (committed : List ℕ) → Follows old committed → IsRestarted old new committed
+  restarted-left seen committed follows =
+      let past = so.were committed follows in
+      subst (λ (n : Activity). IsRestarted old n committed) (sym is)
+      (restarts now (emptied now.reach.pool) committed so.sound nobody
+      (record {
+        marked = stays.marked;
+        private = λ seat below. ap (λ (bytes : List ℕ). private_bytes (record now.reach.pool { bytes = bytes }) seat) stays.bytes;
+        size = stays.page;
+        frames = stays.frames;
+      })
+      (none-has (emptied now.reach.pool).resident (λ page inside.
+      both_ways (has (emptied now.reach.pool).resident page)
+      ((subst IsSeen (ap (λ (n : Activity). n.reach.pool) is) seen).resident page ∙ ap is_some (emptied-frame now.reach.pool page fits.seen)) inside))
+      (empty-keeps now.reach.directory now.reach.pool committed fits past.follows.kept.clean) old past)

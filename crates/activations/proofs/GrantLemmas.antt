@@ -1,0 +1,119 @@
+-- Pages that are granted, and lines that are open.
+use Rattle.std.specs.Prelude.{◌≡◌, refl, ℕ, zero, suc, ◌+◌, ◌*◌, ◌%◌, ◌<◌, ◌≤◌, ◌==◌, not, if◌then◌else◌, Bool, true, false, List, [], ◌∷◌, filter, length, map, slice_index_or, slice_set}
+use Rattle.std.specs.List.{range_with_len}
+use Rattle.std.proofs.Common.{arith, ap, sym, ◌∙◌, get_or-set_same, get_or-set_other}
+use Rattle.std.proofs.lemmas.Bool.{eqb-false}
+use Rattle.std.proofs.lemmas.Bool.Decides.{nat_tests}
+use Rattle.std.proofs.lemmas.List.{length-set}
+use Rattle.line_geometry.specs.LineSets.{passing, IsOfPage}
+use Rattle.lock_rules.specs.Sets.{has}
+use Rattle.lock_rules.specs.Lines.{page_of_line, within_page}
+use Rattle.line_locks.specs.Flat.{flat_lines, IsFlat}
+use Rattle.line_locks.specs.Holding.{of_seat, held_at}
+use Rattle.lockbit_rules.specs.declared.Authority.{Authority}
+use Rattle.lockbit_rules.specs.Entries.{Entry, entry_of, lets}
+use Rattle.lockbit_rules.specs.Entries as bits
+use Rattle.inverted_table.specs.Placed.{unowned}
+use Rattle.desk.specs.Desk.{nobody}
+use Rattle.desk.specs.Desk as desk
+use Rattle.desk.specs.Instruction.{authority_by}
+use Rattle.desk_law.specs.Beside.{IsThere}
+use Rattle.desk_law.specs.Consistent.{Ascend}
+use Rattle.desk_law.proofs.Identifiers.{permitted-told}
+use Rattle.seats.specs.Seating.{sitter}
+use Rattle.storage_unit.specs.Rows.{IsOpenLine}
+use Rattle.activations.specs.Activity.{Activity, authority_of, authority_at, authority_under, number_under, entries, desk_over, locks_in}
+use Rattle.activations.specs.Follows.{IsSound}
+use Rattle.activations.proofs.HoldingLemmas.{held-flat}
+use Rattle.activations.proofs.TableLemmas.{stands-for, permits-flat}
+use Rattle.activations.proofs.VacateLemmas.{map-range}
+
+-- the lines of a page that pass a test, as flat lines
+flat-filter : (base : ℕ) (p q : ℕ → Bool) (from n : ℕ) → ((x : ℕ) → from ≤ x → x < from + n → q (base + x) ≡ p x)
+    → map (λ x. base + x) (filter p (range_with_len from n)) ≡ filter q (range_with_len (base + from) n)
+flat-filter base p q from zero same = refl
+flat-filter base p q from (suc n) same =
+    by_test (p from) (q (base + from)) (same from (omega arith) (omega arith)) (flat-filter base p q (from + 1) n (λ x low high. same x (omega (arith, low)) (omega (arith, high))))
+  where
+    next : base + (from + 1) ≡ base + from + 1
+    next = omega arith
+
+    by_test : (a b : Bool) → b ≡ a → map (λ x. base + x) (filter p (range_with_len (from + 1) n)) ≡ filter q (range_with_len (base + (from + 1)) n)
+        → map (λ x. base + x) (if a then (from ∷ filter p (range_with_len (from + 1) n)) else filter p (range_with_len (from + 1) n))
+        ≡ (if b then ((base + from) ∷ filter q (range_with_len (base + from + 1) n)) else filter q (range_with_len (base + from + 1) n))
+    by_test true true e rest = ap (λ (these : List ℕ). (base + from) ∷ these) (rest ∙ ap (λ (k : ℕ). filter q (range_with_len k n)) next)
+    by_test true false e rest = absurd (cc)
+    by_test false true e rest = absurd (cc)
+    by_test false false e rest = rest ∙ ap (λ (k : ℕ). filter q (range_with_len k n)) next
+
+-- a set of lines of a page is the flat lines that lie in it
+pub flat-within : (page : ℕ) (set lines : List ℕ) → IsOfPage set → ((x : ℕ) → x < 16 → has lines (page * 16 + x) ≡ has set x) → flat_lines page set ≡ within_page page lines
+unfolding passing
+flat-within page set lines of same =
+    ap (flat_lines page) (sym of)
+    ∙ flat-filter (page * 16) (has set) (has lines) 0 16 (λ x low high. same x high)
+    ∙ ap (λ (k : ℕ). filter (has lines) (range_with_len k 16)) whole
+  where
+    whole : page * 16 + 0 ≡ page * 16
+    whole = omega arith
+
+-- What a grant makes of the entry of a page: the authority by the locks that are held in it.
+pub granted-page : (a : Activity) (seat page : ℕ) (one : Authority) → IsSound a
+    → entry_of one ≡ bits.granted (seat + 1) (held_at a.seating.holding seat page).0 (held_at a.seating.holding seat page).1
+    → authority_of page one ≡ authority_by (seat + 1) (within_page page (locks_in a seat).reads) (within_page page (locks_in a seat).writes)
+granted-page a seat page one sound is =
+    ap (λ (e : Entry). record { owner = e.owner; write = e.write; lines = flat_lines page e.lines }) is
+    ∙ by_writes (held_at a.seating.holding seat page).1
+    ∙ (λ i. authority_by (seat + 1) (reads-are i) (writes-are i))
+  where
+    flat : IsFlat (of_seat a.seating.holding seat) (locks_in a seat)
+    flat = held-flat (of_seat a.seating.holding seat) (sound.lines seat)
+
+    reads-are : flat_lines page (held_at a.seating.holding seat page).0 ≡ within_page page (locks_in a seat).reads
+    reads-are = flat-within page (held_at a.seating.holding seat page).0 (locks_in a seat).reads ((sound.lines seat).reads page) (λ x below. sym (flat.reads page x below))
+
+    writes-are : flat_lines page (held_at a.seating.holding seat page).1 ≡ within_page page (locks_in a seat).writes
+    writes-are = flat-within page (held_at a.seating.holding seat page).1 (locks_in a seat).writes ((sound.lines seat).writes page) (λ x below. sym (flat.writes page x below))
+
+    by_writes : (writes : List ℕ)
+        → record { owner = (bits.granted (seat + 1) (held_at a.seating.holding seat page).0 writes).owner; write = (bits.granted (seat + 1) (held_at a.seating.holding seat page).0 writes).write; lines = flat_lines page (bits.granted (seat + 1) (held_at a.seating.holding seat page).0 writes).lines }
+        ≡ authority_by (seat + 1) (flat_lines page (held_at a.seating.holding seat page).0) (flat_lines page writes)
+    by_writes [] = refl
+    by_writes (line ∷ lines) = refl
+
+-- one of a range set
+set-range : (f g : ℕ → desk.Authority) (from n k : ℕ) (value : desk.Authority) → g (from + k) ≡ value → ((x : ℕ) → (x == from + k) ≡ false → g x ≡ f x)
+    → map g (range_with_len from n) ≡ slice_set (map f (range_with_len from n)) k value
+set-range f g from zero k value at other = refl
+set-range f g from (suc n) zero value at other =
+    let whole : from + 0 ≡ from = omega arith in
+    λ i. (ap g (sym whole) ∙ at) i ∷ map-range g f (from + 1) n (λ x low high. other x (grind (arith, nat_tests, low))) i
+set-range f g from (suc n) (suc k) value at other =
+    let next : from + 1 + k ≡ from + suc k = omega arith in
+    λ i. other from (grind (arith, nat_tests)) i
+    ∷ set-range f g (from + 1) n k value (ap g next ∙ at) (λ x differs. other x (ap (λ (y : ℕ). x == y) (sym next) ∙ differs)) i
+
+-- one entry set is one authority set
+pub under-set : (owned : List Authority) (page : ℕ) (one : Authority) → page < length owned → authority_under (slice_set owned page one) ≡ slice_set (authority_under owned) page (authority_of page one)
+under-set owned page one within =
+    ap (λ (n : ℕ). map (authority_at (slice_set owned page one)) (range_with_len 0 n)) (length-set owned page one)
+    ∙ set-range (authority_at owned) (authority_at (slice_set owned page one)) 0 (length owned) page (authority_of page one)
+    (ap (authority_at (slice_set owned page one)) whole ∙ ap (authority_of page) (get_or-set_same owned page one unowned within))
+    (λ x differs. ap (authority_of x) (get_or-set_other owned page x one unowned (eqb-false x page (sym (ap (λ (y : ℕ). x == y) whole) ∙ differs))))
+  where
+    whole : 0 + page ≡ page
+    whole = omega arith
+
+module _ (a : Activity) (sound : IsSound a) (committed : List ℕ) (ascend : Ascend 0 (entries a) a.next) where
+  -- a line that is there for an activation is open to its seat, which is selected
+  pub opened : (seat : ℕ) (order : List (ℕ × ℕ)) (line : ℕ) (store : Bool) → has a.seating.taken seat ≡ true → a.reach.runner ≡ seat + 1
+      → IsThere (desk_over a committed order) (sitter a.seating seat).number line store → IsOpenLine a.reach line store
+  opened seat order line store taken runner is = record {
+    resident = is.resident;
+    permits =
+        ap not
+        (ap (λ (tid : ℕ). lets (entry_of (slice_index_or a.reach.entries (page_of_line line) unowned)) tid (line % 16) store) runner
+        ∙ sym (permits-flat a.reach.entries line (seat + 1) store)
+        ∙ sym (permitted-told (number_under a) refl (seat + 1) (sitter a.seating seat).number (authority_under a.reach.entries) (page_of_line line) line store (stands-for a sound committed ascend seat taken))
+        ∙ is.permits);
+  }

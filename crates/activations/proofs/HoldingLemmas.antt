@@ -1,0 +1,77 @@
+-- What a seat holds page by page, as flat lines.
+use Rattle.std.specs.Prelude.{◌≡◌, refl, ℕ, zero, suc, ◌+◌, ◌*◌, ◌<◌, ◌≤◌, ◌==◌, ◌||◌, nat_lt, Bool, true, false, List, [], length}
+use Rattle.std.specs.List.{flat_map, range_with_len}
+use Rattle.std.proofs.Common.{arith, ap, sym, ◌∙◌}
+use Rattle.std.proofs.lemmas.Bool.{eqb-true, eqb-false}
+use Rattle.std.proofs.lemmas.Bool.Decides.{nat_tests}
+use Rattle.std.proofs.lemmas.List.{get_or_past}
+use Rattle.line_geometry.proofs.LineSetLemmas.{of_page-below}
+use Rattle.lock_rules.specs.Sets.{has}
+use Rattle.lock_rules.proofs.Sets.{has-append}
+use Rattle.line_locks.specs.Held.{of_page, nothing}
+use Rattle.line_locks.specs.Flat.{flat_lines, IsFlat}
+use Rattle.line_locks.proofs.FlatLemmas.{has-page, has-other_page}
+use Rattle.activations.specs.Activity.{lines_held}
+use Rattle.activations.specs.Follows.{AreOfPages}
+
+-- lines of pages from a first on, none of which is this page
+pub flat-beyond : (sets : ℕ → List ℕ) (from n page line : ℕ) → ((p x : ℕ) → has (sets p) x ≡ true → x < 16) → line < 16 → page < from
+    → has (flat_map (λ p. flat_lines p (sets p)) (range_with_len from n)) (page * 16 + line) ≡ false
+flat-beyond sets from zero page line few below before = refl
+flat-beyond sets from (suc n) page line few below before =
+    has-append (flat_lines from (sets from)) (flat_map (λ p. flat_lines p (sets p)) (range_with_len (from + 1) n)) (page * 16 + line)
+    ∙ (λ i. has-other_page from page line (sets from) (λ same. absurd (omega (arith, before, same))) below (few from) i
+    || flat-beyond sets (from + 1) n page line few below (omega (arith, before)) i)
+
+-- and one of them
+flat-among : (sets : ℕ → List ℕ) (from n page line : ℕ) → ((p x : ℕ) → has (sets p) x ≡ true → x < 16) → line < 16 → from ≤ page → page < from + n
+    → has (flat_map (λ p. flat_lines p (sets p)) (range_with_len from n)) (page * 16 + line) ≡ has (sets page) line
+flat-among sets from zero page line few below first last = absurd (omega (arith, first, last))
+flat-among sets from (suc n) page line few below first last =
+    has-append (flat_lines from (sets from)) (flat_map (λ p. flat_lines p (sets p)) (range_with_len (from + 1) n)) (page * 16 + line)
+    ∙ by_test (page == from) refl (λ apart. flat-among sets (from + 1) n page line few below (grind (arith, nat_tests, apart, first)) (omega (arith, last)))
+  where
+    rest : Bool
+    rest = has (flat_map (λ p. flat_lines p (sets p)) (range_with_len (from + 1) n)) (page * 16 + line)
+
+    or_no : (b : Bool) → (b || false) ≡ b
+    or_no true = refl
+    or_no false = refl
+
+    by_test : (same : Bool) → (page == from) ≡ same → ((page == from) ≡ false → rest ≡ has (sets page) line) → (has (flat_lines from (sets from)) (page * 16 + line) || rest) ≡ has (sets page) line
+    by_test true e later =
+        let here : page ≡ from = eqb-true page from e in
+        ap (λ (b : Bool). has (flat_lines from (sets from)) (page * 16 + line) || b) (flat-beyond sets (from + 1) n page line few below (omega (arith, here)))
+        ∙ or_no (has (flat_lines from (sets from)) (page * 16 + line))
+        ∙ ap (λ (p : ℕ). has (flat_lines from (sets from)) (p * 16 + line)) here
+        ∙ has-page from line (sets from) ∙ ap (λ (p : ℕ). has (sets p) line) (sym here)
+    by_test false e later =
+        (λ i. has-other_page from page line (sets from) (eqb-false page from e) below (few from) i || rest) ∙ later e
+
+-- and one behind them
+flat-out : (sets : ℕ → List ℕ) (from n page line : ℕ) → ((p x : ℕ) → has (sets p) x ≡ true → x < 16) → line < 16 → from + n ≤ page
+    → has (flat_map (λ p. flat_lines p (sets p)) (range_with_len from n)) (page * 16 + line) ≡ false
+flat-out sets from zero page line few below behind = refl
+flat-out sets from (suc n) page line few below behind =
+    has-append (flat_lines from (sets from)) (flat_map (λ p. flat_lines p (sets p)) (range_with_len (from + 1) n)) (page * 16 + line)
+    ∙ (λ i. has-other_page from page line (sets from) (λ same. absurd (omega (arith, behind, same))) below (few from) i
+    || flat-out sets (from + 1) n page line few below (omega (arith, behind)) i)
+
+-- what is held page by page is these flat lines
+pub held-flat : (pages : List (List ℕ × List ℕ)) → AreOfPages pages → IsFlat pages (lines_held pages)
+held-flat pages few = record {
+  reads = λ page line below. one (λ held. held.0) refl (λ p x inside. of_page-below (of_page pages p).0 (few.reads p) x inside) page line below;
+  writes = λ page line below. one (λ held. held.1) refl (λ p x inside. of_page-below (of_page pages p).1 (few.writes p) x inside) page line below;
+}
+  where
+    one : (part : List ℕ × List ℕ → List ℕ) → part nothing ≡ [] → ((p x : ℕ) → has (part (of_page pages p)) x ≡ true → x < 16) → (page line : ℕ) → line < 16
+        → has (part (of_page pages page)) line ≡ has (flat_map (λ p. flat_lines p (part (of_page pages p))) (range_with_len 0 (length pages))) (page * 16 + line)
+    one part none small page line below = by_test (nat_lt page (length pages)) refl
+      where
+        by_test : (within : Bool) → nat_lt page (length pages) ≡ within
+            → has (part (of_page pages page)) line ≡ has (flat_map (λ p. flat_lines p (part (of_page pages p))) (range_with_len 0 (length pages))) (page * 16 + line)
+        by_test true e = sym (flat-among (λ p. part (of_page pages p)) 0 (length pages) page line small below (omega arith) (grind (arith, nat_tests, e)))
+        by_test false e =
+            ap (λ (held : List ℕ × List ℕ). has (part held) line) (get_or_past pages page nothing (grind (arith, nat_tests, e)))
+            ∙ ap (λ (set : List ℕ). has set line) none
+            ∙ sym (flat-out (λ p. part (of_page pages p)) 0 (length pages) page line small below (grind (arith, nat_tests, e)))

@@ -1,0 +1,163 @@
+-- The lines that an access touches and what it asks for, page by page and as flat lines.
+use Rattle.std.specs.Prelude.{◌≡◌, refl, ℕ, ◌+◌, ◌*◌, ◌/◌, ◌%◌, ◌<◌, ◌==◌, ◌&&◌, ◌||◌, not, nat_le, if◌then◌else◌, Bool, true, false, List, [], ◌∷◌, All, length, map}
+use Rattle.std.specs.List.{flat_map, list_any}
+use Rattle.std.proofs.Common.{arith, ap, sym, ◌∙◌}
+use Rattle.std.proofs.lemmas.Bool.{eqb-true, eq-eqb, both_ways, or_left, or_right}
+use Rattle.std.proofs.lemmas.Bool.Decides.{nat_tests}
+use Rattle.std.proofs.lemmas.List.Elements.{All-cons, All-head, All-tail}
+use Rattle.std.proofs.lemmas.List.Folds.{list_any-append}
+use Rattle.line_geometry.specs.LineSets.{IsOfPage, between}
+use Rattle.line_geometry.proofs.LineSetLemmas.{of_page-below, of_page-where, is_in_where-below}
+use Rattle.lock_rules.specs.Sets.{has}
+use Rattle.lock_rules.specs.Lines.{page_of_line, pages_of, with_whole_pages}
+use Rattle.lock_rules.proofs.Sets.{has-append}
+use Rattle.lock_rules.proofs.Lines.{has-pages_of, has-whole_pages}
+use Rattle.line_locks.specs.declared.request.Want.{Want}
+use Rattle.line_locks.specs.Flat.{flat_lines, lines_wanted}
+use Rattle.line_locks.proofs.FlatLemmas.{has-page, has-other_page}
+use Rattle.desk_law.specs.Beside.{AreAlike}
+use Rattle.seats.proofs.Numbers.{AreOfPage}
+use Rattle.activations.specs.Touched.{with_whole_page}
+
+-- a line is one of these of a page
+pub has-flat : (page : ℕ) (set : List ℕ) (line : ℕ) → IsOfPage set → has (flat_lines page set) line ≡ ((page == page_of_line line) && has set (line % 16))
+has-flat page set line of = ap (has (flat_lines page set)) (sym whole) ∙ by_test (page == page_of_line line) refl
+  where
+    whole : line / 16 * 16 + line % 16 ≡ line
+    whole = omega arith
+
+    by_test : (same : Bool) → (page == page_of_line line) ≡ same → has (flat_lines page set) (line / 16 * 16 + line % 16) ≡ (same && has set (line % 16))
+    by_test true e = ap (λ (p : ℕ). has (flat_lines page set) (p * 16 + line % 16)) (sym (eqb-true page (page_of_line line) e)) ∙ has-page page (line % 16) set
+    by_test false e = has-other_page page (line / 16) (line % 16) set (λ same. both_ways (page == page_of_line line) e (eq-eqb page (page_of_line line) (sym same))) (omega arith) (λ x inside. of_page-below set of x inside)
+
+-- a line is wanted where it is wanted of its page
+pub has-wanted : (part : Want → List ℕ) (wants : List Want) (line : ℕ) → All (λ want. IsOfPage (part want)) wants
+    → has (flat_map (λ want. flat_lines want.page (part want)) wants) line ≡ list_any (λ want. (want.page == page_of_line line) && has (part want) (line % 16)) wants
+has-wanted part [] line of = refl
+has-wanted part (want ∷ wants) line of =
+    has-append (flat_lines want.page (part want)) (flat_map (λ w. flat_lines w.page (part w)) wants) line
+    ∙ (λ i. has-flat want.page (part want) line (All-head (λ (w : Want). IsOfPage (part w)) want wants of) i || has-wanted part wants line (All-tail (λ (w : Want). IsOfPage (part w)) want wants of) i)
+
+and_no : (b : Bool) → (b && false) ≡ false
+and_no true = refl
+and_no false = refl
+
+-- flat lines of a page lie in it
+in-page : (at page : ℕ) (set : List ℕ) → ((x : ℕ) → has set x ≡ true → x < 16) → list_any (λ line. page_of_line line == page) (flat_lines at set) ≡ ((at == page) && not (length set == 0))
+in-page at page [] few = sym (and_no (at == page))
+in-page at page (x ∷ set) few =
+    let small : x < 16 = few x (or_left (x == x) (has set x) (eq-eqb x x refl)) in
+    let lies : (at * 16 + x) / 16 ≡ at = omega (arith, small) in
+    let some : (length (x ∷ set) == 0) ≡ false = grind (arith, nat_tests) in
+    (λ i. (lies i == page) || in-page at page set (λ y inside. few y (or_right (x == y) (has set y) inside)) i)
+    ∙ absorbs (at == page) (not (length set == 0))
+    ∙ sym (ap (λ (b : Bool). (at == page) && not b) some)
+  where
+    absorbs : (a b : Bool) → (a || (a && b)) ≡ (a && true)
+    absorbs true b = refl
+    absorbs false b = refl
+
+-- a page is written into where some line of it is wanted to write
+pub has-pages_wanted : (wants : List Want) (page : ℕ) → All (λ want. IsOfPage want.writes) wants
+    → has (pages_of (lines_wanted wants).writes) page ≡ list_any (λ want. (want.page == page) && not (length want.writes == 0)) wants
+has-pages_wanted wants page of = has-pages_of (lines_wanted wants).writes page ∙ each wants of
+  where
+    each : (wants : List Want) → All (λ want. IsOfPage want.writes) wants
+        → list_any (λ line. page_of_line line == page) (lines_wanted wants).writes ≡ list_any (λ want. (want.page == page) && not (length want.writes == 0)) wants
+    each [] of = refl
+    each (want ∷ wants) of =
+        list_any-append (λ line. page_of_line line == page) (flat_lines want.page want.writes) (lines_wanted wants).writes
+        ∙ (λ i. in-page want.page page want.writes (of_page-below want.writes (All-head (λ (w : Want). IsOfPage w.writes) want wants of)) i
+        || each wants (All-tail (λ (w : Want). IsOfPage w.writes) want wants of) i)
+
+whole-has : (line : ℕ) → line < 16 → has (between 0 15) line ≡ true
+whole-has line below =
+    let first : nat_le 0 line ≡ true = grind (arith, nat_tests) in
+    let last : nat_le line 15 ≡ true = grind (arith, nat_tests, below) in
+    is_in_where-below (λ x. nat_le 0 x && nat_le x 15) line below ∙ (λ i. first i && last i)
+
+-- with its whole page where one is written, a want is of lines of a page too
+pub whole-of-page : (wants : List Want) → AreOfPage wants → AreOfPage (map with_whole_page wants)
+whole-of-page wants sets = record { reads = reads wants sets.reads; writes = writes wants sets.writes }
+  where
+    reads : (wants : List Want) → All (λ want. IsOfPage want.reads) wants → All (λ want. IsOfPage want.reads) (map with_whole_page wants)
+    reads [] of = of
+    reads (want ∷ wants) of = All-cons (λ (w : Want). IsOfPage w.reads) (with_whole_page want) (map with_whole_page wants) (by_test (length want.writes == 0) (All-head (λ (w : Want). IsOfPage w.reads) want wants of)) (reads wants (All-tail (λ (w : Want). IsOfPage w.reads) want wants of))
+      where
+        by_test : (none : Bool) → IsOfPage want.reads → IsOfPage (if none then want else record want { reads = between 0 15 }).reads
+        by_test true old = old
+        by_test false old = of_page-where (λ x. nat_le 0 x && nat_le x 15)
+
+    writes : (wants : List Want) → All (λ want. IsOfPage want.writes) wants → All (λ want. IsOfPage want.writes) (map with_whole_page wants)
+    writes [] of = of
+    writes (want ∷ wants) of = All-cons (λ (w : Want). IsOfPage w.writes) (with_whole_page want) (map with_whole_page wants) (by_test (length want.writes == 0) (All-head (λ (w : Want). IsOfPage w.writes) want wants of)) (writes wants (All-tail (λ (w : Want). IsOfPage w.writes) want wants of))
+      where
+        by_test : (none : Bool) → IsOfPage want.writes → IsOfPage (if none then want else record want { reads = between 0 15 }).writes
+        by_test true old = old
+        by_test false old = old
+
+-- What is asked for is what is touched, with the whole pages that are written into.
+pub asked-alike : (wants : List Want) → AreOfPage wants → AreAlike (lines_wanted (map with_whole_page wants)) (with_whole_pages (lines_wanted wants))
+asked-alike wants sets = record {
+  reads = λ line.
+      has-wanted (λ want. want.reads) (map with_whole_page wants) line (whole-of-page wants sets).reads
+      ∙ each line wants
+      ∙ sym
+      (has-whole_pages (lines_wanted wants) line
+      ∙ (λ i. has-wanted (λ want. want.reads) wants line sets.reads i || has-pages_wanted wants (page_of_line line) sets.writes i));
+  writes = λ line.
+      has-wanted (λ want. want.writes) (map with_whole_page wants) line (whole-of-page wants sets).writes
+      ∙ same line wants ∙ sym (has-wanted (λ want. want.writes) wants line sets.writes);
+}
+  where
+    one : (line : ℕ) (want : Want) → ((want.page == page_of_line line) && has (with_whole_page want).reads (line % 16))
+        ≡ (((want.page == page_of_line line) && has want.reads (line % 16)) || ((want.page == page_of_line line) && not (length want.writes == 0)))
+    one line want = by_tests (want.page == page_of_line line) (length want.writes == 0)
+      where
+        or_yes : (b : Bool) → true ≡ (b || true)
+        or_yes true = refl
+        or_yes false = refl
+
+        or_no : (b : Bool) → b ≡ (b || false)
+        or_no true = refl
+        or_no false = refl
+
+        by_tests : (here none : Bool) → (here && has (if none then want else record want { reads = between 0 15 }).reads (line % 16)) ≡ ((here && has want.reads (line % 16)) || (here && not none))
+        by_tests true true = or_no (has want.reads (line % 16))
+        by_tests true false = whole-has (line % 16) (omega arith) ∙ or_yes (has want.reads (line % 16))
+        by_tests false none = refl
+
+    page-same : (want : Want) → (with_whole_page want).page ≡ want.page
+    page-same want = by_test (length want.writes == 0)
+      where
+        by_test : (none : Bool) → (if none then want else record want { reads = between 0 15 }).page ≡ want.page
+        by_test true = refl
+        by_test false = refl
+
+    writes-same : (want : Want) → (with_whole_page want).writes ≡ want.writes
+    writes-same want = by_test (length want.writes == 0)
+      where
+        by_test : (none : Bool) → (if none then want else record want { reads = between 0 15 }).writes ≡ want.writes
+        by_test true = refl
+        by_test false = refl
+
+    split : (a b c d : Bool) → ((a || b) || (c || d)) ≡ ((a || c) || (b || d))
+    split true b c d = refl
+    split false true true d = refl
+    split false true false d = refl
+    split false false true d = refl
+    split false false false d = refl
+
+    each : (line : ℕ) (wants : List Want) → list_any (λ want. (want.page == page_of_line line) && has want.reads (line % 16)) (map with_whole_page wants)
+        ≡ (list_any (λ want. (want.page == page_of_line line) && has want.reads (line % 16)) wants || list_any (λ want. (want.page == page_of_line line) && not (length want.writes == 0)) wants)
+    each line [] = refl
+    each line (want ∷ wants) =
+        (λ i. (((page-same want i == page_of_line line) && has (with_whole_page want).reads (line % 16)) || each line wants i))
+        ∙ ap (λ (b : Bool). b || (list_any (λ want. (want.page == page_of_line line) && has want.reads (line % 16)) wants || list_any (λ want. (want.page == page_of_line line) && not (length want.writes == 0)) wants)) (one line want)
+        ∙ split ((want.page == page_of_line line) && has want.reads (line % 16)) ((want.page == page_of_line line) && not (length want.writes == 0))
+        (list_any (λ want. (want.page == page_of_line line) && has want.reads (line % 16)) wants) (list_any (λ want. (want.page == page_of_line line) && not (length want.writes == 0)) wants)
+
+    same : (line : ℕ) (wants : List Want) → list_any (λ want. (want.page == page_of_line line) && has want.writes (line % 16)) (map with_whole_page wants)
+        ≡ list_any (λ want. (want.page == page_of_line line) && has want.writes (line % 16)) wants
+    same line [] = refl
+    same line (want ∷ wants) = λ i. ((page-same want i == page_of_line line) && has (writes-same want i) (line % 16)) || same line wants i

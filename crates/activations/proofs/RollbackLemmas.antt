@@ -1,0 +1,145 @@
+-- A rollback.
+use Rattle.std.specs.Prelude.{◌≡◌, refl, ℕ, ◌+◌, ◌*◌, ◌/◌, ◌%◌, ◌<◌, ◌==◌, ◌&&◌, not, if◌then◌else◌, Bool, true, false, List, length, slice_index}
+use Rattle.std.proofs.Common.{arith, ap, sym, ◌∙◌, subst}
+use Rattle.std.proofs.lemmas.Bool.{eqb-true, eq-eqb}
+use Rattle.std.proofs.lemmas.List.FromFn.{length-map-range_with_len}
+use Rattle.line_geometry.specs.Directory.{byte_count}
+use Rattle.line_geometry.specs.FlatStore.{FlatStore}
+use Rattle.line_geometry.specs.Lines.{line_of}
+use Rattle.line_geometry.proofs.Within.{line-bytes-pos}
+use Rattle.line_geometry.proofs.LineSetLemmas.{of_page-below}
+use Rattle.lock_rules.specs.Sets.{has}
+use Rattle.lock_rules.specs.Lines.{Lines, page_of_line}
+use Rattle.lock_rules.proofs.Sets.{any-at, any-some}
+use Rattle.lock_rules.proofs.Lines.{has-pages_of}
+use Rattle.line_locks.specs.Holding.{of_seat, no_lines_of}
+use Rattle.frame_pool.specs.declared.model.Pool.{Pool}
+use Rattle.desk.specs.Desk.{Entry, rolled_back, written_pages}
+use Rattle.desk_law.specs.Beside.{AreAlike, AreMarked, IsState, IsLaid}
+use Rattle.desk_law.specs.Current.{IsCurrent}
+use Rattle.desk_law.specs.Consistent.{IsAmong, AreConsistent, due_to}
+use Rattle.desk_law.proofs.CurrentSteps.{current-rolled}
+use Rattle.desk_law.proofs.KeptTables.{both-imply}
+use Rattle.desk_law.proofs.LaidPlaces.{laid-places}
+use Rattle.desk_law.proofs.MarkedLines.{marked-end}
+use Rattle.desk_law.proofs.Seats.{seat-told}
+use Rattle.seats.proofs.Kept.{other-with}
+use Rattle.storage_unit.specs.Bytes.{is_line_marked, byte_over}
+use Rattle.activations.specs.Activity.{Activity, entry_in, entries, store_over, desk_over, lines_held, locks_in, state_for, live_in, shown}
+use Rattle.activations.specs.Follows.{IsSound, IsKept}
+use Rattle.activations.specs.Steps.{wrote, is_of, WereUndone, AreAsCommitted, AreWritten, rolled, RollsBack}
+use Rattle.activations.proofs.HoldingLemmas.{held-flat}
+use Rattle.activations.proofs.TableLemmas.{stands-for}
+use Rattle.activations.proofs.UndoLemmas.{filter-alike}
+use Rattle.activations.proofs.VacateLemmas.{left-taken, entries-left, authority-left}
+
+-- a line that a seat holds to write is in the due writes of its entry
+pub wrote-due : (a : Activity) (seat : ℕ) (committed : List ℕ) → IsSound a → AreAlike (locks_in a seat) (due_to (store_over a committed) (entry_in a seat))
+    → (line : ℕ) → has (wrote a seat (page_of_line line)) (line % 16) ≡ has (due_to (store_over a committed) (entry_in a seat)).writes line
+wrote-due a seat committed sound alike line =
+    let whole : line / 16 * 16 + line % 16 ≡ line = omega arith in
+    (held-flat (of_seat a.seating.holding seat) (sound.lines seat)).writes (line / 16) (line % 16) (omega arith)
+    ∙ ap (has (locks_in a seat).writes) whole ∙ alike.writes line
+
+-- the lines of the pages into which he wrote are those that he wrote
+pub of-written : (a : Activity) (seat : ℕ) (pages : List ℕ) (committed : List ℕ) → IsSound a → AreAlike (locks_in a seat) (due_to (store_over a committed) (entry_in a seat))
+    → AreWritten a seat pages → (line : ℕ) → is_of pages (wrote a seat) line ≡ has (due_to (store_over a committed) (entry_in a seat)).writes line
+of-written a seat pages committed sound alike written line = by_test (has (wrote a seat (page_of_line line)) (line % 16)) refl ∙ wrote-due a seat committed sound alike line
+  where
+    by_test : (wrote_it : Bool) → has (wrote a seat (page_of_line line)) (line % 16) ≡ wrote_it → (has pages (page_of_line line) && has (wrote a seat (page_of_line line)) (line % 16)) ≡ has (wrote a seat (page_of_line line)) (line % 16)
+    by_test true e = ap (λ (b : Bool). b && has (wrote a seat (page_of_line line)) (line % 16)) (written.all (page_of_line line) (line % 16) e)
+    by_test false e = ap (λ (b : Bool). has pages (page_of_line line) && b) e ∙ and_no (has pages (page_of_line line)) ∙ sym e
+      where
+        and_no : (b : Bool) → (b && false) ≡ false
+        and_no true = refl
+        and_no false = refl
+
+-- the others hold what they held
+pub locks-left : (a : Activity) (seat : ℕ) (pool : Pool) → IsSound a → (at : ℕ) → (at == seat) ≡ false → locks_in (rolled a seat pool) at ≡ locks_in a at
+locks-left a seat pool sound at differs = ap lines_held (other-with a.seating.holding seat (no_lines_of a.seating.holding.pages) sound.seating.whole at differs)
+
+module _ (a : Activity) (seat : ℕ) (pool : Pool) (pages : List ℕ) (committed : List ℕ)
+    (sound : IsSound a) (taken : has a.seating.taken seat ≡ true)
+    (consistent : AreConsistent (store_over a committed) a.most_lines a.next (entries a)) (kept : IsKept a committed)
+    (written : AreWritten a seat pages) (were : WereUndone (wrote a seat) pages a.reach.pool pool)
+    (are : AreAsCommitted a.reach.directory (wrote a seat) pages a.reach.pool pool committed) where
+  abbrev store : FlatStore
+  store = store_over a committed
+
+  abbrev gone : Entry
+  gone = entry_in a seat
+
+  abbrev after : Activity
+  after = rolled a seat pool
+
+  here : IsAmong (entries a) gone
+  here = seat-told a.seating.taken (entry_in a) seat taken
+
+  wrote-is : (line : ℕ) → has (wrote a seat (page_of_line line)) (line % 16) ≡ has (due_to store gone).writes line
+  wrote-is = wrote-due a seat committed sound (kept.held seat taken)
+
+  of-is : (line : ℕ) → is_of pages (wrote a seat) line ≡ has (due_to store gone).writes line
+  of-is = of-written a seat pages committed sound (kept.held seat taken) written
+
+  -- and so are their pages
+  pages-are : (page : ℕ) → has pages page ≡ has (written_pages store gone) page
+  pages-are page = both-imply (has pages page) (has (written_pages store gone) page) there back
+    where
+      there : has pages page ≡ true → has (written_pages store gone) page ≡ true
+      there inside =
+          let (line, wrote_it) = written.only page inside in
+          let small : line < 16 = of_page-below (wrote a seat page) ((sound.lines seat).writes page) line wrote_it in
+          let at : (page * 16 + line) / 16 ≡ page = omega (arith, small) in
+          let in_page : (page * 16 + line) % 16 ≡ line = omega (arith, small) in
+          has-pages_of (due_to store gone).writes page
+          ∙ any-at (λ line. page_of_line line == page) (due_to store gone).writes (page * 16 + line)
+          (sym (wrote-is (page * 16 + line)) ∙ (λ i. has (wrote a seat (at i)) (in_page i)) ∙ wrote_it)
+          (eq-eqb (page_of_line (page * 16 + line)) page at)
+
+      back : has (written_pages store gone) page ≡ true → has pages page ≡ true
+      back inside =
+          let (line, wrote_it, at) = any-some (λ line. page_of_line line == page) (due_to store gone).writes (sym (has-pages_of (due_to store gone).writes page) ∙ inside) in
+          let same : page_of_line line ≡ page = eqb-true (page_of_line line) page at in
+          sym (ap (has pages) same) ∙ written.all (page_of_line line) (line % 16) (wrote-is line ∙ wrote_it)
+
+  desk-is : (order : List (ℕ × ℕ)) → desk_over after committed order ≡ rolled_back (desk_over a committed order) gone
+  desk-is order i = record (desk_over a committed order) {
+    frames = were.frames i;
+    active = entries-left a seat sound taken i;
+    authority = authority-left a seat sound taken (stands-for a sound committed consistent.ascend seat taken) i;
+    resident = (were.resident ∙ filter-alike (λ page. not (has pages page)) (λ page. not (has (written_pages store gone) page)) a.reach.pool.resident (λ page inside. ap not (pages-are page))) i;
+  }
+
+  laid : IsLaid store (due_to store gone).writes committed (shown a committed) (shown after committed)
+  laid =
+      laid-places store (due_to store gone).writes committed (shown a committed) (shown after committed) (line-bytes-pos a.reach.directory)
+      (length-map-range_with_len (byte_over a.reach.directory pool committed) 0 (byte_count a.reach.directory) ∙ sym shown-long)
+      (kept.long ∙ sym shown-long)
+      (λ place within.
+      are.bytes place (subst (λ (n : ℕ). place < n) shown-long within)
+      ∙ ap (λ (b : Bool). if b then slice_index committed place else slice_index (shown a committed) place) (of-is (line_of a.reach.directory place)))
+    where
+      shown-long : length (shown a committed) ≡ byte_count a.reach.directory
+      shown-long = length-map-range_with_len (byte_over a.reach.directory a.reach.pool committed) 0 (byte_count a.reach.directory)
+
+  pub rolls-back : RollsBack a seat pool committed
+  rolls-back = record {
+    desk = desk-is;
+    kept = record {
+      long = kept.long;
+      held = λ at inside. let (there, differs) = left-taken a seat sound taken at inside in subst (λ (l : Lines). AreAlike l (due_to store (entry_in a at))) (sym (locks-left a seat pool sound at differs)) (kept.held at there);
+      asked = λ at inside waits. kept.asked at (left-taken a seat sound taken at inside).0 waits;
+      stand = λ at inside.
+          subst (IsState store (entry_in a at)) (ap (λ (bytes : List ℕ). state_for (record a.reach.pool { bytes = bytes }) at (live_in a at)) (sym were.bytes))
+          (kept.stand at (left-taken a seat sound taken at inside).0);
+      is_current =
+          subst (λ (these : List Entry). IsCurrent store these (shown after committed)) (sym (entries-left a seat sound taken))
+          (current-rolled store a.most_lines a.next (entries a) consistent (shown a committed) gone (shown after committed) here kept.is_current laid);
+      marked =
+          subst (λ (these : List Entry). AreMarked store these (is_line_marked pool)) (sym (entries-left a seat sound taken))
+          (marked-end store a.most_lines a.next (entries a) consistent (is_line_marked a.reach.pool) kept.marked gone (is_line_marked pool) here
+          (λ line. were.marks line ∙ ap (λ (b : Bool). is_line_marked a.reach.pool line && not b) (of-is line)));
+      clean = are.clean;
+    };
+    laid = laid;
+  }

@@ -1,0 +1,198 @@
+-- A row of one that takes effect, over what all see.
+use Rattle.std.specs.Prelude.{◌≡◌, refl, ℕ, ◌+◌, ◌-◌, ◌<◌, ◌==◌, ◌||◌, Bool, true, false, List, [], Some}
+use Rattle.std.proofs.Common.{arith, ap, sym, ◌∙◌, subst}
+use Rattle.std.proofs.lemmas.Bool.{eqb-true, eq-eqb, both_ways}
+use Rattle.line_geometry.specs.FlatStore.{FlatStore}
+use Rattle.lock_rules.specs.Sets.{has}
+use Rattle.lock_rules.specs.Lines.{Lines}
+use Rattle.flat_machine.specs.declared.machine.Plain.{Plain}
+use Rattle.flat_machine.specs.Row.{row}
+use Rattle.flat_machine.specs.Touched.{touched}
+use Rattle.desk.specs.Desk.{Desk, Entry, with_entry}
+use Rattle.desk.specs.Holdings.{wanted}
+use Rattle.desk.specs.Instruction.{Counts, Going, no_counts}
+use Rattle.desk_law.specs.Beside.{AreAlike, IsState, over_all, owners_told, AreMarked, requested}
+use Rattle.desk_law.specs.Changes.{gone_on}
+use Rattle.desk_law.specs.Consistent.{IsAmong, due_to}
+use Rattle.desk_law.specs.Current.{IsCurrent}
+use Rattle.desk_law.specs.Orderly.{IsOrderly}
+use Rattle.desk_law.proofs.AttemptsOnCurrent.{HasGone, attempt-goes, wanted-is}
+use Rattle.desk_law.proofs.Entries.{replaced}
+use Rattle.desk_law.proofs.KeptTables.{alike-then, alike-back}
+use Rattle.desk_law.proofs.MarkedLines.{marked-row}
+use Rattle.desk_law.proofs.RowsThere.{open-due}
+use Rattle.desk_law.proofs.Seats.{seat-told, told-replaced}
+use Rattle.seats.specs.declared.seat.Seat.{Seat}
+use Rattle.seats.proofs.Kept.{taken-below}
+use Rattle.storage_unit.specs.Bytes.{is_line_marked, private_bytes}
+use Rattle.storage_unit.specs.Rows.{plain_over}
+use Rattle.activations.specs.declared.live.Live.{Live}
+use Rattle.activations.specs.Activity.{Activity, live_in, program_in, entry_in, entries, store_over, desk_over, authority_under, locks_in, request_for, request_in, state_in, shown}
+use Rattle.activations.specs.Follows.{IsSound, IsKept, Follows}
+use Rattle.activations.specs.Steps.{counted, executed, HasExecuted, GoesOn}
+use Rattle.activations.proofs.SittingLemmas.{sitter-other, entry-counted, entry-other, under-counted, live-other, live-there}
+use Rattle.activations.proofs.TableLemmas.{there}
+
+-- a consistent desk is so whatever its order
+pub orderly-order : (a : Activity) (committed : List ℕ) (order : List (ℕ × ℕ)) → IsOrderly (desk_over a committed []) → IsOrderly (desk_over a committed order)
+orderly-order a committed order is = record { whole = is.whole; few = is.few; active = is.active; held = is.held; no_cycle = is.no_cycle }
+
+module _ (a : Activity) (seat : ℕ) (live : Live) (bytes : List ℕ) (marked : List (List ℕ)) (committed : List ℕ)
+    (sound : IsSound a) (taken : has a.seating.taken seat ≡ true) (runner : a.reach.runner ≡ seat + 1)
+    (follows : Follows a committed) (went : HasExecuted a seat live bytes marked committed) where
+  abbrev next : Activity
+  next = counted (executed a seat live bytes marked) seat 1
+
+  abbrev store : FlatStore
+  store = store_over a committed
+
+  abbrev entry : Entry
+  entry = entry_in a seat
+
+  -- the state before, over the bytes of all, and the state that the attempt left
+  abbrev before : Plain
+  before = plain_over committed (live_in a seat).cpu a.reach (live_in a seat).out
+
+  abbrev left : Plain
+  left = plain_over committed live.cpu next.reach live.out
+
+  below : seat < 16
+  below = taken-below a.seating sound.seating seat taken
+
+  here : IsAmong (entries a) entry
+  here = seat-told a.seating.taken (entry_in a) seat taken
+
+  runs_here : a.reach.runner - 1 ≡ seat
+  runs_here = ap (λ (n : ℕ). n - 1) runner ∙ omega arith
+
+  -- the state of the entry is what the seat has
+  state : IsState store entry (state_in a seat)
+  state = follows.kept.stand seat taken
+
+  shows : over_all (over_all (state_in a seat) state.bytes) (shown a committed) ≡ before
+  shows i = record {
+    regs = (live_in a seat).cpu.regs;
+    cs = (live_in a seat).cpu.cs;
+    iar = (live_in a seat).cpu.iar;
+    private = private_bytes a.reach.pool (sym runs_here i);
+    store = shown a committed;
+    out = (live_in a seat).out;
+  }
+
+  gone : (order : List (ℕ × ℕ)) (counts : Counts) → HasGone (desk_over a committed order) counts entry left
+  gone order counts =
+      attempt-goes (desk_over a committed order) counts entry (over_all (state_in a seat) state.bytes) left (shown a committed)
+      (orderly-order a committed order follows.orderly) here state.at follows.kept.is_current
+      (ap (row (program_in a seat) a.reach.directory) shows ∙ went.goes.goes)
+      (record {
+        reads = λ line inside. there a sound committed follows seat order line false taken runner (went.goes.open_lines.reads line (subst (λ (s : Plain). has (touched (program_in a seat) a.reach.directory s).reads line ≡ true) shows inside));
+        writes = λ line inside. there a sound committed follows seat order line true taken runner (went.goes.open_lines.writes line (subst (λ (s : Plain). has (touched (program_in a seat) a.reach.directory s).writes line ≡ true) shows inside));
+      })
+
+  -- the entries after the row
+  entry-next : entry_in next seat ≡ gone_on entry
+  entry-next = entry-counted (executed a seat live bytes marked) seat 1 sound.seating.sixteen below
+
+  entry-others : (at : ℕ) → (at == seat) ≡ false → entry_in next at ≡ entry_in a at
+  entry-others at differs = entry-other (executed a seat live bytes marked) seat 1 at differs
+
+  entries-next : entries next ≡ replaced (gone_on entry) (entries a)
+  entries-next =
+      told-replaced a.seating.taken (entry_in a) (entry_in next) seat
+      (λ at inside. ap (λ (e : Entry). (entry_in a at).number == e.number) entry-next ∙ sound.seats.apart at seat inside taken) entry-others
+      ∙ ap (λ (e : Entry). replaced e (entries a)) entry-next
+
+  desk-next : (order : List (ℕ × ℕ)) → desk_over next committed order ≡ with_entry (desk_over a committed order) (gone_on entry)
+  desk-next order i = record (desk_over a committed order) {
+    active = entries-next i;
+    authority = owners_told (under-counted (executed a seat live bytes marked) seat 1 sound.seating.sixteen below i) (authority_under a.reach.entries);
+  }
+
+  -- the store after the rows of the entry, and what the seat has then
+  first : HasGone (desk_over a committed []) no_counts entry left
+  first = gone [] no_counts
+
+  live-now : live_in next seat ≡ live
+  live-now = live-there a.live seat live (omega (arith, sound.live, below))
+
+  left-is : left ≡ over_all (state_in next seat) (shown next committed)
+  left-is i = record {
+    regs = (sym live-now i).cpu.regs;
+    cs = (sym live-now i).cpu.cs;
+    iar = (sym live-now i).cpu.iar;
+    private = private_bytes next.reach.pool (runs_here i);
+    store = shown next committed;
+    out = (sym live-now i).out;
+  }
+
+  next-is : first.next ≡ over_all (state_in next seat) first.next.store
+  next-is = ap (λ (s : Plain). over_all s first.next.store) (sym first.shows ∙ left-is)
+
+  state-next : IsState store (entry_in next seat) (state_in next seat)
+  state-next = subst (λ (e : Entry). IsState store e (state_in next seat)) (sym entry-next) (record { bytes = first.next.store; at = first.at ∙ ap Some next-is })
+
+  state-others : (at : ℕ) → has a.seating.taken at ≡ true → (at == seat) ≡ false → IsState store (entry_in next at) (state_in next at)
+  state-others at inside differs =
+      subst (λ (e : Entry). IsState store e (state_in next at)) (sym (entry-others at differs))
+      (subst (IsState store (entry_in a at)) (λ i. state_for-at i) (follows.kept.stand at inside))
+    where
+      private-same : private_bytes next.reach.pool at ≡ private_bytes a.reach.pool at
+      private-same = went.seats at (taken-below a.seating sound.seating at inside) (λ same. both_ways (at == seat) differs (eq-eqb at seat (omega (arith, runner, same))))
+
+      live-same : live_in next at ≡ live_in a at
+      live-same = live-other a.live seat live at differs
+
+      state_for-at : state_in a at ≡ state_in next at
+      state_for-at i = record {
+        regs = (sym live-same i).cpu.regs;
+        cs = (sym live-same i).cpu.cs;
+        iar = (sym live-same i).cpu.iar;
+        private = sym private-same i;
+        store = [];
+        out = (sym live-same i).out;
+      }
+
+  by_seat : {P : ℕ → Type 0} → P seat → ((at : ℕ) → has a.seating.taken at ≡ true → (at == seat) ≡ false → P at) → (at : ℕ) → has a.seating.taken at ≡ true → P at
+  by_seat {P} this others at inside = by_test (at == seat) refl
+    where
+      by_test : (same : Bool) → (at == seat) ≡ same → P at
+      by_test true e = subst P (sym (eqb-true at seat e)) this
+      by_test false e = others at inside e
+
+  kept-next : IsKept next committed
+  kept-next = record {
+    long = follows.kept.long;
+    held = by_seat {P = λ at. AreAlike (locks_in next at) (due_to store (entry_in next at))}
+        (subst (λ (e : Entry). AreAlike (locks_in a seat) (due_to store e)) (sym entry-next)
+        (alike-then (locks_in a seat) (due_to store entry) (due_to store (gone_on entry)) (follows.kept.held seat taken)
+        (alike-back (due_to store (gone_on entry)) (due_to store entry) (open-due (desk_over a committed []) entry first.held))))
+        (λ at inside differs. subst (λ (e : Entry). AreAlike (locks_in a at) (due_to store e)) (sym (entry-others at differs)) (follows.kept.held at inside));
+    asked = by_seat {P = λ at. (entry_in next at).waiting ≡ true → AreAlike (request_in next at) (requested store (entry_in next at))}
+        (λ waits. absurd (both_ways (entry_in next seat).waiting (ap (λ (e : Entry). e.waiting) entry-next) waits))
+        (λ at inside differs waits.
+        subst (λ (e : Entry). AreAlike (request_in next at) (requested store e)) (sym (entry-others at differs))
+        (subst (λ (who : Seat). AreAlike (request_for who) (requested store (entry_in a at))) (sym (sitter-other a.seating seat _ at differs))
+        (follows.kept.asked at inside (sym (ap (λ (e : Entry). e.waiting) (entry-others at differs)) ∙ waits))));
+    stand = by_seat {P = λ at. IsState store (entry_in next at) (state_in next at)} state-next state-others;
+    is_current = subst (λ (these : List Entry). IsCurrent store these (shown next committed)) (sym entries-next) first.is_current;
+    marked = subst (λ (these : List Entry). AreMarked store these (is_line_marked next.reach.pool)) (sym entries-next)
+        (marked-row store a.most_lines a.next (entries a) follows.orderly.active (is_line_marked a.reach.pool) follows.kept.marked entry (is_line_marked next.reach.pool) here
+        (λ line. went.goes.marks line ∙ ap (λ (l : Lines). is_line_marked a.reach.pool line || has l.writes line) (sym wants)));
+    clean = went.clean;
+  }
+    where
+      wants : wanted (desk_over a committed []) entry ≡ touched (program_in a seat) a.reach.directory before
+      wants =
+          wanted-is (desk_over a committed []) entry (over_all (state_in a seat) state.bytes) left (shown a committed) state.at
+          (ap (row (program_in a seat) a.reach.directory) shows ∙ went.goes.goes)
+          ∙ ap (touched (program_in a seat) a.reach.directory) shows
+
+  pub goes-on : GoesOn a seat live bytes marked committed
+  goes-on = record {
+    is_instruction = λ word order counts.
+        (gone order counts).is_instruction word ∙ ap (λ (d : Desk). Going d (record counts { ran = counts.ran + 1 })) (sym (desk-next order));
+    follows = record {
+      orderly = subst IsOrderly (sym (desk-next [])) first.consistent;
+      kept = kept-next;
+    };
+  }

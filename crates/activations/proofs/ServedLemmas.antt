@@ -1,0 +1,271 @@
+-- A row that was served takes effect: its pages are there, its lines are locked and granted, and its second attempt went.
+use Rattle.std.specs.Prelude.{◌≡◌, refl, ℕ, ◌+◌, ◌-◌, ◌%◌, ◌<◌, ◌==◌, ◌||◌, if◌then◌else◌, Bool, true, false, List, [], map, slice_index_or, Some}
+use Rattle.std.proofs.Common.{arith, ap, sym, ◌∙◌, subst}
+use Rattle.std.proofs.lemmas.Bool.{eqb-true, eq-eqb, both_ways}
+use Rattle.line_geometry.specs.FlatStore.{FlatStore}
+use Rattle.lock_rules.specs.Sets.{has}
+use Rattle.lock_rules.specs.Lines.{Lines, no_lines, page_of_line, both, with_whole_pages}
+use Rattle.flat_machine.specs.Due.{touched_within}
+use Rattle.desk.specs.Holdings.{wanted}
+use Rattle.line_locks.specs.declared.request.Want.{Want}
+use Rattle.line_locks.specs.Held.{with_wants}
+use Rattle.line_locks.specs.Holding.{of_seat}
+use Rattle.lockbit_rules.specs.declared.Authority.{Authority}
+use Rattle.flat_machine.specs.declared.machine.Plain.{Plain}
+use Rattle.flat_machine.specs.Row.{On, row}
+use Rattle.flat_machine.specs.After.{after}
+use Rattle.flat_machine.specs.Touched.{touched}
+use Rattle.frame_pool.specs.declared.model.Pool.{Pool}
+use Rattle.desk.specs.Desk.{Desk, Entry, with_entry}
+use Rattle.desk.specs.Instruction.{Word, Counts, Attempt, Turning, Going, Fetched, Fine, fetches, touched_pages, granted, locks_with}
+use Rattle.desk_law.specs.Beside.{AreAlike, AreMarked, IsState, over_all, requested, by_number, owners_told}
+use Rattle.desk_law.specs.Changes.{gone_on}
+use Rattle.desk_law.specs.Consistent.{IsAmong, due_to}
+use Rattle.desk_law.specs.Current.{IsCurrent}
+use Rattle.desk_law.specs.Orderly.{IsOrderly}
+use Rattle.desk_law.proofs.AttemptsOnCurrent.{wanted-is}
+use Rattle.desk_law.proofs.Entries.{replaced, one-entry}
+use Rattle.desk_law.proofs.GoesOn.{due-more}
+use Rattle.desk_law.proofs.MarkedLines.{marked-row}
+use Rattle.desk_law.proofs.Seats.{seat-told, told-replaced, at-number}
+use Rattle.desk_law.proofs.ServedEffect.{got}
+use Rattle.desk_law.proofs.ServedRows.{WentOn, gets-goes}
+use Rattle.seats.specs.Seating.{sitter}
+use Rattle.seats.proofs.Kept.{taken-below, other-with}
+use Rattle.storage_unit.specs.Bytes.{is_line_marked, private_bytes}
+use Rattle.storage_unit.specs.Laws.{Keeps}
+use Rattle.storage_unit.specs.Rows.{plain_over}
+use Rattle.activations.specs.declared.live.Live.{Live}
+use Rattle.activations.specs.Activity.{Activity, live_in, program_in, entry_in, entries, store_over, desk_over, authority_under, number_under, lines_held, locks_in, request_for, request_in, state_in, shown}
+use Rattle.activations.specs.Follows.{IsSound}
+use Rattle.activations.specs.Serving.{IsFree, Goes, locked}
+use Rattle.activations.specs.Steps.{counted, executed, with_pool, IsMoved, HasExecuted}
+use Rattle.activations.specs.Touched.{with_whole_page}
+use Rattle.activations.proofs.CommitLemmas.{told-kept}
+use Rattle.activations.proofs.ContestLemmas.{orderly-other}
+use Rattle.activations.proofs.SittingLemmas.{sitter-other, entry-counted, entry-other, under-counted, live-other, live-there}
+
+module _ (begins : Word → Turning) (attempt : Attempt) (refused : List ℕ) (a : Activity) (seat : ℕ) (committed : List ℕ) (order : List (ℕ × ℕ)) (counts : Counts)
+    (wants : List Want) (owned : List Authority) (pool : Pool) (live : Live) (bytes : List ℕ) (marked : List (List ℕ)) (counted_pages : ℕ) (next : Plain)
+    (sound : IsSound a) (taken : has a.seating.taken seat ≡ true) (runner : a.reach.runner ≡ seat + 1)
+    (number : attempt.entry.number ≡ (sitter a.seating seat).number) (free : IsFree begins attempt refused a committed order counts) (goes : attempt.outcome ≡ On next) where
+  abbrev before : Activity
+  before = with_pool (locked a seat wants owned) pool
+
+  abbrev done : Activity
+  done = counted (executed before seat live bytes marked) seat 1
+
+  abbrev store : FlatStore
+  store = store_over a committed
+
+  abbrev entry : Entry
+  entry = entry_in a seat
+
+  abbrev old : Desk
+  old = desk_over a committed order
+
+  abbrev left : Plain
+  left = plain_over committed live.cpu done.reach live.out
+
+  below : seat < 16
+  below = taken-below a.seating sound.seating seat taken
+
+  here : IsAmong (entries a) entry
+  here = seat-told a.seating.taken (entry_in a) seat taken
+
+  -- the entry of the attempt is the seat's, but for its mark
+  same : entry ≡ record attempt.entry { waiting = free.ready.mark }
+  same = one-entry 0 a.next (entries a) entry (record attempt.entry { waiting = free.ready.mark }) free.follows.orderly.active.ascend here free.ready.here (sym number)
+
+  gone-same : gone_on entry ≡ gone_on attempt.entry
+  gone-same = ap gone_on same
+
+  state : IsState store entry (state_in a seat)
+  state = free.follows.kept.stand seat taken
+
+  now-is : attempt.now ≡ over_all (state_in a seat) state.bytes
+  now-is = some-same attempt.now (over_all (state_in a seat) state.bytes) (sym free.ready.now ∙ sym (ap (λ (e : Entry). after e.runs.program e.runs.args store e.rows) same) ∙ state.at)
+    where
+      some-same : (one other : Plain) → Some one ≡ Some other → one ≡ other
+      some-same one other is = cc
+
+  module _ (moved : IsMoved a.reach.pool pool) (keeps : Keeps a.reach.directory a.reach.pool pool committed)
+      (fetched : fetches Fine old.frames (touched_pages attempt) (touched_pages attempt) old.resident counts.pages ≡ Fetched pool.resident counted_pages)
+      (alike : AreAlike (locks_in (locked a seat wants owned) seat) (locks_with attempt old))
+      (grants : owners_told (number_under a) (authority_under owned) ≡ granted attempt (locks_with attempt old) refused old.authority)
+      (went : HasExecuted before seat live bytes marked committed) where
+    runs_here : a.reach.runner - 1 ≡ seat
+    runs_here = ap (λ (n : ℕ). n - 1) runner ∙ omega arith
+
+    -- the attempt ran over the bytes of all
+    shows : over_all attempt.now (shown a committed) ≡ plain_over committed (live_in before seat).cpu before.reach (live_in before seat).out
+    shows = ap (λ (s : Plain). over_all s (shown a committed)) now-is ∙ then-same
+      where
+        then-same : over_all (over_all (state_in a seat) state.bytes) (shown a committed) ≡ plain_over committed (live_in before seat).cpu before.reach (live_in before seat).out
+        then-same i = record {
+          regs = (live_in a seat).cpu.regs;
+          cs = (live_in a seat).cpu.cs;
+          iar = (live_in a seat).cpu.iar;
+          private = (sym (moved.private seat below) ∙ ap (private_bytes pool) (sym runs_here)) i;
+          store = sym keeps.same i;
+          out = (live_in a seat).out;
+        }
+
+    abbrev locks : ℕ → Lines
+    locks = by_number a.seating.taken (entry_in a) (locks_in a) no_lines
+
+    abbrev requests : ℕ → Lines
+    requests = by_number a.seating.taken (entry_in a) (request_in a) no_lines
+
+    abbrev states : ℕ → Plain
+    states = by_number a.seating.taken (entry_in a) (state_in a) (state_in a 16)
+
+    abbrev more : ℕ → Lines
+    more at = if at == attempt.entry.number then locks_in (locked a seat wants owned) seat else locks at
+
+    abbrev new : ℕ → Plain
+    new at = if at == attempt.entry.number then left else states at
+
+    due : due_to store (gone_on attempt.entry) ≡ locks_with attempt old
+    due = due-more store attempt.entry ∙ ap (λ (l : Lines). with_whole_pages (both (touched_within attempt.entry.runs.program attempt.entry.runs.args store attempt.entry.rows) l)) (sym free.ready.lines)
+
+    mine : (attempt.entry.number == attempt.entry.number) ≡ true
+    mine = eq-eqb attempt.entry.number attempt.entry.number refl
+
+    more-mine : AreAlike (more attempt.entry.number) (due_to store (gone_on attempt.entry))
+    more-mine =
+        subst (λ (l : Lines). AreAlike l (due_to store (gone_on attempt.entry))) (sym (ap (λ (b : Bool). if b then locks_in (locked a seat wants owned) seat else locks attempt.entry.number) mine))
+        (subst (AreAlike (locks_in (locked a seat wants owned) seat)) (sym due) alike)
+
+    went-on : WentOn begins (with_entry (got attempt refused pool.resident old) (gone_on attempt.entry)) (record counts { pages = counted_pages; ran = counts.ran + 1 }) more requests new left.store
+    went-on =
+        gets-goes begins attempt refused pool.resident old counts counted_pages locks more requests states new next left (shown a committed)
+        free.comes free.ready free.free goes (told-kept a committed sound free.follows.kept) fetched
+        (ap (row attempt.entry.runs.program a.reach.directory) shows ∙ ap (λ (e : Entry). row e.runs.program a.reach.directory (plain_over committed (live_in before seat).cpu before.reach (live_in before seat).out)) (sym same) ∙ went.goes.goes)
+        more-mine
+        (record { kept = λ at differs. ap (λ (b : Bool). if b then locks_in (locked a seat wants owned) seat else locks at) differs })
+        (ap (λ (b : Bool). if b then left else states attempt.entry.number) mine)
+        (λ at differs. ap (λ (b : Bool). if b then left else states at) differs)
+
+    -- the entries and the desk after it
+    entry-done : entry_in done seat ≡ gone_on attempt.entry
+    entry-done = entry-counted (executed before seat live bytes marked) seat 1 sound.seating.sixteen below ∙ gone-same
+
+    entry-others : (at : ℕ) → (at == seat) ≡ false → entry_in done at ≡ entry_in a at
+    entry-others at differs = entry-other (executed before seat live bytes marked) seat 1 at differs
+
+    entries-done : entries done ≡ replaced (gone_on attempt.entry) (entries a)
+    entries-done =
+        told-replaced a.seating.taken (entry_in a) (entry_in done) seat
+        (λ at inside. ap (λ (e : Entry). (entry_in a at).number == e.number) (entry-counted (executed before seat live bytes marked) seat 1 sound.seating.sixteen below) ∙ sound.seats.apart at seat inside taken) entry-others
+        ∙ ap (λ (e : Entry). replaced e (entries a)) entry-done
+
+    desk-done : desk_over done committed order ≡ with_entry (got attempt refused pool.resident old) (gone_on attempt.entry)
+    desk-done i = record old {
+      frames = moved.frames i;
+      active = entries-done i;
+      resident = pool.resident;
+      authority = (ap (λ (numbers : ℕ → ℕ). owners_told numbers (authority_under owned)) (under-counted (executed before seat live bytes marked) seat 1 sound.seating.sixteen below) ∙ grants) i;
+    }
+
+    among-done : (at : ℕ) → has a.seating.taken at ≡ true → IsAmong (replaced (gone_on attempt.entry) (entries a)) (entry_in done at)
+    among-done at inside = subst (λ (these : List Entry). IsAmong these (entry_in done at)) entries-done (seat-told a.seating.taken (entry_in done) at inside)
+
+    other-number : (at : ℕ) → has a.seating.taken at ≡ true → (at == seat) ≡ false → ((entry_in done at).number == attempt.entry.number) ≡ false
+    other-number at inside differs = (λ i. (entry-others at differs i).number == number i) ∙ sound.seats.apart at seat inside taken ∙ differs
+
+    by_seat : {P : ℕ → Type 0} → P seat → ((at : ℕ) → has a.seating.taken at ≡ true → (at == seat) ≡ false → P at) → (at : ℕ) → has a.seating.taken at ≡ true → P at
+    by_seat {P} this others at inside = by_test (at == seat) refl
+      where
+        by_test : (is : Bool) → (at == seat) ≡ is → P at
+        by_test true e = subst P (sym (eqb-true at seat e)) this
+        by_test false e = others at inside e
+
+    number-done : (entry_in done seat).number ≡ attempt.entry.number
+    number-done = ap (λ (e : Entry). e.number) entry-done
+
+    locks-done : (at : ℕ) → has a.seating.taken at ≡ true → more (entry_in done at).number ≡ locks_in done at
+    locks-done = by_seat {P = λ at. more (entry_in done at).number ≡ locks_in done at}
+        (ap more number-done ∙ ap (λ (b : Bool). if b then locks_in (locked a seat wants owned) seat else locks attempt.entry.number) mine)
+        (λ at inside differs.
+        ap (λ (b : Bool). if b then locks_in (locked a seat wants owned) seat else locks (entry_in done at).number) (other-number at inside differs)
+        ∙ ap (λ (e : Entry). locks e.number) (entry-others at differs)
+        ∙ at-number a.seating.taken (entry_in a) (locks_in a) no_lines at sound.seats inside
+        ∙ ap lines_held (sym (other-with a.seating.holding seat (with_wants (of_seat a.seating.holding seat) (map with_whole_page wants)) sound.seating.whole at differs)))
+
+    requests-done : (at : ℕ) → has a.seating.taken at ≡ true → (entry_in done at).waiting ≡ true → requests (entry_in done at).number ≡ request_in done at
+    requests-done = by_seat {P = λ at. (entry_in done at).waiting ≡ true → requests (entry_in done at).number ≡ request_in done at}
+        (λ waits. absurd (both_ways (entry_in done seat).waiting (ap (λ (e : Entry). e.waiting) entry-done) waits))
+        (λ at inside differs waits.
+        ap (λ (e : Entry). requests e.number) (entry-others at differs)
+        ∙ at-number a.seating.taken (entry_in a) (request_in a) no_lines at sound.seats inside
+        ∙ ap request_for (sym (sitter-other a.seating seat _ at differs)))
+
+    live-now : live_in done seat ≡ live
+    live-now = live-there a.live seat live (omega (arith, sound.live, below))
+
+    left-is : left ≡ over_all (state_in done seat) left.store
+    left-is i = record {
+      regs = (sym live-now i).cpu.regs;
+      cs = (sym live-now i).cpu.cs;
+      iar = (sym live-now i).cpu.iar;
+      private = private_bytes done.reach.pool (runs_here i);
+      store = left.store;
+      out = (sym live-now i).out;
+    }
+
+    shown-as : (s t : Plain) (over : FlatStore) (e : Entry) → s ≡ over_all t s.store → IsState over e s → IsState over e t
+    shown-as s t over e is stands = record { bytes = stands.bytes; at = stands.at ∙ ap (λ (p : Plain). Some (over_all p stands.bytes)) is }
+
+    states-done : (at : ℕ) → has a.seating.taken at ≡ true → IsState store (entry_in done at) (state_in done at)
+    states-done = by_seat {P = λ at. IsState store (entry_in done at) (state_in done at)}
+        (shown-as left (state_in done seat) store (entry_in done seat) left-is
+        (subst (IsState store (entry_in done seat)) (ap new number-done ∙ ap (λ (b : Bool). if b then left else states attempt.entry.number) mine) (went-on.told.stand (entry_in done seat) (among-done seat taken))))
+        (λ at inside differs.
+        subst (IsState store (entry_in done at))
+        (ap (λ (b : Bool). if b then left else states (entry_in done at).number) (other-number at inside differs)
+        ∙ ap (λ (e : Entry). states e.number) (entry-others at differs)
+        ∙ at-number a.seating.taken (entry_in a) (state_in a) (state_in a 16) at sound.seats inside
+        ∙ state-other at inside differs)
+        (went-on.told.stand (entry_in done at) (among-done at inside)))
+      where
+        state-other : (at : ℕ) → has a.seating.taken at ≡ true → (at == seat) ≡ false → state_in a at ≡ state_in done at
+        state-other at inside differs i = record {
+          regs = (sym (live-other a.live seat live at differs) i).cpu.regs;
+          cs = (sym (live-other a.live seat live at differs) i).cpu.cs;
+          iar = (sym (live-other a.live seat live at differs) i).cpu.iar;
+          private = (sym (moved.private at (taken-below a.seating sound.seating at inside)) ∙ sym (went.seats at (taken-below a.seating sound.seating at inside) (λ it. both_ways (at == seat) differs (eq-eqb at seat (omega (arith, runner, it)))))) i;
+          store = [];
+          out = (sym (live-other a.live seat live at differs) i).out;
+        }
+
+    wants-is : wanted old entry ≡ touched (program_in a seat) a.reach.directory (plain_over committed (live_in before seat).cpu before.reach (live_in before seat).out)
+    wants-is =
+        ap (wanted old) same ∙ wanted-is old attempt.entry attempt.now left (shown a committed) free.ready.now
+        (ap (row attempt.entry.runs.program a.reach.directory) shows ∙ ap (λ (e : Entry). row e.runs.program a.reach.directory (plain_over committed (live_in before seat).cpu before.reach (live_in before seat).out)) (sym same) ∙ went.goes.goes)
+        ∙ ap (touched attempt.entry.runs.program a.reach.directory) shows
+        ∙ ap (λ (e : Entry). touched e.runs.program a.reach.directory (plain_over committed (live_in before seat).cpu before.reach (live_in before seat).out)) (sym same)
+
+    marks-done : AreMarked store (entries done) (is_line_marked done.reach.pool)
+    marks-done =
+        subst (λ (these : List Entry). AreMarked store these (is_line_marked done.reach.pool)) (ap (λ (e : Entry). replaced e (entries a)) gone-same ∙ sym entries-done)
+        (marked-row store a.most_lines a.next (entries a) free.follows.orderly.active (is_line_marked a.reach.pool) free.follows.kept.marked entry (is_line_marked done.reach.pool) here
+        (λ line. went.goes.marks line ∙ (λ i. has (slice_index_or (moved.marked i) (page_of_line line) []) (line % 16) || has (sym wants-is i).writes line)))
+
+    pub served : Goes begins done committed order (record counts { pages = counted_pages; ran = counts.ran + 1 })
+    served = record {
+      comes = λ word reads. went-on.comes word reads ∙ ap (λ (d : Desk). Going d (record counts { pages = counted_pages; ran = counts.ran + 1 })) (sym desk-done);
+      follows = record {
+        orderly = orderly-other done committed order (subst IsOrderly (sym desk-done) went-on.consistent);
+        kept = record {
+          long = free.follows.kept.long;
+          held = λ at inside. subst (λ (l : Lines). AreAlike l (due_to store (entry_in done at))) (locks-done at inside) (went-on.told.kept.held (entry_in done at) (among-done at inside));
+          asked = λ at inside waits.
+              subst (λ (l : Lines). AreAlike l (requested store (entry_in done at))) (requests-done at inside waits) (went-on.told.kept.asked (entry_in done at) (among-done at inside) waits);
+          stand = states-done;
+          is_current = subst (λ (these : List Entry). IsCurrent store these left.store) (sym entries-done) went-on.told.is_current;
+          marked = marks-done;
+          clean = went.clean;
+        };
+      };
+    }

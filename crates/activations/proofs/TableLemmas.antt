@@ -1,0 +1,101 @@
+-- The authority of pages under identifiers of seats, and the state in a seat beside its entry.
+use Rattle.std.specs.Prelude.{◌≡◌, refl, ℕ, suc, ◌+◌, ◌*◌, ◌/◌, ◌%◌, ◌<◌, ◌≤◌, ◌==◌, nat_lt, not, Bool, true, false, List, length, slice_index_or}
+use Rattle.std.proofs.Common.{arith, ap, sym, ◌∙◌, subst, inl, inr}
+use Rattle.std.proofs.lemmas.Bool.Decides.{nat_tests}
+use Rattle.std.proofs.lemmas.List.{get_or_past}
+use Rattle.std.proofs.lemmas.List.FromFn.{get_or-map-range_with_len, length-map-range_with_len}
+use Rattle.line_geometry.specs.LineSets.{passing}
+use Rattle.lock_rules.specs.Sets.{has}
+use Rattle.lock_rules.specs.Lines.{page_of_line}
+use Rattle.lock_rules.specs.Access.{permits}
+use Rattle.line_locks.specs.Flat.{flat_lines}
+use Rattle.line_locks.proofs.FlatLemmas.{has-page}
+use Rattle.lockbit_rules.specs.declared.Authority.{Authority}
+use Rattle.lockbit_rules.specs.Entries.{entry_of, lets}
+use Rattle.inverted_table.specs.Placed.{unowned}
+use Rattle.desk.specs.Desk.{Entry, nobody}
+use Rattle.desk.specs.Desk as desk
+use Rattle.desk_law.specs.Beside.{IsThere, StandsFor}
+use Rattle.desk_law.specs.Consistent.{Ascend, permitted}
+use Rattle.desk_law.proofs.Entries.{between}
+use Rattle.desk_law.proofs.Identifiers.{permitted-told}
+use Rattle.desk_law.proofs.Seats.{seat-told}
+use Rattle.seats.specs.Seating.{sitter}
+use Rattle.storage_unit.specs.Rows.{IsOpenLine}
+use Rattle.activations.specs.Activity.{Activity, authority_of, authority_at, authority_under, number_under, entry_in, entries, desk_over}
+use Rattle.activations.specs.Follows.{IsSound, Follows, IsIdentified}
+
+pub nobody-page : (page : ℕ) → authority_of page unowned ≡ nobody
+unfolding passing
+nobody-page page = refl
+
+-- the authority of each page is told of its entry; beyond the store it is nobody's
+pub under-page : (owned : List Authority) (page : ℕ) → slice_index_or (authority_under owned) page nobody ≡ authority_at owned page
+under-page owned page = by_test (nat_lt page (length owned)) refl
+  where
+    by_test : (within : Bool) → nat_lt page (length owned) ≡ within → slice_index_or (authority_under owned) page nobody ≡ authority_at owned page
+    by_test true e = get_or-map-range_with_len (authority_at owned) 0 (length owned) page page nobody (grind (arith, nat_tests, e)) (omega arith)
+    by_test false e =
+        let out : length owned ≤ page = grind (arith, nat_tests, e) in
+        get_or_past (authority_under owned) page nobody (subst (λ (n : ℕ). n ≤ page) (sym (length-map-range_with_len (authority_at owned) 0 (length owned))) out)
+        ∙ sym (nobody-page page)
+        ∙ ap (authority_of page) (sym (get_or_past owned page unowned out))
+
+-- what the entry of a page permits to an identifier, in flat lines
+pub permits-flat : (owned : List Authority) (line tid : ℕ) (store : Bool)
+    → permitted (slice_index_or (authority_under owned) (page_of_line line) nobody) tid line store
+    ≡ lets (entry_of (slice_index_or owned (page_of_line line) unowned)) tid (line % 16) store
+permits-flat owned line tid store =
+    ap (λ (one : desk.Authority). permitted one tid line store) (under-page owned (line / 16))
+    ∙ ap (λ (bit : Bool). permits ((entry_of (slice_index_or owned (line / 16) unowned)).owner == tid) (entry_of (slice_index_or owned (line / 16) unowned)).write bit store)
+    (ap (has (flat_lines (line / 16) (entry_of (slice_index_or owned (line / 16) unowned)).lines)) whole
+    ∙ has-page (line / 16) (line % 16) (entry_of (slice_index_or owned (line / 16) unowned)).lines)
+  where
+    whole : line ≡ line / 16 * 16 + line % 16
+    whole = omega arith
+
+permitted-not : (b : Bool) → not b ≡ false → b ≡ true
+permitted-not true e = refl
+permitted-not false e = sym e
+
+module _ (a : Activity) (sound : IsSound a) (committed : List ℕ) (ascend : Ascend 0 (entries a) a.next) where
+  -- those that sit have numbers from 1 on
+  pub number-some : (seat : ℕ) → has a.seating.taken seat ≡ true → 0 < (sitter a.seating seat).number
+  number-some seat taken =
+      (between 0 a.next (entries a) (entry_in a seat) ascend (seat-told a.seating.taken (entry_in a) seat taken)).0
+
+  -- on each page the identifier of a taken seat stands where its number is told
+  pub stands-for : (seat : ℕ) → has a.seating.taken seat ≡ true → StandsFor (number_under a) (seat + 1) (sitter a.seating seat).number (authority_under a.reach.entries)
+  stands-for seat taken = record {
+    is = let next : seat + 1 ≡ suc seat = omega arith in ap (number_under a) next;
+    alone = λ page. ap (λ (one : desk.Authority). one.owner == seat + 1) (under-page a.reach.entries page)
+        ∙ by_owner (slice_index_or a.reach.entries page unowned) (sound.identified page)
+        ∙ sym (ap (λ (one : desk.Authority). number_under a one.owner == (sitter a.seating seat).number) (under-page a.reach.entries page));
+  }
+    where
+      by_owner : (one : Authority) → IsIdentified a.seating.taken one → (one.tid == seat + 1) ≡ (number_under a one.tid == (sitter a.seating seat).number)
+      by_owner one (inl none) =
+          ap (λ (e : Authority). e.tid == seat + 1) none
+          ∙ (let some = number-some seat taken in
+          let left : (0 == seat + 1) ≡ false = grind (arith, nat_tests) in
+          let right : (0 == (sitter a.seating seat).number) ≡ false = grind (arith, nat_tests, some) in
+          left ∙ sym right)
+          ∙ sym (ap (λ (e : Authority). number_under a e.tid == (sitter a.seating seat).number) none)
+      by_owner one (inr (other, inside, is)) =
+          let next : other + 1 ≡ suc other = omega arith in
+          let shift : (other + 1 == seat + 1) ≡ (other == seat) = grind (arith, nat_tests) in
+          ap (λ (n : ℕ). n == seat + 1) is ∙ shift ∙ sym (sound.seats.apart other seat inside taken)
+          ∙ sym (ap (λ (n : ℕ). number_under a n == (sitter a.seating seat).number) (is ∙ next))
+
+module _ (a : Activity) (sound : IsSound a) (committed : List ℕ) (follows : Follows a committed) where
+  -- a line that is open to the selected seat is there for its activation
+  pub there : (seat : ℕ) (order : List (ℕ × ℕ)) (line : ℕ) (store : Bool) → has a.seating.taken seat ≡ true → a.reach.runner ≡ seat + 1
+      → IsOpenLine a.reach line store → IsThere (desk_over a committed order) (sitter a.seating seat).number line store
+  there seat order line store taken runner is = record {
+    resident = is.resident;
+    permits =
+        permitted-told (number_under a) refl (seat + 1) (sitter a.seating seat).number (authority_under a.reach.entries) (page_of_line line) line store (stands-for a sound committed follows.orderly.active.ascend seat taken)
+        ∙ permits-flat a.reach.entries line (seat + 1) store
+        ∙ ap (λ (tid : ℕ). lets (entry_of (slice_index_or a.reach.entries (page_of_line line) unowned)) tid (line % 16) store) (sym runner)
+        ∙ permitted-not (lets (entry_of (slice_index_or a.reach.entries (page_of_line line) unowned)) a.reach.runner (line % 16) store) is.permits;
+  }

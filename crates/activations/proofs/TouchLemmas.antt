@@ -1,0 +1,114 @@
+-- One line of a page, or two neighbours, as flat lines.
+use Rattle.std.proofs.Common.{◌≡◌, ℕ, zero, suc, ◌+◌, ◌-◌, ◌*◌, ◌/◌, ◌%◌, ◌<◌, ◌≤◌, Bool, true, false, List, [], ◌∷◌, ◌++◌, refl, sym, ◌∙◌, ap, arith}
+use Rattle.std.specs.Prelude.{◌==◌, ◌||◌, if◌then◌else◌}
+use Rattle.std.specs.List.{range_with_len}
+use Rattle.std.proofs.lemmas.Bool.Decides.{nat_tests}
+use Rattle.line_geometry.specs.LineSets.{passing, between}
+use Rattle.std.proofs.lemmas.List.{append-nil}
+use Rattle.line_locks.specs.Flat.{flat_lines, lines_wanted}
+use Rattle.activations.specs.Touched.{lines_between}
+use Rattle.lock_rules.specs.Lines.{pages_of}
+
+between-one : (line : ℕ) → line < 16 → between line line ≡ line ∷ []
+unfolding passing
+between-one zero small = refl
+between-one (suc zero) small = refl
+between-one (suc (suc zero)) small = refl
+between-one (suc (suc (suc zero))) small = refl
+between-one (suc (suc (suc (suc zero)))) small = refl
+between-one (suc (suc (suc (suc (suc zero))))) small = refl
+between-one (suc (suc (suc (suc (suc (suc zero)))))) small = refl
+between-one (suc (suc (suc (suc (suc (suc (suc zero))))))) small = refl
+between-one (suc (suc (suc (suc (suc (suc (suc (suc zero)))))))) small = refl
+between-one (suc (suc (suc (suc (suc (suc (suc (suc (suc zero))))))))) small = refl
+between-one (suc (suc (suc (suc (suc (suc (suc (suc (suc (suc zero)))))))))) small = refl
+between-one (suc (suc (suc (suc (suc (suc (suc (suc (suc (suc (suc zero))))))))))) small = refl
+between-one (suc (suc (suc (suc (suc (suc (suc (suc (suc (suc (suc (suc zero)))))))))))) small = refl
+between-one (suc (suc (suc (suc (suc (suc (suc (suc (suc (suc (suc (suc (suc zero))))))))))))) small = refl
+between-one (suc (suc (suc (suc (suc (suc (suc (suc (suc (suc (suc (suc (suc (suc zero)))))))))))))) small = refl
+between-one (suc (suc (suc (suc (suc (suc (suc (suc (suc (suc (suc (suc (suc (suc (suc zero))))))))))))))) small = refl
+between-one (suc (suc (suc (suc (suc (suc (suc (suc (suc (suc (suc (suc (suc (suc (suc (suc line)))))))))))))))) small = absurd (omega (arith, small))
+
+between-two : (line : ℕ) → line + 1 < 16 → between line (line + 1) ≡ line ∷ (line + 1) ∷ []
+unfolding passing
+between-two zero small = refl
+between-two (suc zero) small = refl
+between-two (suc (suc zero)) small = refl
+between-two (suc (suc (suc zero))) small = refl
+between-two (suc (suc (suc (suc zero)))) small = refl
+between-two (suc (suc (suc (suc (suc zero))))) small = refl
+between-two (suc (suc (suc (suc (suc (suc zero)))))) small = refl
+between-two (suc (suc (suc (suc (suc (suc (suc zero))))))) small = refl
+between-two (suc (suc (suc (suc (suc (suc (suc (suc zero)))))))) small = refl
+between-two (suc (suc (suc (suc (suc (suc (suc (suc (suc zero))))))))) small = refl
+between-two (suc (suc (suc (suc (suc (suc (suc (suc (suc (suc zero)))))))))) small = refl
+between-two (suc (suc (suc (suc (suc (suc (suc (suc (suc (suc (suc zero))))))))))) small = refl
+between-two (suc (suc (suc (suc (suc (suc (suc (suc (suc (suc (suc (suc zero)))))))))))) small = refl
+between-two (suc (suc (suc (suc (suc (suc (suc (suc (suc (suc (suc (suc (suc zero))))))))))))) small = refl
+between-two (suc (suc (suc (suc (suc (suc (suc (suc (suc (suc (suc (suc (suc (suc zero)))))))))))))) small = refl
+between-two (suc (suc (suc (suc (suc (suc (suc (suc (suc (suc (suc (suc (suc (suc (suc line))))))))))))))) small = absurd (omega (arith, small))
+
+-- one line, or two neighbours in a page, are its lines of that page
+pub flat-between : (first last : ℕ) → first ≤ last → last ≤ first + 1 → first / 16 ≡ last / 16
+    → flat_lines (first / 16) (between (first % 16) (last % 16)) ≡ range_with_len first (last + 1 - first)
+flat-between first last order near one = by_test (last == first) refl
+  where
+    by_test : (same : Bool) → (last == first) ≡ same → flat_lines (first / 16) (between (first % 16) (last % 16)) ≡ range_with_len first (last + 1 - first)
+    by_test true e =
+        let count : last + 1 - first ≡ 1 = grind (arith, nat_tests) in
+        let at : last % 16 ≡ first % 16 = grind (arith, nat_tests) in
+        let whole : first / 16 * 16 + first % 16 ≡ first = omega arith in
+        ap (λ (n : ℕ). flat_lines (first / 16) (between (first % 16) n)) at
+        ∙ ap (flat_lines (first / 16)) (between-one (first % 16) (omega arith))
+        ∙ ap (λ (n : ℕ). n ∷ []) whole
+        ∙ sym (ap (λ (n : ℕ). range_with_len first n) count)
+    by_test false e =
+        let count : last + 1 - first ≡ 2 = grind (arith, nat_tests) in
+        let at : last % 16 ≡ first % 16 + 1 = grind (arith, nat_tests) in
+        let whole : first / 16 * 16 + first % 16 ≡ first = omega arith in
+        let next : first / 16 * 16 + (first % 16 + 1) ≡ first + 1 = omega arith in
+        ap (λ (n : ℕ). flat_lines (first / 16) (between (first % 16) n)) at
+        ∙ ap (flat_lines (first / 16)) (between-two (first % 16) (grind (arith, nat_tests)))
+        ∙ (λ i. whole i ∷ next i ∷ [])
+        ∙ sym (ap (λ (n : ℕ). range_with_len first n) count)
+
+-- what is wanted of one page, and of two, in flat lines
+pub wanted-one : (page : ℕ) (reads writes : List ℕ)
+    → lines_wanted (record { page = page; reads = reads; writes = writes } ∷ []) ≡ record { reads = flat_lines page reads; writes = flat_lines page writes }
+wanted-one page reads writes i = record { reads = append-nil (flat_lines page reads) i; writes = append-nil (flat_lines page writes) i }
+
+-- the lines from a first to a last of one page, as those to read and those to write
+abbrev pub sets_between : (first last : ℕ) → Bool → List ℕ × List ℕ
+sets_between first last true = ([], between (first % 16) (last % 16))
+sets_between first last false = (between (first % 16) (last % 16), [])
+
+pub one-page : (first last : ℕ) (store : Bool) (sets : List ℕ × List ℕ) → first ≤ last → last ≤ first + 1 → first / 16 ≡ last / 16 → sets ≡ sets_between first last store
+    → lines_wanted (record { page = first / 16; reads = sets.0; writes = sets.1 } ∷ []) ≡ lines_between first last store
+one-page first last true sets order near one is =
+    ap (λ (pair : List ℕ × List ℕ). lines_wanted (record { page = first / 16; reads = pair.0; writes = pair.1 } ∷ [])) is
+    ∙ wanted-one (first / 16) [] (between (first % 16) (last % 16)) ∙ ap (λ (lines : List ℕ). record { reads = []; writes = lines }) (flat-between first last order near one)
+one-page first last false sets order near one is =
+    ap (λ (pair : List ℕ × List ℕ). lines_wanted (record { page = first / 16; reads = pair.0; writes = pair.1 } ∷ [])) is
+    ∙ wanted-one (first / 16) (between (first % 16) (last % 16)) [] ∙ ap (λ (lines : List ℕ). record { reads = lines; writes = [] }) (flat-between first last order near one)
+
+-- one line, or two neighbours in a page, have that page
+same_page : (first last : ℕ) → first ≤ last → last ≤ first + 1 → first / 16 ≡ last / 16 → pages_of (range_with_len first (last + 1 - first)) ≡ first / 16 ∷ []
+same_page first last order near one = by_test (last == first) refl
+  where
+    by_test : (same : Bool) → (last == first) ≡ same → pages_of (range_with_len first (last + 1 - first)) ≡ first / 16 ∷ []
+    by_test true e =
+        let count : last + 1 - first ≡ 1 = grind (arith, nat_tests) in
+        ap (λ (n : ℕ). pages_of (range_with_len first n)) count
+    by_test false e =
+        let count : last + 1 - first ≡ 2 = grind (arith, nat_tests) in
+        let next : (first + 1) / 16 ≡ first / 16 = grind (arith, nat_tests) in
+        let here : ((first + 1) / 16 == first / 16) ≡ true = grind (arith, nat_tests) in
+        ap (λ (n : ℕ). pages_of (range_with_len first n)) count
+        ∙ ap (λ (again : Bool). if again || false then (first + 1) / 16 ∷ [] else first / 16 ∷ (first + 1) / 16 ∷ []) here
+        ∙ ap (λ (page : ℕ). page ∷ []) next
+
+pub page-between : (first last : ℕ) (store : Bool) → first ≤ last → last ≤ first + 1 → first / 16 ≡ last / 16
+    → first / 16 ∷ [] ≡ pages_of ((lines_between first last store).reads ++ (lines_between first last store).writes)
+page-between first last true order near one = sym (same_page first last order near one)
+page-between first last false order near one =
+    sym (same_page first last order near one) ∙ ap pages_of (sym (append-nil (range_with_len first (last + 1 - first))))

@@ -1,0 +1,174 @@
+-- Pages that go out one after another, their lines forgotten.
+use Rattle.std.specs.Prelude.{◌≡◌, refl, ℕ, ◌%◌, ◌<◌, ◌==◌, ◌&&◌, ◌||◌, not, if◌then◌else◌, Bool, true, false, List, [], ◌∷◌, ◌++◌, filter, length, slice_index, slice_index_or, slice_set, Option, Some, None, is_some}
+use Rattle.std.specs.Option.{option_map_or}
+use Rattle.std.proofs.Common.{arith, ap, sym, ◌∙◌, get_or-set_same, get_or-set_other}
+use Rattle.std.proofs.lemmas.Bool.{eqb-true, eq-eqb, both_ways, or_left, or_right}
+use Rattle.line_geometry.specs.Directory.{Layout, byte_count, page_count}
+use Rattle.line_geometry.specs.Lines.{line_of}
+use Rattle.line_geometry.specs.LineSets.{difference}
+use Rattle.line_geometry.proofs.LineSetLemmas.{is_in_where-below}
+use Rattle.lock_rules.specs.Sets.{has}
+use Rattle.lock_rules.specs.Lines.{page_of_line}
+use Rattle.lock_rules.specs.Resident.{taken_out}
+use Rattle.lock_rules.proofs.Sets.{has-append}
+use Rattle.frame_pool.specs.declared.model.Pool.{Pool}
+use Rattle.frame_pool.specs.Pool.{marks_at, frame_at, undone, settled, gone}
+use Rattle.storage_unit.specs.Bytes.{is_line_marked, bytes_over}
+use Rattle.storage_unit.specs.Laws.{Fits, UndoForgets, is_among}
+use Rattle.activations.specs.Steps.{is_of, WereUndone, AreAsCommitted}
+
+filter-then : (p q : ℕ → Bool) (xs : List ℕ) → filter p (filter q xs) ≡ filter (λ x. q x && p x) xs
+filter-then p q [] = refl
+filter-then p q (x ∷ xs) = by_test (q x) (p x) refl (filter-then p q xs)
+  where
+    by_test : (a b : Bool) → p x ≡ b → filter p (filter q xs) ≡ filter (λ x. q x && p x) xs
+        → filter p (if a then x ∷ filter q xs else filter q xs) ≡ (if a && p x then x ∷ filter (λ x. q x && p x) xs else filter (λ x. q x && p x) xs)
+    by_test true true e rest = ap (λ (c : Bool). if c then x ∷ filter p (filter q xs) else filter p (filter q xs)) e ∙ ap (λ (these : List ℕ). x ∷ these) rest ∙ sym (ap (λ (c : Bool). if c then x ∷ filter (λ x. q x && p x) xs else filter (λ x. q x && p x) xs) e)
+    by_test true false e rest = ap (λ (c : Bool). if c then x ∷ filter p (filter q xs) else filter p (filter q xs)) e ∙ rest ∙ sym (ap (λ (c : Bool). if c then x ∷ filter (λ x. q x && p x) xs else filter (λ x. q x && p x) xs) e)
+    by_test false b e rest = rest
+
+pub filter-alike : (p q : ℕ → Bool) (xs : List ℕ) → ((x : ℕ) → has xs x ≡ true → p x ≡ q x) → filter p xs ≡ filter q xs
+filter-alike p q [] same = refl
+filter-alike p q (x ∷ xs) same =
+    λ i.
+    if same x (or_left (x == x) (has xs x) (eq-eqb x x refl)) i
+    then x ∷ filter-alike p q xs (λ y inside. same y (or_right (x == y) (has xs y) inside)) i
+    else filter-alike p q xs (λ y inside. same y (or_right (x == y) (has xs y) inside)) i
+
+-- a page more goes out
+taken-then : (pages : List ℕ) (page : ℕ) (resident : List ℕ) → taken_out (page ∷ []) (taken_out pages resident) ≡ taken_out (pages ++ page ∷ []) resident
+taken-then pages page resident =
+    filter-then (λ one. not (has (page ∷ []) one)) (λ one. not (has pages one)) resident
+    ∙ filter-alike (λ one. not (has pages one) && not (has (page ∷ []) one)) (λ one. not (has (pages ++ page ∷ []) one)) resident
+    (λ one inside. neither (has pages one) (has (page ∷ []) one) ∙ sym (ap not (has-append pages (page ∷ []) one)))
+  where
+    neither : (a b : Bool) → (not a && not b) ≡ not (a || b)
+    neither true b = refl
+    neither false b = refl
+
+-- one that isn't resident takes none out
+taken-none : (page : ℕ) (resident : List ℕ) → has resident page ≡ false → resident ≡ taken_out (page ∷ []) resident
+taken-none page resident out = sym (filter-all resident) ∙ filter-alike (λ one. true) (λ one. not (has (page ∷ []) one)) resident (λ one inside. by_test one inside (page == one) refl)
+  where
+    filter-all : (xs : List ℕ) → filter (λ one. true) xs ≡ xs
+    filter-all [] = refl
+    filter-all (x ∷ xs) = ap (λ (these : List ℕ). x ∷ these) (filter-all xs)
+
+    by_test : (one : ℕ) → has resident one ≡ true → (same : Bool) → (page == one) ≡ same → true ≡ not (same || false)
+    by_test one inside true e = absurd (both_ways (has resident page) out (ap (has resident) (eqb-true page one e) ∙ inside))
+    by_test one inside false e = refl
+
+-- a page more among these
+pub of-then : (lines : ℕ → List ℕ) (pages : List ℕ) (page line : ℕ)
+    → is_of (pages ++ page ∷ []) lines line ≡ (is_of pages lines line || ((page == page_of_line line) && has (lines page) (line % 16)))
+of-then lines pages page line =
+    ap (λ (b : Bool). b && has (lines (page_of_line line)) (line % 16)) (has-append pages (page ∷ []) (page_of_line line))
+    ∙ by_test (has pages (page_of_line line)) (page == page_of_line line) refl
+  where
+    by_test : (a b : Bool) → (page == page_of_line line) ≡ b
+        → ((a || (b || false)) && has (lines (page_of_line line)) (line % 16)) ≡ ((a && has (lines (page_of_line line)) (line % 16)) || (b && has (lines page) (line % 16)))
+    by_test a true e =
+        let same : page ≡ page_of_line line = eqb-true page (page_of_line line) e in
+        either a (has (lines (page_of_line line)) (line % 16)) ∙ ap (λ (p : ℕ). (a && has (lines (page_of_line line)) (line % 16)) || has (lines p) (line % 16)) (sym same)
+      where
+        either : (a w : Bool) → ((a || true) && w) ≡ ((a && w) || w)
+        either true true = refl
+        either true false = refl
+        either false true = refl
+        either false false = refl
+    by_test true false e = or_nothing (has (lines (page_of_line line)) (line % 16))
+      where
+        or_nothing : (w : Bool) → w ≡ (w || false)
+        or_nothing true = refl
+        or_nothing false = refl
+    by_test false false e = refl
+
+by_frame : {A : Type 0} → (part : Pool → A) (in_frame : ℕ → Pool) (other : Pool) (value : A) (frame : Option ℕ)
+    → ((x : ℕ) → part (in_frame x) ≡ value) → (frame ≡ None → part other ≡ value) → part (option_map_or in_frame frame other) ≡ value
+by_frame part in_frame other value None there none = none refl
+by_frame part in_frame other value (Some x) there none = there x
+
+-- what stays where a page goes out
+pub gone-marks : (pool : Pool) (page : ℕ) → (gone pool page).marked ≡ pool.marked
+gone-marks pool page = by_frame (λ (p : Pool). p.marked) _ pool pool.marked (frame_at pool page) (λ x. refl) (λ none. refl)
+
+pub gone-bytes : (pool : Pool) (page : ℕ) → (gone pool page).bytes ≡ pool.bytes
+gone-bytes pool page = by_frame (λ (p : Pool). p.bytes) _ pool pool.bytes (frame_at pool page) (λ x. refl) (λ none. refl)
+
+pub gone-frames : (pool : Pool) (page : ℕ) → (gone pool page).frames ≡ pool.frames
+gone-frames pool page = by_frame (λ (p : Pool). p.frames) _ pool pool.frames (frame_at pool page) (λ x. refl) (λ none. refl)
+
+pub gone-size : (pool : Pool) (page : ℕ) → (gone pool page).page ≡ pool.page
+gone-size pool page = by_frame (λ (p : Pool). p.page) _ pool pool.page (frame_at pool page) (λ x. refl) (λ none. refl)
+
+pub gone-resident : (pool : Pool) (page : ℕ) → has pool.resident page ≡ is_some (frame_at pool page) → (gone pool page).resident ≡ taken_out (page ∷ []) pool.resident
+gone-resident pool page is =
+    by_frame (λ (p : Pool). p.resident) _ pool (taken_out (page ∷ []) pool.resident) (frame_at pool page) (λ x. refl)
+    (λ none. taken-none page pool.resident (is ∙ ap is_some none))
+
+module _ (directory : Layout) (pool : Pool) (fits : Fits directory pool) (page : ℕ) (below : page < page_count directory) (lines : List ℕ) where
+  marked-below : page < length pool.marked
+  marked-below = omega (arith, below, fits.pages, fits.seen.marked)
+
+  -- the marks of lines of the page go
+  pub settled-marks : (line : ℕ) → is_line_marked (settled pool page lines) line ≡ (is_line_marked pool line && not ((page == page_of_line line) && has lines (line % 16)))
+  settled-marks line = by_test (page == page_of_line line) refl
+    where
+      by_test : (same : Bool) → (page == page_of_line line) ≡ same
+          → has (slice_index_or (slice_set pool.marked page (difference (marks_at pool page) lines)) (page_of_line line) []) (line % 16)
+          ≡ (has (marks_at pool (page_of_line line)) (line % 16) && not (same && has lines (line % 16)))
+      by_test true e =
+          let at : page ≡ page_of_line line = eqb-true page (page_of_line line) e in
+          ap (λ (p : ℕ). has (slice_index_or (slice_set pool.marked page (difference (marks_at pool page) lines)) p []) (line % 16)) (sym at)
+          ∙ ap (λ (set : List ℕ). has set (line % 16)) (get_or-set_same pool.marked page (difference (marks_at pool page) lines) [] marked-below)
+          ∙ is_in_where-below (λ x. has (marks_at pool page) x && not (has lines x)) (line % 16) (omega arith)
+          ∙ ap (λ (p : ℕ). has (marks_at pool p) (line % 16) && not (has lines (line % 16))) at
+      by_test false e =
+          ap (λ (set : List ℕ). has set (line % 16)) (get_or-set_other pool.marked page (page_of_line line) (difference (marks_at pool page) lines) [] (λ same. both_ways (page == page_of_line line) e (eq-eqb page (page_of_line line) (sym same))))
+          ∙ sym (and_yes (has (marks_at pool (page_of_line line)) (line % 16)))
+        where
+          and_yes : (b : Bool) → (b && true) ≡ b
+          and_yes true = refl
+          and_yes false = refl
+
+-- One page more: its lines are forgotten too.
+module _ (directory : Layout) (lines : ℕ → List ℕ) (pages : List ℕ) (old pool : Pool) (fits : Fits directory pool) (page : ℕ) (below : page < page_count directory) where
+  pub were-undone : WereUndone lines pages old pool → WereUndone lines (pages ++ page ∷ []) old (undone pool page (lines page))
+  were-undone were = record {
+    marks = λ line.
+        ap (λ (marked : List (List ℕ)). has (slice_index_or marked (page_of_line line) []) (line % 16)) (gone-marks (settled pool page (lines page)) page)
+        ∙ settled-marks directory pool fits page below (lines page) line
+        ∙ ap (λ (b : Bool). b && not ((page == page_of_line line) && has (lines page) (line % 16))) (were.marks line)
+        ∙ neither (is_line_marked old line) (is_of pages lines line) ((page == page_of_line line) && has (lines page) (line % 16))
+        ∙ sym (ap (λ (b : Bool). is_line_marked old line && not b) (of-then lines pages page line));
+    resident =
+        gone-resident (settled pool page (lines page)) page (fits.seen.resident page)
+        ∙ ap (taken_out (page ∷ [])) were.resident ∙ taken-then pages page old.resident;
+    bytes = gone-bytes (settled pool page (lines page)) page ∙ were.bytes;
+    size = gone-size (settled pool page (lines page)) page ∙ were.size;
+    frames = gone-frames (settled pool page (lines page)) page ∙ were.frames;
+  }
+    where
+      neither : (m a b : Bool) → ((m && not a) && not b) ≡ (m && not (a || b))
+      neither true true b = refl
+      neither true false b = refl
+      neither false a b = refl
+
+  pub are-as-committed : UndoForgets → (committed : List ℕ) → length committed ≡ byte_count directory
+      → AreAsCommitted directory lines pages old pool committed → AreAsCommitted directory lines (pages ++ page ∷ []) old (undone pool page (lines page)) committed
+  are-as-committed forgets committed long are =
+      let undo = forgets directory pool committed page (lines page) fits long are.clean below in
+      record {
+        bytes = λ place within.
+            undo.0 place within
+            ∙ ap (λ (byte : ℕ). if is_among page (lines page) (line_of directory place) then slice_index committed place else byte) (are.bytes place within)
+            ∙ chosen (is_of pages lines (line_of directory place)) (is_among page (lines page) (line_of directory place)) (slice_index committed place) (slice_index (bytes_over directory old committed) place)
+            ∙ sym (ap (λ (b : Bool). if b then slice_index committed place else slice_index (bytes_over directory old committed) place) (of-then lines pages page (line_of directory place)));
+        clean = undo.1;
+      }
+    where
+      chosen : (a b : Bool) (x y : ℕ) → (if b then x else if a then x else y) ≡ (if a || b then x else y)
+      chosen true true x y = refl
+      chosen true false x y = refl
+      chosen false true x y = refl
+      chosen false false x y = refl

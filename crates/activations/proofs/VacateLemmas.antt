@@ -1,0 +1,155 @@
+-- A seat that is left: its entry goes, and its pages are nobody's.
+use Rattle.std.specs.Prelude.{◌≡◌, refl, ℕ, zero, suc, ◌+◌, ◌<◌, ◌≤◌, ◌==◌, not, nat_lt, if◌then◌else◌, Bool, true, false, List, [], ◌∷◌, length, map, slice_index_or, slice_set}
+use Rattle.std.specs.List.{range_with_len}
+use Rattle.std.proofs.Common.{arith, ap, sym, ◌∙◌, subst, inl, inr, get_or-set_same, get_or-set_other}
+use Rattle.std.proofs.lemmas.Bool.{eqb-true, eqb-false, both_ways, and_parts, and_from, and_cases, not-true}
+use Rattle.std.proofs.lemmas.Bool.Decides.{nat_tests}
+use Rattle.std.proofs.lemmas.List.{length-map, length-set, get_or-map, get_or_past}
+use Rattle.std.proofs.lemmas.List.Elements.{All-filter}
+use Rattle.line_geometry.specs.LineSets.{passing, IsOfPage}
+use Rattle.lock_rules.specs.Sets.{has}
+use Rattle.lock_rules.proofs.Sets.{has-filter}
+use Rattle.lockbit_rules.specs.declared.Authority.{Authority}
+use Rattle.inverted_table.specs.Placed.{unowned, cleared_entry}
+use Rattle.desk.specs.Desk.{Entry, nobody}
+use Rattle.desk.specs.Desk as desk
+use Rattle.desk_law.specs.Beside.{StandsFor, owners_told}
+use Rattle.desk_law.proofs.Identifiers.{freed-told}
+use Rattle.desk_law.proofs.Others.{others}
+use Rattle.desk_law.proofs.Seats.{told-others}
+use Rattle.seats.specs.Seating.{sitter, number_in, left}
+use Rattle.seats.proofs.Kept.{taken-below, kept-left, same-with, other-with}
+use Rattle.line_locks.specs.Held.{of_page, nothing}
+use Rattle.line_locks.specs.Holding.{of_seat, no_lines_of, released}
+use Rattle.activations.specs.Activity.{Activity, authority_of, authority_at, authority_under, authority_told, number_under, entry_in, entries}
+use Rattle.activations.specs.Follows.{IsSound, IsIdentified, AreOfPages}
+use Rattle.activations.specs.Steps.{vacated}
+use Rattle.activations.proofs.TableLemmas.{nobody-page}
+
+-- an entry that is cleared is told as a page that is freed
+cleared-told : (page tid : ℕ) (one : Authority) → authority_of page (cleared_entry tid one) ≡ (if (authority_of page one).owner == tid then nobody else authority_of page one)
+cleared-told page tid one = by_test (one.tid == tid)
+  where
+    by_test : (mine : Bool) → authority_of page (if mine then unowned else one) ≡ (if mine then nobody else authority_of page one)
+    by_test true = nobody-page page
+    by_test false = refl
+
+pub map-range : (f g : ℕ → desk.Authority) (from count : ℕ) → ((page : ℕ) → from ≤ page → page < from + count → f page ≡ g page) → map f (range_with_len from count) ≡ map g (range_with_len from count)
+map-range f g from zero same = refl
+map-range f g from (suc count) same =
+    λ i. same from (omega arith) (omega arith) i ∷ map-range f g (from + 1) count (λ page above below. same page (omega (arith, above)) (omega (arith, below))) i
+
+map-then : (f : desk.Authority → desk.Authority) (g : ℕ → desk.Authority) (pages : List ℕ) → map f (map g pages) ≡ map (λ page. f (g page)) pages
+map-then f g [] = refl
+map-then f g (page ∷ pages) = ap (λ (rest : List desk.Authority). f (g page) ∷ rest) (map-then f g pages)
+
+-- the pages of an identifier that is cleared are nobody's
+pub cleared-under : (owned : List Authority) (tid : ℕ) → authority_under (map (cleared_entry tid) owned) ≡ map (λ (one : desk.Authority). if one.owner == tid then nobody else one) (authority_under owned)
+cleared-under owned tid =
+    ap (λ (n : ℕ). map (authority_at (map (cleared_entry tid) owned)) (range_with_len 0 n)) (length-map owned (cleared_entry tid))
+    ∙ map-range (authority_at (map (cleared_entry tid) owned)) (λ page. if (authority_at owned page).owner == tid then nobody else authority_at owned page) 0 (length owned)
+    (λ page above below. ap (authority_of page) (get_or-map (cleared_entry tid) owned page unowned unowned (omega (arith, below))) ∙ cleared-told page tid (slice_index_or owned page unowned))
+    ∙ sym (map-then (λ (one : desk.Authority). if one.owner == tid then nobody else one) (authority_at owned) (range_with_len 0 (length owned)))
+
+-- nothing is of pages
+pub none-of-page : (pages page : ℕ) → of_page (no_lines_of pages) page ≡ nothing
+none-of-page zero page = refl
+none-of-page (suc pages) zero = refl
+none-of-page (suc pages) (suc page) = none-of-page pages page
+
+no-line-of-page : IsOfPage []
+unfolding passing
+no-line-of-page = refl
+
+pub none-of-pages : (pages : ℕ) → AreOfPages (no_lines_of pages)
+none-of-pages pages = record {
+  reads = λ page. subst (λ (held : List ℕ × List ℕ). IsOfPage held.0) (sym (none-of-page pages page)) no-line-of-page;
+  writes = λ page. subst (λ (held : List ℕ × List ℕ). IsOfPage held.1) (sym (none-of-page pages page)) no-line-of-page;
+}
+
+not_from_not : (b : Bool) → not b ≡ false → b ≡ true
+not_from_not true e = refl
+not_from_not false e = sym e
+
+module _ (a : Activity) (seat : ℕ) (sound : IsSound a) (taken : has a.seating.taken seat ≡ true) where
+  below : seat < 16
+  below = taken-below a.seating sound.seating seat taken
+
+  -- those that are left
+  pub left-taken : (at : ℕ) → has (left a.seating seat).taken at ≡ true → (has a.seating.taken at ≡ true) × ((at == seat) ≡ false)
+  left-taken at inside =
+      let parts = and_parts (has a.seating.taken at) (not (at == seat)) (sym (has-filter (λ other. not (other == seat)) a.seating.taken at) ∙ inside) in
+      (parts.0, not-true (at == seat) parts.1)
+
+  pub entries-left : entries (vacated a seat) ≡ others (entry_in a seat) (entries a)
+  entries-left = told-others a.seating.taken (entry_in a) seat (λ at inside. sound.seats.apart at seat inside taken)
+
+  pub authority-left : StandsFor (number_under a) (seat + 1) (sitter a.seating seat).number (authority_under a.reach.entries)
+      → authority_told (vacated a seat) ≡ map (λ (one : desk.Authority). if one.owner == (sitter a.seating seat).number then nobody else one) (authority_told a)
+  authority-left stands =
+      ap (owners_told (number_under a)) (cleared-under a.reach.entries (seat + 1))
+      ∙ freed-told (number_under a) refl (seat + 1) (sitter a.seating seat).number (authority_under a.reach.entries) stands
+
+  begun-other : (at : ℕ) → (at == seat) ≡ false → slice_index_or (slice_set a.reach.begun seat false) at false ≡ slice_index_or a.reach.begun at false
+  begun-other at differs = get_or-set_other a.reach.begun seat at false false (eqb-false at seat differs)
+
+  identified-left : (one : Authority) → IsIdentified a.seating.taken one → IsIdentified (left a.seating seat).taken (cleared_entry (seat + 1) one)
+  identified-left one (inl none) = inl (by_test (one.tid == seat + 1))
+    where
+      by_test : (mine : Bool) → (if mine then unowned else one) ≡ unowned
+      by_test true = refl
+      by_test false = none
+  identified-left one (inr (other, inside, same)) = by_test (one.tid == seat + 1) refl
+    where
+      by_test : (mine : Bool) → (one.tid == seat + 1) ≡ mine → IsIdentified (left a.seating seat).taken (if mine then unowned else one)
+      by_test true e = inl refl
+      by_test false e =
+          let differs : (other == seat) ≡ false = grind (arith, nat_tests, e, same) in
+          inr (other, has-filter (λ other. not (other == seat)) a.seating.taken other ∙ and_from (has a.seating.taken other) (not (other == seat)) inside (ap not differs), same)
+
+  pub sound-left : IsSound (vacated a seat)
+  sound-left = record {
+    seating = kept-left a.seating sound.seating seat below;
+    seats = record { apart = λ at other inside there. sound.seats.apart at other (left-taken at inside).0 (left-taken other there).0 };
+    numbers = All-filter (λ other. not (other == seat)) (λ at. number_in a.seating at < a.next) a.seating.taken sound.numbers;
+    live = sound.live;
+    pages = sound.pages;
+    lines = λ at. lines-left at (at == seat) refl;
+    requests = λ at request inside waits. sound.requests at request (left-taken at inside).0 waits;
+    begun = length-set a.reach.begun seat false ∙ sound.begun;
+    entries = length-map a.reach.entries (cleared_entry (seat + 1)) ∙ sound.entries;
+    set_up = λ at inside.
+        let (there, differs) = left-taken at inside in
+        let was = sound.set_up at there in
+        record { program = was.program; begun = begun-other at differs ∙ was.begun; registers = was.registers; printed = was.printed; few = was.few };
+    free = λ at gone. by_test at gone (at == seat) refl;
+    identified = λ page. by_page page (nat_lt page (length a.reach.entries)) refl;
+  }
+    where
+      lines-left : (at : ℕ) → (same : Bool) → (at == seat) ≡ same → AreOfPages (of_seat (released a.seating.holding seat) at)
+      lines-left at true e =
+          subst (λ (n : ℕ). AreOfPages (of_seat (released a.seating.holding seat) n)) (sym (eqb-true at seat e))
+          (subst AreOfPages (sym (same-with a.seating.holding seat (no_lines_of a.seating.holding.pages) sound.seating.whole below)) (none-of-pages a.seating.holding.pages))
+      lines-left at false e =
+          subst AreOfPages (sym (other-with a.seating.holding seat (no_lines_of a.seating.holding.pages) sound.seating.whole at e)) (sound.lines at)
+
+      by_test : (at : ℕ) → has (left a.seating seat).taken at ≡ false → (same : Bool) → (at == seat) ≡ same → slice_index_or (slice_set a.reach.begun seat false) at false ≡ false
+      by_test at gone true e =
+          ap (λ (n : ℕ). slice_index_or (slice_set a.reach.begun seat false) n false) (eqb-true at seat e) ∙ get_or-set_same a.reach.begun seat false false (omega (arith, sound.begun, below))
+      by_test at gone false e =
+          begun-other at e
+          ∙ sound.free at
+          (elim (and_cases (has a.seating.taken at) (not (at == seat)) (sym (has-filter (λ other. not (other == seat)) a.seating.taken at) ∙ gone)) [
+            | inl none ↦ none
+            | inr same ↦ absurd (both_ways (at == seat) e (not_from_not (at == seat) same))
+          ])
+
+      out : (page : ℕ) → nat_lt page (length a.reach.entries) ≡ false → length (map (cleared_entry (seat + 1)) a.reach.entries) ≤ page
+      out page e = let n : length (map (cleared_entry (seat + 1)) a.reach.entries) ≡ length a.reach.entries = length-map a.reach.entries (cleared_entry (seat + 1)) in grind (arith, nat_tests, e, n)
+
+      by_page : (page : ℕ) → (within : Bool) → nat_lt page (length a.reach.entries) ≡ within → IsIdentified (left a.seating seat).taken (slice_index_or (map (cleared_entry (seat + 1)) a.reach.entries) page unowned)
+      by_page page true e =
+          subst (IsIdentified (left a.seating seat).taken) (sym (get_or-map (cleared_entry (seat + 1)) a.reach.entries page unowned unowned (grind (arith, nat_tests, e))))
+          (identified-left (slice_index_or a.reach.entries page unowned) (sound.identified page))
+      by_page page false e =
+          inl (get_or_past (map (cleared_entry (seat + 1)) a.reach.entries) page unowned (out page e))

@@ -1,0 +1,193 @@
+-- The pages into which a seat wrote, one after another.
+use Rattle.std.specs.Prelude.{◌≡◌, refl, ℕ, suc, ◌+◌, ◌%◌, ◌<◌, ◌==◌, ◌&&◌, nat_lt, not, if◌then◌else◌, Bool, true, false, List, [], ◌∷◌, ◌++◌, filter, length, slice_index, take, slice_index_or}
+use Rattle.std.proofs.Common.{arith, ap, sym, ◌∙◌, subst}
+use Rattle.std.proofs.lemmas.Bool.{eq-eqb, both_ways, and_parts, and_from, or_left, or_right}
+use Rattle.std.proofs.lemmas.Bool.Decides.{nat_tests}
+use Rattle.std.proofs.lemmas.List.{append-nil, take_more, get_or_past}
+use Rattle.std.proofs.lemmas.List.Elements.{All-get_or, filter-append}
+use Rattle.line_geometry.specs.Directory.{Layout, byte_count, page_count}
+use Rattle.line_geometry.specs.Lines.{line_of}
+use Rattle.lock_rules.specs.Sets.{has}
+use Rattle.lock_rules.specs.Lines.{page_of_line}
+use Rattle.lock_rules.proofs.Sets.{has-filter}
+use Rattle.line_locks.specs.Held.{holds_some, nothing}
+use Rattle.line_locks.specs.Holding.{Holding, IsWhole, held_at, of_seat}
+use Rattle.seats.proofs.Kept.{has-at}
+use Rattle.frame_pool.specs.declared.model.Pool.{Pool}
+use Rattle.frame_pool.specs.Pool.{undone, settled}
+use Rattle.storage_unit.specs.declared.model.Reach.{Reach}
+use Rattle.storage_unit.specs.Bytes.{IsClean, is_line_marked, bytes_over}
+use Rattle.storage_unit.specs.Laws.{Fits, Keeps}
+use Rattle.storage_unit.proofs.UndoForgets.{undo-forgets}
+use Rattle.storage_unit.proofs.SettleKeeps.{settle-keeps}
+use Rattle.activations.specs.Ends.{HasUndone, HasSettled}
+use Rattle.activations.specs.Steps.{WereUndone, AreAsCommitted, WereSettled}
+use Rattle.activations.proofs.CommitLemmas.{were-settled, settled-unseen}
+use Rattle.activations.proofs.UndoLemmas.{were-undone, are-as-committed}
+
+-- the lines of a page that a seat holds to write
+abbrev pub lines_of : Holding → (seat page : ℕ) → List ℕ
+lines_of holding seat page = (held_at holding seat page).1
+
+-- those of some pages that have such lines
+abbrev pub written_in : (lines : ℕ → List ℕ) → List ℕ → List ℕ
+written_in lines pages = filter (λ page. not (length (lines page) == 0)) pages
+
+-- the pages so far have gone out
+pub record UndoneSo (lines : ℕ → List ℕ) (pages : List ℕ) (old new : Reach) : Type 0 where
+  pub rest : new ≡ record old { pool = new.pool }
+  pub were : WereUndone lines pages old.pool new.pool
+  pub are : (committed : List ℕ) → length committed ≡ byte_count old.directory → IsClean old.directory old.pool committed → AreAsCommitted old.directory lines pages old.pool new.pool committed
+
+-- their lines are marked no more
+pub record SettledSo (lines : ℕ → List ℕ) (pages : List ℕ) (old new : Reach) : Type 0 where
+  pub rest : new ≡ record old { pool = new.pool }
+  pub were : WereSettled lines pages old.pool new.pool
+  pub keeps : (committed : List ℕ) → IsClean old.directory old.pool committed
+      → ((place : ℕ) → place < byte_count old.directory → has (lines (page_of_line (line_of old.directory place))) (line_of old.directory place % 16) ≡ true
+      → slice_index (bytes_over old.directory old.pool committed) place ≡ slice_index committed place)
+      → Keeps old.directory old.pool new.pool committed
+
+and_yes : (b : Bool) → b ≡ (b && true)
+and_yes true = refl
+and_yes false = refl
+
+filter-all : (xs : List ℕ) → xs ≡ filter (λ one. true) xs
+filter-all [] = refl
+filter-all (x ∷ xs) = ap (λ (these : List ℕ). x ∷ these) (filter-all xs)
+
+-- one more
+module _ (lines : ℕ → List ℕ) (old : Reach) where
+  pub undone-none : UndoneSo lines [] old old
+  undone-none = record {
+    rest = refl;
+    were = record { marks = λ line. and_yes (is_line_marked old.pool line); resident = filter-all old.pool.resident; bytes = refl; size = refl; frames = refl };
+    are = λ committed long clean. record { bytes = λ place within. refl; clean = clean };
+  }
+
+  pub settled-none : SettledSo lines [] old old
+  settled-none = record {
+    rest = refl;
+    were = record { marks = λ line. and_yes (is_line_marked old.pool line); rest = refl };
+    keeps = λ committed clean as_committed. record { same = refl; clean = clean };
+  }
+
+  module _ (pages : List ℕ) (now next : Reach) (page : ℕ) (fits : Fits now.directory now.pool) (below : page < page_count now.directory) where
+    here : now ≡ record old { pool = now.pool } → Fits old.directory now.pool
+    here rest = subst (λ (d : Layout). Fits d now.pool) (ap (λ (r : Reach). r.directory) rest) fits
+
+    within : now ≡ record old { pool = now.pool } → page < page_count old.directory
+    within rest = subst (λ (d : Layout). page < page_count d) (ap (λ (r : Reach). r.directory) rest) below
+
+    shape : (pool : Pool) → now ≡ record old { pool = now.pool } → next ≡ record now { pool = pool } → next ≡ record old { pool = pool }
+    shape pool rest is = is ∙ ap (λ (r : Reach). (let new : Reach = record r { pool = pool } in new)) rest
+
+    pub undone-more : UndoneSo lines pages old now → next ≡ record now { pool = undone now.pool page (lines page) } → UndoneSo lines (pages ++ page ∷ []) old next
+    undone-more so is =
+        subst (UndoneSo lines (pages ++ page ∷ []) old) (sym (shape (undone now.pool page (lines page)) so.rest is))
+        (record {
+          rest = refl;
+          were = were-undone old.directory lines pages old.pool now.pool (here so.rest) page (within so.rest) so.were;
+          are = λ committed long clean. are-as-committed old.directory lines pages old.pool now.pool (here so.rest) page (within so.rest) undo-forgets committed long (so.are committed long clean);
+        })
+
+    pub settled-more : SettledSo lines pages old now → next ≡ record now { pool = settled now.pool page (lines page) } → SettledSo lines (pages ++ page ∷ []) old next
+    settled-more so is =
+        subst (SettledSo lines (pages ++ page ∷ []) old) (sym (shape (settled now.pool page (lines page)) so.rest is))
+        (record {
+          rest = refl;
+          were = were-settled old.directory lines pages old.pool now.pool (here so.rest) page (within so.rest) so.were;
+          keeps = λ committed clean as_committed.
+              settled-unseen settle-keeps old.directory lines old.pool now.pool committed (here so.rest) page (within so.rest) as_committed (so.keeps committed clean as_committed);
+        })
+
+-- one page more that is gone over
+pub written-more : (lines : ℕ → List ℕ) (pages : List ℕ) (at : ℕ) → at < length pages → (some : Bool) → (not (length (lines (slice_index_or pages at 0)) == 0)) ≡ some
+    → written_in lines (take (at + 1) pages) ≡ written_in lines (take at pages) ++ (if some then slice_index_or pages at 0 ∷ [] else [])
+written-more lines pages at before some wrote =
+    ap (written_in lines) (take_more pages at 0 before)
+    ∙ filter-append (λ page. not (length (lines page) == 0)) (take at pages) (slice_index_or pages at 0 ∷ [])
+    ∙ ap (λ (b : Bool). written_in lines (take at pages) ++ (if b then slice_index_or pages at 0 ∷ [] else [])) wrote
+
+-- a page of which something is held is one of the store's
+pub held-below : (holding : Holding) (seat page : ℕ) → IsWhole holding → seat < 16 → holds_some (held_at holding seat page) ≡ true → page < holding.pages
+held-below holding seat page whole below some = by_test (nat_lt page holding.pages) refl
+  where
+    long : length (of_seat holding seat) ≡ holding.pages
+    long = All-get_or (λ one. length one ≡ holding.pages) holding.seats seat [] (omega (arith, below, whole.0)) whole.1
+
+    by_test : (inside : Bool) → nat_lt page holding.pages ≡ inside → page < holding.pages
+    by_test true e = grind (arith, nat_tests, e)
+    by_test false e =
+        absurd (both_ways (holds_some (held_at holding seat page)) (ap holds_some (get_or_past (of_seat holding seat) page nothing (grind (arith, nat_tests, e, long)))) some)
+
+pub page-held : (holding locks : Holding) (seat : ℕ) (pages : List ℕ) (at : ℕ) → locks ≡ holding → IsWhole holding → seat < 16 → at < length pages
+    → ((page : ℕ) → has pages page ≡ holds_some (held_at locks seat page)) → slice_index_or pages at 0 < holding.pages
+page-held holding locks seat pages at is whole below before each =
+    held-below holding seat (slice_index_or pages at 0) whole below
+    (ap (λ (h : Holding). holds_some (held_at h seat (slice_index_or pages at 0))) (sym is) ∙ sym (each (slice_index_or pages at 0)) ∙ has-at pages at 0 before)
+
+-- all that were written into
+module _ (holding : Holding) (seat : ℕ) (pages : List ℕ) (each : (page : ℕ) → has pages page ≡ holds_some (held_at holding seat page)) where
+  some-line : (set : List ℕ) (line : ℕ) → has set line ≡ true → not (length set == 0) ≡ true
+  some-line [] line inside = absurd (both_ways false refl inside)
+  some-line (x ∷ set) line inside = let some : (suc (length set) == 0) ≡ false = grind (arith, nat_tests) in ap not some
+
+  first-line : (set : List ℕ) → not (length set == 0) ≡ true → (line : ℕ) × (has set line ≡ true)
+  first-line [] some = absurd (both_ways false refl some)
+  first-line (x ∷ set) some = (x, or_left (x == x) (has set x) (eq-eqb x x refl))
+
+  all : (page line : ℕ) → has (lines_of holding seat page) line ≡ true → has (written_in (lines_of holding seat) pages) page ≡ true
+  all page line inside =
+      let some = some-line (lines_of holding seat page) line inside in
+      has-filter (λ page. not (length (lines_of holding seat page) == 0)) pages page
+      ∙ and_from (has pages page) (not (length (lines_of holding seat page) == 0))
+      (each page ∙ or_right (not (length (held_at holding seat page).0 == 0)) (not (length (lines_of holding seat page) == 0)) some) some
+
+  only : (page : ℕ) → has (written_in (lines_of holding seat) pages) page ≡ true → (line : ℕ) × (has (lines_of holding seat page) line ≡ true)
+  only page inside =
+      first-line (lines_of holding seat page)
+      (and_parts (has pages page) (not (length (lines_of holding seat page) == 0)) (sym (has-filter (λ page. not (length (lines_of holding seat page) == 0)) pages page) ∙ inside)).1
+
+  pub has-undone : (old new : Reach) → UndoneSo (lines_of holding seat) (written_in (lines_of holding seat) pages) old new → HasUndone holding seat old new
+  has-undone old new so = record { pages = written_in (lines_of holding seat) pages; all = all; only = only; rest = so.rest; were = so.were; are = so.are }
+
+  pub has-settled : (old new : Reach) → SettledSo (lines_of holding seat) (written_in (lines_of holding seat) pages) old new → HasSettled holding seat old new
+  has-settled old new so = record { pages = written_in (lines_of holding seat) pages; all = all; only = only; rest = so.rest; were = so.were; keeps = so.keeps }
+
+-- A step of a loop over pages of which a seat holds something.
+module _ (lines : ℕ → List ℕ) (pages : List ℕ) (at : ℕ) (before : at < length pages) (writes : List ℕ) (is : writes ≡ lines (slice_index_or pages at 0)) where
+  abbrev page : ℕ
+  page = slice_index_or pages at 0
+
+  wrote-is : (empty : Bool) → (length writes == 0) ≡ empty → not (length (lines page) == 0) ≡ not empty
+  wrote-is empty e = ap (λ (set : List ℕ). not (length set == 0)) (sym is) ∙ ap not e
+
+  one-more : (length writes == 0) ≡ false → written_in lines (take at pages) ++ page ∷ [] ≡ written_in lines (take (at + 1) pages)
+  one-more some = sym (written-more lines pages at before true (wrote-is false some))
+
+  no-more : (length writes == 0) ≡ true → written_in lines (take at pages) ≡ written_in lines (take (at + 1) pages)
+  no-more none = sym (written-more lines pages at before false (wrote-is true none) ∙ append-nil (written_in lines (take at pages)))
+
+  module _ (old now next : Reach) where
+    pub undone-same : (length writes == 0) ≡ true → next ≡ now → UndoneSo lines (written_in lines (take at pages)) old now → UndoneSo lines (written_in lines (take (at + 1) pages)) old next
+    undone-same none same so = subst (UndoneSo lines (written_in lines (take (at + 1) pages)) old) (sym same) (subst (λ (these : List ℕ). UndoneSo lines these old now) (no-more none) so)
+
+    pub settled-same : (length writes == 0) ≡ true → next ≡ now → SettledSo lines (written_in lines (take at pages)) old now → SettledSo lines (written_in lines (take (at + 1) pages)) old next
+    settled-same none same so = subst (SettledSo lines (written_in lines (take (at + 1) pages)) old) (sym same) (subst (λ (these : List ℕ). SettledSo lines these old now) (no-more none) so)
+
+    module _ (some : (length writes == 0) ≡ false) (fits : Fits now.directory now.pool) (below : page < page_count old.directory) where
+      below-now : now ≡ record old { pool = now.pool } → page < page_count now.directory
+      below-now rest = subst (λ (d : Layout). page < page_count d) (sym (ap (λ (r : Reach). r.directory) rest)) below
+
+      pub undone-step : next ≡ record now { pool = undone now.pool page writes } → UndoneSo lines (written_in lines (take at pages)) old now → UndoneSo lines (written_in lines (take (at + 1) pages)) old next
+      undone-step went so =
+          subst (λ (these : List ℕ). UndoneSo lines these old next) (one-more some)
+          (undone-more lines old (written_in lines (take at pages)) now next page fits (below-now so.rest) so
+          (went ∙ (λ i. record now { pool = undone now.pool page (is i) })))
+
+      pub settled-step : next ≡ record now { pool = settled now.pool page writes } → SettledSo lines (written_in lines (take at pages)) old now → SettledSo lines (written_in lines (take (at + 1) pages)) old next
+      settled-step went so =
+          subst (λ (these : List ℕ). SettledSo lines these old next) (one-more some)
+          (settled-more lines old (written_in lines (take at pages)) now next page fits (below-now so.rest) so
+          (went ∙ (λ i. record now { pool = settled now.pool page (is i) })))

@@ -1,0 +1,103 @@
+use Rattle.std.proofs.Common.{◌≡◌, ◌+◌, None, length, refl, sym, ap, ◌∙◌, arith, subst, slice_set, []}
+use Rattle.desk.specs.declared.answers.Begun.{Begun}
+use Rattle.desk.specs.declared.answers.Begun.TheVariants
+use Rattle.storage_unit.specs.View.{reach_of}
+use Rattle.desk.specs.Run.{absent_segment}
+use Rattle.storage_unit.proofs.UnitLemmas.{unit-sound, sound-fits}
+use Rattle.activations.specs.Activity.{Activity, program_at}
+use Rattle.flat_machine.specs.declared.machine.Program.{Program}
+use Rattle.flat_machine.specs.After.{first_registers, clear}
+use Rattle.romp_cpu.specs.Segments.{registers_of_program}
+use Rattle.storage_unit.specs.Served.{begun}
+use Rattle.activations.specs.Begins.{begins, given, started}
+use Rattle.activations.specs.Follows.{IsSound}
+use Rattle.activations.specs.View.{activity_of}
+use Rattle.activations.proofs.BeginLemmas.{begin-goes, begins-full, begins-refused, begins-started, sound-begins, is-code, is-fresh, has-room, some-next}
+use Rattle.activations.proofs.activations.Activations.begin.Goals as goal
+
+-- all sixteen are taken
+pub returns-then-taken-eq16-clause-answer : goal.returns-then-taken-eq16-clause-answer
+returns-then-taken-eq16-clause-answer c =
+    sym (ap (λ (b : Begun × Activity). b.0) (begins-full (activity_of c.args.self.now) c.args.program c.args.args c.requires.sound (let long = ap length c.taken.ensures.taken in omega (arith, long, c.if-taken-eq16.true))))
+
+pub returns-then-taken-eq16-clause-left : goal.returns-then-taken-eq16-clause-left
+returns-then-taken-eq16-clause-left c =
+    sym (ap (λ (b : Begun × Activity). b.1) (begins-full (activity_of c.args.self.now) c.args.program c.args.args c.requires.sound (let long = ap length c.taken.ensures.taken in omega (arith, long, c.if-taken-eq16.true))))
+
+pub returns-then-taken-eq16-clause-is_begin : goal.returns-then-taken-eq16-clause-is_begin
+returns-then-taken-eq16-clause-is_begin c =
+    begin-goes (activity_of c.args.self.now) c.args.program c.args.args c.requires.sound _ _ c.requires.known
+    (sound-fits (reach_of c.args.self.now.unit) (unit-sound c.args.self.now.unit)) c.args.self.now.unit.two
+    (returns-then-taken-eq16-clause-answer c) (returns-then-taken-eq16-clause-left c)
+
+-- a segment is absent
+refused : (c : goal.In-Some) → begins (activity_of c.args.self.now) c.args.program c.args.args ≡ (TheVariants.NoSegment c.args.self.now.next c.in-Some.segment, given (activity_of c.args.self.now))
+refused c =
+    begins-refused (activity_of c.args.self.now) c.args.program c.args.args c.requires.sound c.in-Some.segment
+    (has-room (activity_of c.args.self.now) c.requires.sound (λ same. c.if-taken-eq16.false (ap length c.taken.ensures.taken ∙ same)))
+    ((λ i. absent_segment (c.args.self.now.same i) (sym (is-code c.args.self.now.programs.items c.args.program c.from.result c.index-code.result.now c.requires.known c.from.ensures c.index-code.ensures) i).windows)
+    ∙ sym c.absent_segment.ensures ∙ c.in-Some.is)
+
+pub returns-in-Some-clause-answer : goal.returns-in-Some-clause-answer
+returns-in-Some-clause-answer c = sym (ap (λ (b : Begun × Activity). b.0) (refused c))
+
+pub returns-in-Some-clause-left : goal.returns-in-Some-clause-left
+returns-in-Some-clause-left c = sym (ap (λ (b : Begun × Activity). b.1) (refused c))
+
+pub returns-in-Some-clause-is_begin : goal.returns-in-Some-clause-is_begin
+returns-in-Some-clause-is_begin c =
+    begin-goes (activity_of c.args.self.now) c.args.program c.args.args c.requires.sound _ _ c.requires.known
+    (sound-fits (reach_of c.args.self.now.unit) (unit-sound c.args.self.now.unit)) c.args.self.now.unit.two
+    (returns-in-Some-clause-answer c) (returns-in-Some-clause-left c)
+
+-- it sat down, since not all are taken
+pub returns-in_default-sit-clause-sound : goal.returns-in_default-sit-clause-sound
+returns-in_default-sit-clause-sound c =
+    absurd (let room = has-room (activity_of c.args.self.now) c.requires.sound (λ same. c.if-taken-eq16.false (ap length c.taken.ensures.taken ∙ same)) in
+    let full = c.in_default-sit.ensures.full.0 refl in omega (arith, room, full))
+
+pub begin-requires-clause-seat : goal.begin-requires-clause-seat
+begin-requires-clause-seat c = (some-next (activity_of c.args.self.now) c.in-Some-sit.seat c.requires.sound (sym c.in-Some-sit.ensures.seat)).0
+
+pub begin-requires-clause-fresh : goal.begin-requires-clause-fresh
+begin-requires-clause-fresh c = is-fresh (activity_of c.args.self.now) c.in-Some-sit.seat c.requires.sound (sym c.in-Some-sit.ensures.seat)
+
+pub index_mut-requires : goal.index_mut-requires
+index_mut-requires c =
+    let below = (some-next (activity_of c.args.self.now) c.in-Some-sit.seat c.requires.sound (sym c.in-Some-sit.ensures.seat)).0 in
+    omega (arith, below, c.from-3.ensures, c.requires.sound.live, c.args.self.now.live.ok.0)
+
+pub returns-clause-left : goal.returns-clause-left
+returns-clause-left c =
+    let a = activity_of c.args.self.now in
+    let code_is : c.index-code.result.now ≡ program_at a.programs c.args.program =
+    is-code a.programs c.args.program c.from.result c.index-code.result.now c.requires.known c.from.ensures c.index-code.ensures in
+    let present : absent_segment a.reach.directory (program_at a.programs c.args.program).windows ≡ None =
+    (λ i. absent_segment (c.args.self.now.same i) (sym code_is i).windows) ∙ sym c.absent_segment.ensures ∙ c.in_default.is in
+    let registers_are : c.registers_of-registers.result ≡ (started a c.args.program c.args.args c.in-Some-sit.seat).registers =
+    c.registers_of-registers.ensures ∙ (λ i. registers_of_program (code_is i) (sym c.args.self.now.same i) (3840 + c.from-2.ensures i)) in
+    let start_is : c.start.new.self ≡ started a c.args.program c.args.args c.in-Some-sit.seat =
+    c.start.ensures
+    ∙ (λ i. record { cpu = record { regs = first_registers c.args.args; cs = clear; iar = (code_is i).entry; printed = 0 }; registers = registers_are i; out = [] }) in
+    let reach_is : reach_of c.begin.new.self ≡ begun a.reach c.in-Some-sit.seat (program_at a.programs c.args.program).image =
+    c.begin.ensures ∙ ap (begun a.reach c.in-Some-sit.seat) (c.as_slice.ensures ∙ ap (λ (p : Program). p.image) code_is) in
+    (λ i. record a { next = a.next + 1; seating = c.in-Some-sit.ensures.seated i; live = slice_set a.live (c.from-3.ensures i) (start_is i); reach = reach_is i })
+    ∙ sym (ap (λ (b : Begun × Activity). b.1) (begins-started a c.args.program c.args.args c.requires.sound c.in-Some-sit.seat (sym c.in-Some-sit.ensures.seat) present))
+
+pub returns-clause-answer : goal.returns-clause-answer
+returns-clause-answer c =
+    let a = activity_of c.args.self.now in
+    let code_is : c.index-code.result.now ≡ program_at a.programs c.args.program =
+    is-code a.programs c.args.program c.from.result c.index-code.result.now c.requires.known c.from.ensures c.index-code.ensures in
+    let present : absent_segment a.reach.directory (program_at a.programs c.args.program).windows ≡ None =
+    (λ i. absent_segment (c.args.self.now.same i) (sym code_is i).windows) ∙ sym c.absent_segment.ensures ∙ c.in_default.is in
+    sym (ap (λ (b : Begun × Activity). b.0) (begins-started a c.args.program c.args.args c.requires.sound c.in-Some-sit.seat (sym c.in-Some-sit.ensures.seat) present))
+
+pub returns-clause-sound : goal.returns-clause-sound
+returns-clause-sound c = subst IsSound (sym (returns-clause-left c)) (sound-begins (activity_of c.args.self.now) c.args.program c.args.args c.requires.sound c.requires.known)
+
+pub returns-clause-is_begin : goal.returns-clause-is_begin
+returns-clause-is_begin c =
+    begin-goes (activity_of c.args.self.now) c.args.program c.args.args c.requires.sound _ _ c.requires.known
+    (sound-fits (reach_of c.args.self.now.unit) (unit-sound c.args.self.now.unit)) c.args.self.now.unit.two
+    (returns-clause-answer c) (returns-clause-left c)

@@ -1,0 +1,13 @@
+use Rattle.storage_unit.specs.View.{reach_of}
+use Rattle.activations.specs.View.{activity_of}
+use Rattle.activations.proofs.EndingLemmas.{shape-left, sound-after, commits-left}
+use Rattle.activations.proofs.activations.Activations.commit.Goals as goal
+
+pub returns-clause-shape : goal.returns-clause-shape
+returns-clause-shape c = shape-left (activity_of c.args.self.now) c.args.seat (reach_of c.settle_written.new.unit) _ c.leave.ensures c.settle_written.ensures.rest
+
+pub returns-clause-sound : goal.returns-clause-sound
+returns-clause-sound c = sound-after (activity_of c.args.self.now) c.args.seat (reach_of c.settle_written.new.unit) _ c.leave.ensures c.settle_written.ensures.rest c.requires.sound c.requires.taken
+
+pub returns-clause-commits : goal.returns-clause-commits
+returns-clause-commits c = commits-left (activity_of c.args.self.now) c.args.seat (reach_of c.settle_written.new.unit) _ c.leave.ensures c.settle_written.ensures c.requires.sound c.requires.taken

@@ -1,0 +1,111 @@
+use Rattle.std.proofs.Common.{◌≡◌, ◌<◌, ◌==◌, true, false, ℕ, List, length, map, IsSome, refl, Some, None, sym, ◌∙◌, ap, arith, subst}
+use Rattle.std.proofs.lemmas.Bool.{eq-eqb, ne_eqb}
+use Rattle.std.specs.Option.{option_map}
+use Rattle.lock_rules.specs.Waits.{victim_of}
+use Rattle.seats.specs.Seating.{number_in, seat_of, sitter}
+use Rattle.seats.specs.Waiting.{cycle_of}
+use Rattle.seats.proofs.Numbers.{seat-found}
+use Rattle.desk.specs.Instruction.{Victim}
+use Rattle.activations.specs.Activity.{Activity}
+use Rattle.activations.specs.View.{activity_of}
+use Rattle.desk.specs.declared.answers.Cycle.{Cycle}
+use Rattle.lock_rules.specs.Sets.{has}
+use Rattle.activations.specs.Steps.{rolled}
+use Rattle.activations.specs.Serving.{IsOver}
+use Rattle.activations.specs.Turning.{Contests, counts_of}
+use Rattle.activations.proofs.ContendLemmas.{fewer, contests-on, contests-lost, stays-taken, recorded, victim-sits, told-settles, told-stays}
+use Rattle.activations.proofs.activations.Activations.contend.Goals.{in-Some+in_default-seat_of, in_default}
+use Rattle.activations.proofs.activations.Activations.contend.Goals as goal
+
+pub roll_back-requires-clause-taken : goal.roll_back-requires-clause-taken
+roll_back-requires-clause-taken c =
+    let sits : seat_of (activity_of c.loop-members.self).seating (victim_of c.in-Some.members.items) ≡ Some c.in-Some-seat_of.loser =
+    ap (seat_of (activity_of c.loop-members.self).seating) (sym c.greatest-victim.ensures) ∙ sym c.seat_of.ensures ∙ c.in-Some-seat_of.is in
+    (seat-found (activity_of c.loop-members.self).seating c.loop-members.invariant.0.seating (victim_of c.in-Some.members.items) c.in-Some-seat_of.loser sits).0
+
+pub returns-then-victim-number-clause-room : goal.returns-then-victim-number-clause-room
+returns-then-victim-number-clause-room c =
+    let sits : seat_of (activity_of c.loop-members.self).seating (victim_of c.in-Some.members.items) ≡ Some c.in-Some-seat_of.loser =
+    ap (seat_of (activity_of c.loop-members.self).seating) (sym c.greatest-victim.ensures) ∙ sym c.seat_of.ensures ∙ c.in-Some-seat_of.is in
+    let few = fewer (activity_of c.loop-members.self).seating.taken c.in-Some-seat_of.loser
+    (seat-found (activity_of c.loop-members.self).seating c.loop-members.invariant.0.seating (victim_of c.in-Some.members.items) c.in-Some-seat_of.loser sits).0 in
+    let less : length (activity_of c.roll_back.new.self).seating.taken < length (activity_of c.loop-members.self).seating.taken = subst (λ (a : Activity). length a.seating.taken < length (activity_of c.loop-members.self).seating.taken) (sym c.roll_back.ensures.shape) few in
+    omega (arith, less, c.loop-members.invariant.4, c.push.ensures.len)
+
+pub returns-then-victim-number-clause-settled : goal.returns-then-victim-number-clause-settled
+returns-then-victim-number-clause-settled c begins attempt refused first committed order number contested printed =
+    let found : cycle_of (activity_of c.loop-members.self).seating c.args.seat ≡ Some c.in-Some.members.items = sym c.cycle_from.ensures ∙ ap (option_map (λ cycle. cycle.items)) c.in-Some.is in
+    let sits : seat_of (activity_of c.loop-members.self).seating (victim_of c.in-Some.members.items) ≡ Some c.in-Some-seat_of.loser =
+    ap (seat_of (activity_of c.loop-members.self).seating) (sym c.greatest-victim.ensures) ∙ sym c.seat_of.ensures ∙ c.in-Some-seat_of.is in
+    let its : (victim_of c.in-Some.members.items == number_in (activity_of c.loop-members.self).seating c.args.seat) ≡ true =
+    eq-eqb (victim_of c.in-Some.members.items) (number_in (activity_of c.loop-members.self).seating c.args.seat) (sym c.greatest-victim.ensures ∙ c.if-victim-number.true ∙ sym c.loop-members.invariant.2) in
+    let lost = contests-lost c.args.seat (activity_of c.args.self.now) (activity_of c.loop-members.self) (counts_of c.args.tally.now) (counts_of c.loop-members.tally) c.in-Some.members.items c.in-Some-seat_of.loser (activity_of c.roll_back.new.self).reach.pool
+    c.loop-members.invariant.0 c.loop-members.invariant.1 (c.loop-members.invariant.2 ∙ ap (λ (who : _). who.number) c.sitter.ensures) c.loop-members.invariant.5 found sits c.roll_back.ensures.rolls its begins attempt refused first committed order number contested in
+    let cycles = recorded c.loop-members.tally.cycles.items c.in-Some.members.items c.push.new.self.items _ refl c.push.ensures.items in
+    subst (λ (a : Activity). IsOver begins a committed order (record (counts_of c.loop-members.tally) { cycles = map (λ (cycle : Cycle). cycle.members.items) c.push.new.self.items }) Victim) (sym c.roll_back.ensures.shape)
+    (subst (λ (these : List (List ℕ)). IsOver begins (rolled (activity_of c.loop-members.self) c.in-Some-seat_of.loser (activity_of c.roll_back.new.self).reach.pool) committed order (record (counts_of c.loop-members.tally) { cycles = these }) Victim) (sym cycles) lost)
+
+pub loop-members-smaller : goal.loop-members-smaller
+loop-members-smaller c =
+    let sits : seat_of (activity_of c.loop-members.self).seating (victim_of c.in-Some.members.items) ≡ Some c.in-Some-seat_of.loser =
+    ap (seat_of (activity_of c.loop-members.self).seating) (sym c.greatest-victim.ensures) ∙ sym c.seat_of.ensures ∙ c.in-Some-seat_of.is in
+    subst (λ (a : Activity). length a.seating.taken < length (activity_of c.loop-members.self).seating.taken) (sym c.roll_back.ensures.shape)
+    (fewer (activity_of c.loop-members.self).seating.taken c.in-Some-seat_of.loser
+    (seat-found (activity_of c.loop-members.self).seating c.loop-members.invariant.0.seating (victim_of c.in-Some.members.items) c.in-Some-seat_of.loser sits).0)
+
+pub loop-members-preserved : goal.loop-members-preserved
+loop-members-preserved c =
+    let found : cycle_of (activity_of c.loop-members.self).seating c.args.seat ≡ Some c.in-Some.members.items = sym c.cycle_from.ensures ∙ ap (option_map (λ cycle. cycle.items)) c.in-Some.is in
+    let sits : seat_of (activity_of c.loop-members.self).seating (victim_of c.in-Some.members.items) ≡ Some c.in-Some-seat_of.loser =
+    ap (seat_of (activity_of c.loop-members.self).seating) (sym c.greatest-victim.ensures) ∙ sym c.seat_of.ensures ∙ c.in-Some-seat_of.is in
+    let other : (victim_of c.in-Some.members.items == number_in (activity_of c.loop-members.self).seating c.args.seat) ≡ false =
+    ne_eqb (victim_of c.in-Some.members.items) (number_in (activity_of c.loop-members.self).seating c.args.seat) (λ same. c.if-victim-number.false (c.greatest-victim.ensures ∙ same ∙ c.loop-members.invariant.2)) in
+    let loser = (seat-found (activity_of c.loop-members.self).seating c.loop-members.invariant.0.seating (victim_of c.in-Some.members.items) c.in-Some-seat_of.loser sits).0 in
+    let few = fewer (activity_of c.loop-members.self).seating.taken c.in-Some-seat_of.loser loser in
+    let less : length (activity_of c.roll_back.new.self).seating.taken < length (activity_of c.loop-members.self).seating.taken = subst (λ (a : Activity). length a.seating.taken < length (activity_of c.loop-members.self).seating.taken) (sym c.roll_back.ensures.shape) few in
+    let numbered = c.loop-members.invariant.2 ∙ ap (λ (who : _). who.number) c.sitter.ensures in
+    let on = contests-on c.args.seat (activity_of c.args.self.now) (activity_of c.loop-members.self) (counts_of c.args.tally.now) (counts_of c.loop-members.tally) c.in-Some.members.items c.in-Some-seat_of.loser (activity_of c.roll_back.new.self).reach.pool
+    c.loop-members.invariant.0 c.loop-members.invariant.1 numbered c.loop-members.invariant.5 found sits c.roll_back.ensures.rolls other in
+    let stays = stays-taken c.args.seat (activity_of c.args.self.now) (activity_of c.loop-members.self) (counts_of c.args.tally.now) (counts_of c.loop-members.tally) c.in-Some.members.items c.in-Some-seat_of.loser (activity_of c.roll_back.new.self).reach.pool
+    c.loop-members.invariant.0 c.loop-members.invariant.1 numbered c.loop-members.invariant.5 found sits c.roll_back.ensures.rolls other in
+    let cycles = recorded c.loop-members.tally.cycles.items c.in-Some.members.items c.push.new.self.items _ refl c.push.ensures.items in (
+      c.roll_back.ensures.sound,
+      subst (λ (a : Activity). has a.seating.taken c.args.seat ≡ true) (sym c.roll_back.ensures.shape) stays,
+      subst (λ (a : Activity). number_in a.seating c.args.seat ≡ c.sitter.result.now.number) (sym c.roll_back.ensures.shape) c.loop-members.invariant.2,
+      subst (λ (a : Activity). IsSome (sitter a.seating c.args.seat).waits) (sym c.roll_back.ensures.shape) c.loop-members.invariant.3,
+      omega (arith, less, c.loop-members.invariant.4, c.push.ensures.len),
+      subst (λ (a : Activity). Contests c.args.seat (activity_of c.args.self.now) (counts_of c.args.tally.now) a (record (counts_of c.loop-members.tally) { cycles = map (λ (cycle : Cycle). cycle.members.items) c.push.new.self.items })) (sym c.roll_back.ensures.shape)
+          (subst (λ (these : List (List ℕ)). Contests c.args.seat (activity_of c.args.self.now) (counts_of c.args.tally.now) (rolled (activity_of c.loop-members.self) c.in-Some-seat_of.loser (activity_of c.roll_back.new.self).reach.pool) (record (counts_of c.loop-members.tally) { cycles = these })) (sym cycles) on),
+    )
+
+pub returns-then-is_empty-clause-settled : goal.returns-then-is_empty-clause-settled
+returns-then-is_empty-clause-settled c begins attempt refused first committed order number contested = elim c.match-cycle_from.branch [
+  | in-Some+in_default-seat_of w ↦
+      let found : cycle_of (activity_of c.loop-members.self).seating c.args.seat ≡ Some w.in-Some.members.items = sym c.cycle_from.ensures ∙ ap (option_map (λ cycle. cycle.items)) w.in-Some.is in
+      let none : seat_of (activity_of c.loop-members.self).seating (victim_of w.in-Some.members.items) ≡ None =
+      ap (seat_of (activity_of c.loop-members.self).seating) (sym w.greatest-victim.ensures) ∙ sym w.seat_of.ensures ∙ w.in_default-seat_of.is in
+      absurd (victim-sits c.args.seat (activity_of c.args.self.now) (activity_of c.loop-members.self) (counts_of c.args.tally.now) (counts_of c.loop-members.tally)
+      c.loop-members.invariant.0 c.loop-members.invariant.1 (c.loop-members.invariant.2 ∙ ap (λ (who : _). who.number) c.sitter.ensures) c.loop-members.invariant.5
+      w.in-Some.members.items found none begins attempt refused first committed order number contested)
+  | in_default w ↦
+      told-settles c.args.seat (activity_of c.args.self.now) (activity_of c.loop-members.self) (counts_of c.args.tally.now) (counts_of c.loop-members.tally)
+      c.loop-members.invariant.0 c.loop-members.invariant.1 (c.loop-members.invariant.2 ∙ ap (λ (who : _). who.number) c.sitter.ensures) c.loop-members.invariant.5
+      c.loop-members.invariant.3 (sym c.cycle_from.ensures ∙ ap (option_map (λ cycle. cycle.items)) w.in_default.is) c.awaited-holders.result.items c.awaited-holders.ensures
+      (sym c.is_empty.ensures ∙ c.if-is_empty.true) begins attempt refused first committed order number contested
+]
+
+pub returns-else-is_empty-clause-settled : goal.returns-else-is_empty-clause-settled
+returns-else-is_empty-clause-settled c begins attempt refused first committed order number contested printed = elim c.match-cycle_from.branch [
+  | in-Some+in_default-seat_of w ↦
+      let found : cycle_of (activity_of c.loop-members.self).seating c.args.seat ≡ Some w.in-Some.members.items = sym c.cycle_from.ensures ∙ ap (option_map (λ cycle. cycle.items)) w.in-Some.is in
+      let none : seat_of (activity_of c.loop-members.self).seating (victim_of w.in-Some.members.items) ≡ None =
+      ap (seat_of (activity_of c.loop-members.self).seating) (sym w.greatest-victim.ensures) ∙ sym w.seat_of.ensures ∙ w.in_default-seat_of.is in
+      absurd (victim-sits c.args.seat (activity_of c.args.self.now) (activity_of c.loop-members.self) (counts_of c.args.tally.now) (counts_of c.loop-members.tally)
+      c.loop-members.invariant.0 c.loop-members.invariant.1 (c.loop-members.invariant.2 ∙ ap (λ (who : _). who.number) c.sitter.ensures) c.loop-members.invariant.5
+      w.in-Some.members.items found none begins attempt refused first committed order number contested)
+  | in_default w ↦
+      told-stays c.args.seat (activity_of c.args.self.now) (activity_of c.loop-members.self) (counts_of c.args.tally.now) (counts_of c.loop-members.tally)
+      c.loop-members.invariant.0 c.loop-members.invariant.1 (c.loop-members.invariant.2 ∙ ap (λ (who : _). who.number) c.sitter.ensures) c.loop-members.invariant.5
+      c.loop-members.invariant.3 (sym c.cycle_from.ensures ∙ ap (option_map (λ cycle. cycle.items)) w.in_default.is) c.awaited-holders.result.items c.awaited-holders.ensures
+      (sym c.is_empty.ensures ∙ c.if-is_empty.false) begins attempt refused first committed order number contested
+]

@@ -1,0 +1,20 @@
+use Rattle.std.proofs.Common.{◌≡◌, ◌≤◌, ◌+◌, true, length, IsSome}
+use Rattle.arrayvec.specs.ArrayVec.{array_vec_len}
+use Rattle.lock_rules.specs.Sets.{has}
+use Rattle.seats.specs.Seating.{number_in, sitter}
+use Rattle.activations.specs.Follows.{IsSound}
+use Rattle.activations.specs.Turning.{counts_of, Contests}
+use Rattle.activations.specs.View.{activity_of}
+use Rattle.activations.proofs.activations.Activations.contend.Given as goal
+
+abbrev pub invariant-loop-members : goal.invariant-loop-members
+invariant-loop-members l =
+    IsSound (activity_of l.self)
+    × (has (activity_of l.self).seating.taken l.seat ≡ true)
+    × (number_in (activity_of l.self).seating l.seat ≡ l.number)
+    × IsSome (sitter (activity_of l.self).seating l.seat).waits
+    × (array_vec_len l.tally.cycles + length (activity_of l.self).seating.taken ≤ 16)
+    × Contests l.seat (activity_of l.initial.self) (counts_of l.initial.tally) (activity_of l.self) (counts_of l.tally)
+
+abbrev pub decreases-loop-members : goal.decreases-loop-members
+decreases-loop-members l = length (activity_of l.self).seating.taken

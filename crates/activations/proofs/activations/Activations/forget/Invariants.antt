@@ -1,0 +1,7 @@
+use Rattle.activations.specs.View.{activity_of}
+use Rattle.activations.proofs.EndingLemmas.{RolledSo}
+use Rattle.activations.proofs.activations.Activations.forget.Given as goal
+
+-- those of the seats so far were rolled back
+abbrev pub invariant-loop-seat : goal.invariant-loop-seat
+invariant-loop-seat l = RolledSo l.seat-counter (activity_of l.fn.self) (activity_of l.self)

@@ -1,0 +1,36 @@
+use Rattle.std.proofs.Common.{sym, ap, ◌∙◌, arith, subst}
+use Rattle.line_geometry.specs.Directory.{page_count}
+use Rattle.seats.specs.Seating.{nobody_sits}
+use Rattle.std.specs.Prelude.{List, ℕ, length}
+use Rattle.std.proofs.Common.{◌≡◌}
+use Rattle.line_geometry.specs.Directory.{byte_count}
+use Rattle.desk.specs.Desk.{opened}
+use Rattle.store_format.specs.Header.{most_lines}
+use Rattle.activations.specs.Activity.{Activity}
+use Rattle.activations.specs.Begins.{Begins}
+use Rattle.activations.specs.Follows.{IsSound}
+use Rattle.activations.proofs.IdleLemmas.{sound-idle, desk-idle, follows-idle}
+use Rattle.activations.proofs.activations.Activations.new.Goals as goal
+
+pub returns-clause-idle : goal.returns-clause-idle
+returns-clause-idle c = λ i. record {
+  programs = c.args.programs.items;
+  most_lines = c.most_lines.ensures.value i;
+  next = 1;
+  seating = (c.in_ok-new-2.ensures ∙ ap nobody_sits (c.pages.ensures.value ∙ ap page_count c.directory.ensures.value)) i;
+  live = c.loop.live.items;
+  reach = c.in_ok-new-3.ensures i;
+}
+
+pub returns-clause-sound : goal.returns-clause-sound
+returns-clause-sound c =
+    subst IsSound (sym (returns-clause-idle c))
+    (sound-idle c.args.programs.items _ c.args.frames c.args.header.now.directory c.loop.live.items (omega (arith, c.loop.invariant, c.loop-test.false, c.loop.auto.counter-end)))
+
+pub returns-clause-first : goal.returns-clause-first
+returns-clause-first c =
+    subst (λ (a : Activity). (committed : List ℕ) → length committed ≡ byte_count c.args.header.now.directory → Begins a (opened c.args.frames 16 (most_lines c.args.header.now) (record { directory = c.args.header.now.directory; bytes = committed })) committed) (sym (returns-clause-idle c))
+    (λ committed long. record {
+      is_desk = desk-idle c.args.programs.items (most_lines c.args.header.now) c.args.frames c.args.header.now.directory c.loop.live.items committed;
+      follows = follows-idle c.args.programs.items (most_lines c.args.header.now) c.args.frames c.args.header.now.directory c.loop.live.items committed long;
+    })

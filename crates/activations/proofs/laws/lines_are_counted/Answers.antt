@@ -1,0 +1,12 @@
+use Rattle.std.proofs.lemmas.List.Elements.{All-nil}
+use Rattle.line_geometry.specs.LineSets.{IsOfPage}
+use Rattle.line_locks.specs.declared.request.Want.{Want}
+use Rattle.activations.proofs.LimitLemmas.{written-none, written-one, written-two}
+use Rattle.activations.proofs.laws.lines_are_counted.Goals as goal
+
+pub returns : goal.returns
+returns c pages of = record {
+  none = written-none pages of (record { reads = All-nil (λ (want : Want). IsOfPage want.reads); writes = All-nil (λ (want : Want). IsOfPage want.writes) });
+  one = written-one pages of;
+  two = written-two pages of;
+}

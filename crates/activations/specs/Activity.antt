@@ -1,0 +1,148 @@
+-- What runs side by side, and the desk that it is over committed bytes.
+use Rattle.std.specs.Prelude.{refl, ℕ, zero, suc, false, List, [], length, map, replicate, slice_index_or, None, is_some}
+use Rattle.std.proofs.Common.{lit<, lit≤}
+use Rattle.std.specs.List.{flat_map, range_with_len}
+use Rattle.std.specs.Option.{option_map_or}
+use Rattle.line_geometry.specs.FlatStore.{FlatStore}
+use Rattle.lock_rules.specs.Lines.{Lines, no_lines}
+use Rattle.line_locks.specs.Held.{of_page}
+use Rattle.line_locks.specs.Flat.{flat_lines, lines_wanted}
+use Rattle.line_locks.specs.Holding.{of_seat}
+use Rattle.lockbit_rules.specs.declared.Authority.{Authority}
+use Rattle.inverted_table.specs.Placed.{unowned}
+use Rattle.lockbit_rules.specs.Entries.{entry_of}
+use Rattle.frame_pool.specs.declared.model.Pool.{Pool}
+use Rattle.flat_machine.specs.declared.machine.Plain.{Plain}
+use Rattle.flat_machine.specs.declared.machine.Program.{Program}
+use Rattle.flat_machine.specs.After.{clear}
+use Rattle.desk.specs.Desk.{Desk, Entry}
+use Rattle.desk.specs.Desk as desk
+use Rattle.desk_law.specs.Beside.{owners_told}
+use Rattle.seats.specs.declared.seat.Seat.{Seat}
+use Rattle.seats.specs.Seating.{Seating, sitter}
+use Rattle.storage_unit.specs.declared.model.Reach.{Reach}
+use Rattle.storage_unit.specs.Bytes.{bytes_over, private_bytes}
+use Rattle.activations.specs.declared.live.Live.{Live}
+
+-- the programs that may begin, the lines that a record may have, the next number, who sits where and holds what, what runs in
+-- each seat, and the storage that all share
+pub record Activity : Type 0 where
+  pub programs : List Program
+  pub most_lines : ℕ
+  pub next : ℕ
+  pub seating : Seating
+  pub live : List Live
+  pub reach : Reach
+
+-- no program, and the program with a place
+abbrev pub no_program : Program
+no_program =
+    record { image = []; entry = 0; windows = replicate 15 None; image_fits = lit≤ tt; entry_fits = lit< tt; entry_is_even = refl }
+
+abbrev pub program_at : List Program → ℕ → Program
+program_at programs place = slice_index_or programs place no_program
+
+-- what runs where nothing runs, and what runs in a seat
+abbrev pub nothing_runs : Live
+nothing_runs = record { cpu = record { regs = replicate 16 0; cs = clear; iar = 0; printed = 0 }; registers = replicate 16 None; out = [] }
+
+abbrev pub live_in : Activity → ℕ → Live
+live_in a seat = slice_index_or a.live seat nothing_runs
+
+-- the entry of one who sits
+abbrev pub entry_for : List Program → Seat → Entry
+entry_for programs who =
+    record {
+      number = who.number;
+      runs = record { program = program_at programs who.program; args = who.args };
+      rows = who.rows;
+      waiting = is_some who.waits;
+    }
+
+-- the entry of who sits in a seat, and its program
+abbrev pub entry_in : Activity → ℕ → Entry
+entry_in a seat = entry_for a.programs (sitter a.seating seat)
+
+abbrev pub program_in : Activity → ℕ → Program
+program_in a seat = (entry_in a seat).runs.program
+
+-- the entries of the taken seats, in the order in which they began
+abbrev pub entries : Activity → List Entry
+entries a = map (entry_in a) a.seating.taken
+
+-- the number of who has an identifier: 0 is nobody's
+abbrev pub number_under : Activity → ℕ → ℕ
+number_under a zero = 0
+number_under a (suc seat) = (sitter a.seating seat).number
+
+-- an entry as that of a page, with the flat lines of the page, under the identifier that owns it
+abbrev pub authority_of : (page : ℕ) → Authority → desk.Authority
+authority_of page entry = record { owner = (entry_of entry).owner; write = (entry_of entry).write; lines = flat_lines page (entry_of entry).lines }
+
+abbrev pub authority_at : List Authority → (page : ℕ) → desk.Authority
+authority_at owned page = authority_of page (slice_index_or owned page unowned)
+
+-- the authority of each page, under the identifiers of seats, and under the numbers of those who sit there
+abbrev pub authority_under : List Authority → List desk.Authority
+authority_under owned = map (authority_at owned) (range_with_len 0 (length owned))
+
+abbrev pub authority_told : Activity → List desk.Authority
+authority_told a = owners_told (number_under a) (authority_under a.reach.entries)
+
+-- the committed store
+abbrev pub store_over : Activity → (committed : List ℕ) → FlatStore
+store_over a committed = record { directory = a.reach.directory; bytes = committed }
+
+-- the desk over committed bytes, with the commits so far
+abbrev pub desk_over : Activity → (committed : List ℕ) → (order : List (ℕ × ℕ)) → Desk
+desk_over a committed order =
+    record {
+      frames = a.reach.pool.frames;
+      most_active = 16;
+      most_lines = a.most_lines;
+      committed = store_over a committed;
+      order = order;
+      active = entries a;
+      authority = authority_told a;
+      resident = a.reach.pool.resident;
+      next = a.next;
+      closed = false;
+    }
+
+-- what is held, page by page, as flat lines
+abbrev pub lines_held : List (List ℕ × List ℕ) → Lines
+lines_held pages =
+    record {
+      reads = flat_map (λ page. flat_lines page (of_page pages page).0) (range_with_len 0 (length pages));
+      writes = flat_map (λ page. flat_lines page (of_page pages page).1) (range_with_len 0 (length pages));
+    }
+
+-- what is held in a seat
+abbrev pub locks_in : Activity → ℕ → Lines
+locks_in a seat = lines_held (of_seat a.seating.holding seat)
+
+-- what one waits for, and what is waited for in a seat
+abbrev pub request_for : Seat → Lines
+request_for who = option_map_or (λ request. lines_wanted request.wants.items) who.waits no_lines
+
+abbrev pub request_in : Activity → ℕ → Lines
+request_in a seat = request_for (sitter a.seating seat)
+
+-- the plain state in a seat, but for the bytes of the store
+abbrev pub state_for : Pool → (seat : ℕ) → Live → Plain
+state_for pool seat live =
+    record {
+      regs = live.cpu.regs;
+      cs = live.cpu.cs;
+      iar = live.cpu.iar;
+      private = private_bytes pool seat;
+      store = [];
+      out = live.out;
+    }
+
+abbrev pub state_in : Activity → ℕ → Plain
+state_in a seat = state_for a.reach.pool seat (live_in a seat)
+
+-- the bytes of the store as all see them together, over committed ones
+abbrev pub shown : Activity → (committed : List ℕ) → List ℕ
+shown a committed = bytes_over a.reach.directory a.reach.pool committed

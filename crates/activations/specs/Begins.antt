@@ -1,0 +1,67 @@
+-- What a begin makes of those that run.
+use Rattle.std.specs.Prelude.{◌≡◌, ℕ, ◌+◌, List, [], Option, Some, None, slice_set}
+use Rattle.line_geometry.specs.Directory.{Layout, page_count}
+use Rattle.flat_machine.specs.declared.machine.Program.{Program}
+use Rattle.flat_machine.specs.After.{first_registers, clear}
+use Rattle.romp_cpu.specs.Segments.{registers_of_program}
+use Rattle.desk.specs.declared.answers.Begun.{Begun}
+use Rattle.desk.specs.declared.answers.Begun.TheVariants.{Started, Busy, NoSegment}
+use Rattle.desk.specs.declared.event.Event.TheVariants.{Begin}
+use Rattle.desk.specs.Answers.{begun_told}
+use Rattle.desk.specs.Desk.{Desk}
+use Rattle.desk.specs.Instruction.{Fine}
+use Rattle.desk.specs.Run.{absent_segment, step}
+use Rattle.seats.specs.Seating.{newcomer, next_seat, nobody_sits, seated}
+use Rattle.storage_unit.specs.Places.{private_segment}
+use Rattle.storage_unit.specs.Served.{begun, made}
+use Rattle.activations.specs.declared.live.Live.{Live}
+use Rattle.activations.specs.Activity.{Activity, program_at, desk_over}
+use Rattle.activations.specs.Follows.{Follows}
+
+-- nobody runs yet, over a store with this directory and so many frames for its pages
+abbrev pub idle : List Program → (most_lines frames : ℕ) → Layout → List Live → Activity
+idle programs most_lines frames directory live =
+    record { programs = programs; most_lines = most_lines; next = 1; seating = nobody_sits (page_count directory); live = live; reach = made directory frames }
+
+-- it is this desk, to which nothing has been committed yet, and follows it
+pub record Begins (a : Activity) (desk : Desk) (committed : List ℕ) : Type 0 where
+  pub is_desk : desk_over a committed [] ≡ desk
+  pub follows : Follows a committed
+
+-- the next number is given, and all else stays
+abbrev pub given : Activity → Activity
+given a = record a { next = a.next + 1 }
+
+-- what runs in a seat where a program has just begun with four values
+abbrev pub started : Activity → (program : ℕ) → (args : List ℕ) → (seat : ℕ) → Live
+started a program args seat =
+    record {
+      cpu = record { regs = first_registers args; cs = clear; iar = (program_at a.programs program).entry; printed = 0 };
+      registers = registers_of_program (program_at a.programs program) a.reach.directory (private_segment seat);
+      out = [];
+    }
+
+-- a program has begun in a seat, with the next number
+abbrev pub begun_in : Activity → (program : ℕ) → (args : List ℕ) → (seat : ℕ) → Activity
+begun_in a program args seat =
+    record a {
+      next = a.next + 1;
+      seating = seated a.seating seat (newcomer a.next program args);
+      live = slice_set a.live seat (started a program args seat);
+      reach = begun a.reach seat (program_at a.programs program).image;
+    }
+
+-- what a begin comes to, and what is left: it is busy where no seat is free, else the first segment of its windows that is
+-- absent refuses it, else the program has begun in the next seat
+abbrev pub begins_by : (free absent : Option ℕ) → Activity → (program : ℕ) → (args : List ℕ) → Begun × Activity
+begins_by None absent a program args = (Busy a.next, given a)
+begins_by (Some seat) (Some segment) a program args = (NoSegment a.next segment, given a)
+begins_by (Some seat) None a program args = (Started a.next, begun_in a program args seat)
+
+abbrev pub begins : Activity → (program : ℕ) → (args : List ℕ) → Begun × Activity
+begins a program args = begins_by (next_seat a.seating) (absent_segment a.reach.directory (program_at a.programs program).windows) a program args
+
+-- a begin with this answer is the desk's, and what is left follows the desk after it
+pub record IsBegin (old new : Activity) (program : ℕ) (args : List ℕ) (answer : Begun) (committed : List ℕ) : Type 0 where
+  pub is_step : (order : List (ℕ × ℕ)) → step old.programs (Begin program args) Fine (desk_over old committed order) ≡ record { desk = desk_over new committed order; happening = begun_told program answer }
+  pub follows : Follows new committed

@@ -1,0 +1,11 @@
+pub mod Touched
+pub mod Activity
+pub mod Follows
+pub mod Steps
+pub mod Attempted
+pub mod Serving
+pub mod Turning
+pub mod View
+pub mod Begins
+pub mod Ends
+pub mod Serves

@@ -1,0 +1,111 @@
+-- What becomes of an access that isn't permitted, step by step.
+use Rattle.std.specs.Prelude.{◌≡◌, ◌≢◌, ℕ, ◌+◌, nat_lt, true, false, List, [], ◌∷◌, ◌++◌, All, length, map}
+use Rattle.lock_rules.specs.Sets.{has, size}
+use Rattle.line_locks.specs.declared.request.Request.{Request}
+use Rattle.line_locks.specs.declared.request.Want.{Want}
+use Rattle.line_locks.specs.Flat.{lines_wanted}
+use Rattle.line_locks.specs.Held.{of_page, write_count}
+use Rattle.line_geometry.specs.LineSets.{difference}
+use Rattle.lockbit_rules.specs.declared.Authority.{Authority}
+use Rattle.flat_machine.specs.declared.machine.Plain.{Plain}
+use Rattle.flat_machine.specs.Row.{On, row}
+use Rattle.flat_machine.specs.Touched.{touched}
+use Rattle.frame_pool.specs.declared.model.Pool.{Pool}
+use Rattle.desk.specs.Desk.{rolled_back}
+use Rattle.desk.specs.Instruction.{Word, Counts, Attempt, Turning, Over, Fetched, Broken, Fine, Journal, Disk, fetches, touched_pages, granted, locks_with}
+use Rattle.desk_law.specs.Beside.{AreAlike, over_all, owners_told}
+use Rattle.desk_law.proofs.ServesToLocks.{served_attempt}
+use Rattle.seats.specs.Seating.{sitter}
+use Rattle.seats.specs.Waiting.{holders}
+use Rattle.seats.proofs.Numbers.{AreOfPage}
+use Rattle.storage_unit.specs.Laws.{Keeps}
+use Rattle.activations.specs.declared.live.Live.{Live}
+use Rattle.activations.specs.Activity.{Activity, program_in, entry_in, number_under, authority_under, desk_over, lines_held, locks_in, state_in, shown}
+use Rattle.activations.specs.Attempted.{plain_in}
+use Rattle.activations.specs.Follows.{AreOfPages, IsSound, Follows}
+use Rattle.activations.specs.Serving.{IsOver, IsFree, IsContested, Goes, instruction_in, locked, asking}
+use Rattle.activations.specs.Steps.{counted, executed, with_pool, rolled, IsMoved, RollsBack, HasExecuted}
+use Rattle.activations.specs.Touched.{IsApart, pages_refused, pages_wanted, with_whole_page}
+
+-- The next row of who sits in a seat goes on and touches these lines; its access is to be served.
+pub record IsToServe (a : Activity) (seat : ℕ) (committed : List ℕ) (wants : List Want) (next : Plain) : Type 0 where
+  pub sound : IsSound a
+  pub taken : has a.seating.taken seat ≡ true
+  pub runner : a.reach.runner ≡ seat + 1
+  pub follows : Follows a committed
+  pub goes : row (program_in a seat) a.reach.directory (plain_in a seat committed) ≡ On next
+  pub touches : touched (program_in a seat) a.reach.directory (plain_in a seat committed) ≡ lines_wanted wants
+
+-- the instruction under way in a seat, over the bytes that all see
+abbrev pub attempt_in : (a : Activity) (seat : ℕ) (committed : List ℕ) (order : List (ℕ × ℕ)) (wants : List Want) (next : Plain) → IsToServe a seat committed wants next → Attempt
+attempt_in a seat committed order wants next to =
+    served_attempt (desk_over a committed order) (entry_in a seat) (over_all (state_in a seat) (to.follows.kept.stand seat to.taken).bytes) (shown a committed)
+
+-- how many lines it will have written
+abbrev pub lines_with : Activity → (seat : ℕ) → List Want → ℕ
+lines_with a seat wants = size ((locks_in a seat).writes ++ (lines_wanted wants).writes)
+
+-- Pages came in from here, and of what all see nothing changed: the pool is this one, and so many pages are counted.
+pub record IsFetched (a : Activity) (committed : List ℕ) (order : List (ℕ × ℕ)) (pages : List ℕ) (before : ℕ) (pool : Pool) (after : ℕ) : Type 0 where
+  pub moved : IsMoved a.reach.pool pool
+  pub keeps : Keeps a.reach.directory a.reach.pool pool committed
+  pub fetched : fetches Fine (desk_over a committed order).frames pages pages (desk_over a committed order).resident before ≡ Fetched pool.resident after
+
+-- what is wanted of each page is of it, and the pages are those that are touched
+pub record AreTouched (attempt : Attempt) (wants : List Want) : Type 0 where
+  pub pages : touched_pages attempt ≡ pages_wanted wants
+  pub apart : All (IsApart wants) wants
+  pub sets : AreOfPage wants
+
+-- the pages came in and the refused ones are counted
+abbrev pub counted_with : Counts → (pages : ℕ) → (refused : List ℕ) → Counts
+counted_with counts pages refused = record counts { pages = pages; locks = counts.locks + length refused }
+
+-- Too many lines: it is rolled back, and the turn ends. A page that can't be read: it is rolled back, and nothing is resident.
+-- Where nobody holds what is asked for, it is free, and else its contest begins, with what it asks for.
+pub record Starts (a : Activity) (seat : ℕ) (committed : List ℕ) (order : List (ℕ × ℕ)) (counts : Counts) (wants : List Want) (next : Plain) (to : IsToServe a seat committed wants next) : Type 0 where
+  pub journal : (pool : Pool) → RollsBack a seat pool committed → nat_lt a.most_lines (lines_with a seat wants) ≡ true
+      → IsOver (instruction_in a seat committed order counts) (rolled a seat pool) committed order counts (Journal (lines_with a seat wants) a.most_lines)
+  pub breaks : nat_lt a.most_lines (lines_with a seat wants) ≡ false → (word : Word) (pages : ℕ)
+      → fetches word (desk_over a committed order).frames (touched_pages (attempt_in a seat committed order wants next to)) (touched_pages (attempt_in a seat committed order wants next to)) (desk_over a committed order).resident counts.pages ≡ Broken pages
+      → instruction_in a seat committed order counts word ≡ Over (record (rolled_back (desk_over a committed order) (entry_in a seat)) { resident = [] }) (record counts { pages = pages }) Disk
+  pub free : nat_lt a.most_lines (lines_with a seat wants) ≡ false → (pool : Pool) (pages : ℕ) → IsFetched a committed order (touched_pages (attempt_in a seat committed order wants next to)) counts.pages pool pages
+      → AreTouched (attempt_in a seat committed order wants next to) wants → holders a.seating seat (map with_whole_page wants) ≡ []
+      → IsFree (instruction_in a seat committed order counts) (attempt_in a seat committed order wants next to) (pages_refused a.reach.entries (seat + 1) wants) (with_pool a pool) committed order
+      (counted_with counts pages (pages_refused a.reach.entries (seat + 1) wants))
+  pub contested : nat_lt a.most_lines (lines_with a seat wants) ≡ false → (pool : Pool) (pages : ℕ) → IsFetched a committed order (touched_pages (attempt_in a seat committed order wants next to)) counts.pages pool pages
+      → AreTouched (attempt_in a seat committed order wants next to) wants → (request : Request) → request.wants.items ≡ map with_whole_page wants → (holder : ℕ) (others : List ℕ)
+      → holders a.seating seat (map with_whole_page wants) ≡ holder ∷ others
+      → IsContested (instruction_in a seat committed order counts) (attempt_in a seat committed order wants next to) (pages_refused a.reach.entries (seat + 1) wants) (desk_over (with_pool a pool) committed order)
+      (asking (with_pool a pool) seat request) committed order (counted_with counts pages (pages_refused a.reach.entries (seat + 1) wants))
+
+-- the law of it
+abbrev pub ServingStarts : Type 0
+ServingStarts =
+    (a : Activity) (seat : ℕ) (committed : List ℕ) (order : List (ℕ × ℕ)) (counts : Counts) (wants : List Want) (next : Plain) (to : IsToServe a seat committed wants next)
+    → Starts a seat committed order counts wants next to
+
+-- What is free takes its lines, is granted its refused pages, brings in its pages once more, and goes on: that is the desk's
+-- instruction, wherever it began.
+abbrev pub ServedGoesOn : Type 0
+ServedGoesOn =
+    (begins : Word → Turning) (attempt : Attempt) (refused : List ℕ) (a : Activity) (seat : ℕ) (committed : List ℕ) (order : List (ℕ × ℕ)) (counts : Counts)
+    (wants : List Want) (owned : List Authority) (pool : Pool) (live : Live) (bytes : List ℕ) (marked : List (List ℕ)) (pages : ℕ) (next : Plain)
+    → IsSound a → has a.seating.taken seat ≡ true → a.reach.runner ≡ seat + 1 → attempt.entry.number ≡ (sitter a.seating seat).number
+    → IsFree begins attempt refused a committed order counts → attempt.outcome ≡ On next → IsFetched a committed order (touched_pages attempt) counts.pages pool pages
+    → AreAlike (locks_in (locked a seat wants owned) seat) (locks_with attempt (desk_over a committed order))
+    → owners_told (number_under a) (authority_under owned) ≡ granted attempt (locks_with attempt (desk_over a committed order)) refused (desk_over a committed order).authority
+    → HasExecuted (with_pool (locked a seat wants owned) pool) seat live bytes marked committed
+    → Goes begins (counted (executed (with_pool (locked a seat wants owned) pool) seat live bytes marked) seat 1) committed order (record counts { pages = pages; ran = counts.ran + 1 })
+
+-- With the lines of no want, of one, and of two of different pages, as many lines are written as are counted page by page.
+pub record AreCounted (pages : List (List ℕ × List ℕ)) : Type 0 where
+  pub none : size ((lines_held pages).writes ++ (lines_wanted []).writes) ≡ write_count pages
+  pub one : (want : Want) → AreOfPage (want ∷ []) → size ((lines_held pages).writes ++ (lines_wanted (want ∷ [])).writes) ≡ write_count pages + length (difference want.writes (of_page pages want.page).1)
+  pub two : (first second : Want) → AreOfPage (first ∷ second ∷ []) → first.page ≢ second.page
+      → size ((lines_held pages).writes ++ (lines_wanted (first ∷ second ∷ [])).writes)
+      ≡ write_count pages + (length (difference first.writes (of_page pages first.page).1) + length (difference second.writes (of_page pages second.page).1))
+
+-- so the lines that a row would have written are counted from what is held of its pages
+abbrev pub LinesAreCounted : Type 0
+LinesAreCounted = (pages : List (List ℕ × List ℕ)) → AreOfPages pages → AreCounted pages

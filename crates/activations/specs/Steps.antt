@@ -1,0 +1,116 @@
+-- What a row of one does to all.
+use Rattle.std.specs.Prelude.{◌≡◌, ℕ, ◌+◌, ◌<◌, ◌%◌, ◌&&◌, not, if◌then◌else◌, Bool, List, slice_index, slice_set, true, Some}
+use Rattle.line_geometry.specs.Directory.{Layout, byte_count}
+use Rattle.line_geometry.specs.Lines.{line_of}
+use Rattle.lock_rules.specs.Sets.{has}
+use Rattle.lock_rules.specs.Lines.{page_of_line}
+use Rattle.lock_rules.specs.Resident.{taken_out}
+use Rattle.line_locks.specs.Holding.{held_at}
+use Rattle.frame_pool.specs.declared.model.Pool.{Pool}
+use Rattle.flat_machine.specs.declared.machine.Plain.{Plain}
+use Rattle.desk_law.specs.Beside.{IsLaid}
+use Rattle.desk_law.specs.Changes.{committed_at}
+use Rattle.desk_law.specs.Consistent.{due_to}
+use Rattle.desk.specs.Desk.{rolled_back}
+use Rattle.desk.specs.Instruction.{Word, Counts, Going, instruction}
+use Rattle.seats.specs.Seating.{went_on, left}
+use Rattle.storage_unit.specs.Served.{ended, released}
+use Rattle.storage_unit.specs.Rows.{GoesOpen, LeavesSeats, plain_over}
+use Rattle.storage_unit.specs.Bytes.{IsClean, is_line_marked, bytes_over, private_bytes}
+use Rattle.activations.specs.declared.live.Live.{Live}
+use Rattle.activations.specs.Activity.{Activity, live_in, program_in, entry_in, store_over, desk_over, shown}
+use Rattle.activations.specs.Follows.{IsKept, Follows}
+
+-- who sits in a seat has done so many rows more, and waits for nothing
+abbrev pub counted : Activity → (seat rows : ℕ) → Activity
+counted a seat rows = record a { seating = went_on a.seating seat rows }
+
+-- what runs in a seat, and bytes and marks of the frames, are others
+abbrev pub executed : Activity → (seat : ℕ) → Live → (bytes : List ℕ) → (marked : List (List ℕ)) → Activity
+executed a seat live bytes marked =
+    record a { live = slice_set a.live seat live; reach = record a.reach { pool = record a.reach.pool { bytes = bytes; marked = marked } } }
+
+-- an attempt in a seat took effect as the row of its program on the bytes that all see
+pub record HasExecuted (a : Activity) (seat : ℕ) (live : Live) (bytes : List ℕ) (marked : List (List ℕ)) (committed : List ℕ) : Type 0 where
+  pub goes : GoesOpen (program_in a seat) a.reach (executed a seat live bytes marked).reach
+      (plain_over committed (live_in a seat).cpu a.reach (live_in a seat).out)
+      (plain_over committed live.cpu (executed a seat live bytes marked).reach live.out) live.cpu
+  pub clean : IsClean a.reach.directory (executed a seat live bytes marked).reach.pool committed
+  pub seats : LeavesSeats a.reach (executed a seat live bytes marked).reach
+
+-- who sat in a seat has left it: its private storage is begun no more, and its pages are nobody's
+abbrev pub vacated : Activity → (seat : ℕ) → Activity
+vacated a seat = record a { seating = left a.seating seat; reach = ended (released a.reach (seat + 1)) seat }
+
+-- the same, once the pages that he wrote into went out of the pool
+abbrev pub rolled : Activity → (seat : ℕ) → Pool → Activity
+rolled a seat pool = vacated (record a { reach = record a.reach { pool = pool } }) seat
+
+-- the lines that who sits in a seat holds of a page to write
+abbrev pub wrote : Activity → (seat page : ℕ) → List ℕ
+wrote a seat page = (held_at a.seating.holding seat page).1
+
+-- a line is one of these of its page, and its page one of these
+abbrev pub is_of : (pages : List ℕ) → (lines : ℕ → List ℕ) → (line : ℕ) → Bool
+is_of pages lines line = has pages (page_of_line line) && has (lines (page_of_line line)) (line % 16)
+
+-- Pages of a pool have gone out and these of their lines are forgotten, whatever is committed.
+pub record WereUndone (lines : ℕ → List ℕ) (pages : List ℕ) (old new : Pool) : Type 0 where
+  pub marks : (line : ℕ) → is_line_marked new line ≡ (is_line_marked old line && not (is_of pages lines line))
+  pub resident : new.resident ≡ taken_out pages old.resident
+  pub bytes : new.bytes ≡ old.bytes
+  pub size : new.page ≡ old.page
+  pub frames : new.frames ≡ old.frames
+
+-- over committed bytes these lines are as committed then, and the others as they were
+pub record AreAsCommitted (directory : Layout) (lines : ℕ → List ℕ) (pages : List ℕ) (old new : Pool) (committed : List ℕ) : Type 0 where
+  pub bytes : (place : ℕ) → place < byte_count directory
+      → slice_index (bytes_over directory new committed) place
+      ≡ (if is_of pages lines (line_of directory place) then slice_index committed place else slice_index (bytes_over directory old committed) place)
+  pub clean : IsClean directory new committed
+
+-- these are the pages into which who sits in a seat wrote
+pub record AreWritten (a : Activity) (seat : ℕ) (pages : List ℕ) : Type 0 where
+  pub all : (page line : ℕ) → has (wrote a seat page) line ≡ true → has pages page ≡ true
+  pub only : (page : ℕ) → has pages page ≡ true → (line : ℕ) × (has (wrote a seat page) line ≡ true)
+
+-- what is left of a rollback is kept beside the desk after it
+pub record RollsBack (a : Activity) (seat : ℕ) (pool : Pool) (committed : List ℕ) : Type 0 where
+  pub desk : (order : List (ℕ × ℕ)) → desk_over (rolled a seat pool) committed order ≡ rolled_back (desk_over a committed order) (entry_in a seat)
+  pub kept : IsKept (rolled a seat pool) committed
+  pub laid : IsLaid (store_over a committed) (due_to (store_over a committed) (entry_in a seat)).writes committed (shown a committed) (shown (rolled a seat pool) committed)
+
+-- Lines of these pages of a pool are marked no more, and all else stays.
+pub record WereSettled (lines : ℕ → List ℕ) (pages : List ℕ) (old new : Pool) : Type 0 where
+  pub marks : (line : ℕ) → is_line_marked new line ≡ (is_line_marked old line && not (is_of pages lines line))
+  pub rest : new ≡ record old { marked = new.marked }
+
+-- who sits in a seat has committed at a state: what is left follows the desk after it, over what he left
+pub record Commits (a : Activity) (seat : ℕ) (pool : Pool) (committed : List ℕ) (now : Plain) : Type 0 where
+  pub desk : (order : List (ℕ × ℕ)) → desk_over (rolled a seat pool) now.store order ≡ committed_at (desk_over a committed order) (entry_in a seat) now
+  pub follows : Follows (rolled a seat pool) now.store
+
+-- frames have other bytes and pages: what was marked and private stays, whatever is committed
+pub record IsMoved (old new : Pool) : Type 0 where
+  pub marked : new.marked ≡ old.marked
+  pub private : (seat : ℕ) → seat < 16 → private_bytes new seat ≡ private_bytes old seat
+  pub size : new.page ≡ old.page
+  pub frames : new.frames ≡ old.frames
+
+-- the pool is another
+abbrev pub with_pool : Activity → Pool → Activity
+with_pool a pool = record a { reach = record a.reach { pool = pool } }
+
+-- a row of who sits in a seat is an instruction of the desk, and what is left follows the desk after it
+pub record GoesOn (a : Activity) (seat : ℕ) (live : Live) (bytes : List ℕ) (marked : List (List ℕ)) (committed : List ℕ) : Type 0 where
+  pub is_instruction : (word : Word) (order : List (ℕ × ℕ)) (counts : Counts)
+      → instruction word (Some (entry_in a seat)) (desk_over a committed order) counts
+      ≡ Going (desk_over (counted (executed a seat live bytes marked) seat 1) committed order) (record counts { ran = counts.ran + 1 })
+  pub follows : Follows (counted (executed a seat live bytes marked) seat 1) committed
+
+-- the same over so many rows that took effect and aren't counted yet
+pub record Strides (a : Activity) (seat rows : ℕ) (live : Live) (bytes : List ℕ) (marked : List (List ℕ)) (committed : List ℕ) : Type 0 where
+  pub is_instruction : (word : Word) (order : List (ℕ × ℕ)) (counts : Counts)
+      → instruction word (Some (entry_in (counted a seat rows) seat)) (desk_over (counted a seat rows) committed order) counts
+      ≡ Going (desk_over (counted (executed a seat live bytes marked) seat (rows + 1)) committed order) (record counts { ran = counts.ran + 1 })
+  pub follows : Follows (counted (executed a seat live bytes marked) seat (rows + 1)) committed

@@ -1,0 +1,54 @@
+-- The lines that an access touches, page by page.
+use Rattle.std.specs.Prelude.{ℕ, ◌+◌, ◌-◌, ◌*◌, ◌<◌, ◌==◌, ◌||◌, ◌≡◌, not, if◌then◌else◌, Bool, true, false, filter, slice_index_or, List, [], ◌∷◌, length, map}
+use Rattle.line_locks.specs.Flat.{lines_wanted}
+use Rattle.lock_rules.specs.Sets.{has}
+use Rattle.std.specs.List.{list_any, range_with_len}
+use Rattle.lockbit_rules.specs.declared.Authority.{Authority}
+use Rattle.lockbit_rules.specs.Entries.{entry_of, lets}
+use Rattle.inverted_table.specs.Placed.{unowned}
+use Rattle.lock_rules.specs.Lines.{Lines}
+use Rattle.line_geometry.specs.LineSets.{between}
+use Rattle.activations.specs.declared.touch.Touch.{Touch}
+use Rattle.line_locks.specs.declared.request.Want.{Want}
+
+-- the lines from a first to a last, to store to or to load from
+abbrev pub lines_between : (first last : ℕ) → (store : Bool) → Lines
+lines_between first last store =
+    if store
+    then record { reads = []; writes = range_with_len first (last + 1 - first) }
+    else record { reads = range_with_len first (last + 1 - first); writes = [] }
+
+-- the pages of which something is wanted
+abbrev pub pages_wanted : List Want → List ℕ
+pages_wanted wants = map (λ want. want.page) wants
+
+-- the lines that are wanted of a page, and all of it to read where one of them is to write
+abbrev pub with_whole_page : Want → Want
+with_whole_page want = if length want.writes == 0 then want else record want { reads = between 0 15 }
+
+-- the lines of a touch, by their pages
+abbrev pub wants_of : Touch → List Want
+wants_of Touch.Nothing = []
+wants_of (Touch.One want) = want ∷ []
+wants_of (Touch.Two first second) = first ∷ second ∷ []
+
+-- whether an entry refuses an identifier one of the lines that are wanted of its page
+abbrev pub refuses_want : List Authority → (tid : ℕ) → Want → Bool
+refuses_want owned tid want =
+    list_any (λ line. not (lets (entry_of (slice_index_or owned want.page unowned)) tid line false)) want.reads
+    || list_any (λ line. not (lets (entry_of (slice_index_or owned want.page unowned)) tid line true)) want.writes
+
+-- whether the first, and the second page of a touch is refused
+abbrev pub each_refused : List Authority → (tid : ℕ) → Touch → Bool × Bool
+each_refused owned tid Touch.Nothing = (false, false)
+each_refused owned tid (Touch.One want) = (refuses_want owned tid want, false)
+each_refused owned tid (Touch.Two first second) = (refuses_want owned tid first, refuses_want owned tid second)
+
+-- the pages of which one is refused
+abbrev pub pages_refused : List Authority → (tid : ℕ) → List Want → List ℕ
+pages_refused owned tid wants = pages_wanted (filter (refuses_want owned tid) wants)
+
+-- the lines of a page among these wants are those of this one
+pub record IsApart (wants : List Want) (want : Want) : Type 0 where
+  pub reads : (line : ℕ) → line < 16 → has (lines_wanted wants).reads (want.page * 16 + line) ≡ has want.reads line
+  pub writes : (line : ℕ) → line < 16 → has (lines_wanted wants).writes (want.page * 16 + line) ≡ has want.writes line

@@ -1,0 +1,36 @@
+-- What instructions and turns come to, as they are answered.
+use Rattle.std.specs.Prelude.{◌≡◌, ℕ, List, map, Result, Ok, Err}
+use Rattle.desk.specs.Answers.{ending_told}
+use Rattle.desk.specs.Desk.{Desk}
+use Rattle.desk.specs.declared.answers.TurnEnd.{TurnEnd}
+use Rattle.desk.specs.Instruction.{Word, Counts, Attempt, Turning}
+use Rattle.activations.specs.declared.tally.Tally.{Tally}
+use Rattle.seats.specs.Seating.{number_in}
+use Rattle.activations.specs.Activity.{Activity}
+use Rattle.activations.specs.Serving.{IsOver, IsFree, IsContested}
+
+-- what a turn has counted
+abbrev pub counts_of : Tally → Counts
+counts_of tally =
+    record {
+      ran = tally.ran;
+      pages = tally.pages;
+      locks = tally.locks;
+      cycles = map (λ cycle. cycle.members.items) tally.cycles.items;
+    }
+
+-- it came to this end
+abbrev pub HasEnded : TurnEnd → (begins : Word → Turning) → Activity → (committed : List ℕ) → (order : List (ℕ × ℕ)) → Counts → Type 0
+HasEnded end begins a committed order counts = (printed : List ℕ) → IsOver begins a committed order counts (ending_told end printed)
+
+-- what is contested at first is contested from here
+abbrev pub Contests : (seat : ℕ) → (old : Activity) → (before : Counts) → (now : Activity) → (after : Counts) → Type 0
+Contests seat old before now after =
+    (begins : Word → Turning) (attempt : Attempt) (refused : List ℕ) (first : Desk) (committed : List ℕ) (order : List (ℕ × ℕ))
+    → attempt.entry.number ≡ number_in old.seating seat → IsContested begins attempt refused first old committed order before
+    → IsContested begins attempt refused first now committed order after
+
+-- a contest is over: nobody holds any more what was asked for, or the turn came to its end
+abbrev pub IsSettled : {U : Type 0} → Result U TurnEnd → (begins : Word → Turning) → Attempt → (refused : List ℕ) → Activity → (committed : List ℕ) → (order : List (ℕ × ℕ)) → Counts → Type 0
+IsSettled (Ok nothing) begins attempt refused a committed order counts = IsFree begins attempt refused a committed order counts
+IsSettled (Err end) begins attempt refused a committed order counts = HasEnded end begins a committed order counts

@@ -1,0 +1,114 @@
+// Who runs, what each has, and the storage that they share.
+ghost use Rattle.std.specs.Prelude.{◌≡◌, ℕ, ◌-◌, ◌^◌, ◌≤◌, List, length, IfOk};
+ghost use Rattle.store_format.specs.Header.{most_lines};
+ghost use Rattle.desk.specs.Run.{absent_segment};
+ghost use Rattle.desk.specs.Desk.{opened};
+ghost use Rattle.line_geometry.specs.Directory.{byte_count};
+ghost use Rattle.storage_unit.specs.View.{reach_of};
+ghost use Rattle.std.specs.Prelude.{◌<◌, true};
+ghost use Rattle.lock_rules.specs.Sets.{has};
+
+use super::live::Live;
+use desk::Begun;
+use flat_machine::{Program, Window};
+use line_geometry::Directory;
+use romp_cpu::registers_of;
+use seats::Seats;
+use std::alloc::{AllocError, Global};
+use storage_unit::{PRIVATE, Unit};
+use store_format::Header;
+
+/// Sixteen seats, what runs in each, and the frames, entries and locks that they share. All memory is taken when it is made.
+#[derive(Drop)]
+pub struct Activations {
+    pub(super) programs: Vec<Program>,
+    pub(super) directory: Directory,
+    pub(super) most_lines: u32,
+    pub(super) next: u32,
+    pub(super) seats: Seats,
+    pub(super) live: Vec<Live>,
+    pub(super) unit: Unit,
+    ghost same: { (reach_of unit).directory ≡ directory },
+}
+
+impl Activations {
+    ghost use Rattle.activations.specs.Begins.{idle, begins, Begins, IsBegin};
+    ghost use Rattle.activations.specs.Follows.{IsSound, Follows};
+    ghost use Rattle.activations.specs.View.{activity_of};
+
+    /// Nobody runs, over a store with this header and so many frames for its pages. Any of these programs may begin. It
+    /// takes all the memory that it will need.
+    ///
+    /// # Errors
+    ///
+    /// There is no memory.
+    pub fn new(
+        alloc: Global,
+        header: &Header,
+        frames: u16,
+        programs: Vec<Program>,
+    ) -> Result<Activations, AllocError>
+        requires some { 2 ≤ frames }
+        requires few { frames ≤ 1024 }
+        ensures idle { IfOk result (λ a. activity_of a ≡ idle programs.items (most_lines header.now) frames header.now.directory (activity_of a).live) }
+        ensures sound { IfOk result (λ a. IsSound (activity_of a)) }
+        ensures first { IfOk result (λ a. (committed : List ℕ) → length committed ≡ byte_count header.now.directory → Begins (activity_of a) (opened frames 16 (most_lines header.now) (record { directory = header.now.directory; bytes = committed })) committed) }
+    {
+        let directory = *header.directory();
+        let mut live = Vec::with_capacity(alloc, 16)?;
+        for _ in 0..16_u8 {
+            live.push(Live::new(alloc)?)?;
+        }
+        Ok(Activations {
+            programs,
+            directory,
+            most_lines: header.most_lines(),
+            next: 1,
+            seats: Seats::new(alloc, directory.pages())?,
+            live,
+            unit: Unit::new(alloc, header, frames)?,
+        })
+    }
+
+    /// A program begins with four values. It takes the next number also where it is refused (docs/MODEL.md, "The desk").
+    pub fn begin(&mut self, program: u16, args: [u32; 4]) -> Begun
+        requires sound { IsSound (activity_of self.old) }
+        requires known { program < length (activity_of self.old).programs }
+        requires room { (activity_of self.old).next < 2 ^ 32 - 1 }
+        ensures answer { result ≡ (begins (activity_of self.old) program args).0 }
+        ensures left { activity_of self.new ≡ (begins (activity_of self.old) program args).1 }
+        ensures sound { IsSound (activity_of self.new) }
+        ensures is_begin { (committed : List ℕ) → Follows (activity_of self.old) committed → IsBegin (activity_of self.old) (activity_of self.new) program args result committed }
+    {
+        let number = self.next;
+        self.next += 1;
+        if self.seats.taken().len() == 16 {
+            return Begun::Busy(number);
+        }
+        let code = &self.programs[usize::from(program)];
+        if let Some(segment) = absent_segment(&self.directory, &code.windows) {
+            return Begun::NoSegment(number, segment);
+        }
+        let Some(seat) = self.seats.sit(number, program, args) else {
+            return Begun::Busy(number);
+        };
+        let registers = registers_of(code, &self.directory, PRIVATE + u16::from(seat));
+        self.unit.begin(seat, code.image.as_slice());
+        self.live[usize::from(seat)].start(code, args, registers);
+        Begun::Started(number)
+    }
+}
+
+/// The segment of the first window whose segment the directory lacks.
+fn absent_segment(directory: &Directory, windows: &[Option<Window>]) -> Option<u16>
+    ensures { result ≡ absent_segment directory.now windows.now }
+{
+    for window in windows {
+        if let Some(Window { segment, .. }) = *window {
+            if directory.length_of(segment).is_none() {
+                return Some(segment);
+            }
+        }
+    }
+    None
+}

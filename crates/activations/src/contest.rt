@@ -1,0 +1,79 @@
+// Who waits for whom, and the cycles that are broken.
+ghost use Rattle.std.specs.Prelude.{◌≡◌, ◌≤◌, ◌+◌, ◌==◌, true, ℕ, List, [], ◌∷◌, ◌++◌, length, map, IsSome, Some, ◌<◌};
+ghost use Rattle.arrayvec.specs.ArrayVec.{array_vec_len};
+ghost use Rattle.lock_rules.specs.Sets.{has};
+ghost use Rattle.lock_rules.specs.Waits.{victim_of};
+ghost use Rattle.desk.specs.Desk.{Desk};
+ghost use Rattle.desk.specs.Instruction.{Word, Attempt, Turning};
+
+use super::activations::Activations;
+use super::tally::Tally;
+use arrayvec::ArrayVec;
+use desk::{Cycle, TurnEnd};
+
+impl Activations {
+    ghost use Rattle.activations.specs.Activity.{Activity};
+    ghost use Rattle.activations.specs.Follows.{IsSound};
+    ghost use Rattle.activations.specs.Serving.{IsContested};
+    ghost use Rattle.activations.specs.Turning.{counts_of, IsSettled};
+    ghost use Rattle.activations.specs.View.{activity_of};
+    ghost use Rattle.line_locks.specs.declared.request.Request.{Request};
+    ghost use Rattle.seats.specs.Seating.{number_in, sitter};
+    ghost use Rattle.seats.specs.Waiting.{holders};
+
+    /// Who sits in a seat waits, and each cycle of waits from it is broken by rolling its victim back. Nothing is returned
+    /// where nobody holds any more what it asks for.
+    pub fn contend(&mut self, seat: u8, tally: &mut Tally) -> Result<(), TurnEnd>
+        requires sound { IsSound (activity_of self.old) }
+        requires taken { has (activity_of self.old).seating.taken seat ≡ true }
+        requires waits { IsSome (sitter (activity_of self.old).seating seat).waits }
+        requires room { array_vec_len tally.old.cycles + length (activity_of self.old).seating.taken ≤ 16 }
+        ensures sound { IsSound (activity_of self.new) }
+        ensures room { array_vec_len tally.new.cycles + length (activity_of self.new).seating.taken ≤ 16 }
+        ensures settled { (begins : Word → Turning) (attempt : Attempt) (refused : List ℕ) (first : Desk) (committed : List ℕ) (order : List (ℕ × ℕ)) → attempt.entry.number ≡ number_in (activity_of self.old).seating seat → IsContested begins attempt refused first (activity_of self.old) committed order (counts_of tally.old) → IsSettled result begins attempt refused (activity_of self.new) committed order (counts_of tally.new) }
+    {
+        let number = self.seats.sitter(seat).number;
+        while let Some(members) = self.seats.cycle_from(seat) {
+            let victim = greatest(&members);
+            let Some(loser) = self.seats.seat_of(victim) else {
+                break;
+            };
+            tally.cycles.push(Cycle { members });
+            self.roll_back(loser);
+            if victim == number {
+                return Err(TurnEnd::Victim);
+            }
+        }
+        let holders = self.awaited(seat);
+        if holders.is_empty() {
+            Ok(())
+        } else {
+            Err(TurnEnd::Waits(number, holders))
+        }
+    }
+
+    /// The numbers of those that who sits in a seat waits for, ascending.
+    fn awaited(&self, seat: u8) -> ArrayVec<u32, 16>
+        requires sound { IsSound (activity_of self.now) }
+        requires seat { seat < 16 }
+        ensures { (request : Request) → (sitter (activity_of self.now).seating seat).waits ≡ Some request → result.items ≡ holders (activity_of self.now).seating seat request.wants.items }
+    {
+        match &self.seats.sitter(seat).waits {
+            Some(request) => self.seats.holders(seat, request),
+            None => ArrayVec::new(),
+        }
+    }
+}
+
+/// The greatest of some numbers: the victim of a cycle.
+fn greatest(numbers: &ArrayVec<u32, 17>) -> u32
+    ensures { result ≡ victim_of numbers.now.items }
+{
+    let mut greatest = 0;
+    for number in numbers.as_slice() {
+        if *number > greatest {
+            greatest = *number;
+        }
+    }
+    greatest
+}

@@ -1,0 +1,129 @@
+// How an activation ends.
+ghost use Rattle.std.specs.Prelude.{◌≡◌, ◌<◌, true, false, ℕ, List, Some};
+ghost use Rattle.line_geometry.specs.Directory.{page_count};
+ghost use Rattle.lock_rules.specs.Sets.{has};
+ghost use Rattle.line_locks.specs.Holding.{IsWhole};
+ghost use Rattle.flat_machine.specs.declared.machine.Plain.{Plain};
+ghost use Rattle.flat_machine.specs.After.{after};
+ghost use Rattle.flat_machine.specs.Row as row;
+ghost use Rattle.desk_law.specs.Consistent.{AreConsistent};
+ghost use Rattle.desk_law.specs.Beside.{over_all};
+ghost use Rattle.storage_unit.specs.View.{reach_of};
+ghost use Rattle.activations.specs.Ends.{HasUndone, HasSettled};
+
+use super::activations::Activations;
+use arrayvec::ArrayVec;
+use flat_machine::Printed;
+use seats::Seats;
+use std::mem::swap;
+use storage_unit::Unit;
+
+impl Activations {
+    ghost use Rattle.activations.specs.Activity.{entries, entry_in, live_in, program_in, store_over, shown};
+    ghost use Rattle.activations.specs.Ends.{IsDeserted, IsRestarted, reprinted};
+    ghost use Rattle.seats.specs.Seating.{numbers};
+    ghost use Rattle.activations.specs.Follows.{IsSound, IsKept, Follows};
+    ghost use Rattle.activations.specs.Steps.{rolled, vacated, RollsBack, Commits};
+    ghost use Rattle.activations.specs.View.{activity_of};
+
+    /// Who sits in a seat is rolled back: the pages that he wrote into go out, and the lines that he wrote are forgotten.
+    pub fn roll_back(&mut self, seat: u8)
+        requires sound { IsSound (activity_of self.old) }
+        requires taken { has (activity_of self.old).seating.taken seat ≡ true }
+        ensures shape { activity_of self.new ≡ rolled (activity_of self.old) seat (activity_of self.new).reach.pool }
+        ensures sound { IsSound (activity_of self.new) }
+        ensures rolls { (committed : List ℕ) → AreConsistent (store_over (activity_of self.old) committed) (activity_of self.old).most_lines (activity_of self.old).next (entries (activity_of self.old)) → IsKept (activity_of self.old) committed → RollsBack (activity_of self.old) seat (activity_of self.new).reach.pool committed }
+    {
+        undo_written(&self.seats, &mut self.unit, seat);
+        self.leave(seat);
+    }
+
+    /// What was written in a seat is committed now, and who sat in it has ended.
+    pub fn commit(&mut self, seat: u8)
+        requires sound { IsSound (activity_of self.old) }
+        requires taken { has (activity_of self.old).seating.taken seat ≡ true }
+        ensures shape { activity_of self.new ≡ rolled (activity_of self.old) seat (activity_of self.new).reach.pool }
+        ensures sound { IsSound (activity_of self.new) }
+        ensures commits { (committed : List ℕ) (now : Plain) → Follows (activity_of self.old) committed → after (program_in (activity_of self.old) seat) (entry_in (activity_of self.old) seat).runs.args (store_over (activity_of self.old) committed) (entry_in (activity_of self.old) seat).rows ≡ Some now → row.row (program_in (activity_of self.old) seat) (activity_of self.old).reach.directory (over_all now (shown (activity_of self.old) committed)) ≡ row.Commit → Commits (activity_of self.old) seat (activity_of self.new).reach.pool committed now }
+    {
+        settle_written(&self.seats, &mut self.unit, seat);
+        self.leave(seat);
+    }
+
+    /// All are rolled back, and no page is resident.
+    pub fn forget(&mut self)
+        requires sound { IsSound (activity_of self.old) }
+        ensures sound { IsSound (activity_of self.new) }
+        ensures deserted { IsDeserted (activity_of self.old) (activity_of self.new) }
+        ensures restarts { (committed : List ℕ) → Follows (activity_of self.old) committed → IsRestarted (activity_of self.old) (activity_of self.new) committed }
+    {
+        for seat in 0..16 {
+            if self.seats.taken().contains(&seat) {
+                self.roll_back(seat);
+            }
+        }
+        self.unit.empty();
+    }
+
+    /// The numbers of those that are active, in the order in which they began.
+    pub fn active(&self) -> ArrayVec<u32, 16>
+        ensures { result.items ≡ numbers (activity_of self.now).seating }
+    {
+        self.seats.numbers()
+    }
+
+    /// Hands out what was printed in a seat in which nobody sits any more, for other bytes that stand there then.
+    pub fn swap_printed(&mut self, seat: u8, out: &mut Printed)
+        requires sound { IsSound (activity_of self.old) }
+        requires seat { seat < 16 }
+        requires free { has (activity_of self.old).seating.taken seat ≡ false }
+        ensures out { out.new ≡ (live_in (activity_of self.old) seat).out }
+        ensures left { activity_of self.new ≡ reprinted (activity_of self.old) seat out.old }
+        ensures sound { IsSound (activity_of self.new) }
+        ensures follows { (committed : List ℕ) → Follows (activity_of self.old) committed → Follows (activity_of self.new) committed }
+    {
+        swap(&mut self.live[usize::from(seat)].out, out);
+    }
+
+    /// A seat is free: its pages are nobody's, and its locks are released.
+    fn leave(&mut self, seat: u8)
+        requires { seat < 16 }
+        ensures { activity_of self.new ≡ vacated (activity_of self.old) seat }
+    {
+        self.unit.clear(seat + 1);
+        self.unit.end(seat);
+        self.seats.leave(seat);
+    }
+}
+
+/// The pages of which a seat holds lines to write go out of their frames, and those lines are forgotten.
+fn undo_written(seats: &Seats, unit: &mut Unit, seat: u8)
+    requires seat { seat < 16 }
+    requires whole { IsWhole seats.now.holding }
+    requires pages { seats.now.holding.pages ≡ page_count (reach_of unit.old).directory }
+    ensures { HasUndone seats.now.holding seat (reach_of unit.old) (reach_of unit.new) }
+{
+    let locks = seats.locks();
+    for page in locks.held_pages(seat) {
+        let (_, writes) = locks.held(seat, *page);
+        if !writes.is_empty() {
+            unit.undo(*page, writes);
+        }
+    }
+}
+
+/// The lines that a seat holds to write are marked no more.
+fn settle_written(seats: &Seats, unit: &mut Unit, seat: u8)
+    requires seat { seat < 16 }
+    requires whole { IsWhole seats.now.holding }
+    requires pages { seats.now.holding.pages ≡ page_count (reach_of unit.old).directory }
+    ensures { HasSettled seats.now.holding seat (reach_of unit.old) (reach_of unit.new) }
+{
+    let locks = seats.locks();
+    for page in locks.held_pages(seat) {
+        let (_, writes) = locks.held(seat, *page);
+        if !writes.is_empty() {
+            unit.settle(*page, writes);
+        }
+    }
+}

@@ -1,0 +1,53 @@
+// Rows that need nobody else: an attempt, and a run of them.
+ghost use Rattle.std.specs.Prelude.{◌≡◌, ◌≤◌, ◌<◌, true, Some, None};
+ghost use Rattle.lock_rules.specs.Sets.{has};
+
+use super::activations::Activations;
+use romp_cpu::{Access, Attempt};
+
+impl Activations {
+    ghost use Rattle.activations.specs.Follows.{IsSound};
+    ghost use Rattle.activations.specs.Attempted.{IsSelected, WasAttempted, Strode, IsShut, IsStopped};
+    ghost use Rattle.activations.specs.View.{activity_of};
+
+    /// The processor in a seat, which is selected, attempts its next instruction; a byte that it prints is kept.
+    pub fn execute(&mut self, seat: u8) -> Attempt
+        requires sound { IsSound (activity_of self.old) }
+        requires taken { has (activity_of self.old).seating.taken seat ≡ true }
+        requires selected { IsSelected (activity_of self.old) seat }
+        ensures sound { IsSound (activity_of self.new) }
+        ensures went { WasAttempted result (activity_of self.old) seat (activity_of self.new) }
+    {
+        let live = &mut self.live[usize::from(seat)];
+        let went = self.unit.attempt(&mut live.cpu);
+        if let Attempt::Print(byte) = went {
+            live.out.push(byte);
+        }
+        went
+    }
+
+    /// The next rows in a seat, at most so many, up to one that doesn't go on by itself, and the access of that one where it
+    /// isn't permitted. They aren't counted yet.
+    #[inline(never)]
+    pub fn stride(&mut self, seat: u8, limit: u32) -> (u32, Option<Access>)
+        requires sound { IsSound (activity_of self.old) }
+        requires taken { has (activity_of self.old).seating.taken seat ≡ true }
+        requires selected { IsSelected (activity_of self.old) seat }
+        ensures sound { IsSound (activity_of self.new) }
+        ensures selected { IsSelected (activity_of self.new) seat }
+        ensures few { result.0 ≤ limit }
+        ensures strode { Strode (activity_of self.old) seat result.0 (activity_of self.new) }
+        ensures stopped { result.1 ≡ None → result.0 < limit → IsStopped (activity_of self.new) seat }
+        ensures shut { (access : Access) → result.1 ≡ Some access → IsShut (activity_of self.new) seat access }
+    {
+        let mut ran = 0;
+        while ran < limit {
+            match self.execute(seat) {
+                Attempt::Went | Attempt::Print(_) => ran += 1,
+                Attempt::Fault(_, access) => return (ran, Some(access)),
+                Attempt::Commit | Attempt::Check(_) => return (ran, None),
+            }
+        }
+        (ran, None)
+    }
+}

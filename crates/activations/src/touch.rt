@@ -1,0 +1,89 @@
+// The lines that an access touches, page by page.
+ghost use Rattle.std.specs.Prelude.{◌≡◌, ◌+◌, ◌*◌, ◌/◌, ◌<◌, ◌≤◌, ◌^◌, ◌++◌, ◌∷◌, [], ℕ, map};
+ghost use Rattle.lock_rules.specs.Lines.{pages_of};
+ghost use Rattle.line_locks.specs.Flat.{lines_wanted};
+ghost use Rattle.line_locks.specs.Held.{AreWithin};
+ghost use Rattle.activations.specs.Touched.{lines_between, pages_wanted, wants_of, with_whole_page};
+
+use arrayvec::ArrayVec;
+use line_geometry::LineSet;
+use line_locks::{Request, Want};
+
+/// The lines of the store that one access touches, at most two, by their pages, ascending.
+#[derive(Debug, Clone, Copy, PartialEq, Eq)]
+pub enum Touch {
+    Nothing,
+    One(Want),
+    Two(Want, Want),
+}
+
+impl Touch {
+    /// The lines from a first to a last, which is the same or the next, to load from or to store to.
+    pub fn between(first: u32, last: u32, store: bool) -> Touch
+        requires order { first ≤ last }
+        requires near { last ≤ first + 1 }
+        requires few { last < 2 ^ 20 }
+        ensures lines { lines_wanted (wants_of result) ≡ lines_between first last store }
+        ensures pages { pages_wanted (wants_of result) ≡ pages_of ((lines_between first last store).reads ++ (lines_between first last store).writes) }
+        ensures within { (pages : ℕ) → last < pages * 16 → AreWithin pages (wants_of result) }
+    {
+        if first / 16 == last / 16 {
+            Touch::One(want_of(first, last, store))
+        } else {
+            Touch::Two(want_of(first, first, store), want_of(last, last, store))
+        }
+    }
+
+    /// What is asked for: the same lines, and all sixteen to read of each page that is written into.
+    pub fn request(&self) -> Request
+        ensures { result.wants.items ≡ map with_whole_page (wants_of self.now) }
+    {
+        let mut wants = ArrayVec::new();
+        match self {
+            Touch::Nothing => {}
+            Touch::One(only) => wants.push(with_whole_page(only)),
+            Touch::Two(first, second) => {
+                wants.push(with_whole_page(first));
+                wants.push(with_whole_page(second));
+            }
+        }
+        Request { wants }
+    }
+}
+
+/// The lines from a first to a last of one page.
+fn want_of(first: u32, last: u32, store: bool) -> Want
+    requires order { first ≤ last }
+    requires near { last ≤ first + 1 }
+    requires one { first / 16 ≡ last / 16 }
+    requires few { last < 2 ^ 20 }
+    ensures page { result.page ≡ first / 16 }
+    ensures lines { lines_wanted (result ∷ []) ≡ lines_between first last store }
+{
+    let lines = LineSet::between((first % 16) as u8, (last % 16) as u8);
+    let (reads, writes) = if store {
+        (LineSet::none(), lines)
+    } else {
+        (lines, LineSet::none())
+    };
+    Want {
+        page: (first / 16) as u16,
+        reads,
+        writes,
+    }
+}
+
+/// The same lines of a page, and all of them to read where one is written.
+fn with_whole_page(want: &Want) -> Want
+    ensures { result ≡ with_whole_page want.now }
+{
+    if want.writes.is_empty() {
+        *want
+    } else {
+        Want {
+            page: want.page,
+            reads: LineSet::between(0, 15),
+            writes: want.writes,
+        }
+    }
+}

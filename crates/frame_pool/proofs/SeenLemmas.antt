@@ -1,0 +1,200 @@
+-- What holds of every pool, and stays where a page leaves.
+use Rattle.std.proofs.Common.{◌≡◌, ◌≢◌, ℕ, ◌+◌, ◌*◌, ◌<◌, ◌≤◌, Bool, true, false, List, [], ◌∷◌, length, refl, sym, ◌∙◌, ap, subst, arith, Option, Some, None, ◌⊎◌, inl, inr}
+use Rattle.std.specs.Prelude.{◌==◌, ◌&&◌, ◌||◌, not, cond, if◌then◌else◌, slice_index_or, slice_set, slice_range, is_some}
+use Rattle.std.specs.Option.{option_map_or}
+use Rattle.std.proofs.lemmas.Bool.{cases_lt, cases_eq, eq-eqb, ne_eqb}
+use Rattle.std.proofs.lemmas.List.{length-set, get_or-set_same, get_or-set_other, get_or_past, length-take, length-drop}
+use Rattle.owned_list.specs.Overlay.{overlaid}
+use Rattle.owned_list.proofs.Overlay.{length-overlaid}
+use Rattle.line_geometry.specs.Segments.{page_bytes}
+use Rattle.lock_rules.specs.Sets.{has}
+use Rattle.lock_rules.specs.Resident.{taken_out}
+use Rattle.lock_rules.proofs.Sets.{has-filter}
+use Rattle.frame_pool.specs.Seen.{IsSeen}
+use Rattle.frame_pool.specs.Sizes.{private_frames, frame_count}
+use Rattle.frame_pool.specs.View.{pool_of}
+use Rattle.frame_pool.specs.Pool.{frame_at, page_at, marks_at, frame_bytes, kept_after, gone}
+use Rattle.frame_pool.specs.declared.model.Pool.{Pool}
+use Rattle.frame_pool.specs.declared.pool.FramePool.{FramePool}
+use Rattle.frame_pool.proofs.SoundLemmas.{page_part}
+use Rattle.frame_pool.proofs.PoolLemmas.{gone-from}
+
+pub pool-seen : (p : FramePool) → IsSeen (pool_of p)
+pool-seen p =
+    let sound = p.places.sound in
+    record {
+      bytes = omega (arith, p.bytes_sized, p.bytes.items.ok.0);
+      page_in = sound.sized.page_in;
+      marked = omega (arith, p.marked_sized, p.marked.ok.0, p.places.frame_of.ok.0);
+      kept = p.kept_sized ∙ ap (λ n. n * page_bytes p.places.page) (omega (arith, p.places.frame_of.ok.0));
+      resident = sound.placed.resident;
+      there = sound.placed.there;
+      back = sound.placed.back;
+      above = λ page frame is. (sound.placed.in_use page frame is).above;
+      below = λ page frame is. (sound.placed.in_use page frame is).below;
+    }
+
+-- what stands somewhere in a list of options stands within it
+pub some-within : (xs : List (Option ℕ)) (at value : ℕ) → slice_index_or xs at None ≡ Some value → at < length xs
+some-within xs at value is = elim (cases_lt at (length xs)) [
+  | inl below ↦ below
+  | inr past ↦ absurd (let clash : None ≡ Some value = sym (get_or_past xs at None past) ∙ is in cc)
+]
+
+-- a place of a list after another was set to nothing
+pub none-set : (xs : List (Option ℕ)) (at other : ℕ) → slice_index_or (slice_set xs at None) other None ≡ (if at == other then None else slice_index_or xs other None)
+none-set xs at other = elim (cases_eq at other) [
+  | inl same ↦ at-same (cases_lt at (length xs)) same ∙ sym (ap (λ (b : Bool). if b then None else slice_index_or xs other None) (eq-eqb at other same))
+  | inr apart ↦
+      get_or-set_other xs at other None None (λ e. apart (sym e))
+      ∙ sym (ap (λ (b : Bool). if b then None else slice_index_or xs other None) (ne_eqb at other apart))
+]
+  where
+    at-same : (at < length xs) ⊎ (length xs ≤ at) → at ≡ other → slice_index_or (slice_set xs at None) other None ≡ None
+    at-same (inl below) same = ap (λ (n : ℕ). slice_index_or (slice_set xs at None) n None) (sym same) ∙ get_or-set_same xs at None None below
+    at-same (inr past) same =
+        ap (λ (n : ℕ). slice_index_or (slice_set xs at None) n None) (sym same)
+        ∙ get_or_past (slice_set xs at None) at None (omega (arith, length-set xs at (let none : Option ℕ = None in none), past))
+
+-- the frame of each page after one left
+pub gone-frame : (pool : Pool) (page other : ℕ) → frame_at (gone pool page) other ≡ (if page == other then None else frame_at pool other)
+gone-frame pool page other = by_frame (frame_at pool page) refl
+  where
+    by_frame : (o : Option ℕ) → frame_at pool page ≡ o → frame_at (gone pool page) other ≡ (if page == other then None else frame_at pool other)
+    by_frame (Some frame) is = ap (λ (p : Pool). frame_at p other) (gone-from pool page frame is) ∙ none-set pool.frame_of page other
+    by_frame None is =
+        ap (λ (o : Option ℕ). frame_at (option_map_or (λ frame. record pool {
+          resident = taken_out (page ∷ []) pool.resident;
+          frame_of = slice_set pool.frame_of page None;
+          page_in = slice_set pool.page_in frame None;
+          kept = kept_after pool page frame;
+        }) o pool) other) is
+        ∙ by_test (cases_eq page other)
+      where
+        by_test : (page ≡ other) ⊎ (page ≡ other → ⊥) → frame_at pool other ≡ (if page == other then None else frame_at pool other)
+        by_test (inl same) = ap (frame_at pool) (sym same) ∙ is ∙ sym (ap (λ (b : Bool). if b then None else frame_at pool other) (eq-eqb page other same))
+        by_test (inr apart) = sym (ap (λ (b : Bool). if b then None else frame_at pool other) (ne_eqb page other apart))
+
+-- what stays where a page leaves
+pub record Stays (old new : Pool) : Type 0 where
+  pub page : new.page ≡ old.page
+  pub frames : new.frames ≡ old.frames
+  pub bytes : new.bytes ≡ old.bytes
+  pub marked : new.marked ≡ old.marked
+  pub frame_of : length new.frame_of ≡ length old.frame_of
+
+pub gone-stays : (pool : Pool) (page : ℕ) → Stays pool (gone pool page)
+gone-stays pool page = by_frame (frame_at pool page)
+  where
+    by_frame :
+        (o : Option ℕ)
+        → Stays pool (option_map_or (λ frame. record pool {
+          resident = taken_out (page ∷ []) pool.resident;
+          frame_of = slice_set pool.frame_of page None;
+          page_in = slice_set pool.page_in frame None;
+          kept = kept_after pool page frame;
+        }) o pool)
+    by_frame None = record { page = refl; frames = refl; bytes = refl; marked = refl; frame_of = refl }
+    by_frame (Some frame) = record { page = refl; frames = refl; bytes = refl; marked = refl; frame_of = length-set pool.frame_of page None }
+
+module _ (pool : Pool) (seen : IsSeen pool) (page frame : ℕ) (there : frame_at pool page ≡ Some frame) where
+  abbrev left : Pool
+  left = record pool {
+    resident = taken_out (page ∷ []) pool.resident;
+    frame_of = slice_set pool.frame_of page None;
+    page_in = slice_set pool.page_in frame None;
+    kept = kept_after pool page frame;
+  }
+
+  inside : page < length pool.frame_of
+  inside = some-within pool.frame_of page frame there
+
+  within : frame < frame_count pool.page pool.frames
+  within = seen.below page frame (seen.there page frame there)
+
+  pub frame-long : length (frame_bytes pool frame) ≡ page_bytes pool.page
+  frame-long =
+      let part = page_part frame (frame_count pool.page pool.frames) (page_bytes pool.page) within in
+      simp (length-take, length-drop) (omega (arith, part, seen.bytes))
+
+  kept-long : length (kept_after pool page frame) ≡ length pool.kept
+  kept-long = by_marks (length (marks_at pool page) == 0)
+    where
+      by_marks : (b : Bool) → length (if b then pool.kept else overlaid pool.kept (page * page_bytes pool.page) (frame_bytes pool frame)) ≡ length pool.kept
+      by_marks true = refl
+      by_marks false =
+          length-overlaid pool.kept (page * page_bytes pool.page) (frame_bytes pool frame)
+          (omega (arith, frame-long, page_part page (length pool.frame_of) (page_bytes pool.page) inside, seen.kept))
+
+  resident-left : (p : ℕ) → has (taken_out (page ∷ []) pool.resident) p ≡ is_some (slice_index_or (slice_set pool.frame_of page None) p None)
+  resident-left p =
+      has-filter (λ y. not (has (page ∷ []) y)) pool.resident p
+      ∙ by_test (page == p)
+      ∙ sym (ap (λ (o : Option ℕ). is_some o) (none-set pool.frame_of page p))
+    where
+      by_test : (b : Bool) → (has pool.resident p && not (b || false)) ≡ is_some (if b then None else frame_at pool p)
+      by_test true = none (has pool.resident p)
+        where
+          none : (b : Bool) → (b && false) ≡ false
+          none true = refl
+          none false = refl
+      by_test false = all (has pool.resident p) ∙ seen.resident p
+        where
+          all : (b : Bool) → (b && true) ≡ b
+          all true = refl
+          all false = refl
+
+  -- what stands somewhere after it stood there before
+  before : (xs : List (Option ℕ)) (at other value : ℕ) → slice_index_or (slice_set xs at None) other None ≡ Some value → (at ≢ other) × (slice_index_or xs other None ≡ Some value)
+  before xs at other value is = elim (cases_eq at other) [
+    | inl same ↦ absurd (let clash : None ≡ Some value = sym (ap (λ (b : Bool). if b then None else slice_index_or xs other None) (eq-eqb at other same)) ∙ sym (none-set xs at other) ∙ is in cc)
+    | inr apart ↦ (apart, sym (ap (λ (b : Bool). if b then None else slice_index_or xs other None) (ne_eqb at other apart)) ∙ sym (none-set xs at other) ∙ is)
+  ]
+
+  after : (xs : List (Option ℕ)) (at other value : ℕ) → at ≢ other → slice_index_or xs other None ≡ Some value → slice_index_or (slice_set xs at None) other None ≡ Some value
+  after xs at other value apart is = none-set xs at other ∙ ap (λ (b : Bool). if b then None else slice_index_or xs other None) (ne_eqb at other apart) ∙ is
+
+  one : (a b : ℕ) → Some a ≡ Some b → a ≡ b
+  one a b same = cc
+
+  seen-left : IsSeen left
+  seen-left = record {
+    bytes = seen.bytes;
+    page_in = length-set pool.page_in frame None ∙ seen.page_in;
+    marked = seen.marked ∙ sym (length-set pool.frame_of page None);
+    kept = kept-long ∙ seen.kept ∙ ap (λ n. n * page_bytes pool.page) (sym (length-set pool.frame_of page None));
+    resident = resident-left;
+    there = λ p f is.
+        let old = before pool.frame_of page p f is in
+        after pool.page_in frame f p (λ e. old.0 (one page p (sym (seen.there page frame there) ∙ ap (page_at pool) e ∙ seen.there p f old.1))) (seen.there p f old.1);
+    back = λ p f is.
+        let old = before pool.page_in frame f p is in
+        after pool.frame_of page p f (λ e. old.0 (one frame f (sym there ∙ ap (frame_at pool) e ∙ seen.back p f old.1))) (seen.back p f old.1);
+    above = λ p f is. seen.above p f (before pool.page_in frame f p is).1;
+    below = λ p f is. seen.below p f (before pool.page_in frame f p is).1;
+  }
+
+pub seen-gone : (pool : Pool) (page : ℕ) → IsSeen pool → IsSeen (gone pool page)
+seen-gone pool page seen = by_frame (frame_at pool page) refl
+  where
+    by_frame : (o : Option ℕ) → frame_at pool page ≡ o → IsSeen (gone pool page)
+    by_frame (Some frame) is = subst IsSeen (sym (gone-from pool page frame is)) (seen-left pool seen page frame is)
+    by_frame None is =
+        subst IsSeen
+        (sym (ap (λ (o : Option ℕ). option_map_or (λ frame. record pool {
+          resident = taken_out (page ∷ []) pool.resident;
+          frame_of = slice_set pool.frame_of page None;
+          page_in = slice_set pool.page_in frame None;
+          kept = kept_after pool page frame;
+        }) o pool) is))
+        seen
+
+-- a page that is in no frame leaves none
+pub gone-absent : (pool : Pool) (page : ℕ) → frame_at pool page ≡ None → gone pool page ≡ pool
+gone-absent pool page none =
+    ap (λ (o : Option ℕ). option_map_or (λ frame. record pool {
+      resident = taken_out (page ∷ []) pool.resident;
+      frame_of = slice_set pool.frame_of page None;
+      page_in = slice_set pool.page_in frame None;
+      kept = kept_after pool page frame;
+    }) o pool) none

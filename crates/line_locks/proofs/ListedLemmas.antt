@@ -1,0 +1,156 @@
+-- The pages of which something is held, as they are listed.
+use Rattle.std.specs.Prelude.{◌≡◌, refl, ℕ, zero, suc, ◌+◌, ◌<◌, ◌==◌, ◌&&◌, ◌||◌, not, if◌then◌else◌, Bool, true, false, List, [], ◌∷◌, ◌++◌, length, replicate, slice_set}
+use Rattle.std.specs.List.{range_with_len}
+use Rattle.std.proofs.Common.{arith, ap, sym, ◌∙◌, subst, inl, inr, get_or, get_or-set_same, get_or-set_other}
+use Rattle.std.proofs.lemmas.Bool.{eqb-true, eqb-false, eq-eqb, both_ways, or_cases, or_parts, or_left, or_right, not-true, not-false, cond-false, cases_lt, cases_Bool}
+use Rattle.std.proofs.lemmas.List.{get_or-replicate, length_push, nil_from_length, get_or_past, same_lists, get_or_default, length-replicate}
+use Rattle.lock_rules.specs.Sets.{has, distinct, size}
+use Rattle.lock_rules.proofs.Sets.{has-append, in_range}
+use Rattle.lock_rules.proofs.Sizes.{size-part, size-range, size-apart}
+use Rattle.line_geometry.specs.LineSets.{IsOfPage, union}
+use Rattle.line_geometry.proofs.LineSetLemmas.{is_in_where-below, of_page-below}
+use Rattle.line_locks.specs.declared.request.Want.{Want}
+use Rattle.line_locks.specs.Held.{nothing, of_page, holds_some, together}
+use Rattle.line_locks.specs.Counted.{AreListed}
+
+-- where nothing is held, no line is
+pub none-held : (held : List ℕ × List ℕ) → holds_some held ≡ false → held ≡ nothing
+none-held held none =
+    let parts = or_parts (not (length held.0 == 0)) (not (length held.1 == 0)) none in
+    λ i. (nil_from_length held.0 (zero held.0 parts.0) i, nil_from_length held.1 (zero held.1 parts.1) i)
+  where
+    zero : (lines : List ℕ) → not (length lines == 0) ≡ false → length lines ≡ 0
+    zero lines some = eqb-true (length lines) 0 (not-false (length lines == 0) some)
+
+-- with more lines something is held still
+some-union : (set other : List ℕ) → IsOfPage set → (length (union set other) == 0) ≡ true → (length set == 0) ≡ true
+some-union [] other of none = refl
+some-union (x ∷ xs) other of none =
+    let below : x < 16 = of_page-below (x ∷ xs) of x (or_left (x == x) (has xs x) (eq-eqb x x refl)) in
+    let there : has (union (x ∷ xs) other) x ≡ true =
+    is_in_where-below (λ line. has (x ∷ xs) line || has other line) x below ∙ or_left (has (x ∷ xs) x) (has other x) (or_left (x == x) (has xs x) (eq-eqb x x refl)) in
+    absurd (empty (union (x ∷ xs) other) x (eqb-true (length (union (x ∷ xs) other)) 0 none) there)
+  where
+    empty : (lines : List ℕ) (line : ℕ) → length lines ≡ 0 → has lines line ≡ true → ⊥
+    empty [] line none there = cc
+    empty (y ∷ ys) line none there = omega (arith, none)
+
+pub some-more : (held : List ℕ × List ℕ) (want : Want) → IsOfPage held.0 → IsOfPage held.1 → holds_some held ≡ true → holds_some (together held want) ≡ true
+some-more held want reads writes some =
+    elim (or_cases (not (length held.0 == 0)) (not (length held.1 == 0)) some) [
+      | inl first ↦ or_left (not (length (union held.0 want.reads) == 0)) (not (length (union held.1 want.writes) == 0)) (still held.0 want.reads reads first)
+      | inr second ↦ or_right (not (length (union held.0 want.reads) == 0)) (not (length (union held.1 want.writes) == 0)) (still held.1 want.writes writes second)
+    ]
+  where
+    still : (set other : List ℕ) → IsOfPage set → not (length set == 0) ≡ true → not (length (union set other) == 0) ≡ true
+    still set other of some = elim (cases_Bool (length (union set other) == 0)) [
+      | inl none ↦ absurd (both_ways (length set == 0) (not-true (length set == 0) some) (some-union set other of none))
+      | inr more ↦ ap not more
+    ]
+
+-- what stands at a place is there
+has-at : (list : List ℕ) (k d : ℕ) → k < length list → has list (get_or list k d) ≡ true
+has-at [] k d within = absurd (omega (arith, within))
+has-at (x ∷ list) zero d within = or_left (x == x) (has list x) (eq-eqb x x refl)
+has-at (x ∷ list) (suc k) d within = or_right (x == get_or list k d) (has list (get_or list k d)) (has-at list k d (omega (arith, within)))
+
+module _ (pages : List (List ℕ × List ℕ)) (listed : List ℕ) (are : AreListed pages listed) where
+  -- a listed page is one of the pages
+  pub listed-below : (page : ℕ) → has listed page ≡ true → page < length pages
+  listed-below page inside = elim (cases_lt page (length pages)) [
+    | inl below ↦ below
+    | inr past ↦ absurd (both_ways (has listed page) (are.each page ∙ ap holds_some (get_or_past pages page nothing past)) inside)
+  ]
+
+  pub listed-at : (k d : ℕ) → k < length listed → get_or listed k d < length pages
+  listed-at k d within = listed-below (get_or listed k d) (has-at listed k d within)
+
+  -- so there is room for a page more where it isn't listed
+  pub room : (page : ℕ) → page < length pages → holds_some (of_page pages page) ≡ false → length listed < length pages
+  room page below none =
+      let free : has listed page ≡ false = are.each page ∙ none in
+      let new : size (page ∷ listed) ≡ suc (size listed) = ap length (cond-false (has listed page) (distinct listed) (page ∷ distinct listed) free) in
+      let part = size-part (page ∷ listed) (range_with_len 0 (length pages)) (record {
+        among = λ x inside. elim (or_cases (page == x) (has listed x) inside) [
+          | inl same ↦ in_range 0 (length pages) x (omega arith) (omega (arith, below, eqb-true page x same))
+          | inr other ↦ let less = listed-below x other in in_range 0 (length pages) x (omega arith) (omega (arith, less))
+        ];
+      }) in
+      omega (arith, part, new, are.once, size-range 0 (length pages))
+
+  -- a page changes of which something was held exactly where something is held now
+  pub listed-same : (page : ℕ) (new : List ℕ × List ℕ) → page < length pages → holds_some new ≡ holds_some (of_page pages page) → AreListed (slice_set pages page new) listed
+  listed-same page new below same = record {
+    once = are.once;
+    each = λ other. are.each other ∙ sym (by_test other (other == page) refl);
+  }
+    where
+      by_test : (other : ℕ) (here : Bool) → (other == page) ≡ here → holds_some (of_page (slice_set pages page new) other) ≡ holds_some (of_page pages other)
+      by_test other true e =
+          let it : other ≡ page = eqb-true other page e in
+          ap (λ (x : ℕ). holds_some (of_page (slice_set pages page new) x)) it ∙ ap holds_some (get_or-set_same pages page new nothing below) ∙ same ∙ ap (λ (x : ℕ). holds_some (of_page pages x)) (sym it)
+      by_test other false e = ap holds_some (get_or-set_other pages page other new nothing (eqb-false other page e))
+
+  -- or something is held of it for the first time
+  pub listed-more : (page : ℕ) (new : List ℕ × List ℕ) → page < length pages → holds_some (of_page pages page) ≡ false → holds_some new ≡ true
+      → AreListed (slice_set pages page new) (listed ++ page ∷ [])
+  listed-more page new below none some = record {
+    once = size-apart listed (page ∷ []) (λ x inside. alone x inside (page == x) refl) ∙ lengths;
+    each = λ other. has-append listed (page ∷ []) other ∙ by_test other (page == other) refl;
+  }
+    where
+      alone : (x : ℕ) → has listed x ≡ true → (same : Bool) → (page == x) ≡ same → (same || false) ≡ false
+      alone x inside true e = absurd (both_ways (has listed x) (ap (has listed) (sym (eqb-true page x e)) ∙ are.each page ∙ none) inside)
+      alone x inside false e = refl
+
+      lengths : size listed + size (page ∷ []) ≡ length (listed ++ page ∷ [])
+      lengths = let one : size (page ∷ []) ≡ 1 = refl in omega (arith, are.once, length_push listed page, one)
+
+      or-none : (b : Bool) → (b || false) ≡ b
+      or-none true = refl
+      or-none false = refl
+
+      by_test : (other : ℕ) (here : Bool) → (page == other) ≡ here → (has listed other || (page == other || false)) ≡ holds_some (of_page (slice_set pages page new) other)
+      by_test other true e =
+          let it : page ≡ other = eqb-true page other e in
+          or_right (has listed other) (page == other || false) (or_left (page == other) false e)
+          ∙ sym (ap (λ (x : ℕ). holds_some (of_page (slice_set pages page new) x)) (sym it) ∙ ap holds_some (get_or-set_same pages page new nothing below) ∙ some)
+      by_test other false e =
+          ap (λ (here : Bool). has listed other || (here || false)) e
+          ∙ or-none (has listed other)
+          ∙ are.each other
+          ∙ sym (ap holds_some (get_or-set_other pages page other new nothing (λ same. let no = both_ways (page == other) e (eq-eqb page other (sym same)) in no)))
+
+  -- and so it is after any change that lists the page where it is the first time that something is held of it
+  pub listed-next : (page : ℕ) (new : List ℕ × List ℕ) (first : Bool) (list : List ℕ) → page < length pages
+      → (holds_some (of_page pages page) ≡ true → holds_some new ≡ true) → first ≡ (not (holds_some (of_page pages page)) && holds_some new)
+      → list ≡ (if first then listed ++ page ∷ [] else listed) → AreListed (slice_set pages page new) list
+  listed-next page new first list below still is_first is = subst (AreListed (slice_set pages page new)) (sym is) (by_test (holds_some (of_page pages page)) (holds_some new) first refl refl is_first)
+    where
+      by_test : (before now first : Bool) → holds_some (of_page pages page) ≡ before → holds_some new ≡ now → first ≡ (not (holds_some (of_page pages page)) && holds_some new)
+          → AreListed (slice_set pages page new) (if first then listed ++ page ∷ [] else listed)
+      by_test true now first e f is =
+          subst (λ (b : Bool). AreListed (slice_set pages page new) (if b then listed ++ page ∷ [] else listed)) (sym (is ∙ ap (λ (b : Bool). not b && holds_some new) e))
+          (listed-same page new below (still e ∙ sym e))
+      by_test false true first e f is =
+          subst (λ (b : Bool). AreListed (slice_set pages page new) (if b then listed ++ page ∷ [] else listed)) (sym (is ∙ (λ i. not (e i) && f i)))
+          (listed-more page new below e f)
+      by_test false false first e f is =
+          subst (λ (b : Bool). AreListed (slice_set pages page new) (if b then listed ++ page ∷ [] else listed)) (sym (is ∙ (λ i. not (e i) && f i)))
+          (listed-same page new below (f ∙ sym e))
+
+-- nothing is listed where nothing is held
+pub listed-none : (count : ℕ) → AreListed (replicate count nothing) []
+listed-none count = record {
+  once = refl;
+  each = λ page. sym (ap holds_some (elim (cases_lt page count) [
+    | inl below ↦ get_or-replicate count page nothing nothing below
+    | inr past ↦ get_or_past (replicate count nothing) page nothing (let long = length-replicate count nothing in omega (arith, past, long))
+  ]));
+}
+
+-- pages of which nothing is held
+pub all-none : (pages : List (List ℕ × List ℕ)) (count : ℕ) → length pages ≡ count → ((page : ℕ) → of_page pages page ≡ nothing) → pages ≡ replicate count nothing
+all-none pages count long none =
+    same_lists pages (replicate count nothing) (long ∙ sym (length-replicate count nothing))
+    (λ k d within. get_or_default pages k d nothing within ∙ none k ∙ sym (get_or-replicate count k nothing d (omega (arith, within, long))))

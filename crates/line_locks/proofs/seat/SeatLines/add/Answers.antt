@@ -1,0 +1,47 @@
+use Rattle.std.proofs.Common.{◌≡◌, ◌<◌, ◌≤◌, ◌&&◌, ℕ, false, not, List, [], ◌∷◌, ◌++◌, length, arith, ap, sym, ◌∙◌}
+use Rattle.std.specs.Prelude.{if◌then◌else◌}
+use Rattle.std.proofs.lemmas.Bool.{and_parts, not-true}
+use Rattle.std.proofs.lemmas.List.Sums.{sum_by-set, get_or-le-sum_by}
+use Rattle.std.proofs.lemmas.List.Elements.{All-set}
+use Rattle.std.proofs.lemmas.List.{get_or_default, length-set}
+use Rattle.line_locks.specs.Held.{nothing, of_page, holds_some}
+use Rattle.line_locks.specs.Counted.{IsCounted}
+use Rattle.line_locks.proofs.ListedLemmas.{room, some-more, listed-next}
+use Rattle.line_locks.proofs.seat.SeatLines.add.Goals as goal
+
+below : (c : goal.After-list_if-arg-1) → c.from-page.result < length c.self.inside.pages.items
+below c = omega (arith, c.requires, c.from-page.ensures, ap length c.self.view_is)
+
+was : (c : goal.After-list_if-arg-1) → c.index.result.now ≡ of_page c.self.inside.pages.items c.from-page.result
+was c = c.index.ensures ∙ get_or_default c.self.inside.pages.items c.from-page.result c.index.result.now nothing (below c)
+
+pub list_if-requires : goal.list_if-requires
+list_if-requires c =
+    λ first.
+    let before : holds_some (of_page c.self.inside.pages.items c.from-page.result) ≡ false = ap holds_some (sym (was c)) ∙ sym c.holds_some.ensures.value ∙ not-true c.holds_some.result (and_parts (not c.holds_some.result) c.holds_some-2.result first).0 in
+    let less = room c.self.inside.pages.items c.self.inside.held.items c.self.invariant.1 c.from-page.result (below c) before in
+    omega (arith, less, c.self.invariant.2, c.self.inside.held.ok)
+
+pub invariant_of-self : goal.invariant_of-self
+invariant_of-self c =
+    let pages : List (List ℕ × List ℕ) = c.self.inside.pages.items in
+    let page = c.from-page.result in
+    let new : List ℕ × List ℕ = (c.union-all.result, c.union-together.result) in
+    let counted : IsCounted pages c.self.inside.written = c.self.invariant.0 in
+    let here : page < length pages = omega (arith, c.requires, c.from-page.ensures, ap length c.self.view_is) in
+    let before : c.index.result.now ≡ of_page pages page = c.index.ensures ∙ get_or_default pages page c.index.result.now nothing here in
+    let sum = sum_by-set (λ (held : List ℕ × List ℕ). length held.1) pages page new nothing here in
+    let least : c.count.result ≡ length (of_page pages page).1 = c.count.ensures.value ∙ ap (λ (held : List ℕ × List ℕ). length held.1) before in
+    let some = some-more c.index.result.now c.args.want.now c.holds_some.ensures.reads c.holds_some.ensures.writes in (
+      record {
+        few = omega (arith, counted.few, length-set pages page new);
+        lines = All-set (λ (held : List ℕ × List ℕ). length held.1 ≤ 16) pages page new (omega (arith, c.count-2.ensures.value, c.count-2.ensures.small)) counted.lines;
+        counted = omega (arith, sum, counted.counted, least, c.count-2.ensures.value, get_or-le-sum_by (λ (held : List ℕ × List ℕ). length held.1) pages page nothing here);
+      },
+      listed-next pages c.self.inside.held.items c.self.invariant.1 page new (not c.holds_some.result && c.holds_some-2.result) c.list_if.new.list.items here
+          (λ is. ap holds_some (λ i. (c.union-all.ensures i, c.union-together.ensures i)) ∙ some (ap holds_some before ∙ is))
+          (λ i. not ((c.holds_some.ensures.value ∙ ap holds_some before) i) && c.holds_some-2.ensures.value i)
+          (c.list_if.ensures.items
+          ∙ (λ i. if not c.holds_some.result && c.holds_some-2.result then c.self.inside.held.items ++ sym c.from-page.ensures i ∷ [] else c.self.inside.held.items)),
+      omega (arith, c.self.invariant.2, c.list_if.ensures.capacity, length-set pages page new),
+    )

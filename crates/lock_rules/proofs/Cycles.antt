@@ -1,0 +1,154 @@
+-- The members of a shown cycle; and where each number is given another name of its own, what leads where and the shown cycle are the same in
+-- these names.
+use Rattle.std.specs.Prelude.{◌≡◌, refl, ℕ, zero, suc, ◌==◌, ◌&&◌, ◌||◌, if◌then◌else◌, Bool, true, false, List, [], ◌∷◌, length, map, find, Option, Some, None}
+use Rattle.std.specs.List.{list_any}
+use Rattle.std.specs.Option.{option_map, option_map_or}
+use Rattle.std.proofs.Common.{ap, sym, ◌∙◌}
+use Rattle.std.proofs.lemmas.List.{length-map}
+use Rattle.std.proofs.lemmas.Bool.{eqb-true, eq-eqb, or_left, or_right}
+use Rattle.lock_rules.specs.Sets.{has}
+use Rattle.lock_rules.specs.Waits.{leads, next_shown, shown_after, shown_cycle}
+
+-- what is found is one of them
+pub found-has : (p : ℕ → Bool) (xs : List ℕ) (x : ℕ) → find p xs ≡ Some x → has xs x ≡ true
+found-has p [] x found = absurd (cc)
+found-has p (y ∷ ys) x found = by_test (p y) found (found-has p ys x)
+  where
+    by_test : (here : Bool) → (if here then Some y else find p ys) ≡ Some x → (find p ys ≡ Some x → has ys x ≡ true) → (y == x || has ys x) ≡ true
+    by_test true is later = let same : y ≡ x = cc in or_left (y == x) (has ys x) (eq-eqb y x same)
+    by_test false is later = or_right (y == x) (has ys x) (later is)
+
+-- and passes
+pub found-passes : (p : ℕ → Bool) (xs : List ℕ) (x : ℕ) → find p xs ≡ Some x → p x ≡ true
+found-passes p [] x found = absurd (cc)
+found-passes p (y ∷ ys) x found = by_test (p y) refl found (found-passes p ys x)
+  where
+    by_test : (here : Bool) → p y ≡ here → (if here then Some y else find p ys) ≡ Some x → (find p ys ≡ Some x → p x ≡ true) → p x ≡ true
+    by_test true passes is later = let same : y ≡ x = cc in ap p (sym same) ∙ passes
+    by_test false passes is later = later is
+
+-- where none is found, none passes
+pub none-passes : (p : ℕ → Bool) (xs : List ℕ) (x : ℕ) → find p xs ≡ None → has xs x ≡ true → p x ≡ false
+none-passes p [] x none inside = absurd (cc)
+none-passes p (y ∷ ys) x none inside = by_test (p y) (y == x) refl refl none inside (none-passes p ys x)
+  where
+    by_test : (here same : Bool) → p y ≡ here → (y == x) ≡ same → (if here then Some y else find p ys) ≡ None → (same || has ys x) ≡ true
+        → (find p ys ≡ None → has ys x ≡ true → p x ≡ false) → p x ≡ false
+    by_test true same passes e is inside later = absurd (cc)
+    by_test false true fails e is inside later = ap p (sym (eqb-true y x e)) ∙ fails
+    by_test false false fails e is inside later = later is inside
+
+-- the members of a shown cycle are among all
+pub after-among : (waits : ℕ → ℕ → Bool) (all : List ℕ) (steps first last member : ℕ) → has (shown_after waits all steps first last) member ≡ true → has all member ≡ true
+after-among waits all zero first last member inside = absurd (cc)
+after-among waits all (suc steps) first last member inside =
+    by_next (next_shown waits all first last) refl inside (λ next. after-among waits all steps first next member)
+  where
+    by_next : (next : Option ℕ) → next_shown waits all first last ≡ next
+        → has (option_map_or (λ next. next ∷ (if next == first then [] else shown_after waits all steps first next)) next []) member ≡ true
+        → ((next : ℕ) → has (shown_after waits all steps first next) member ≡ true → has all member ≡ true) → has all member ≡ true
+    by_next None is inside later = absurd (cc)
+    by_next (Some next) is inside later =
+        by_test (next == member) (next == first) refl inside
+      where
+        by_test : (same closes : Bool) → (next == member) ≡ same
+            → (same || has (if closes then [] else shown_after waits all steps first next) member) ≡ true → has all member ≡ true
+        by_test true closes e inside =
+            ap (has all) (sym (eqb-true next member e)) ∙ found-has (λ next. waits last next && leads waits all (length all) next first) all next is
+        by_test false true e inside = absurd (cc)
+        by_test false false e inside = later next inside
+
+pub cycle-among : (waits : ℕ → ℕ → Bool) (all : List ℕ) (first : ℕ) (cycle : List ℕ) (member : ℕ) → has all first ≡ true → shown_cycle waits all first ≡ Some cycle
+    → has cycle member ≡ true → has all member ≡ true
+cycle-among waits all first cycle member here is inside = by_test (leads waits all (length all) first first) is
+  where
+    by_test : (round : Bool) → (if round then Some (first ∷ shown_after waits all (length all) first first) else None) ≡ Some cycle → has all member ≡ true
+    by_test false is = absurd (cc)
+    by_test true is =
+        let it : first ∷ shown_after waits all (length all) first first ≡ cycle = cc in
+        by_first (first == member) refl (ap (λ (members : List ℕ). has members member) it ∙ inside)
+      where
+        by_first : (same : Bool) → (first == member) ≡ same → (same || has (shown_after waits all (length all) first first) member) ≡ true → has all member ≡ true
+        by_first true e inside = ap (has all) (sym (eqb-true first member e)) ∙ here
+        by_first false e inside = after-among waits all (length all) first first member inside
+
+module _ {A : Type 0} (name : ℕ → A) where
+  -- some one passes by its name, where it passes
+  pub any-named : (p : A → Bool) (q : ℕ → Bool) (xs : List ℕ) → ((x : ℕ) → has xs x ≡ true → p (name x) ≡ q x) → list_any p (map name xs) ≡ list_any q xs
+  any-named p q [] same = refl
+  any-named p q (x ∷ xs) same =
+      λ i.
+      same x (or_left (x == x) (has xs x) (eq-eqb x x refl)) i
+      || any-named p q xs (λ y inside. same y (or_right (x == y) (has xs y) inside)) i
+
+  -- the first that passes by its name
+  pub find-named : (p : A → Bool) (q : ℕ → Bool) (xs : List ℕ) → ((x : ℕ) → has xs x ≡ true → p (name x) ≡ q x) → find p (map name xs) ≡ option_map name (find q xs)
+  find-named p q [] same = refl
+  find-named p q (x ∷ xs) same =
+      step (p (name x)) (q x) (same x (or_left (x == x) (has xs x) (eq-eqb x x refl)))
+      (find-named p q xs (λ y inside. same y (or_right (x == y) (has xs y) inside)))
+    where
+      step : (a b : Bool) → a ≡ b → find p (map name xs) ≡ option_map name (find q xs)
+          → (if a then Some (name x) else find p (map name xs)) ≡ option_map name (if b then Some x else find q xs)
+      step true true e rest = refl
+      step true false e rest = absurd (cc)
+      step false true e rest = absurd (cc)
+      step false false e rest = rest
+
+-- names of their own, and waits by these names
+pub record AreNamed (name : ℕ → ℕ) (waits named : ℕ → ℕ → Bool) (all : List ℕ) : Type 0 where
+  pub same : (x y : ℕ) → has all x ≡ true → has all y ≡ true → named (name x) (name y) ≡ waits x y
+  pub apart : (x y : ℕ) → has all x ≡ true → has all y ≡ true → (name x == name y) ≡ (x == y)
+
+module _ (name : ℕ → ℕ) (waits named : ℕ → ℕ → Bool) (all : List ℕ) (are : AreNamed name waits named all) where
+  leads-named : (steps from to : ℕ) → has all from ≡ true → has all to ≡ true → leads named (map name all) steps (name from) (name to) ≡ leads waits all steps from to
+  leads-named zero from to here there = refl
+  leads-named (suc steps) from to here there =
+      any-named name (λ next. named (name from) next && (next == name to || leads named (map name all) steps next (name to))) (λ next. waits from next && (next == to || leads waits all steps next to)) all
+      (λ next inside i. are.same from next here inside i && (are.apart next to inside there i || leads-named steps next to inside there i))
+
+  leads-round : (from to : ℕ) → has all from ≡ true → has all to ≡ true → leads named (map name all) (length (map name all)) (name from) (name to) ≡ leads waits all (length all) from to
+  leads-round from to here there = ap (λ (steps : ℕ). leads named (map name all) steps (name from) (name to)) (length-map all name) ∙ leads-named (length all) from to here there
+
+  next-named : (first last : ℕ) → has all first ≡ true → has all last ≡ true → next_shown named (map name all) (name first) (name last) ≡ option_map name (next_shown waits all first last)
+  next-named first last here there =
+      find-named name (λ next. named (name last) next && leads named (map name all) (length (map name all)) next (name first)) (λ next. waits last next && leads waits all (length all) next first) all
+      (λ next inside i. are.same last next there inside i && leads-round next first inside here i)
+
+  after-named : (steps first last : ℕ) → has all first ≡ true → has all last ≡ true
+      → shown_after named (map name all) steps (name first) (name last) ≡ map name (shown_after waits all steps first last)
+  after-named zero first last here there = refl
+  after-named (suc steps) first last here there =
+      ap (λ (next : Option ℕ). option_map_or (λ next. next ∷ (if next == name first then [] else shown_after named (map name all) steps (name first) next)) next []) (next-named first last here there)
+      ∙ by_next (next_shown waits all first last) refl (λ next inside. after-named steps first next here inside)
+    where
+      by_next : (next : Option ℕ) → next_shown waits all first last ≡ next
+          → ((next : ℕ) → has all next ≡ true → shown_after named (map name all) steps (name first) (name next) ≡ map name (shown_after waits all steps first next))
+          → option_map_or (λ next. next ∷ (if next == name first then [] else shown_after named (map name all) steps (name first) next)) (option_map name next) []
+          ≡ map name (option_map_or (λ next. next ∷ (if next == first then [] else shown_after waits all steps first next)) next [])
+      by_next None is later = refl
+      by_next (Some next) is later = by_test (name next == name first) (next == first) (are.apart next first inside here) (later next inside)
+        where
+          inside : has all next ≡ true
+          inside = found-has (λ next. waits last next && leads waits all (length all) next first) all next is
+
+          by_test : (a b : Bool) → a ≡ b → shown_after named (map name all) steps (name first) (name next) ≡ map name (shown_after waits all steps first next)
+              → name next ∷ (if a then [] else shown_after named (map name all) steps (name first) (name next)) ≡ map name (next ∷ (if b then [] else shown_after waits all steps first next))
+          by_test true true e rest = refl
+          by_test true false e rest = absurd (cc)
+          by_test false true e rest = absurd (cc)
+          by_test false false e rest = ap (λ (these : List ℕ). name next ∷ these) rest
+
+  -- the shown cycle in these names
+  pub cycle-named : (first : ℕ) → has all first ≡ true → shown_cycle named (map name all) (name first) ≡ option_map (map name) (shown_cycle waits all first)
+  cycle-named first here =
+      ap (λ (steps : ℕ). if leads named (map name all) steps (name first) (name first) then Some (name first ∷ shown_after named (map name all) steps (name first) (name first)) else None) (length-map all name)
+      ∙ by_test (leads named (map name all) (length all) (name first) (name first)) (leads waits all (length all) first first) (leads-named (length all) first first here here) (after-named (length all) first first here here)
+    where
+      by_test : (a b : Bool) → a ≡ b → shown_after named (map name all) (length all) (name first) (name first) ≡ map name (shown_after waits all (length all) first first)
+          → (if a then Some (name first ∷ shown_after named (map name all) (length all) (name first) (name first)) else None)
+          ≡ option_map (map name) (if b then Some (first ∷ shown_after waits all (length all) first first) else None)
+      by_test true true e rest = ap (λ (these : List ℕ). Some (name first ∷ these)) rest
+      by_test true false e rest = absurd (cc)
+      by_test false true e rest = absurd (cc)
+      by_test false false e rest = refl

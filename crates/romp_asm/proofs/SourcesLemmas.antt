@@ -1,0 +1,461 @@
+-- Where the labels of several sources stand.
+use Rattle.std.proofs.Common.{◌≡◌, inl, inr, ℕ, ℤ, pos, zero, suc, ◌+◌, ◌<◌, ◌≤◌, Bool, true, false, is_some, cond, List, [], ◌∷◌, ◌++◌, length, map, take, drop, get_or, sum_by, unwrap_or, replicate, Option, Some, None, Result, Ok, Err, refl, sym, ap, subst, ◌∙◌, arith, append-nil, append_assoc, length-append, add-one}
+use Rattle.std.specs.Prelude.{◌==◌, ◌&&◌, ◌||◌, if◌then◌else◌, option_and_then, slice_get}
+use Rattle.std.specs.List.{list_any}
+use Rattle.std.specs.Option.{option_map, option_map_or, option_or}
+use Rattle.std.specs.Str.{bytes_eq}
+use Rattle.std.proofs.Math.Path.{fun_ext}
+use Rattle.std.proofs.Math.Seq.{drop-cons}
+use Rattle.std.proofs.lemmas.Bool.{cases_lt}
+use Rattle.std.proofs.lemmas.Bool.Decides.{nat_tests}
+use Rattle.std.proofs.lemmas.List.{drop_all, get_or_push, get_or_append_left, get_or_default, get_or-map, take-append-le, take_all, take_more, take-map, map-append, length-map, length-take-le}
+use Rattle.std.proofs.lemmas.List.Sums.{fold_push, sum_by-append, sum_by-cons}
+use Rattle.std.proofs.lemmas.Option.{get_or_from_slice_get, slice_get_within, slice_get-get_or, slice_get_past}
+use Rattle.asm_parse.specs.declared.statement.Statement.{Statement}
+use Rattle.romp_asm.specs.declared.value.Place.{Place}
+use Rattle.romp_asm.specs.declared.value.Scope.{Scope}
+use Rattle.romp_asm.specs.declared.value.Table.{Table}
+use Rattle.romp_asm.specs.Labels.{addresses_in, found_in, given_in, place_from, repeated_in, stands_before, AreAlone, AreTables, IsTable}
+use Rattle.romp_asm.specs.Laid.{AreReadAs, IsReadAs}
+use Rattle.romp_asm.specs.Layout.{assembled, entry_of, has_label_of, image_behind, piece_before, piece_of, windows_of, with_entry, with_image, with_window}
+use Rattle.romp_asm.specs.Size.{size_of, total}
+use Rattle.romp_asm.specs.Sources.{defines, joined_from, meant, name_in, named, renamed_body}
+use Rattle.romp_asm.specs.Value.{address_from, address_of, addresses_of, is_labelled}
+use Rattle.romp_asm.proofs.LayoutLemmas.{address_same, among_first}
+use Rattle.romp_asm.proofs.RenamedLemmas.{entry_renamed, piece_renamed, size_renamed, window_renamed}
+
+-- one source more
+pub tables_more : (tables : List Table) (sources : List (List Statement)) (table : Table) (source : List Statement) → AreTables tables sources → IsTable table (sum_by total sources) source → AreTables (tables ++ table ∷ []) (sources ++ source ∷ [])
+tables_more tables sources table source are is = record {
+  many = omega (arith, are.many, length-append tables (table ∷ []), length-append sources (source ∷ []));
+  each = λ place that within here. elim (cases_lt place (length tables)) [
+    | inl less ↦
+        let before : that ≡ get_or tables place that = here ∙ get_or_append_left tables (table ∷ []) that place less in
+        let inside : place < length sources = omega (arith, less, are.many) in
+        let front : take place sources ≡ take place (sources ++ source ∷ []) = sym (take-append-le place sources (source ∷ []) (omega (arith, inside))) in
+        let there : get_or sources place [] ≡ get_or (sources ++ source ∷ []) place [] = sym (get_or_append_left sources (source ∷ []) [] place inside) in
+        subst (λ (these : List (List Statement)). IsTable that (sum_by total these) (get_or (sources ++ source ∷ []) place [])) front
+        (subst (λ (those : List Statement). IsTable that (sum_by total (take place sources)) those) there (are.each place that less before))
+    | inr not_less ↦
+        let last : length tables ≡ place = omega (arith, not_less, within, length-append tables (table ∷ [])) in
+        let long : length sources ≡ place = omega (arith, last, are.many) in
+        let this : table ≡ that = sym (here ∙ get_or_push tables table that place last) in
+        let front : sources ≡ take place (sources ++ source ∷ []) = sym (take_all place sources (omega (arith, long))) ∙ sym (take-append-le place sources (source ∷ []) (omega (arith, long))) in
+        let there : source ≡ get_or (sources ++ source ∷ []) place [] = sym (get_or_push sources source [] place long) in
+        subst (λ (those : Table). IsTable those (sum_by total (take place (sources ++ source ∷ []))) (get_or (sources ++ source ∷ []) place [])) this
+        (subst (λ (these : List (List Statement)). IsTable table (sum_by total these) (get_or (sources ++ source ∷ []) place [])) front
+        (subst (λ (those : List Statement). IsTable table (sum_by total sources) those) there is))
+  ];
+}
+
+nothing-named : (at : ℕ) (word : List ℕ) → address_from at [] word ≡ None
+unfolding address_from
+nothing-named at word = refl
+
+or_none : {A : Type 0} (found : Option A) → option_or found None ≡ found
+or_none None = refl
+or_none (Some value) = refl
+
+-- the address of a label in statements behind others
+address-append : (at : ℕ) (xs ys : List Statement) (word : List ℕ) → address_from at (xs ++ ys) word ≡ option_or (address_from at xs word) (address_from (at + total xs) ys word)
+unfolding address_from
+address-append at [] ys word = let same : at + 0 ≡ at = omega arith in ap (λ (n : ℕ). address_from n ys word) (sym same)
+address-append at (x ∷ xs) ys word = by_test (is_labelled word x) (address-append (at + size_of x.body) xs ys word)
+  where
+    later : at + size_of x.body + total xs ≡ at + total (x ∷ xs)
+    later = omega (arith, sum_by-cons (λ (statement : Statement). size_of statement.body) x xs)
+
+    by_test : (test : Bool) → address_from (at + size_of x.body) (xs ++ ys) word ≡ option_or (address_from (at + size_of x.body) xs word) (address_from (at + size_of x.body + total xs) ys word)
+        → cond test (Some at) (address_from (at + size_of x.body) (xs ++ ys) word) ≡ option_or (cond test (Some at) (address_from (at + size_of x.body) xs word)) (address_from (at + total (x ∷ xs)) ys word)
+    by_test true others = refl
+    by_test false others = others ∙ ap (λ (n : ℕ). option_or (address_from (at + size_of x.body) xs word) (address_from n ys word)) later
+
+-- a label has an address exactly where a statement has it
+pub has_address : (at : ℕ) (xs : List Statement) (word : List ℕ) → list_any (is_labelled word) xs ≡ is_some (address_from at xs word)
+unfolding address_from
+has_address at [] word = refl
+has_address at (x ∷ xs) word = by_test (is_labelled word x) (has_address (at + size_of x.body) xs word)
+  where
+    by_test : (test : Bool) → list_any (is_labelled word) xs ≡ is_some (address_from (at + size_of x.body) xs word) → (test || list_any (is_labelled word) xs) ≡ is_some (cond test (Some at) (address_from (at + size_of x.body) xs word))
+    by_test true others = refl
+    by_test false others = others
+
+module _ (giver : List ℕ → Option ℕ) where
+  -- a statement has a name of its source where it has the word
+  own_label : (source : ℕ) (whole : List Statement) (statement : Statement) (word : List ℕ) → is_labelled (name_in source word) (named giver source whole statement) ≡ is_labelled word statement
+  own_label source whole statement word = by_label statement.label
+    where
+      same : (source == source) ≡ true
+      same = grind (arith, nat_tests)
+
+      by_label : (label : Option (List ℕ)) → option_map_or (λ label. bytes_eq label (name_in source word)) (option_map (name_in source) label) false ≡ option_map_or (λ label. bytes_eq label word) label false
+      by_label None = refl
+      by_label (Some label) = rw same refl
+
+  -- and no name of another source
+  other_label : (source other : ℕ) (whole : List Statement) (statement : Statement) (word : List ℕ) → (other ≡ source → ⊥) → is_labelled (name_in other word) (named giver source whole statement) ≡ false
+  other_label source other whole statement word apart = by_label statement.label
+    where
+      differ : (source == other) ≡ false
+      differ = grind (arith, nat_tests)
+
+      by_label : (label : Option (List ℕ)) → option_map_or (λ label. bytes_eq label (name_in other word)) (option_map (name_in source) label) false ≡ false
+      by_label None = refl
+      by_label (Some label) = rw differ refl
+
+  total-named : (source : ℕ) (whole xs : List Statement) → total (map (named giver source whole) xs) ≡ total xs
+  total-named source whole [] = refl
+  total-named source whole (x ∷ xs) =
+      omega (
+        arith,
+        total-named source whole xs,
+        sum_by-cons (λ (statement : Statement). size_of statement.body) x xs,
+        sum_by-cons (λ (statement : Statement). size_of statement.body) (named giver source whole x) (map (named giver source whole) xs),
+        size_renamed (addresses_of []) (meant giver source whole) x.body,
+      )
+
+  address-own : (source at : ℕ) (whole xs : List Statement) (word : List ℕ) → address_from at (map (named giver source whole) xs) (name_in source word) ≡ address_from at xs word
+  unfolding address_from
+  address-own source at whole [] word = refl
+  address-own source at whole (x ∷ xs) word =
+      ap (λ (test : Bool). cond test (Some at) (address_from (at + size_of (renamed_body (meant giver source whole) x.body)) (map (named giver source whole) xs) (name_in source word))) (own_label source whole x word)
+      ∙ ap (λ (n : ℕ). cond (is_labelled word x) (Some at) (address_from (at + n) (map (named giver source whole) xs) (name_in source word))) (sym (size_renamed (addresses_of []) (meant giver source whole) x.body))
+      ∙ ap (cond (is_labelled word x) (Some at)) (address-own source (at + size_of x.body) whole xs word)
+
+  address-other : (source other at : ℕ) (whole xs : List Statement) (word : List ℕ) → (other ≡ source → ⊥) → address_from at (map (named giver source whole) xs) (name_in other word) ≡ None
+  unfolding address_from
+  address-other source other at whole [] word apart = refl
+  address-other source other at whole (x ∷ xs) word apart =
+      ap (λ (test : Bool). cond test (Some at) (address_from (at + size_of (renamed_body (meant giver source whole) x.body)) (map (named giver source whole) xs) (name_in other word))) (other_label source other whole x word apart)
+      ∙ address-other source other (at + size_of (renamed_body (meant giver source whole) x.body)) whole xs word apart
+
+  total-joined : (first : ℕ) (sources : List (List Statement)) → total (joined_from giver first sources) ≡ sum_by total sources
+  unfolding joined_from
+  total-joined first [] = refl
+  total-joined first (source ∷ sources) =
+      sum_by-append (λ (statement : Statement). size_of statement.body) (map (named giver first source) source) (joined_from giver (first + 1) sources)
+      ∙ omega (arith, total-named first source source, total-joined (first + 1) sources, sum_by-cons total source sources)
+
+  -- no source of these has the name
+  address-outside : (first other at : ℕ) (sources : List (List Statement)) (word : List ℕ) → ((k : ℕ) → k < length sources → other ≡ first + k → ⊥) → address_from at (joined_from giver first sources) (name_in other word) ≡ None
+  unfolding joined_from
+  address-outside first other at [] word apart = nothing-named at (name_in other word)
+  address-outside first other at (source ∷ sources) word apart =
+      address-append at (map (named giver first source) source) (joined_from giver (first + 1) sources) (name_in other word)
+      ∙ ap (λ (found : Option ℕ). option_or found (address_from (at + total (map (named giver first source) source)) (joined_from giver (first + 1) sources) (name_in other word)))
+      (address-other first other at source source word (λ same. apart 0 (omega arith) (omega (arith, same))))
+      ∙ address-outside (first + 1) other (at + total (map (named giver first source) source)) sources word (λ k within same. apart (k + 1) (omega (arith, within)) (omega (arith, same)))
+
+  -- the sources in front of one, it, and those behind it
+  pub joined-split : (first k n : ℕ) (sources : List (List Statement)) → n ≡ first + k → k < length sources
+      → joined_from giver first sources ≡ joined_from giver first (take k sources) ++ (map (named giver n (get_or sources k [])) (get_or sources k []) ++ joined_from giver (n + 1) (drop (k + 1) sources))
+  unfolding joined_from
+  joined-split first k n [] is within = absurd (omega arith)
+  joined-split first zero n (source ∷ sources) is within = let same : first ≡ n = omega arith in ap (λ (m : ℕ). map (named giver m source) source ++ joined_from giver (m + 1) sources) same
+  joined-split first (suc k) n (source ∷ sources) is within =
+      let next : suc (k + 1) ≡ suc k + 1 = omega arith in
+      ap (λ (these : List Statement). map (named giver first source) source ++ these) (joined-split (first + 1) k n sources (omega arith) (omega arith))
+      ∙ sym (append_assoc (map (named giver first source) source) (joined_from giver (first + 1) (take k sources)) (map (named giver n (get_or sources k [])) (get_or sources k []) ++ joined_from giver (n + 1) (drop (k + 1) sources)))
+      ∙ ap (λ (m : ℕ). (map (named giver first source) source ++ joined_from giver (first + 1) (take k sources)) ++ (map (named giver n (get_or sources k [])) (get_or sources k []) ++ joined_from giver (n + 1) (drop m (source ∷ sources)))) next
+
+  module _ (sources : List (List Statement)) where
+    abbrev all : List Statement
+    all = joined_from giver 0 sources
+
+    -- a name of a source that isn't there has no address
+    address-past : (place : ℕ) (word : List ℕ) → length sources ≤ place → address_of all (name_in place word) ≡ None
+    address-past place word past = address-outside 0 place 0 sources word (λ k within same. omega (arith, past, within, same))
+
+    module _ (place : ℕ) (within : place < length sources) where
+      abbrev source : List Statement
+      source = get_or sources place []
+
+      abbrev start : ℕ
+      start = sum_by total (take place sources)
+
+      abbrev before : List Statement
+      before = joined_from giver 0 (take place sources)
+
+      front : (word : List ℕ) → address_from 0 before (name_in place word) ≡ None
+      front word = address-outside 0 place 0 (take place sources) word (λ k inside same. let few : length (take place sources) ≡ place = length-take-le place sources (omega (arith, within)) in omega (arith, inside, same, few))
+
+      starts : 0 + total before ≡ start
+      starts = omega (arith, total-joined 0 (take place sources))
+
+      -- a name among the first of its source's statements
+      address-front : (xs rest : List Statement) (word : List ℕ) → ((at : ℕ) → address_from at rest (name_in place word) ≡ None) → address_of (before ++ (map (named giver place source) xs ++ rest)) (name_in place word) ≡ address_from start xs word
+      address-front xs rest word none =
+          address-append 0 before (map (named giver place source) xs ++ rest) (name_in place word)
+          ∙ ap (λ (found : Option ℕ). option_or found (address_from (0 + total before) (map (named giver place source) xs ++ rest) (name_in place word))) (front word)
+          ∙ ap (λ (n : ℕ). address_from n (map (named giver place source) xs ++ rest) (name_in place word)) starts
+          ∙ address-append start (map (named giver place source) xs) rest (name_in place word)
+          ∙ ap (option_or (address_from start (map (named giver place source) xs) (name_in place word))) (none (start + total (map (named giver place source) xs)))
+          ∙ or_none (address_from start (map (named giver place source) xs) (name_in place word))
+          ∙ address-own place start source xs word
+
+      address-name : (word : List ℕ) → address_of all (name_in place word) ≡ address_from start source word
+      address-name word =
+          ap (λ (these : List Statement). address_of these (name_in place word)) (joined-split 0 place place sources (omega arith) within)
+          ∙ address-front source (joined_from giver (place + 1) (drop (place + 1) sources)) word
+          (λ at. address-outside (place + 1) place at (drop (place + 1) sources) word (λ k inside same. omega (arith, same)))
+
+-- a table of a source that tells the addresses of its labels
+told : (place : Option Place) (others : Option Place) (address : ℤ) → option_map (λ (place : Place). place.address) place ≡ Some address → option_map (λ (place : Place). place.address) (option_or place others) ≡ Some address
+told None others address is = absurd (cc is)
+told (Some place) others address is = is
+
+untold : (place : Option Place) (others : Option Place) → option_map (λ (place : Place). place.address) place ≡ None → option_or place others ≡ others
+untold None others is = refl
+untold (Some place) others is = absurd (cc is)
+
+module _ (scope : Scope) (sources : List (List Statement)) (are : AreTables scope.tables.now sources) where
+  abbrev giver : List ℕ → Option ℕ
+  giver = found_in scope.givers.now
+
+  abbrev whole : List Statement
+  whole = joined_from giver 0 sources
+
+  abbrev address_in_place : Option Place → Option ℤ
+  address_in_place place = option_map (λ (place : Place). place.address) place
+
+  -- the label that a source gives
+  given : (word : List ℕ) (place : ℕ) → address_in_place (option_and_then (λ (table : Table). found_in table.labels word) (slice_get scope.tables.now place)) ≡ addresses_of whole (name_in place word)
+  given word place = elim (cases_lt place (length sources)) [
+    | inl less ↦
+        let table = get_or scope.tables.now place scope.own.now in
+        let inside : place < length scope.tables.now = omega (arith, less, are.many) in
+        let is = are.each place table inside (get_or_default scope.tables.now place scope.own.now table inside) in
+        ap (λ (found : Option Table). address_in_place (option_and_then (λ (table : Table). found_in table.labels word) found)) (slice_get-get_or scope.tables.now place scope.own.now inside)
+        ∙ ap address_in_place (is.found word)
+        ∙ address_same 0 (sum_by total (take place sources)) (get_or sources place []) word
+        ∙ ap (option_map pos) (sym (address-name giver sources place less word))
+    | inr not_less ↦
+        ap (λ (found : Option Table). address_in_place (option_and_then (λ (table : Table). found_in table.labels word) found)) (slice_get_past scope.tables.now place (omega (arith, not_less, are.many)))
+        ∙ ap (option_map pos) (sym (address-past giver sources place word not_less))
+  ]
+
+  module _ (place : ℕ) (within : place < length sources) (own : scope.own.now ≡ get_or scope.tables.now place scope.own.now) where
+    abbrev here : List Statement
+    here = get_or sources place []
+
+    abbrev from : ℕ
+    from = sum_by total (take place sources)
+
+    table_is : IsTable scope.own.now from here
+    table_is = are.each place scope.own.now (omega (arith, within, are.many)) own
+
+    own_told : (word : List ℕ) → address_in_place (found_in scope.own.now.labels word) ≡ option_map pos (address_from from here word)
+    own_told word = ap address_in_place (table_is.found word) ∙ address_same 0 from here word
+
+    -- what the source's statements are told of a label is the address of its name
+    told_as_meant : (word : List ℕ) → addresses_in scope word ≡ addresses_of whole (meant giver place here word)
+    told_as_meant word = by_address (address_from from here word) refl
+      where
+        defined : defines here word ≡ is_some (address_from from here word)
+        defined = has_address from here word
+
+        by_giver : (source : Option ℕ) → giver word ≡ source → address_from from here word ≡ None
+            → address_in_place (option_and_then (λ source. option_and_then (λ (table : Table). found_in table.labels word) (slice_get scope.tables.now source)) source) ≡ addresses_of whole (name_in (unwrap_or source place) word)
+        by_giver None is none = ap (option_map pos) (sym (address-name giver sources place within word ∙ none))
+        by_giver (Some source) is none = given word source
+
+        by_address : (address : Option ℕ) → address_from from here word ≡ address → addresses_in scope word ≡ addresses_of whole (meant giver place here word)
+        by_address (Some address) is =
+            told (found_in scope.own.now.labels word) (given_in scope word) (pos address) (own_told word ∙ ap (option_map pos) is)
+            ∙ ap (option_map pos) (sym (address-name giver sources place within word ∙ is))
+            ∙ ap (λ (test : Bool). addresses_of whole (name_in (if test then place else unwrap_or (giver word) place) word)) (sym (defined ∙ ap is_some is))
+        by_address None is =
+            ap address_in_place (untold (found_in scope.own.now.labels word) (given_in scope word) (own_told word ∙ ap (option_map pos) is))
+            ∙ by_giver (giver word) refl is
+            ∙ ap (λ (test : Bool). addresses_of whole (name_in (if test then place else unwrap_or (giver word) place) word)) (sym (defined ∙ ap is_some is))
+
+    abbrev front_of : ℕ → List Statement
+    front_of i = joined_from giver 0 (take place sources) ++ take i (map (named giver place here) here)
+
+    repeated_as_named : (i : ℕ) (one : Statement) → repeated_in scope.own.now.labels i one ≡ has_label_of (front_of i) (named giver place here one)
+    repeated_as_named i one = by_label one.label
+      where
+        by_word : (word : List ℕ) → stands_before i (found_in scope.own.now.labels word) ≡ is_some (address_of (front_of i) (name_in place word))
+        by_word word =
+            ap (stands_before i) (table_is.found word)
+            ∙ among_first i 0 from here i word (omega arith)
+            ∙ ap is_some (sym (address-front giver sources place within (take i here) [] word (λ at. nothing-named at (name_in place word))))
+            ∙ ap (λ (these : List Statement). is_some (address_of (joined_from giver 0 (take place sources) ++ these) (name_in place word))) (append-nil (map (named giver place here) (take i here)) ∙ sym (take-map (named giver place here) i here))
+
+        by_label : (label : Option (List ℕ)) → option_map_or (λ label. stands_before i (found_in scope.own.now.labels label)) label false ≡ option_map_or (λ label. is_some (address_of (front_of i) label)) (option_map (name_in place) label) false
+        by_label None = refl
+        by_label (Some label) = by_word label
+
+    -- its statements are read as those with names
+    pub source_as_named : AreReadAs scope here whole (joined_from giver 0 (take place sources)) (map (named giver place here) here)
+    source_as_named = record {
+      many = sym (length-map here (named giver place here));
+      each = λ i one other inside is there.
+          let same : other ≡ named giver place here one = there ∙ get_or-map-at i one other inside is in
+          subst (λ (that : Statement). IsReadAs (addresses_in scope) (repeated_in scope.own.now.labels i one) one whole (front_of i) that) (sym same) (reads i one);
+    }
+      where
+        get_or-map-at : (i : ℕ) (one other : Statement) → i < length here → one ≡ get_or here i one → get_or (map (named giver place here) here) i other ≡ named giver place here one
+        get_or-map-at i one other inside is = get_or-map (named giver place here) here i one other inside ∙ ap (named giver place here) (sym is)
+
+        reads : (i : ℕ) (one : Statement) → IsReadAs (addresses_in scope) (repeated_in scope.own.now.labels i one) one whole (front_of i) (named giver place here one)
+        reads i one =
+            let name = meant giver place here in
+            let same : addresses_in scope ≡ (λ (word : List ℕ). addresses_of whole (name word)) = fun_ext told_as_meant in
+            record {
+              line = refl;
+              piece = λ at entry windows.
+                  ap (λ addresses. piece_of addresses (repeated_in scope.own.now.labels i one) at entry windows one.body) same
+                  ∙ ap (λ repeated. piece_of (λ (word : List ℕ). addresses_of whole (name word)) repeated at entry windows one.body) (repeated_as_named i one)
+                  ∙ piece_renamed (addresses_of whole) name (has_label_of (front_of i) (named giver place here one)) at entry windows one.body;
+              size = size_renamed (addresses_of whole) name one.body;
+              entry = λ entry. ap (λ addresses. with_entry addresses entry one.body) same ∙ entry_renamed (addresses_of whole) name entry one.body;
+              windows = λ windows. window_renamed (addresses_of whole) name windows one.body;
+            }
+
+-- sources from one on, and up to one
+joined-append : (giver : List ℕ → Option ℕ) (first : ℕ) (xs ys : List (List Statement)) → joined_from giver first (xs ++ ys) ≡ joined_from giver first xs ++ joined_from giver (first + length xs) ys
+unfolding joined_from
+joined-append giver first [] ys = let same : first ≡ first + 0 = omega arith in ap (λ (n : ℕ). joined_from giver n ys) same
+joined-append giver first (x ∷ xs) ys =
+    let same : first + 1 + length xs ≡ first + length (x ∷ xs) = omega arith in
+    ap (λ (these : List Statement). map (named giver first x) x ++ these) (joined-append giver (first + 1) xs ys ∙ ap (λ (n : ℕ). joined_from giver (first + 1) xs ++ joined_from giver n ys) same)
+    ∙ sym (append_assoc (map (named giver first x) x) (joined_from giver (first + 1) xs) (joined_from giver (first + length (x ∷ xs)) ys))
+
+module _ (giver : List ℕ → Option ℕ) (sources : List (List Statement)) (i : ℕ) where
+  pub joined-from-one : i < length sources → joined_from giver i (drop i sources) ≡ map (named giver i (get_or sources i [])) (get_or sources i []) ++ joined_from giver (i + 1) (drop (i + 1) sources)
+  unfolding joined_from
+  joined-from-one within =
+      let next : suc i ≡ i + 1 = omega arith in
+      ap (joined_from giver i) (drop-cons sources i [] within)
+      ∙ ap (λ (n : ℕ). map (named giver i (get_or sources i [])) (get_or sources i []) ++ joined_from giver (i + 1) (drop n sources)) next
+
+  pub joined-to-one : i < length sources → joined_from giver 0 (take i sources) ++ map (named giver i (get_or sources i [])) (get_or sources i []) ≡ joined_from giver 0 (take (i + 1) sources)
+  unfolding joined_from
+  joined-to-one within =
+      let long : 0 + length (take i sources) ≡ i = omega (arith, length-take-le i sources (omega (arith, within))) in
+      let one = map (named giver i (get_or sources i [])) (get_or sources i []) in
+      sym (
+      ap (joined_from giver 0) (take_more sources i [] within)
+      ∙ joined-append giver 0 (take i sources) (get_or sources i [] ∷ [])
+      ∙ ap (λ (n : ℕ). joined_from giver 0 (take i sources) ++ joined_from giver n (get_or sources i [] ∷ [])) long
+      ∙ ap (λ (these : List Statement). joined_from giver 0 (take i sources) ++ these) (append-nil one)
+      )
+
+  pub joined-none : length sources ≤ i → joined_from giver i (drop i sources) ≡ []
+  unfolding joined_from
+  joined-none past = ap (joined_from giver i) (drop_all i sources past)
+
+  pub joined-all : length sources ≤ i → joined_from giver 0 (take i sources) ≡ joined_from giver 0 sources
+  joined-all past = ap (joined_from giver 0) (take_all i sources past)
+
+-- where no label of a source stands twice
+pub alone_of : (tables : List Table) (sources : List (List Statement)) → AreTables tables sources → (i : ℕ) (table : Table) (source : List Statement) → i < length sources → table ≡ get_or tables i table → get_or sources i [] ≡ source → table.repeats ≡ false → AreAlone table.labels source (length source)
+alone_of tables sources are i table source within here is =
+    subst (λ (those : List Statement). table.repeats ≡ false → AreAlone table.labels those (length those)) is (are.each i table (omega (arith, within, are.many)) here).alone
+
+-- the statements of the source at hand, by whatever they are known
+module _ (scope : Scope) (sources : List (List Statement)) (i : ℕ) (source : List Statement) (within : i < length sources) (is : get_or sources i [] ≡ source) where
+  abbrev these_names : List ℕ → Option ℕ
+  these_names = found_in scope.givers.now
+
+  pub reads_source : AreTables scope.tables.now sources → scope.own.now ≡ get_or scope.tables.now i scope.own.now
+      → AreReadAs scope source (joined_from these_names 0 sources) (joined_from these_names 0 (take i sources)) (map (named these_names i source) source)
+  reads_source are own =
+      subst (λ (those : List Statement). AreReadAs scope those (joined_from these_names 0 sources) (joined_from these_names 0 (take i sources)) (map (named these_names i those) those)) is (source_as_named scope sources are i within own)
+
+module _ (giver : List ℕ → Option ℕ) (sources : List (List Statement)) (i : ℕ) (source : List Statement) (within : i < length sources) (is : get_or sources i [] ≡ source) where
+  pub left_from : joined_from giver i (drop i sources) ≡ map (named giver i source) source ++ joined_from giver (i + 1) (drop (i + 1) sources)
+  left_from = joined-from-one giver sources i within ∙ ap (λ (those : List Statement). map (named giver i those) those ++ joined_from giver (i + 1) (drop (i + 1) sources)) is
+
+  pub laid_to : joined_from giver 0 (take i sources) ++ map (named giver i source) source ≡ joined_from giver 0 (take (i + 1) sources)
+  laid_to = ap (λ (those : List Statement). joined_from giver 0 (take i sources) ++ map (named giver i those) those) (sym is) ∙ joined-to-one giver sources i within
+
+-- what one source makes where none gives it a word is what its statements make
+module _ (statements : List Statement) where
+  abbrev nobody : List ℕ → Option ℕ
+  nobody word = None
+
+  abbrev alone : List Statement
+  alone = joined_from nobody 0 (statements ∷ [])
+
+  abbrev name_of : Statement → Statement
+  name_of = named nobody 0 statements
+
+  alone-is : alone ≡ map name_of statements
+  unfolding joined_from
+  alone-is = append-nil (map name_of statements)
+
+  own_address : (word : List ℕ) → address_of (map name_of statements) (name_in 0 word) ≡ address_of statements word
+  own_address word = address-own nobody 0 0 statements statements word
+
+  told_alone : (word : List ℕ) → addresses_of statements word ≡ addresses_of (map name_of statements) (meant nobody 0 statements word)
+  told_alone word = ap (option_map pos) (sym (own_address word)) ∙ ap (λ (n : ℕ). addresses_of (map name_of statements) (name_in n word)) (either (defines statements word))
+    where
+      either : (test : Bool) → ◌≡◌ {A = ℕ} 0 (if test then 0 else 0)
+      either true = refl
+      either false = refl
+
+  same_addresses : addresses_of statements ≡ (λ (word : List ℕ). addresses_of (map name_of statements) (meant nobody 0 statements word))
+  same_addresses = fun_ext told_alone
+
+  repeated_alone : (earlier : List Statement) (one : Statement) → has_label_of earlier one ≡ has_label_of (map name_of earlier) (name_of one)
+  repeated_alone earlier one = by_label one.label
+    where
+      by_label : (label : Option (List ℕ)) → option_map_or (λ label. is_some (address_of earlier label)) label false ≡ option_map_or (λ label. is_some (address_of (map name_of earlier) label)) (option_map (name_in 0) label) false
+      by_label None = refl
+      by_label (Some label) = ap is_some (sym (address-own nobody 0 0 statements earlier label))
+
+  -- what stands in front is the same
+  record IsSame (earlier : List Statement) : Type 0 where
+    entry : entry_of (addresses_of statements) earlier ≡ entry_of (addresses_of (map name_of statements)) (map name_of earlier)
+    windows : windows_of earlier ≡ windows_of (map name_of earlier)
+
+  same_more : (earlier : List Statement) (one : Statement) → IsSame earlier → IsSame (earlier ++ one ∷ [])
+  same_more earlier one is = record {
+    entry = fold_push (λ entry (statement : Statement). with_entry (addresses_of statements) entry statement.body) None earlier one
+        ∙ ap (λ addresses. with_entry addresses (entry_of (addresses_of statements) earlier) one.body) same_addresses
+        ∙ entry_renamed (addresses_of (map name_of statements)) (meant nobody 0 statements) (entry_of (addresses_of statements) earlier) one.body
+        ∙ ap (λ entry. with_entry (addresses_of (map name_of statements)) entry (name_of one).body) is.entry
+        ∙ sym (fold_push (λ entry (statement : Statement). with_entry (addresses_of (map name_of statements)) entry statement.body) None (map name_of earlier) (name_of one))
+        ∙ ap (entry_of (addresses_of (map name_of statements))) (sym (map-append name_of earlier (one ∷ [])));
+    windows = fold_push (λ windows (statement : Statement). with_window windows statement.body) (replicate 15 None) earlier one
+        ∙ window_renamed (addresses_of statements) (meant nobody 0 statements) (windows_of earlier) one.body
+        ∙ ap (λ windows. with_window windows (name_of one).body) is.windows
+        ∙ sym (fold_push (λ windows (statement : Statement). with_window windows statement.body) (replicate 15 None) (map name_of earlier) (name_of one))
+        ∙ ap windows_of (sym (map-append name_of earlier (one ∷ [])));
+  }
+
+  image_alone : (earlier rest : List Statement) → IsSame earlier → image_behind statements earlier rest ≡ image_behind (map name_of statements) (map name_of earlier) (map name_of rest)
+  unfolding image_behind
+  image_alone earlier [] is = refl
+  image_alone earlier (one ∷ rest) is =
+      ap (λ others. piece_before one.line (piece_of (addresses_of statements) (has_label_of earlier one) (total earlier) (entry_of (addresses_of statements) earlier) (windows_of earlier) one.body) others)
+      (image_alone (earlier ++ one ∷ []) rest (same_more earlier one is) ∙ ap (λ (these : List Statement). image_behind (map name_of statements) these (map name_of rest)) (map-append name_of earlier (one ∷ [])))
+      ∙ ap (λ reading. piece_before one.line reading (image_behind (map name_of statements) (map name_of earlier ++ name_of one ∷ []) (map name_of rest))) same_piece
+    where
+      same_piece : piece_of (addresses_of statements) (has_label_of earlier one) (total earlier) (entry_of (addresses_of statements) earlier) (windows_of earlier) one.body
+          ≡ piece_of (addresses_of (map name_of statements)) (has_label_of (map name_of earlier) (name_of one)) (total (map name_of earlier)) (entry_of (addresses_of (map name_of statements)) (map name_of earlier)) (windows_of (map name_of earlier)) (name_of one).body
+      same_piece =
+          ap (λ addresses. piece_of addresses (has_label_of earlier one) (total earlier) (entry_of (addresses_of statements) earlier) (windows_of earlier) one.body) same_addresses
+          ∙ piece_renamed (addresses_of (map name_of statements)) (meant nobody 0 statements) (has_label_of earlier one) (total earlier) (entry_of (addresses_of statements) earlier) (windows_of earlier) one.body
+          ∙ ap (λ repeated. piece_of (addresses_of (map name_of statements)) repeated (total earlier) (entry_of (addresses_of statements) earlier) (windows_of earlier) (name_of one).body) (repeated_alone earlier one)
+          ∙ ap (λ at. piece_of (addresses_of (map name_of statements)) (has_label_of (map name_of earlier) (name_of one)) at (entry_of (addresses_of statements) earlier) (windows_of earlier) (name_of one).body) (sym (total-named nobody 0 statements earlier))
+          ∙ ap (λ entry. piece_of (addresses_of (map name_of statements)) (has_label_of (map name_of earlier) (name_of one)) (total (map name_of earlier)) entry (windows_of earlier) (name_of one).body) is.entry
+          ∙ ap (λ windows. piece_of (addresses_of (map name_of statements)) (has_label_of (map name_of earlier) (name_of one)) (total (map name_of earlier)) (entry_of (addresses_of (map name_of statements)) (map name_of earlier)) windows (name_of one).body) is.windows
+
+  whole_same : (done left : List Statement) → done ++ left ≡ statements → IsSame done → IsSame statements
+  whole_same done [] is same = subst IsSame (sym (append-nil done) ∙ is) same
+  whole_same done (one ∷ left) is same = whole_same (done ++ one ∷ []) left (append_assoc done (one ∷ []) left ∙ is) (same_more done one same)
+
+  -- one source alone
+  pub assembled-alone : assembled alone ≡ assembled statements
+  assembled-alone =
+      let same = whole_same [] statements refl (record { entry = refl; windows = refl }) in
+      ap assembled alone-is
+      ∙ ap (with_image (map name_of statements)) (sym (image_alone [] statements (record { entry = refl; windows = refl })))
+      ∙ parts_same (image_behind statements [] statements) same.entry same.windows
+    where
+      parts_same : (image : Result (List ℕ) (ℕ × ℕ)) → entry_of (addresses_of statements) statements ≡ entry_of (addresses_of (map name_of statements)) (map name_of statements) → windows_of statements ≡ windows_of (map name_of statements) → with_image (map name_of statements) image ≡ with_image statements image
+      parts_same (Err fault) entry windows = refl
+      parts_same (Ok image) entry windows = rw (← entry, ← windows) refl

@@ -1,0 +1,26 @@
+use Rattle.std.proofs.Common.{◌≡◌, get_or, sym, ap, ◌∙◌}
+use Rattle.std.proofs.lemmas.Result.{err_from_is_err_and}
+use Rattle.asm_parse.specs.Kept.{stated}
+use Rattle.romp_asm.proofs.LayoutLemmas.{source_fault, source_laid, source_more, source_start}
+use Rattle.romp_asm.proofs.layout.add_text.Goals as goal
+
+pub loop-index-init : goal.loop-index-init
+loop-index-init c all before rest named are to = source_start all before rest named c.args.output.now to
+
+pub loop-index-preserved : goal.loop-index-preserved
+loop-index-preserved c all before rest named are to =
+    let i = c.loop-index.index in
+    let statement = stated c.of.result in
+    let here : statement ≡ get_or c.args.statements.now i statement = c.of.ensures ∙ c.index-statements-index.is ∙ ap (get_or c.args.statements.now i) (sym c.of.ensures) in
+    source_more c.args.scope.now c.args.statements.now all before rest named are i statement c.loop-index-test.true here c.loop-index.output (c.loop-index.invariant all before rest named are to) c.add.new.output c.in_ok-add.ensures
+
+pub returns-in_err-add : goal.returns-in_err-add
+returns-in_err-add c all before rest named are to =
+    let i = c.loop-index.index in
+    let statement = stated c.of.result in
+    let here : statement ≡ get_or c.args.statements.now i statement = c.of.ensures ∙ c.index-statements-index.is ∙ ap (get_or c.args.statements.now i) (sym c.of.ensures) in
+    let told = err_from_is_err_and c.from_residual.result c.from_residual.ensures.1 in
+    rw (told.1, told.2) (source_fault c.args.scope.now c.args.statements.now all before rest named are i statement c.loop-index-test.true here c.loop-index.output (c.loop-index.invariant all before rest named are to) c.in_err-add.field-0.0 c.in_err-add.ensures)
+
+pub returns : goal.returns
+returns c all before rest named are to = source_laid c.args.scope.now c.args.statements.now all before rest named are c.loop-index.index c.loop-index.output c.loop-index-test.false (c.loop-index.invariant all before rest named are to)

@@ -1,0 +1,9 @@
+use Rattle.std.proofs.Common.{take, drop}
+use Rattle.romp_asm.specs.Labels.{found_in}
+use Rattle.romp_asm.specs.Laid.{LaidTo}
+use Rattle.romp_asm.specs.Sources.{joined_from}
+use Rattle.romp_asm.proofs.layout.assemble_sources.Given as goal
+
+abbrev pub invariant-loop-source : goal.invariant-loop-source
+invariant-loop-source l =
+    LaidTo (joined_from (found_in l.givers) 0 l.sources) (joined_from (found_in l.givers) 0 (take l.source l.sources)) (joined_from (found_in l.givers) l.source (drop l.source l.sources)) l.output

@@ -1,0 +1,12 @@
+use Rattle.std.proofs.Common.{◌≡◌, ◌≤◌, ◌*◌, ◌^◌, List, length, take, sum_by}
+use Rattle.asm_parse.specs.declared.statement.Statement.{Statement}
+use Rattle.romp_asm.specs.Labels.{AreTables}
+use Rattle.romp_asm.specs.Size.{total}
+use Rattle.romp_asm.proofs.value.tables_of.Given as goal
+
+abbrev pub invariant-loop-statements : goal.invariant-loop-statements
+invariant-loop-statements l = record {
+  tables : AreTables l.tables.items (take l.statements-index l.sources);
+  address : l.address ≡ sum_by total (take l.statements-index l.sources);
+  small : l.address ≤ sum_by (λ (source : List Statement). length source) (take l.statements-index l.sources) * 2 ^ 32;
+}

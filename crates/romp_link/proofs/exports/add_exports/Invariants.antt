@@ -1,0 +1,8 @@
+use Rattle.std.proofs.Common.{◌≡◌, List, length}
+use Rattle.asm_parse.specs.declared.statement.Statement.{Statement}
+use Rattle.romp_link.specs.Exported.{AreExports}
+use Rattle.romp_link.proofs.ExportLemmas.{AreSoFar}
+use Rattle.romp_link.proofs.exports.add_exports.Given as goal
+
+abbrev pub invariant-loop-index : goal.invariant-loop-index
+invariant-loop-index l = (before : List (List Statement)) → length before ≡ l.source → AreExports l.initial.exports before → AreSoFar l.exports before l.statements l.index

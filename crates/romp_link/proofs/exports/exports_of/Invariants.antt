@@ -1,0 +1,6 @@
+use Rattle.std.proofs.Common.{take}
+use Rattle.romp_link.specs.Exported.{AreExports}
+use Rattle.romp_link.proofs.exports.exports_of.Given as goal
+
+abbrev pub invariant-loop-source : goal.invariant-loop-source
+invariant-loop-source l = AreExports l.exports (take l.source l.sources)

@@ -1,0 +1,6 @@
+use Rattle.std.proofs.Common.{take}
+use Rattle.romp_link.specs.Exported.{HasLabels}
+use Rattle.romp_link.proofs.exports.labels_of.Given as goal
+
+abbrev pub invariant-loop-index : goal.invariant-loop-index
+invariant-loop-index l = HasLabels l.labels (take l.index l.statements)

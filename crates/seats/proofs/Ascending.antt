@@ -1,0 +1,110 @@
+-- Seats in which numbers ascend: each stands once, its number is its own, and sixteen of them are all there are.
+use Rattle.std.specs.Prelude.{◌≡◌, refl, ℕ, suc, ◌+◌, ◌<◌, ◌≤◌, ◌==◌, not, nat_le, nat_lt, Bool, true, false, List, [], ◌∷◌, length, All, Some, None, find}
+use Rattle.std.specs.List.{range_with_len, AllPairs}
+use Rattle.std.proofs.Common.{arith, ap, sym, ◌∙◌, subst, inl, inr}
+use Rattle.std.proofs.lemmas.Bool.{eqb-true, eq-eqb, ne_eqb, or_cases, not-true, not-false, and_parts, ltb-true, cond-false}
+use Rattle.std.proofs.lemmas.List.Elements.{All-head, All-tail}
+use Rattle.lock_rules.specs.Sets.{has, distinct, size}
+use Rattle.lock_rules.proofs.Sets.{has-range, in_range}
+use Rattle.lock_rules.proofs.Sizes.{IsPart, size-part, size-range}
+use Rattle.lock_rules.proofs.Cycles.{found-has, found-passes, none-passes}
+
+-- what holds of each number holds of one that is there
+pub all-has : (P : ℕ → Type 0) (xs : List ℕ) (x : ℕ) → All P xs → has xs x ≡ true → P x
+all-has P [] x all inside = absurd (cc)
+all-has P (y ∷ ys) x all inside =
+    elim (or_cases (y == x) (has ys x) inside) [
+      | inl same ↦ subst P (eqb-true y x same) (All-head P y ys all)
+      | inr later ↦ all-has P ys x (All-tail P y ys all) later
+    ]
+
+-- the first of some seats is below all later ones, and so on from the next
+pairs-head : (R : ℕ → ℕ → Type 0) (x : ℕ) (xs : List ℕ) → AllPairs R (x ∷ xs) → All (R x) xs
+pairs-head R x xs pairs = λ k d within. pairs 0 (suc k) d (omega arith) (omega (arith, within))
+
+pairs-tail : (R : ℕ → ℕ → Type 0) (x : ℕ) (xs : List ℕ) → AllPairs R (x ∷ xs) → AllPairs R xs
+pairs-tail R x xs pairs = λ i j d before within. pairs (suc i) (suc j) d (omega (arith, before)) (omega (arith, within))
+
+module _ (number : ℕ → ℕ) where
+  -- the numbers in these seats ascend
+  abbrev Ascends : List ℕ → Type 0
+  Ascends seats = AllPairs (λ seat later. number seat < number later) seats
+
+  -- a seat's number is its own
+  pub apart : (seats : List ℕ) (x y : ℕ) → Ascends seats → has seats x ≡ true → has seats y ≡ true → (number x == number y) ≡ (x == y)
+  apart [] x y ascends here there = absurd (cc)
+  apart (seat ∷ seats) x y ascends here there =
+      elim (or_cases (seat == x) (has seats x) here) [
+        | inl first ↦ elim (or_cases (seat == y) (has seats y) there) [
+          | inl also ↦
+              let same : x ≡ y = sym (eqb-true seat x first) ∙ eqb-true seat y also in
+              eq-eqb (number x) (number y) (ap number same) ∙ sym (eq-eqb x y same)
+          | inr later ↦
+              let less : number x < number y = subst (λ (s : ℕ). number s < number y) (eqb-true seat x first) (above y later) in
+              differ x y (λ same. let no : ⊥ = omega (arith, less, same) in no)
+        ]
+        | inr behind ↦ elim (or_cases (seat == y) (has seats y) there) [
+          | inl also ↦
+              let less : number y < number x = subst (λ (s : ℕ). number s < number x) (eqb-true seat y also) (above x behind) in
+              differ x y (λ same. let no : ⊥ = omega (arith, less, same) in no)
+          | inr later ↦ apart seats x y (pairs-tail (λ s t. number s < number t) seat seats ascends) behind later
+        ]
+      ]
+    where
+      above : (z : ℕ) → has seats z ≡ true → number seat < number z
+      above z inside = all-has (λ later. number seat < number later) seats z (pairs-head (λ s t. number s < number t) seat seats ascends) inside
+
+      differ : (x y : ℕ) → (number x ≡ number y → ⊥) → (number x == number y) ≡ (x == y)
+      differ x y not_same = ne_eqb (number x) (number y) not_same ∙ sym (ne_eqb x y (λ same. not_same (ap number same)))
+
+  -- the first doesn't stand again
+  once : (seat : ℕ) (seats : List ℕ) → Ascends (seat ∷ seats) → has seats seat ≡ false
+  once seat seats ascends = by_test (has seats seat) refl
+    where
+      by_test : (again : Bool) → has seats seat ≡ again → again ≡ false
+      by_test false is = refl
+      by_test true is =
+          absurd (let less = all-has (λ later. number seat < number later) seats seat (pairs-head (λ s t. number s < number t) seat seats ascends) is in omega (arith, less))
+
+  -- so there are as many as are listed
+  size-listed : (seats : List ℕ) → Ascends seats → size seats ≡ length seats
+  size-listed [] ascends = refl
+  size-listed (seat ∷ seats) ascends =
+      ap length (cond-false (has seats seat) (distinct seats) (seat ∷ distinct seats) (once seat seats ascends))
+      ∙ ap suc (size-listed seats (pairs-tail (λ s t. number s < number t) seat seats ascends))
+
+  -- seats of the sixteen are no more than these
+  part-of : (seats : List ℕ) → All (λ seat. seat < 16) seats → IsPart seats (range_with_len 0 16)
+  part-of seats among = record { among = λ x inside. in_range 0 16 x (omega arith) (all-has (λ seat. seat < 16) seats x among inside) }
+
+  pub few : (seats : List ℕ) → All (λ seat. seat < 16) seats → Ascends seats → length seats ≤ 16
+  few seats among ascends =
+      let part = size-part seats (range_with_len 0 16) (part-of seats among) in
+      omega (arith, part, size-listed seats ascends, size-range 0 16)
+
+  -- where no seat is free, all sixteen are taken
+  pub none-free : (seats : List ℕ) → Ascends seats → find (λ seat. not (has seats seat)) (range_with_len 0 16) ≡ None → 16 ≤ length seats
+  none-free seats ascends none =
+      let part = size-part (range_with_len 0 16) seats (record { among = λ x inside. not-false (has seats x) (none-passes (λ seat. not (has seats seat)) (range_with_len 0 16) x none inside) }) in
+      omega (arith, part, size-listed seats ascends, size-range 0 16)
+
+  -- where one is, they aren't
+  pub some-free : (seats : List ℕ) (seat : ℕ) → All (λ seat. seat < 16) seats → Ascends seats → find (λ seat. not (has seats seat)) (range_with_len 0 16) ≡ Some seat
+      → (seat < 16) × (has seats seat ≡ false) × (length seats < 16)
+  some-free seats seat among ascends found =
+      let inside : has (range_with_len 0 16) seat ≡ true = found-has (λ seat. not (has seats seat)) (range_with_len 0 16) seat found in
+      let free : has seats seat ≡ false = not-true (has seats seat) (found-passes (λ seat. not (has seats seat)) (range_with_len 0 16) seat found) in
+      let new : size (seat ∷ seats) ≡ suc (size seats) = ap length (cond-false (has seats seat) (distinct seats) (seat ∷ distinct seats) free) in
+      let part = size-part (seat ∷ seats) (range_with_len 0 16) (record {
+        among = λ x here. elim (or_cases (seat == x) (has seats x) here) [
+          | inl same ↦ ap (has (range_with_len 0 16)) (sym (eqb-true seat x same)) ∙ inside
+          | inr other ↦ (part-of seats among).among x other
+        ];
+      }) in
+      let below = range-below seat inside in
+      (below, free, omega (arith, part, new, size-listed seats ascends, size-range 0 16))
+    where
+      range-below : (seat : ℕ) → has (range_with_len 0 16) seat ≡ true → seat < 16
+      range-below seat inside =
+          let parts = and_parts (nat_le 0 seat) (nat_lt seat (0 + 16)) (sym (has-range 0 16 seat) ∙ inside) in
+          omega (arith, ltb-true seat (0 + 16) parts.1)

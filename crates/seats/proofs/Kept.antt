@@ -1,0 +1,126 @@
+-- Sixteen seats stay what they are as one is taken, left, or holds more.
+use Rattle.std.specs.Prelude.{◌≡◌, refl, ℕ, zero, suc, ◌<◌, ◌≤◌, ◌==◌, ◌&&◌, not, Bool, true, false, List, [], ◌∷◌, length, All, slice_index_or}
+use Rattle.std.specs.Option.{ForSome}
+use Rattle.std.proofs.Common.{arith, ap, sym, ◌∙◌, inl, inr, get_or-set_same, get_or-set_other}
+use Rattle.std.proofs.lemmas.Bool.{eqb-true, eqb-false, eq-eqb, both_ways, or_left, or_right, or_parts, and_cases, not_from_false}
+use Rattle.std.proofs.lemmas.List.{length-set, length-replicate}
+use Rattle.std.proofs.lemmas.List.Elements.{All-set, All-push, All-filter, All-get_or}
+use Rattle.std.proofs.lemmas.List.Kept.{AllPairs-filter}
+use Rattle.std.proofs.lemmas.List.Quantifiers.{all_pairs_push}
+use Rattle.lock_rules.specs.Sets.{has}
+use Rattle.lock_rules.proofs.Sets.{has-append, has-filter}
+use Rattle.line_locks.specs.declared.request.Want.{Want}
+use Rattle.line_locks.specs.Held.{with_want, with_wants, AreWithin}
+use Rattle.line_locks.specs.Holding.{Holding, IsWhole, no_lines_of, of_seat, with_seat}
+use Rattle.seats.specs.declared.seat.Seat.{Seat}
+use Rattle.seats.specs.Seating.{Seating, IsSeating, newcomer, number_in, seated, left, took}
+use Rattle.seats.proofs.Ascending.{all-has, few}
+
+-- what stands at a place is there
+pub has-at : (xs : List ℕ) (k d : ℕ) → k < length xs → has xs (slice_index_or xs k d) ≡ true
+has-at [] k d within = absurd (omega (arith, within))
+has-at (x ∷ xs) zero d within = or_left (x == x) (has xs x) (eq-eqb x x refl)
+has-at (x ∷ xs) (suc k) d within = or_right (x == slice_index_or xs k d) (has xs (slice_index_or xs k d)) (has-at xs k d (omega (arith, within)))
+
+length-wants : (pages : List (List ℕ × List ℕ)) (wants : List Want) → length (with_wants pages wants) ≡ length pages
+length-wants pages [] = refl
+length-wants pages (want ∷ wants) = length-wants (with_want pages want) wants ∙ length-set pages want.page _
+
+-- a seat of sixteen that holds something else
+module _ (holding : Holding) (seat : ℕ) (held : List (List ℕ × List ℕ)) (whole : IsWhole holding) where
+  pub whole-with : length held ≡ holding.pages → IsWhole (with_seat holding seat held)
+  whole-with long = (length-set holding.seats seat held ∙ whole.0, All-set (λ one. length one ≡ holding.pages) holding.seats seat held long whole.1)
+
+  pub other-with : (other : ℕ) → (other == seat) ≡ false → of_seat (with_seat holding seat held) other ≡ of_seat holding other
+  other-with other differs = get_or-set_other holding.seats seat other held [] (eqb-false other seat differs)
+
+  pub same-with : seat < 16 → of_seat (with_seat holding seat held) seat ≡ held
+  same-with below = get_or-set_same holding.seats seat held [] (omega (arith, below, whole.0))
+
+  pub long-seat : (other : ℕ) → other < 16 → length (of_seat holding other) ≡ holding.pages
+  long-seat other below = All-get_or (λ one. length one ≡ holding.pages) holding.seats other [] (omega (arith, below, whole.0)) whole.1
+
+module _ (seating : Seating) (is : IsSeating seating) where
+  -- a taken seat is one of the sixteen
+  pub taken-below : (seat : ℕ) → has seating.taken seat ≡ true → seat < 16
+  taken-below seat there = all-has (λ seat. seat < 16) seating.taken seat is.among there
+
+  -- and there are sixteen at most
+  pub few-taken : length seating.taken ≤ 16
+  few-taken = few (number_in seating) seating.taken is.among is.ascending
+
+  pub kept-left : (seat : ℕ) → seat < 16 → IsSeating (left seating seat)
+  kept-left seat below = record {
+    sixteen = is.sixteen;
+    among = All-filter (λ other. not (other == seat)) (λ seat. seat < 16) seating.taken is.among;
+    ascending = AllPairs-filter (λ seat later. number_in seating seat < number_in seating later) (λ other. not (other == seat)) seating.taken is.ascending;
+    within = is.within;
+    whole = whole-with seating.holding seat nothing is.whole (length-replicate seating.holding.pages _);
+    free = λ other inside gone. by_test other inside (other == seat) refl (sym (has-filter (λ other. not (other == seat)) seating.taken other) ∙ gone);
+  }
+    where
+      nothing : List (List ℕ × List ℕ)
+      nothing = no_lines_of seating.holding.pages
+
+      by_test : (other : ℕ) → other < 16 → (same : Bool) → (other == seat) ≡ same → (has seating.taken other && not (other == seat)) ≡ false
+          → of_seat (with_seat seating.holding seat nothing) other ≡ nothing
+      by_test other inside true e gone =
+          let same : other ≡ seat = eqb-true other seat e in
+          ap (of_seat (with_seat seating.holding seat nothing)) same ∙ same-with seating.holding seat nothing is.whole below
+      by_test other inside false e gone =
+          other-with seating.holding seat nothing is.whole other e
+          ∙ is.free other inside
+          (elim (and_cases (has seating.taken other) (not (other == seat)) gone) [
+            | inl none ↦ none
+            | inr same ↦ absurd (both_ways (not (other == seat)) same (not_from_false (other == seat) e))
+          ])
+
+  pub kept-took : (seat : ℕ) (wants : List Want) → has seating.taken seat ≡ true → IsSeating (took seating seat wants)
+  kept-took seat wants there = record {
+    sixteen = is.sixteen;
+    among = is.among;
+    ascending = is.ascending;
+    within = is.within;
+    whole = whole-with seating.holding seat more is.whole (length-wants (of_seat seating.holding seat) wants ∙ long-seat seating.holding seat more is.whole seat (taken-below seat there));
+    free = λ other inside none. by_test other inside none (other == seat) refl;
+  }
+    where
+      more : List (List ℕ × List ℕ)
+      more = with_wants (of_seat seating.holding seat) wants
+
+      by_test : (other : ℕ) → other < 16 → has seating.taken other ≡ false → (same : Bool) → (other == seat) ≡ same
+          → of_seat (with_seat seating.holding seat more) other ≡ no_lines_of seating.holding.pages
+      by_test other inside none true e = absurd (both_ways (has seating.taken other) none (ap (has seating.taken) (eqb-true other seat e) ∙ there))
+      by_test other inside none false e = other-with seating.holding seat more is.whole other e ∙ is.free other inside none
+
+  pub kept-seated : (seat number program : ℕ) (args : List ℕ) → seat < 16 → has seating.taken seat ≡ false → All (λ seat. number_in seating seat < number) seating.taken
+      → IsSeating (seated seating seat (newcomer number program args))
+  kept-seated seat number program args below free above = record {
+    sixteen = length-set seating.sitters seat who ∙ is.sixteen;
+    among = All-push (λ seat. seat < 16) seating.taken seat is.among below;
+    ascending = all_pairs_push (λ seat later. number_in new seat < number_in new later) seating.taken seat
+        (λ i j d before within.
+        let first = stays (slice_index_or seating.taken i d) (has-at seating.taken i d (omega (arith, before, within))) in
+        let second = stays (slice_index_or seating.taken j d) (has-at seating.taken j d within) in
+        omega (arith, first, second, is.ascending i j d before within))
+        (λ k d within.
+        let old = stays (slice_index_or seating.taken k d) (has-at seating.taken k d within) in
+        omega (arith, old, its, above k d within));
+    within = All-set (λ one. ForSome one.waits (λ request. AreWithin seating.holding.pages request.wants.items)) seating.sitters seat who (λ request none. absurd (cc)) is.within;
+    whole = is.whole;
+    free = λ other inside none. is.free other inside (or_parts (has seating.taken other) (has (seat ∷ []) other) (sym (has-append seating.taken (seat ∷ []) other) ∙ none)).0;
+  }
+    where
+      who : Seat
+      who = newcomer number program args
+
+      new : Seating
+      new = seated seating seat who
+
+      its : number_in new seat ≡ number
+      its = ap (λ (one : Seat). one.number) (get_or-set_same seating.sitters seat who (newcomer 0 0 []) (omega (arith, below, is.sixteen)))
+
+      stays : (other : ℕ) → has seating.taken other ≡ true → number_in new other ≡ number_in seating other
+      stays other there =
+          ap (λ (one : Seat). one.number)
+          (get_or-set_other seating.sitters seat other who (newcomer 0 0 []) (λ same. let no = both_ways (has seating.taken other) (ap (has seating.taken) same ∙ free) there in no))

@@ -1,0 +1,5 @@
+pub mod Ascending
+pub mod Kept
+pub mod Places
+pub mod Numbers
+mod Bits

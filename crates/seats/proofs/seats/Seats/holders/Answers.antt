@@ -1,0 +1,50 @@
+use Rattle.std.proofs.Common.{◌≡◌, ◌+◌, ◌<◌, ℕ, Bool, true, false, cond, List, [], ◌∷◌, ◌++◌, length, map, filter, take, get_or, append-nil, arith, ap, sym, subst, ◌∙◌}
+use Rattle.std.specs.Prelude.{All}
+use Rattle.arrayvec.specs.ArrayVec.{ArrayVec}
+use Rattle.std.proofs.lemmas.List.{map-append}
+use Rattle.std.proofs.lemmas.List.Elements.{All-get_or, filter_more}
+use Rattle.line_locks.specs.Holding.{is_in_conflict, in_conflict, bits_of_seats}
+use Rattle.wait_cycles.specs.Rows.{is_on}
+use Rattle.seats.specs.Seating.{number_in}
+use Rattle.seats.proofs.Bits.{all-on}
+use Rattle.seats.proofs.Kept.{few-taken}
+use Rattle.seats.proofs.seats.Seats.holders.Goals as goal
+use Rattle.seats.proofs.seats.Seats.holders.Goals.{then-is_on, else-is_on}
+
+pub push-requires : goal.push-requires
+push-requires c =
+    let few = few-taken c.args.self.now c.taken-other-items.ensures.sound in
+    let same : length c.taken-other-items.result.now ≡ length c.args.self.now.taken = ap length c.taken-other-items.ensures.taken in
+    (omega arith, omega (arith, few, same, c.loop-other.invariant.long, c.loop-other-test.true))
+
+-- one more is looked at
+one-more : (p : ℕ → Bool) (number : ℕ → ℕ) (seats : List ℕ) (k : ℕ) (here : Bool) → k < length seats → p (get_or seats k 0) ≡ here
+    → map number (filter p (take (k + 1) seats)) ≡ map number (filter p (take k seats)) ++ map number (cond here (get_or seats k 0 ∷ []) [])
+one-more p number seats k here within is =
+    ap (map number) (filter_more p seats k 0 within ∙ ap (λ (b : Bool). filter p (take k seats) ++ cond b (get_or seats k 0 ∷ []) []) is)
+    ∙ map-append number (filter p (take k seats)) (cond here (get_or seats k 0 ∷ []) [])
+
+pub loop-other-preserved : goal.loop-other-preserved
+loop-other-preserved c =
+    let p : ℕ → Bool = is_in_conflict c.args.self.now.holding c.args.seat c.args.request.now.wants.items in
+    let seats : List ℕ = c.taken-other-items.result.now in
+    let now = c.loop-other.invariant in
+    let below : get_or seats c.loop-other.other-index 0 < 16 =
+    All-get_or (λ seat. seat < 16) seats c.loop-other.other-index 0 c.loop-other-test.true (subst (λ (these : List ℕ). All (λ seat. seat < 16) these) (sym c.taken-other-items.ensures.taken) c.taken-other-items.ensures.sound.among) in
+    let tells : is_on c.conflicts-bits.result (get_or seats c.loop-other.other-index 0) ≡ p (get_or seats c.loop-other.other-index 0) =
+    ap (λ (bits : ℕ). is_on bits (get_or seats c.loop-other.other-index 0)) (c.conflicts-bits.ensures ∙ (λ i. bits_of_seats (in_conflict (c.locks.ensures i) c.args.seat c.args.request.now.wants.items)))
+    ∙ all-on p (get_or seats c.loop-other.other-index 0) below in
+    elim c.if-is_on.branch [
+      | then-is_on w ↦
+          let more = one-more p (number_in c.args.self.now) seats c.loop-other.other-index true c.loop-other-test.true (sym tells ∙ sym c.is_on.ensures ∙ w.if-is_on.true) in
+          record {
+            long = omega (arith, now.long, w.push.ensures.len, ap (λ (these : ArrayVec ℕ). length these.items) w.holders-is);
+            numbers = ap (λ (these : ArrayVec ℕ). these.items) w.holders-is ∙ w.push.ensures.items ∙ (λ i. now.numbers i ++ (w.sitter.ensures i).number ∷ []) ∙ sym more;
+          }
+      | else-is_on w ↦
+          let more = one-more p (number_in c.args.self.now) seats c.loop-other.other-index false c.loop-other-test.true (sym tells ∙ sym c.is_on.ensures ∙ w.if-is_on.false) in
+          record {
+            long = omega (arith, now.long, ap (λ (these : ArrayVec ℕ). length these.items) w.holders-is);
+            numbers = ap (λ (these : ArrayVec ℕ). these.items) w.holders-is ∙ now.numbers ∙ sym (more ∙ append-nil _);
+          }
+    ]

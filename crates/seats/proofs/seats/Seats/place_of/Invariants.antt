@@ -1,0 +1,10 @@
+use Rattle.std.proofs.Common.{◌≡◌, false, take}
+use Rattle.lock_rules.specs.Sets.{has}
+use Rattle.seats.proofs.seats.Seats.place_of.Given as goal
+
+-- the seat is none of those that were looked at
+abbrev pub invariant-loop-other : goal.invariant-loop-other
+invariant-loop-other l = record {
+  place : l.place ≡ l.other-index;
+  none : has (take l.other-index l.other-items) l.seat ≡ false;
+}

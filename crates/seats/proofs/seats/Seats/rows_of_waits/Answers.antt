@@ -1,0 +1,32 @@
+use Rattle.std.proofs.Common.{◌≡◌, ◌&&◌, ℕ, Bool, List, [], ◌∷◌, length, get_or, arith, ap, inl, inr, ◌∙◌}
+use Rattle.std.proofs.lemmas.Bool.{cases_lt, lt-ltb}
+use Rattle.std.proofs.lemmas.List.{get_or_append_left, get_or_push}
+use Rattle.wait_cycles.specs.Rows.{is_on, waits_in}
+use Rattle.seats.specs.Waiting.{seat_waits, seat_at}
+use Rattle.seats.proofs.Kept.{few-taken}
+use Rattle.seats.proofs.seats.Seats.rows_of_waits.Goals as goal
+
+pub push-requires : goal.push-requires
+push-requires c =
+    let few = few-taken c.args.self.now c.taken-seat-items.ensures.sound in
+    let same : length c.taken-seat-items.result.now ≡ length c.args.self.now.taken = ap length c.taken-seat-items.ensures.taken in
+    (omega arith, omega (arith, few, same, c.loop-seat.invariant.long, c.loop-seat-test.true))
+
+pub loop-seat-preserved : goal.loop-seat-preserved
+loop-seat-preserved c =
+    let few = few-taken c.args.self.now c.taken-seat-items.ensures.sound in
+    let now = c.loop-seat.invariant in
+    record {
+      long = omega (arith, now.long, c.push.ensures.len);
+      rows = λ from to before within.
+          ap (λ (rows : List ℕ). waits_in rows from to) c.push.ensures.items
+          ∙ elim (cases_lt from c.loop-seat.seat-index) [
+            | inl old ↦ ap (λ (row : ℕ). is_on row to) (get_or_append_left c.loop-seat.rows.items (c.places_awaited.result ∷ []) 0 from (omega (arith, old, now.long))) ∙ now.rows from to old within
+            | inr not_old ↦
+                let this : c.loop-seat.seat-index ≡ from = omega (arith, before, not_old) in
+                ap (λ (row : ℕ). is_on row to) (get_or_push c.loop-seat.rows.items c.places_awaited.result 0 from (now.long ∙ this))
+                ∙ c.places_awaited.ensures to (omega (arith, few, within))
+                ∙ ap (λ (less : Bool). less && seat_waits c.args.self.now (get_or c.taken-seat-items.result.now c.loop-seat.seat-index 0) (seat_at c.args.self.now to)) (lt-ltb to (length c.args.self.now.taken) within)
+                ∙ (λ i. seat_waits c.args.self.now (get_or (c.taken-seat-items.ensures.taken i) (this i) 0) (seat_at c.args.self.now to))
+          ];
+    }

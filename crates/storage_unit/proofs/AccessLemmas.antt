@@ -1,0 +1,41 @@
+-- Where an access that is permitted begins.
+use Rattle.std.proofs.Common.{◌≡◌, ℕ, Bool, false, refl, sym, ◌∙◌, ap, subst, Ok, Err}
+use Rattle.segment_regs.specs.declared.registers.Check.{Check}
+use Rattle.segment_regs.specs.declared.registers.Virtual.{Virtual}
+use Rattle.segment_regs.specs.Registers.{located_by}
+use Rattle.romp_cpu.specs.declared.storage.Probe.{Probe}
+use Rattle.romp_cpu.specs.Answers.{answered, answered_at}
+use Rattle.romp_cpu.specs.Shown.{access_to}
+use Rattle.storage_unit.specs.declared.model.Reach.{Reach}
+use Rattle.storage_unit.specs.Reach.{is_in_frame, refuses}
+use Rattle.storage_unit.specs.Reached.{IsSound, Lies, AreThere}
+use Rattle.storage_unit.proofs.PlaceLemmas.{Under, under, lies, first-byte}
+use Rattle.storage_unit.proofs.AnswerLemmas.{permitted-located, permitted-there}
+
+-- its bytes lie there, in frames
+pub record Begins (state : Reach) (address n : ℕ) (at : Virtual) : Type 0 where
+  pub under : Under state.registers address n at
+  pub lies : Lies state at n
+  pub there : AreThere state at n
+
+module _ (state : Reach) (sound : IsSound state) (address n : ℕ) (store : Bool) where
+  found : answered state.registers (is_in_frame state) (refuses state) (access_to address n store) ≡ Probe.Permitted → (at : Virtual) × (located_by state.registers address n store ≡ Ok at)
+  found permitted = permitted-located state.registers (is_in_frame state) (refuses state) (access_to address n store) permitted
+
+  pub begins : (at : Virtual) → answered state.registers (is_in_frame state) (refuses state) (access_to address n store) ≡ Probe.Permitted → located_by state.registers address 0 false ≡ Ok at → Begins state address n at
+  begins at permitted is =
+      let (v, lies_at) = found permitted in
+      let here = sym (first-byte state sound address n store v lies_at) ∙ is in
+      let same : v ≡ at = cc in
+      subst (Begins state address n) same
+      (record {
+        under = under state.registers address n store v lies_at;
+        lies = lies state sound address n v (under state.registers address n store v lies_at);
+        there = permitted-there state v n (access_to address n store) refl (ap (answered_at (is_in_frame state) (refuses state) (access_to address n store)) (sym lies_at) ∙ permitted);
+      })
+
+  pub not-refused : (check : Check) → answered state.registers (is_in_frame state) (refuses state) (access_to address n store) ≡ Probe.Permitted → located_by state.registers address 0 false ≡ Err check → ⊥
+  not-refused check permitted is =
+      let (v, lies_at) = found permitted in
+      let clash = sym (first-byte state sound address n store v lies_at) ∙ is in
+      cc

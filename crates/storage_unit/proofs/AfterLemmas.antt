@@ -1,0 +1,279 @@
+-- What is shown before and after a store.
+use Rattle.std.proofs.Common.{◌≡◌, ℕ, ◌+◌, ◌-◌, ◌*◌, ◌/◌, ◌%◌, ◌<◌, ◌≤◌, ◌^◌, Bool, true, false, List, length, refl, sym, ◌∙◌, ap, arith, replicate, Option, Some, None, Result, Ok, Err, inl, inr}
+use Rattle.std.specs.Prelude.{nat_le, cond, slice_index, slice_index_or, is_some}
+use Rattle.std.specs.Option.{option_map_or}
+use Rattle.std.proofs.lemmas.Bool.{cases_lt}
+use Rattle.std.proofs.lemmas.Bool.Decides.{nat_tests}
+use Rattle.std.proofs.lemmas.List.{get_or-replicate, get_or_past}
+use Rattle.std.proofs.lemmas.List.FromFn.{get_or-map-range_with_len, length-map-range_with_len}
+use Rattle.std.proofs.lemmas.Grind.{same_number_lists}
+use Rattle.owned_list.specs.Overlay.{overlaid}
+use Rattle.line_geometry.specs.Segments.{page_bytes}
+use Rattle.line_geometry.specs.Directory.{start_of}
+use Rattle.line_geometry.specs.Lines.{page_of}
+use Rattle.flat_machine.specs.declared.machine.Located.{Located}
+use Rattle.flat_machine.specs.declared.machine.Located.TheVariants.{Private, Shared, Refused}
+use Rattle.segment_regs.specs.declared.registers.Check.{Check}
+use Rattle.segment_regs.specs.declared.registers.SegmentRegister.{SegmentRegister}
+use Rattle.segment_regs.specs.declared.registers.Virtual.{Virtual}
+use Rattle.segment_regs.specs.Registers.{private_register, virtual_at, bytes_on, located_under, located_by}
+use Rattle.inverted_table.specs.declared.key.Key.{Key}
+use Rattle.inverted_table.specs.Keys.{key_to}
+use Rattle.frame_pool.specs.Pool.{frame_at, page_at}
+use Rattle.romp_cpu.specs.declared.storage.Access.{Access}
+use Rattle.romp_cpu.specs.Answers.{IsOutside, answer_in}
+use Rattle.romp_cpu.specs.Shown.{bytes_from}
+use Rattle.storage_unit.specs.declared.model.Reach.{Reach}
+use Rattle.storage_unit.specs.Places.{private_segment, offset_of, place_of, place_at, on, key_of_page}
+use Rattle.storage_unit.specs.Bytes.{byte_in_frame}
+use Rattle.storage_unit.specs.Reach.{byte_of, byte_at, is_there, is_in_frame, refuses, put_byte, put_in_store, put_at}
+use Rattle.storage_unit.specs.Reached.{IsSound, Lies, AreThere, bytes_shown}
+use Rattle.storage_unit.proofs.SizeLemmas.{page-of-line}
+use Rattle.storage_unit.proofs.KeyLemmas.{key-of-place}
+use Rattle.storage_unit.proofs.FillLemmas.{over-part, in-part}
+use Rattle.storage_unit.proofs.PlaceLemmas.{Under, under, lies, part, itself, byte-on, place-on, is-private, is-shared, never-refused}
+use Rattle.storage_unit.proofs.CopyLemmas.{shown-at, shown-long}
+use Rattle.storage_unit.proofs.PutLemmas.{put-inside, put-outside, spot-none, place-put}
+use Rattle.storage_unit.proofs.StoreLemmas.{frame-room, frame-below}
+
+-- a range that is shown, byte by byte
+pub range-shown : (state : Reach) (sound : IsSound state) (address n : ℕ) (at : Virtual) (u : Under state.registers address n at)
+    → bytes_shown state (place_of state.directory at) n ≡ bytes_from (byte_at state) address n
+range-shown state sound address n at u =
+    same_number_lists (bytes_shown state (place_of state.directory at) n) (bytes_from (byte_at state) address n)
+    (shown-long state (place_of state.directory at) n ∙ sym (length-map-range_with_len (byte_at state) address n))
+    (λ k below.
+    let small : k < n = omega (arith, below, shown-long state (place_of state.directory at) n) in
+    shown-at state (place_of state.directory at) n k small
+    ∙ sym (byte-on state sound address n at u k small)
+    ∙ sym (get_or-map-range_with_len (byte_at state) address n k (address + k) 0 small refl))
+
+-- bytes that are put are put in frames that have room
+pub private-room : (state : Reach) (sound : IsSound state) (at : Virtual) (n a : ℕ) → Lies state at n → place_of state.directory at ≡ Private a
+    → ((state.runner - 1) * 16384 + a + n ≤ 128 * 2048) × (128 * 2048 ≤ length state.pool.bytes)
+private-room state sound at n a lies is =
+    let (own, offset) = is-private state.directory at a is in
+    let (seat, runner, few, segment, begun, fits) = lies.private own in
+    (omega (arith, runner, few, fits, offset), omega (arith, frame-room state sound 127 (omega arith)))
+
+-- where a byte of the store is shown, its page is in a frame
+pub there-frame : (state : Reach) (sound : IsSound state) (place : ℕ) → is_there state (Shared place) ≡ true → (frame : ℕ) × (frame_at state.pool (page_of state.directory place) ≡ Some frame)
+there-frame state sound place there = by_frame (frame_at state.pool (page_of state.directory place)) refl
+    (sym (ap (λ p. is_some (frame_at state.pool p)) (page-of-line state.directory.page place)) ∙ there)
+  where
+    by_frame : (o : Option ℕ) → frame_at state.pool (page_of state.directory place) ≡ o → is_some (frame_at state.pool (page_of state.directory place)) ≡ true → (frame : ℕ) × (frame_at state.pool (page_of state.directory place) ≡ Some frame)
+    by_frame (Some frame) is some = (frame, is)
+    by_frame None is some = absurd (let clash : false ≡ true = sym (ap (λ (o : Option ℕ). is_some o) is) ∙ some in cc)
+
+-- what a place of the store in a frame shows after bytes were put
+pub shared-after : (state : Reach) (sound : IsSound state) (from : ℕ) (bytes : List ℕ) (place frame : ℕ) → frame_at state.pool (page_of state.directory place) ≡ Some frame
+    → byte_of (put_at state (Shared from) bytes) (Shared place) ≡ put_byte bytes from place (byte_of state (Shared place))
+shared-after state sound from bytes place frame is =
+    let there = sound.seen.there (page_of state.directory place) frame is in
+    ap (λ (o : Option ℕ). option_map_or (byte_in_frame state.directory (put_in_store state.directory state.pool from bytes) place) o 0) is
+    ∙ place-put state.directory sound.two state.pool from bytes place frame there (frame-room state sound frame (frame-below state sound (page_of state.directory place) frame there).1)
+    ∙ ap (put_byte bytes from place) (sym (ap (λ (o : Option ℕ). option_map_or (byte_in_frame state.directory state.pool place) o 0) is))
+
+module _ (state : Reach) (sound : IsSound state) (address : ℕ) (bytes : List ℕ) (at : Virtual) (u : Under state.registers address (length bytes) at) (there : AreThere state at (length bytes)) where
+  abbrev n : ℕ
+  n = length bytes
+
+  -- each byte of the range shows what was stored
+  shown-after : (place : Located) → place_of state.directory at ≡ place → (k : ℕ) → k < length bytes → byte_of (put_at state place bytes) (on place k) ≡ slice_index bytes k
+  shown-after (Private a) is k below =
+      let (room, all) = private-room state sound at n a (lies state sound address n at u) is in
+      let sum : (state.runner - 1) * 16384 + (a + k) ≡ (state.runner - 1) * 16384 + a + k = omega arith in
+      ap (slice_index (overlaid state.pool.bytes ((state.runner - 1) * 16384 + a) bytes)) sum
+      ∙ in-part state.pool.bytes ((state.runner - 1) * 16384 + a) bytes k (omega (arith, room, all)) below
+  shown-after (Shared a) is k below =
+      let (frame, has_it) = there-frame state sound (a + k) (sym (ap (λ place. is_there state (on place k)) is) ∙ there k below) in
+      let back : a + k - a ≡ k = omega arith in
+      shared-after state sound a bytes (a + k) frame has_it
+      ∙ put-inside bytes a (a + k) (byte_of state (Shared (a + k))) (omega arith) (omega (arith, below))
+      ∙ ap (slice_index bytes) back
+  shown-after (Refused code) is k below = absurd (never-refused state.directory at code is)
+
+  after-at : (place : Located) → place_of state.directory at ≡ place → (k : ℕ) → k < length bytes → byte_at (put_at state place bytes) (address + k) ≡ slice_index bytes k
+  after-at (Private a) is k below =
+      ap (λ located. byte_of (put_at state (Private a) bytes) (place_at state.directory located)) (part state sound address n at u k 1 (omega arith))
+      ∙ ap (byte_of (put_at state (Private a) bytes)) (place-on state.directory at k ∙ ap (λ p. on p k) is)
+      ∙ shown-after (Private a) is k below
+  after-at (Shared a) is k below =
+      ap (λ located. byte_of (put_at state (Shared a) bytes) (place_at state.directory located)) (part state sound address n at u k 1 (omega arith))
+      ∙ ap (byte_of (put_at state (Shared a) bytes)) (place-on state.directory at k ∙ ap (λ p. on p k) is)
+      ∙ shown-after (Shared a) is k below
+  after-at (Refused code) is k below = absurd (never-refused state.directory at code is)
+
+  pub shows : bytes_from (byte_at (put_at state (place_of state.directory at) bytes)) address (length bytes) ≡ bytes
+  shows =
+      same_number_lists (bytes_from (byte_at (put_at state (place_of state.directory at) bytes)) address n) bytes
+      (length-map-range_with_len (byte_at (put_at state (place_of state.directory at) bytes)) address n)
+      (λ k below.
+      let small : k < n = omega (arith, below, length-map-range_with_len (byte_at (put_at state (place_of state.directory at) bytes)) address n) in
+      get_or-map-range_with_len (byte_at (put_at state (place_of state.directory at) bytes)) address n k (address + k) 0 small refl
+      ∙ after-at (place_of state.directory at) refl k small)
+
+  module _ (other : ℕ) (outside : IsOutside state.registers address (length bytes) other) where
+    -- a byte at another address is none of the range
+    not-inside : (v : Virtual) → located_by state.registers other 1 false ≡ Ok v → (k : ℕ) → k < length bytes → v ≡ bytes_on at k → ⊥
+    not-inside v found k below is = outside k below (found ∙ ap Ok is ∙ sym (part state sound address n at u k 1 (omega arith)))
+
+    same-virtual : (v w : Virtual) → v ≡ virtual_at v.segment (offset_of v) → w ≡ virtual_at w.segment (offset_of w) → v.segment ≡ w.segment → offset_of v ≡ offset_of w → v ≡ w
+    same-virtual v w one two segments offsets = one ∙ ap (λ s. virtual_at s (offset_of v)) segments ∙ ap (virtual_at w.segment) offsets ∙ sym two
+
+    on-itself : (k : ℕ) → bytes_on at k ≡ virtual_at (bytes_on at k).segment (offset_of (bytes_on at k))
+    on-itself k = let sum : offset_of (bytes_on at k) ≡ offset_of at + k = omega arith in ap (virtual_at at.segment) (sym sum)
+
+    -- one that lies where a byte of the range does is that byte
+    same-private : (v : Virtual) (a b k : ℕ) → located_by state.registers other 1 false ≡ Ok v → place_of state.directory at ≡ Private a → place_of state.directory v ≡ Private b → b ≡ a + k → v ≡ bytes_on at k
+    same-private v a b k found at_is v_is same =
+        let w = under state.registers other 1 false v found in
+        let (own, offset) = is-private state.directory at a at_is in
+        let (own', offset') = is-private state.directory v b v_is in
+        let (seat, runner, few, segment, begun, fits) = (lies state sound address n at u).private own in
+        let (seat', runner', few', segment', begun', fits') = (lies state sound other 1 v w).private own' in
+        let sum : offset_of (bytes_on at k) ≡ offset_of at + k = omega arith in
+        same-virtual v (bytes_on at k) (itself state sound other 1 v w) (on-itself k) (omega (arith, segment, segment', runner, runner')) (omega (arith, offset, offset', same, sum))
+
+    same-shared : (v : Virtual) (a b k : ℕ) → k < length bytes → located_by state.registers other 1 false ≡ Ok v → place_of state.directory at ≡ Shared a → place_of state.directory v ≡ Shared b → b ≡ a + k → v ≡ bytes_on at k
+    same-shared v a b k below found at_is v_is same =
+        let w = under state.registers other 1 false v found in
+        let (own, place) = is-shared state.directory at a at_is in
+        let (own', place') = is-shared state.directory v b v_is in
+        let (bytes, found_it, fits, within) = (lies state sound address n at u).shared own in
+        let (bytes', found', fits', within') = (lies state sound other 1 v w).shared own' in
+        let sum : offset_of (bytes_on at k) ≡ offset_of at + k = omega arith in
+        let first = key-of-place state.directory sound.two sound.legal at.segment bytes (offset_of at + k) found_it (omega (arith, fits, below)) in
+        let second = key-of-place state.directory sound.two sound.legal v.segment bytes' (offset_of v) found' (omega (arith, fits')) in
+        let one : start_of state.directory at.segment + (offset_of at + k) ≡ start_of state.directory v.segment + offset_of v = omega (arith, place, place', same) in
+        let keys : key_to at.segment ((offset_of at + k) / 2048) ≡ key_to v.segment (offset_of v / 2048) = sym first ∙ ap (λ p. key_of_page state.directory (p / 2048)) one ∙ second in
+        let segments : at.segment ≡ v.segment = ap (λ (key : Key). key.segment) keys in
+        let starts : start_of state.directory at.segment ≡ start_of state.directory v.segment = ap (start_of state.directory) segments in
+        same-virtual v (bytes_on at k) (itself state sound other 1 v w) (on-itself k) (sym segments) (omega (arith, one, starts, sum))
+
+    -- private bytes aren't in frames of the store
+    private-spot : (v : Virtual) (b : ℕ) → located_by state.registers other 1 false ≡ Ok v → place_of state.directory v ≡ Private b → (state.runner - 1) * 16384 + b < 128 * 2048
+    private-spot v b found is = let (room, all) = private-room state sound v 1 b (lies state sound other 1 v (under state.registers other 1 false v found)) is in omega (arith, room)
+
+    low-frame : (spot : ℕ) → spot < 128 * 2048 → page_at state.pool (spot / 2048) ≡ None
+    low-frame spot low = by_page (page_at state.pool (spot / 2048)) refl
+      where
+        by_page : (o : Option ℕ) → page_at state.pool (spot / 2048) ≡ o → page_at state.pool (spot / 2048) ≡ None
+        by_page None is = is
+        by_page (Some page) is = absurd (omega (arith, low, (frame-below state sound page (spot / 2048) is).0))
+
+    by_place : (place target : Located) (v : Virtual) → place_of state.directory at ≡ place → located_by state.registers other 1 false ≡ Ok v → place_of state.directory v ≡ target
+        → byte_of (put_at state place bytes) target ≡ byte_of state target
+    by_place (Private a) (Private b) v is found v_is =
+        let (room, all) = private-room state sound at n a (lies state sound address n at u) is in
+        over-part state.pool.bytes ((state.runner - 1) * 16384 + a) bytes ((state.runner - 1) * 16384 + b) (omega (arith, room, all))
+        (λ j less same. not-inside v found j less (same-private v a b j found is v_is (omega (arith, same))))
+    by_place (Private a) (Shared b) v is found v_is = by_frame (frame_at state.pool (page_of state.directory b)) refl
+      where
+        by_frame : (o : Option ℕ) → frame_at state.pool (page_of state.directory b) ≡ o → byte_of (put_at state (Private a) bytes) (Shared b) ≡ byte_of state (Shared b)
+        by_frame None at_b =
+            ap (λ (o : Option ℕ). option_map_or (byte_in_frame state.directory (put_at state (Private a) bytes).pool b) o 0) at_b
+            ∙ sym (ap (λ (o : Option ℕ). option_map_or (byte_in_frame state.directory state.pool b) o 0) at_b)
+        by_frame (Some frame) at_b =
+            let (room, all) = private-room state sound at n a (lies state sound address n at u) is in
+            let high = (frame-below state sound (page_of state.directory b) frame (sound.seen.there (page_of state.directory b) frame at_b)).0 in
+            ap (λ (o : Option ℕ). option_map_or (byte_in_frame state.directory (put_at state (Private a) bytes).pool b) o 0) at_b
+            ∙ ap (λ s. slice_index (overlaid state.pool.bytes ((state.runner - 1) * 16384 + a) bytes) (frame * page_bytes s + b % page_bytes s)) sound.two
+            ∙ over-part state.pool.bytes ((state.runner - 1) * 16384 + a) bytes (frame * 2048 + b % 2048) (omega (arith, room, all)) (λ j less same. absurd (omega (arith, same, less, room, high)))
+            ∙ sym (ap (λ s. slice_index state.pool.bytes (frame * page_bytes s + b % page_bytes s)) sound.two)
+            ∙ sym (ap (λ (o : Option ℕ). option_map_or (byte_in_frame state.directory state.pool b) o 0) at_b)
+    by_place (Shared a) (Private b) v is found v_is =
+        let spot = (state.runner - 1) * 16384 + b in
+        let low = private-spot v b found v_is in
+        let split : spot / 2048 * 2048 + spot % 2048 ≡ spot = omega arith in
+        ap (slice_index (put_in_store state.directory state.pool a bytes).bytes) (sym split)
+        ∙ spot-none state.directory sound.two state.pool a bytes (spot / 2048) (spot % 2048) (low-frame spot low) (omega arith) (omega (arith, low, frame-room state sound 127 (omega arith)))
+        ∙ ap (slice_index state.pool.bytes) split
+    by_place (Shared a) (Shared b) v is found v_is = by_frame (frame_at state.pool (page_of state.directory b)) refl
+      where
+        by_frame : (o : Option ℕ) → frame_at state.pool (page_of state.directory b) ≡ o → byte_of (put_at state (Shared a) bytes) (Shared b) ≡ byte_of state (Shared b)
+        by_frame None at_b =
+            ap (λ (o : Option ℕ). option_map_or (byte_in_frame state.directory (put_at state (Shared a) bytes).pool b) o 0) at_b
+            ∙ sym (ap (λ (o : Option ℕ). option_map_or (byte_in_frame state.directory state.pool b) o 0) at_b)
+        by_frame (Some frame) at_b =
+            shared-after state sound a bytes b frame at_b
+            ∙ put-outside bytes a b (byte_of state (Shared b))
+            (λ above below.
+            let inside : b - a < length bytes = omega (arith, above, below) in
+            not-inside v found (b - a) inside (same-shared v a b (b - a) inside found is v_is (omega (arith, above))))
+    by_place (Private a) (Refused code) v is found v_is = refl
+    by_place (Shared a) (Refused code) v is found v_is = refl
+    by_place (Refused code) target v is found v_is = refl
+
+    -- other addresses show what they showed
+    pub others-stay : byte_at (put_at state (place_of state.directory at) bytes) other ≡ byte_at state other
+    others-stay = by_whole (place_of state.directory at) refl (located_by state.registers other 1 false) refl
+      where
+        by_whole : (place : Located) → place_of state.directory at ≡ place → (found : Result Virtual Check) → located_by state.registers other 1 false ≡ found
+            → byte_at (put_at state place bytes) other ≡ byte_at state other
+        by_whole (Private a) is (Ok v) found =
+            ap (λ located. byte_of (put_at state (Private a) bytes) (place_at state.directory located)) found ∙ by_place (Private a) (place_of state.directory v) v is found refl ∙ sym (ap (λ located. byte_of state (place_at state.directory located)) found)
+        by_whole (Shared a) is (Ok v) found =
+            ap (λ located. byte_of (put_at state (Shared a) bytes) (place_at state.directory located)) found ∙ by_place (Shared a) (place_of state.directory v) v is found refl ∙ sym (ap (λ located. byte_of state (place_at state.directory located)) found)
+        by_whole (Private a) is (Err check) found =
+            ap (λ located. byte_of (put_at state (Private a) bytes) (place_at state.directory located)) found ∙ sym (ap (λ located. byte_of state (place_at state.directory located)) found)
+        by_whole (Shared a) is (Err check) found =
+            ap (λ located. byte_of (put_at state (Shared a) bytes) (place_at state.directory located)) found ∙ sym (ap (λ located. byte_of state (place_at state.directory located)) found)
+        by_whole (Refused code) is found same = refl
+
+-- no access gets another answer
+pub answers-stay : (state : Reach) (place : Located) (bytes : List ℕ) (access : Access)
+    → answer_in (λ (s : Reach). s.registers) is_in_frame refuses (put_at state place bytes) access ≡ answer_in (λ (s : Reach). s.registers) is_in_frame refuses state access
+answers-stay state (Private a) bytes access = refl
+answers-stay state (Shared a) bytes access = refl
+answers-stay state (Refused code) bytes access = refl
+
+-- so what lies somewhere, and is in frames, stays so
+pub lies-after : (state : Reach) (place : Located) (bytes : List ℕ) (v : Virtual) (m : ℕ) → Lies state v m → Lies (put_at state place bytes) v m
+lies-after state (Private a) bytes v m l = record { within = l.within; few = l.few; private = l.private; shared = l.shared }
+lies-after state (Shared a) bytes v m l = record { within = l.within; few = l.few; private = l.private; shared = l.shared }
+lies-after state (Refused code) bytes v m l = l
+
+pub there-after : (state : Reach) (place : Located) (bytes : List ℕ) (v : Virtual) (m : ℕ) → AreThere state v m → AreThere (put_at state place bytes) v m
+there-after state (Private a) bytes v m all k below = by_target (on (place_of state.directory v) k) (all k below)
+  where
+    by_target : (target : Located) → is_there state target ≡ true → is_there (put_at state (Private a) bytes) target ≡ true
+    by_target (Private b) is = is
+    by_target (Shared b) is = is
+    by_target (Refused code) is = is
+there-after state (Shared a) bytes v m all k below = by_target (on (place_of state.directory v) k) (all k below)
+  where
+    by_target : (target : Located) → is_there state target ≡ true → is_there (put_at state (Shared a) bytes) target ≡ true
+    by_target (Private b) is = is
+    by_target (Shared b) is = is
+    by_target (Refused code) is = is
+there-after state (Refused code) bytes v m all k below = all k below
+
+-- the first two bytes of a halfword under register 0
+pub own-located : (state : Reach) (seat address bytes : ℕ) → slice_index_or state.registers 0 None ≡ Some (private_register (private_segment seat)) → address + bytes ≤ 16384
+    → located_by state.registers address bytes false ≡ Ok (virtual_at (private_segment seat) address)
+own-located state seat address bytes first fits =
+    let low : address / 2 ^ 28 ≡ 0 = omega (arith, fits) in
+    let rest : address % 2 ^ 28 ≡ address = omega (arith, fits) in
+    let inside : nat_le (address + bytes) 16384 ≡ true = grind (arith, nat_tests, fits) in
+    ap (λ i. located_under (slice_index_or state.registers i None) (address % 2 ^ 28) bytes false) low
+    ∙ ap (λ o. located_under (slice_index_or state.registers 0 None) o bytes false) rest
+    ∙ ap (λ r. located_under r address bytes false) first
+    ∙ ap (λ (test : Bool). cond {A = Result Virtual Check} test (Ok (virtual_at (private_segment seat) address)) (Err (record { 0 = 2 }))) inside
+
+-- where nothing stands under any register, nothing is shown
+pub nothing-shown : (state : Reach) (address : ℕ) → state.registers ≡ replicate 16 None → byte_at state address ≡ 0
+nothing-shown state address none =
+    ap (λ registers. byte_of state (place_at state.directory (located_under (slice_index_or registers (address / 2 ^ 28) None) (address % 2 ^ 28) 1 false))) none
+    ∙ ap (λ r. byte_of state (place_at state.directory (located_under r (address % 2 ^ 28) 1 false))) (empty (address / 2 ^ 28))
+  where
+    empty : (i : ℕ) → slice_index_or (replicate 16 (let none : Option SegmentRegister = None in none)) i None ≡ None
+    empty i = elim (cases_lt i 16) [
+      | inl below ↦ get_or-replicate 16 i None None below
+      | inr past ↦ get_or_past (replicate 16 None) i None past
+    ]
+
+pub directory-after : (state : Reach) (place : Located) (bytes : List ℕ) → (put_at state place bytes).directory ≡ state.directory
+directory-after state (Private a) bytes = refl
+directory-after state (Shared a) bytes = refl
+directory-after state (Refused code) bytes = refl

@@ -1,0 +1,208 @@
+-- The bytes of a store that a pool shows, place by place.
+use Rattle.std.proofs.Common.{◌≡◌, ◌≢◌, ℕ, ◌+◌, ◌-◌, ◌*◌, ◌%◌, ◌<◌, ◌≤◌, Bool, true, false, List, [], ◌∷◌, length, drop, refl, sym, ◌∙◌, ap, subst, arith, Option, Some, None, inl, inr}
+use Rattle.std.specs.Prelude.{◌==◌, ◌&&◌, not, if◌then◌else◌, slice_index, slice_index_or, slice_range}
+use Rattle.std.specs.Option.{option_map_or}
+use Rattle.std.proofs.lemmas.Bool.{cases_lt, ne_eqb, eqb-true, eqb-false}
+use Rattle.std.proofs.lemmas.List.{get_or-take, get_or-drop}
+use Rattle.std.proofs.lemmas.List.FromFn.{get_or-map-range_with_len, length-map-range_with_len}
+use Rattle.std.proofs.lemmas.Grind.{same_number_lists}
+use Rattle.owned_list.specs.Overlay.{overlaid}
+use Rattle.owned_list.proofs.Overlay.{overlaid_before, overlaid_within, overlaid_behind}
+use Rattle.line_geometry.specs.Segments.{page_bytes}
+use Rattle.line_geometry.specs.Directory.{Layout, byte_count}
+use Rattle.line_geometry.specs.Lines.{line_of, page_of}
+use Rattle.lock_rules.specs.Sets.{has}
+use Rattle.lock_rules.specs.Lines.{page_of_line}
+use Rattle.frame_pool.specs.declared.model.Pool.{Pool}
+use Rattle.frame_pool.specs.Seen.{IsSeen}
+use Rattle.frame_pool.specs.Pool.{frame_at, marks_at, frame_bytes, kept_after, gone}
+use Rattle.frame_pool.proofs.SoundLemmas.{page_part}
+use Rattle.frame_pool.proofs.PoolLemmas.{gone-from}
+use Rattle.frame_pool.proofs.SeenLemmas.{some-within, gone-frame, gone-stays, gone-absent, frame-long}
+use Rattle.storage_unit.specs.Bytes.{is_marked, byte_in_frame, byte_over, bytes_over}
+use Rattle.storage_unit.proofs.SizeLemmas.{rest-below, place-is, spot-same, page-of-line}
+
+-- a byte of a part of a list
+pub in-range : (xs : List ℕ) (from count k : ℕ) → k < count → slice_index (slice_range xs from (from + count)) k ≡ slice_index xs (from + k)
+in-range xs from count k below =
+    let short : k < from + count - from = omega (arith, below) in
+    get_or-take (from + count - from) (drop from xs) k 0 short ∙ get_or-drop from xs k 0
+
+-- a byte of all bytes
+pub byte-of-all : (d : Layout) (pool : Pool) (committed : List ℕ) (place : ℕ) → place < byte_count d → slice_index (bytes_over d pool committed) place ≡ byte_over d pool committed place
+byte-of-all d pool committed place below = get_or-map-range_with_len (byte_over d pool committed) 0 (byte_count d) place place 0 below (omega arith)
+
+pub all-long : (d : Layout) (pool : Pool) (committed : List ℕ) → length (bytes_over d pool committed) ≡ byte_count d
+all-long d pool committed = length-map-range_with_len (byte_over d pool committed) 0 (byte_count d)
+
+-- two pools show the same bytes where they do at each place
+pub same-bytes :
+    (d : Layout) (pool other : Pool) (committed next : List ℕ)
+    → ((place : ℕ) → place < byte_count d → byte_over d pool committed place ≡ byte_over d other next place)
+    → bytes_over d pool committed ≡ bytes_over d other next
+same-bytes d pool other committed next same =
+    same_number_lists (bytes_over d pool committed) (bytes_over d other next) (all-long d pool committed ∙ sym (all-long d other next))
+    (λ k below.
+    let inside : k < byte_count d = omega (arith, below, all-long d pool committed) in
+    byte-of-all d pool committed k inside ∙ same k inside ∙ sym (byte-of-all d other next k inside))
+
+-- the marks of a place, by its page and its line in the page
+pub marked-is : (d : Layout) (pool : Pool) (place : ℕ) → is_marked d pool place ≡ has (marks_at pool (page_of d place)) (line_of d place % 16)
+marked-is d pool place = ap (λ (page : ℕ). has (marks_at pool page) (line_of d place % 16)) (page-of-line d.page place)
+
+-- the byte of a place whose page is in no frame, or in one
+pub over-none : (d : Layout) (pool : Pool) (committed : List ℕ) (place : ℕ) → frame_at pool (page_of d place) ≡ None
+    → byte_over d pool committed place ≡ (if is_marked d pool place then slice_index pool.kept place else slice_index committed place)
+over-none d pool committed place none =
+    ap (λ (o : Option ℕ). option_map_or (byte_in_frame d pool place) o (if is_marked d pool place then slice_index pool.kept place else slice_index committed place)) none
+
+pub over-some : (d : Layout) (pool : Pool) (committed : List ℕ) (place frame : ℕ) → frame_at pool (page_of d place) ≡ Some frame
+    → byte_over d pool committed place ≡ byte_in_frame d pool place frame
+over-some d pool committed place frame some =
+    ap (λ (o : Option ℕ). option_map_or (byte_in_frame d pool place) o (if is_marked d pool place then slice_index pool.kept place else slice_index committed place)) some
+
+-- a set that has a line isn't empty
+not-empty : (set : List ℕ) (line : ℕ) → has set line ≡ true → (length set == 0) ≡ false
+not-empty [] line inside = absurd (cc)
+not-empty (x ∷ set) line inside = ne_eqb (length (x ∷ set)) 0 (λ e. absurd (omega (arith, e)))
+
+-- what a page that leaves its frame leaves of the bytes: a line that isn't marked is as committed
+module _ (d : Layout) (pool : Pool) (committed : List ℕ) (page place : ℕ) (seen : IsSeen pool) (size : pool.page ≡ d.page) where
+  abbrev Leaves : Pool → Type 0
+  Leaves left = byte_over d left committed place ≡ (if page == page_of d place && not (is_marked d pool place) then slice_index committed place else byte_over d pool committed place)
+
+  -- a page that was in no frame
+  absent : frame_at pool page ≡ None → Leaves pool
+  absent none = by_tests (page == page_of d place) (is_marked d pool place) refl refl
+    where
+      by_tests : (here marked : Bool) → (page == page_of d place) ≡ here → is_marked d pool place ≡ marked
+          → byte_over d pool committed place ≡ (if here && not marked then slice_index committed place else byte_over d pool committed place)
+      by_tests false marked a b = refl
+      by_tests true true a b = refl
+      by_tests true false a b =
+          over-none d pool committed place (ap (frame_at pool) (sym (eqb-true page (page_of d place) a)) ∙ none)
+          ∙ ap (λ (m : Bool). if m then slice_index pool.kept place else slice_index committed place) b
+
+  module _ (frame : ℕ) (there : frame_at pool page ≡ Some frame) where
+    marks : is_marked d (gone pool page) place ≡ is_marked d pool place
+    marks = ap (λ (list : List (List ℕ)). has (slice_index_or list (page_of_line (line_of d place)) []) (line_of d place % 16)) (gone-stays pool page).marked
+
+    bytes : (f : ℕ) → byte_in_frame d (gone pool page) place f ≡ byte_in_frame d pool place f
+    bytes f = ap (λ (list : List ℕ). slice_index list (f * page_bytes d.page + place % page_bytes d.page)) (gone-stays pool page).bytes
+
+    -- paging space after it
+    kept-is : (gone pool page).kept ≡ kept_after pool page frame
+    kept-is = ap (λ (p : Pool). p.kept) (gone-from pool page frame there)
+
+    start : page * page_bytes pool.page ≡ page * page_bytes d.page
+    start = ap (λ s. page * page_bytes s) size
+
+    long : length (frame_bytes pool frame) ≡ page_bytes d.page
+    long = frame-long pool seen page frame there ∙ ap page_bytes size
+
+    room : page * page_bytes d.page + page_bytes d.page ≤ length pool.kept
+    room =
+        let inside = some-within pool.frame_of page frame there in
+        let part = page_part page (length pool.frame_of) (page_bytes d.page) inside in
+        omega (arith, part, seen.kept ∙ ap (λ s. length pool.frame_of * page_bytes s) size)
+
+    at-place : page ≡ page_of d place → page * page_bytes d.page + place % page_bytes d.page ≡ place
+    at-place here = ap (λ n. n * page_bytes d.page + place % page_bytes d.page) here ∙ place-is d.page place
+
+    kept-here : page ≡ page_of d place → is_marked d pool place ≡ true → slice_index (gone pool page).kept place ≡ byte_in_frame d pool place frame
+    kept-here here marked =
+        let some : (length (marks_at pool page) == 0) ≡ false =
+        not-empty (marks_at pool page) (line_of d place % 16) (ap (λ (n : ℕ). has (marks_at pool n) (line_of d place % 16)) here ∙ sym (marked-is d pool place) ∙ marked) in
+        let rest = rest-below d.page place in
+        let at = at-place here in
+        let back : place - page * page_bytes pool.page ≡ place % page_bytes d.page = omega (arith, at, start) in
+        ap (λ (list : List ℕ). slice_index list place) kept-is
+        ∙ ap (λ (b : Bool). slice_index (if b then pool.kept else overlaid pool.kept (page * page_bytes pool.page) (frame_bytes pool frame)) place) some
+        ∙ overlaid_within pool.kept (page * page_bytes pool.page) (frame_bytes pool frame) place 0
+        (omega (arith, room, start)) (omega (arith, at, start)) (omega (arith, at, start, long, rest))
+        ∙ ap (slice_index (frame_bytes pool frame)) back
+        ∙ in-range pool.bytes (frame * page_bytes pool.page) (page_bytes pool.page) (place % page_bytes d.page) (omega (arith, rest, ap page_bytes size))
+        ∙ ap (λ s. slice_index pool.bytes (frame * page_bytes s + place % page_bytes d.page)) size
+
+    kept-elsewhere : page ≢ page_of d place → slice_index (gone pool page).kept place ≡ slice_index pool.kept place
+    kept-elsewhere apart =
+        ap (λ (list : List ℕ). slice_index list place) kept-is ∙ by_marks (length (marks_at pool page) == 0)
+      where
+        rest : place % page_bytes d.page < page_bytes d.page
+        rest = rest-below d.page place
+
+        at : page_of d place * page_bytes d.page + place % page_bytes d.page ≡ place
+        at = place-is d.page place
+
+        outside : (k : ℕ) → k < page_bytes d.page → page * page_bytes d.page + k ≡ place → ⊥
+        outside k below same = apart (spot-same d.page page (page_of d place) k (place % page_bytes d.page) below rest (same ∙ sym at)).0
+
+        by_marks : (b : Bool) → slice_index (if b then pool.kept else overlaid pool.kept (page * page_bytes pool.page) (frame_bytes pool frame)) place ≡ slice_index pool.kept place
+        by_marks true = refl
+        by_marks false = elim (cases_lt place (page * page_bytes d.page)) [
+          | inl low ↦ overlaid_before pool.kept (page * page_bytes pool.page) (frame_bytes pool frame) place 0 (omega (arith, room, start)) (omega (arith, low, start))
+          | inr high ↦
+              elim (cases_lt place (page * page_bytes d.page + page_bytes d.page)) [
+                | inl within ↦ absurd (outside (place - page * page_bytes d.page) (omega (arith, high, within)) (omega (arith, high)))
+                | inr behind ↦ overlaid_behind pool.kept (page * page_bytes pool.page) (frame_bytes pool frame) place 0 (omega (arith, room, start)) (omega (arith, behind, start, long))
+              ]
+        ]
+
+    here-over : (marked : Bool) → (page == page_of d place) ≡ true → is_marked d pool place ≡ marked
+        → byte_over d (gone pool page) committed place ≡ (if not marked then slice_index committed place else byte_over d pool committed place)
+    here-over marked a b =
+        over-none d (gone pool page) committed place (gone-frame pool page (page_of d place) ∙ ap (λ (t : Bool). if t then None else frame_at pool (page_of d place)) a)
+        ∙ ap (λ (m : Bool). if m then slice_index (gone pool page).kept place else slice_index committed place) (marks ∙ b)
+        ∙ by_mark marked b
+      where
+        here : page ≡ page_of d place
+        here = eqb-true page (page_of d place) a
+
+        by_mark : (marked : Bool) → is_marked d pool place ≡ marked
+            → (if marked then slice_index (gone pool page).kept place else slice_index committed place)
+            ≡ (if not marked then slice_index committed place else byte_over d pool committed place)
+        by_mark true b = kept-here here b ∙ sym (over-some d pool committed place frame (ap (frame_at pool) (sym here) ∙ there))
+        by_mark false b = refl
+
+    elsewhere-over : (page == page_of d place) ≡ false → byte_over d (gone pool page) committed place ≡ byte_over d pool committed place
+    elsewhere-over a =
+        ap (λ (o : Option ℕ). option_map_or (byte_in_frame d (gone pool page) place) o (if is_marked d (gone pool page) place then slice_index (gone pool page).kept place else slice_index committed place))
+        (gone-frame pool page (page_of d place) ∙ ap (λ (t : Bool). if t then None else frame_at pool (page_of d place)) a)
+        ∙ by_other (frame_at pool (page_of d place))
+        ∙ ap (λ (m : Bool). option_map_or (byte_in_frame d pool place) (frame_at pool (page_of d place)) (if m then slice_index pool.kept place else slice_index committed place)) marks
+      where
+        by_other : (o : Option ℕ)
+            → option_map_or (byte_in_frame d (gone pool page) place) o (if is_marked d (gone pool page) place then slice_index (gone pool page).kept place else slice_index committed place)
+            ≡ option_map_or (byte_in_frame d pool place) o (if is_marked d (gone pool page) place then slice_index pool.kept place else slice_index committed place)
+        by_other (Some f) = bytes f
+        by_other None = ap (λ (n : ℕ). if is_marked d (gone pool page) place then n else slice_index committed place) (kept-elsewhere (eqb-false page (page_of d place) a))
+
+    present : Leaves (gone pool page)
+    present = by_tests (page == page_of d place) (is_marked d pool place) refl refl
+      where
+        by_tests : (here marked : Bool) → (page == page_of d place) ≡ here → is_marked d pool place ≡ marked
+            → byte_over d (gone pool page) committed place ≡ (if here && not marked then slice_index committed place else byte_over d pool committed place)
+        by_tests true marked a b = here-over marked a b
+        by_tests false marked a b = elsewhere-over a
+
+  pub gone-over : byte_over d (gone pool page) committed place ≡ (if page == page_of d place && not (is_marked d pool place) then slice_index committed place else byte_over d pool committed place)
+  gone-over = by_frame (frame_at pool page) refl
+    where
+      by_frame : (o : Option ℕ) → frame_at pool page ≡ o → Leaves (gone pool page)
+      by_frame (Some frame) is = present frame is
+      by_frame None is = subst Leaves (sym (gone-absent pool page is)) (absent is)
+
+-- what is committed counts only where no line is marked
+unseen : (o : Option ℕ) (marked : Bool) (shown : ℕ → ℕ) (kept first second : ℕ) → (marked ≡ false → first ≡ second)
+    → option_map_or shown o (if marked then kept else first) ≡ option_map_or shown o (if marked then kept else second)
+unseen (Some frame) marked shown kept first second same = refl
+unseen None true shown kept first second same = refl
+unseen None false shown kept first second same = same refl
+
+pub byte-unseen :
+    (directory : Layout) (pool : Pool) (committed next : List ℕ) (place : ℕ)
+    → (is_marked directory pool place ≡ false → slice_index next place ≡ slice_index committed place)
+    → byte_over directory pool next place ≡ byte_over directory pool committed place
+byte-unseen directory pool committed next place same =
+    unseen (frame_at pool (page_of directory place)) (is_marked directory pool place) (byte_in_frame directory pool place)
+    (slice_index pool.kept place) (slice_index next place) (slice_index committed place) same

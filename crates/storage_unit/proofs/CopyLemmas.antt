@@ -1,0 +1,126 @@
+-- Bytes that are copied out of frames are those that are shown.
+use Rattle.std.proofs.Common.{◌≡◌, ℕ, ◌+◌, ◌-◌, ◌*◌, ◌/◌, ◌%◌, ◌<◌, ◌≤◌, true, false, ◌++◌, length, sym, ◌∙◌, ap, arith, Option, Some, None, inl, inr}
+use Rattle.std.specs.Prelude.{slice_index, slice_range, is_some}
+use Rattle.std.specs.Option.{option_map_or}
+use Rattle.std.proofs.lemmas.List.{length-append, length-take, length-drop, get_or_append_left, get_or-append_right}
+use Rattle.std.proofs.lemmas.List.FromFn.{get_or-map-range_with_len, length-map-range_with_len}
+use Rattle.std.proofs.lemmas.Bool.{cases_lt, cases_Bool}
+use Rattle.std.proofs.lemmas.Grind.{same_number_lists}
+use Rattle.line_geometry.specs.Segments.{page_bytes}
+use Rattle.line_geometry.specs.Directory.{start_of}
+use Rattle.line_geometry.specs.Lines.{page_of}
+use Rattle.flat_machine.specs.declared.machine.Located.{Located}
+use Rattle.segment_regs.specs.declared.registers.Virtual.{Virtual}
+use Rattle.inverted_table.specs.Keys.{key_of}
+use Rattle.inverted_table.specs.Placed.{look_up}
+use Rattle.frame_pool.specs.Pool.{frame_at, part_of}
+use Rattle.frame_pool.specs.Sizes.{frame_count}
+use Rattle.frame_pool.proofs.SoundLemmas.{page_part}
+use Rattle.inverted_table.proofs.FindLemmas.{look_up-held}
+use Rattle.storage_unit.specs.declared.model.Reach.{Reach}
+use Rattle.storage_unit.specs.Places.{is_private, offset_of, place_of, on}
+use Rattle.storage_unit.specs.Held.{table_of, pages_begun}
+use Rattle.storage_unit.specs.Reach.{byte_of}
+use Rattle.storage_unit.specs.Reached.{IsSound, Lies, AreThere, bytes_shown}
+use Rattle.storage_unit.proofs.ByteLemmas.{in-range}
+use Rattle.storage_unit.proofs.HeldLemmas.{keys-long}
+use Rattle.storage_unit.proofs.PlaceLemmas.{on-on, private-is, shared-is, finds-own, finds-shared, place-byte, there-found}
+
+pub shown-long : (state : Reach) (place : Located) (n : ℕ) → length (bytes_shown state place n) ≡ n
+shown-long state place n = length-map-range_with_len (λ past. byte_of state (on place past)) 0 n
+
+pub shown-at : (state : Reach) (place : Located) (n k : ℕ) → k < n → slice_index (bytes_shown state place n) k ≡ byte_of state (on place k)
+shown-at state place n k below = get_or-map-range_with_len (λ past. byte_of state (on place past)) 0 n k k 0 below (omega arith)
+
+-- those from a place on and those behind them
+pub shown-split : (state : Reach) (place : Located) (m n : ℕ) → bytes_shown state place m ++ bytes_shown state (on place m) n ≡ bytes_shown state place (m + n)
+shown-split state place m n =
+    same_number_lists (bytes_shown state place m ++ bytes_shown state (on place m) n) (bytes_shown state place (m + n))
+    (long ∙ sym (shown-long state place (m + n))) (λ k below. element k (omega (arith, below, long)))
+  where
+    long : length (bytes_shown state place m ++ bytes_shown state (on place m) n) ≡ m + n
+    long = length-append (bytes_shown state place m) (bytes_shown state (on place m) n) ∙ omega (arith, shown-long state place m, shown-long state (on place m) n)
+
+    element : (k : ℕ) → k < m + n → slice_index (bytes_shown state place m ++ bytes_shown state (on place m) n) k ≡ slice_index (bytes_shown state place (m + n)) k
+    element k below = elim (cases_lt k m) [
+      | inl less ↦
+          get_or_append_left (bytes_shown state place m) (bytes_shown state (on place m) n) 0 k (omega (arith, less, shown-long state place m))
+          ∙ shown-at state place m k less ∙ sym (shown-at state place (m + n) k below)
+      | inr past ↦
+          let back : m + (k - m) ≡ k = omega (arith, past) in
+          get_or-append_right (bytes_shown state place m) (bytes_shown state (on place m) n) m k 0 (shown-long state place m) past
+          ∙ shown-at state (on place m) n (k - m) (omega (arith, past, below))
+          ∙ ap (byte_of state) (on-on place m (k - m) ∙ ap (on place) back)
+          ∙ sym (shown-at state place (m + n) k below)
+    ]
+
+-- the frame that the table found is one of the pool's
+pub found-below : (state : Reach) (at : Virtual) (frame : ℕ) → IsSound state → look_up (table_of state).keys (key_of at) ≡ Some frame → frame < frame_count state.pool.page state.pool.frames
+found-below state at frame sound is =
+    omega (
+      arith,
+      (look_up-held (table_of state).keys (key_of at) frame is).0,
+      keys-long state.directory (pages_begun state.begun) state.pool.frames state.pool.page_in,
+      ap (λ s. frame_count s state.pool.frames) sound.size,
+    )
+
+module _ (state : Reach) (sound : IsSound state) (at : Virtual) (n : ℕ) (some : 0 < n) (lies : Lies state at n) where
+  -- the byte that is shown of a byte of the same page, in the frame that the table found
+  pub shown-found : (frame k : ℕ) → look_up (table_of state).keys (key_of at) ≡ Some frame → at.byte + k < 2048
+      → byte_of state (on (place_of state.directory at) k) ≡ slice_index state.pool.bytes (frame * 2048 + at.byte + k)
+  shown-found frame k is within = elim (cases_Bool (is_private at.segment)) [
+    | inl own ↦
+        let (seat, runner, few, segment, begun, fits) = lies.private own in
+        let same : seat * 8 + at.page ≡ frame = one (seat * 8 + at.page) frame (sym (finds-own state sound at n some lies seat runner own) ∙ is) in
+        let spot : (state.runner - 1) * 16384 + (offset_of at + k) ≡ frame * 2048 + at.byte + k = omega (arith, runner, same) in
+        ap (λ place. byte_of state (on place k)) (private-is state.directory at own) ∙ ap (slice_index state.pool.bytes) spot
+    | inr other ↦
+        let place = start_of state.directory at.segment + offset_of at in
+        let first : place % 2048 ≡ at.byte = place-byte state sound at n some lies in
+        let page : (place + k) / 2048 ≡ place / 2048 = omega (arith, first, within) in
+        let rest : (place + k) % 2048 ≡ at.byte + k = omega (arith, first, within) in
+        let there : frame_at state.pool (page_of state.directory (place + k)) ≡ Some frame =
+        ap (λ s. frame_at state.pool ((place + k) / page_bytes s)) sound.two
+        ∙ ap (frame_at state.pool) page
+        ∙ ap (λ s. frame_at state.pool (place / page_bytes s)) (sym sound.two)
+        ∙ sym (finds-shared state sound at n some lies other) ∙ is in
+        ap (λ p. byte_of state (on p k)) (shared-is state.directory at other)
+        ∙ ap (λ (o : Option ℕ). option_map_or (λ f. slice_index state.pool.bytes (f * page_bytes state.directory.page + (place + k) % page_bytes state.directory.page)) o 0) there
+        ∙ ap (λ s. slice_index state.pool.bytes (frame * page_bytes s + (place + k) % page_bytes s)) sound.two
+        ∙ ap (slice_index state.pool.bytes) (omega (arith, rest))
+  ]
+    where
+      one : (a b : ℕ) → Some a ≡ Some b → a ≡ b
+      one a b same = cc
+
+  -- a part of that frame has the bytes that are shown
+  pub part-shown : (frame : ℕ) → look_up (table_of state).keys (key_of at) ≡ Some frame → at.byte + n ≤ 2048
+      → part_of state.pool frame at.byte n ≡ bytes_shown state (place_of state.directory at) n
+  part-shown frame is within =
+      ap (λ s. slice_range state.pool.bytes (frame * page_bytes s + at.byte) (frame * page_bytes s + at.byte + n)) sound.size
+      ∙ same_number_lists (slice_range state.pool.bytes (frame * 2048 + at.byte) (frame * 2048 + at.byte + n)) (bytes_shown state (place_of state.directory at) n)
+      (long ∙ sym (shown-long state (place_of state.directory at) n))
+      (λ k below.
+      let small : k < n = omega (arith, below, long) in
+      in-range state.pool.bytes (frame * 2048 + at.byte) n k small
+      ∙ sym (shown-found frame k is (omega (arith, small, within)))
+      ∙ sym (shown-at state (place_of state.directory at) n k small))
+    where
+      fits : frame * 2048 + 2048 ≤ length state.pool.bytes
+      fits =
+          omega (
+            arith,
+            page_part frame (frame_count state.pool.page state.pool.frames) 2048 (found-below state at frame sound is),
+            sound.seen.bytes,
+            ap (λ s. frame_count state.pool.page state.pool.frames * page_bytes s) sound.size,
+          )
+
+      long : length (slice_range state.pool.bytes (frame * 2048 + at.byte) (frame * 2048 + at.byte + n)) ≡ n
+      long = simp (length-take, length-drop) (omega (arith, fits, within))
+
+  -- bytes that are in frames are found
+  pub found-some : AreThere state at n → look_up (table_of state).keys (key_of at) ≡ None → ⊥
+  found-some there none =
+      let clash : true ≡ false =
+      sym (there 0 some) ∙ there-found state sound at n some lies 0 (omega (arith, lies.within)) ∙ ap (λ (o : Option ℕ). is_some o) none in
+      cc

@@ -1,0 +1,72 @@
+-- A page whose read failed leaves the bytes as they were.
+use Rattle.std.proofs.Common.{◌≡◌, ℕ, ◌%◌, ◌<◌, Bool, true, false, List, length, refl, sym, ◌∙◌, ap, subst, Option, inl, inr}
+use Rattle.std.specs.Prelude.{if◌then◌else◌, slice_index}
+use Rattle.std.proofs.lemmas.Bool.{cases_eq}
+use Rattle.line_geometry.specs.Segments.{page_bytes}
+use Rattle.line_geometry.specs.Directory.{Layout, byte_count, page_count}
+use Rattle.line_geometry.specs.Lines.{page_of}
+use Rattle.lock_rules.specs.Sets.{has}
+use Rattle.frame_pool.specs.declared.model.Pool.{Pool}
+use Rattle.frame_pool.specs.Seen.{IsSeen}
+use Rattle.frame_pool.specs.Pool.{frame_at, Brought, with_room, emptied}
+use Rattle.storage_unit.specs.Bytes.{is_marked, byte_over, IsClean}
+use Rattle.storage_unit.specs.Laws.{Fits, Keeps, filled, FailedBringKeeps}
+use Rattle.storage_unit.proofs.ByteLemmas.{same-bytes, over-none}
+use Rattle.storage_unit.proofs.LeaveLemmas.{clean-shows, emptied-over, emptied-clean}
+use Rattle.storage_unit.proofs.BringLemmas.{full, fewer, size, not-there, bytes-long, filled-is, full-here, full-elsewhere, full-marked}
+
+module _ (d : Layout) (old new : Pool) (committed bytes : List ℕ) (page : ℕ) (keep : Option ℕ) (frame : ℕ)
+    (fits : Fits d old) (also : Fits d new) (clean : IsClean d old committed) (within : page < page_count d) (absent : has old.resident page ≡ false)
+    (came : Brought old new page keep frame) (long : length bytes ≡ page_bytes d.page) where
+  abbrev brought_in : Pool
+  brought_in = full d old new committed bytes page keep frame fits clean within absent came long
+
+  seen : IsSeen brought_in
+  seen =
+      let whole = subst IsSeen came.rest also.seen in
+      record {
+        bytes = bytes-long d old new committed bytes page keep frame fits clean within absent came long ∙ whole.bytes;
+        page_in = whole.page_in;
+        marked = whole.marked;
+        kept = whole.kept;
+        resident = whole.resident;
+        there = whole.there;
+        back = whole.back;
+        above = whole.above;
+        below = whole.below;
+      }
+
+  -- a marked line shows what it showed
+  shows : (place : ℕ) → place < byte_count d → is_marked d old place ≡ true → byte_over d brought_in committed place ≡ byte_over d old committed place
+  shows place below marked =
+      let less = fewer d old new committed bytes page keep frame fits clean within absent came long in
+      elim (cases_eq page (page_of d place)) [
+        | inl here ↦
+            full-here d old new committed bytes page keep frame fits clean within absent came long place here
+            ∙ ap (λ b. if b then slice_index (with_room old keep).kept place else slice_index bytes (place % page_bytes d.page)) (less.marks place ∙ marked)
+            ∙ sym (ap (λ b. if b then slice_index (with_room old keep).kept place else slice_index committed place) (less.marks place ∙ marked))
+            ∙ sym (over-none d (with_room old keep) committed place
+            (ap (frame_at (with_room old keep)) (sym here) ∙ not-there d old new committed bytes page keep frame fits clean within absent came long))
+            ∙ less.over place below
+        | inr apart ↦ full-elsewhere d old new committed bytes page keep frame fits clean within absent came long place apart ∙ less.over place below
+      ]
+
+  each : (place : ℕ) → place < byte_count d → byte_over d (emptied brought_in) committed place ≡ byte_over d old committed place
+  each place below =
+      emptied-over d brought_in committed place seen (size d old new committed bytes page keep frame fits clean within absent came long)
+      ∙ ap (λ b. if b then byte_over d brought_in committed place else slice_index committed place)
+      (full-marked d old new committed bytes page keep frame fits clean within absent came long place)
+      ∙ by_mark (is_marked d old place) refl
+    where
+      by_mark : (marked : Bool) → is_marked d old place ≡ marked → (if marked then byte_over d brought_in committed place else slice_index committed place) ≡ byte_over d old committed place
+      by_mark true is = shows place below is
+      by_mark false is = sym (clean-shows d old committed place clean below is)
+
+  keeps : Keeps d old (emptied (filled new page frame bytes)) committed
+  keeps =
+      subst (λ (pool : Pool). Keeps d old (emptied pool) committed)
+      (sym (filled-is d old new committed bytes page keep frame fits clean within absent came long))
+      (record { same = same-bytes d (emptied brought_in) old committed committed each; clean = emptied-clean d brought_in committed seen })
+
+pub failed-bring-keeps : FailedBringKeeps
+failed-bring-keeps = λ d old new committed bytes page keep frame fits also clean within absent came long. keeps d old new committed bytes page keep frame fits also clean within absent came long

@@ -1,0 +1,116 @@
+-- A page that came in: its frame filled, and its kept lines laid over it.
+use Rattle.std.proofs.Common.{◌≡◌, ℕ, ◌+◌, ◌-◌, ◌*◌, ◌/◌, ◌<◌, ◌≤◌, Bool, true, false, List, [], ◌∷◌, length, refl, sym, ◌∙◌, ap, arith, All, inl, inr}
+use Rattle.std.specs.Prelude.{◌==◌, ◌||◌, if◌then◌else◌, slice_index, slice_range, fold}
+use Rattle.std.proofs.lemmas.Bool.{cases_lt, cases_eq, eq-eqb, ne_eqb}
+use Rattle.std.proofs.lemmas.List.{length-take, length-drop}
+use Rattle.std.proofs.lemmas.List.Elements.{All-head, All-tail}
+use Rattle.owned_list.specs.Overlay.{overlaid}
+use Rattle.owned_list.proofs.Overlay.{overlaid_before, overlaid_within, overlaid_behind, length-overlaid}
+use Rattle.line_geometry.specs.declared.directory.PageSize.{PageSize}
+use Rattle.line_geometry.specs.Segments.{page_bytes}
+use Rattle.lock_rules.specs.Sets.{has}
+use Rattle.frame_pool.specs.declared.model.Pool.{Pool}
+use Rattle.frame_pool.specs.Sizes.{line_size, line_place}
+use Rattle.frame_pool.specs.Pool.{line_laid, line_kept}
+use Rattle.storage_unit.proofs.SizeLemmas.{line-of-rest, rest-of-line, line-within}
+use Rattle.storage_unit.proofs.ByteLemmas.{in-range}
+
+-- a byte of a list of which a part is written over
+pub over-part : (xs : List ℕ) (at : ℕ) (part : List ℕ) (k : ℕ) → at + length part ≤ length xs → ((j : ℕ) → j < length part → at + j ≡ k → ⊥) → slice_index (overlaid xs at part) k ≡ slice_index xs k
+over-part xs at part k fits outside = elim (cases_lt k at) [
+  | inl low ↦ overlaid_before xs at part k 0 (omega arith) low
+  | inr high ↦
+      elim (cases_lt k (at + length part)) [
+        | inl within ↦ absurd (outside (k - at) (omega (arith, high, within)) (omega (arith, high)))
+        | inr behind ↦ overlaid_behind xs at part k 0 (omega arith) behind
+      ]
+]
+
+pub in-part : (xs : List ℕ) (at : ℕ) (part : List ℕ) (j : ℕ) → at + length part ≤ length xs → j < length part → slice_index (overlaid xs at part) (at + j) ≡ slice_index part j
+in-part xs at part j fits below =
+    let back : at + j - at ≡ j = omega arith in
+    overlaid_within xs at part (at + j) 0 (omega arith) (omega arith) (omega arith) ∙ ap (slice_index part) back
+
+module _ (size : PageSize) (kept : List ℕ) (page frame : ℕ) (there : page * page_bytes size + page_bytes size ≤ length kept) where
+  abbrev pub lines_over : List ℕ → List ℕ → List ℕ
+  lines_over [] bytes = bytes
+  lines_over (line ∷ lines) bytes =
+      lines_over lines (overlaid bytes (line_place size frame line) (slice_range kept (line_place size page line) (line_place size page line + line_size size)))
+
+  line-long : (line : ℕ) → line < 16 → length (slice_range kept (line_place size page line) (line_place size page line + line_size size)) ≡ line_size size
+  line-long line below = simp (length-take, length-drop) (omega (arith, there, line-within size line below))
+
+  fits : (bytes : List ℕ) (line : ℕ) → line < 16 → frame * page_bytes size + page_bytes size ≤ length bytes
+      → line_place size frame line + length (slice_range kept (line_place size page line) (line_place size page line + line_size size)) ≤ length bytes
+  fits bytes line below room = omega (arith, line-long line below, line-within size line below, room)
+
+  pub lines-long : (lines bytes : List ℕ) → All (λ line. line < 16) lines → frame * page_bytes size + page_bytes size ≤ length bytes → length (lines_over lines bytes) ≡ length bytes
+  lines-long [] bytes few room = refl
+  lines-long (line ∷ lines) bytes few room =
+      let next = length-overlaid bytes (line_place size frame line) (slice_range kept (line_place size page line) (line_place size page line + line_size size))
+      (fits bytes line (All-head (λ line. line < 16) line lines few) room) in
+      lines-long lines (overlaid bytes (line_place size frame line) (slice_range kept (line_place size page line) (line_place size page line + line_size size)))
+      (All-tail (λ line. line < 16) line lines few) (omega (arith, next, room))
+      ∙ next
+
+  -- a byte of the frame is the kept one, if its line is among them
+  one-over : (line : ℕ) (bytes : List ℕ) (o : ℕ) → line < 16 → o < page_bytes size → frame * page_bytes size + page_bytes size ≤ length bytes
+      → slice_index (overlaid bytes (line_place size frame line) (slice_range kept (line_place size page line) (line_place size page line + line_size size))) (frame * page_bytes size + o)
+      ≡ (if line == o / line_size size then slice_index kept (page * page_bytes size + o) else slice_index bytes (frame * page_bytes size + o))
+  one-over line bytes o few below room = elim (cases_eq line (o / line_size size)) [
+    | inl same ↦
+        let (low, high) = rest-of-line size o line (sym same) in
+        let at : frame * page_bytes size + o ≡ line_place size frame line + (o - line * line_size size) = omega (arith, low) in
+        let other : line_place size page line + (o - line * line_size size) ≡ page * page_bytes size + o = omega (arith, low) in
+        let short : o - line * line_size size < line_size size = omega (arith, low, high) in
+        ap (slice_index (overlaid bytes (line_place size frame line) (slice_range kept (line_place size page line) (line_place size page line + line_size size)))) at
+        ∙ in-part bytes (line_place size frame line) (slice_range kept (line_place size page line) (line_place size page line + line_size size)) (o - line * line_size size)
+        (fits bytes line few room) (omega (arith, line-long line few, short))
+        ∙ in-range kept (line_place size page line) (line_size size) (o - line * line_size size) short
+        ∙ ap (slice_index kept) other
+        ∙ sym (ap (λ (b : Bool). if b then slice_index kept (page * page_bytes size + o) else slice_index bytes (frame * page_bytes size + o)) (eq-eqb line (o / line_size size) same))
+    | inr apart ↦
+        over-part bytes (line_place size frame line) (slice_range kept (line_place size page line) (line_place size page line + line_size size)) (frame * page_bytes size + o)
+        (fits bytes line few room)
+        (λ j less same. apart (sym (line-of-rest size o line (omega (arith, same)) (omega (arith, same, less, line-long line few)))))
+        ∙ sym (ap (λ (b : Bool). if b then slice_index kept (page * page_bytes size + o) else slice_index bytes (frame * page_bytes size + o)) (ne_eqb line (o / line_size size) apart))
+  ]
+
+  pub lines-here : (lines bytes : List ℕ) (o : ℕ) → All (λ line. line < 16) lines → o < page_bytes size → frame * page_bytes size + page_bytes size ≤ length bytes
+      → slice_index (lines_over lines bytes) (frame * page_bytes size + o)
+      ≡ (if has lines (o / line_size size) then slice_index kept (page * page_bytes size + o) else slice_index bytes (frame * page_bytes size + o))
+  lines-here [] bytes o few below room = refl
+  lines-here (line ∷ lines) bytes o few below room =
+      let first = All-head (λ line. line < 16) line lines few in
+      let part = slice_range kept (line_place size page line) (line_place size page line + line_size size) in
+      let next = length-overlaid bytes (line_place size frame line) part (fits bytes line first room) in
+      lines-here lines (overlaid bytes (line_place size frame line) part) o (All-tail (λ line. line < 16) line lines few) below (omega (arith, next, room))
+      ∙ ap (λ (n : ℕ). if has lines (o / line_size size) then slice_index kept (page * page_bytes size + o) else n) (one-over line bytes o first below room)
+      ∙ by_tests (line == o / line_size size) (has lines (o / line_size size))
+    where
+      by_tests : (now later : Bool)
+          → (if later then slice_index kept (page * page_bytes size + o) else (if now then slice_index kept (page * page_bytes size + o) else slice_index bytes (frame * page_bytes size + o)))
+          ≡ (if now || later then slice_index kept (page * page_bytes size + o) else slice_index bytes (frame * page_bytes size + o))
+      by_tests true true = refl
+      by_tests true false = refl
+      by_tests false true = refl
+      by_tests false false = refl
+
+  -- and bytes of other frames stay
+  pub lines-elsewhere : (lines bytes : List ℕ) (k : ℕ) → All (λ line. line < 16) lines → frame * page_bytes size + page_bytes size ≤ length bytes
+      → ((o : ℕ) → o < page_bytes size → frame * page_bytes size + o ≡ k → ⊥) → slice_index (lines_over lines bytes) k ≡ slice_index bytes k
+  lines-elsewhere [] bytes k few room outside = refl
+  lines-elsewhere (line ∷ lines) bytes k few room outside =
+      let first = All-head (λ line. line < 16) line lines few in
+      let part = slice_range kept (line_place size page line) (line_place size page line + line_size size) in
+      let next = length-overlaid bytes (line_place size frame line) part (fits bytes line first room) in
+      lines-elsewhere lines (overlaid bytes (line_place size frame line) part) k (All-tail (λ line. line < 16) line lines few) (omega (arith, next, room)) outside
+      ∙ over-part bytes (line_place size frame line) part k (fits bytes line first room)
+      (λ j less same. outside (line * line_size size + j) (omega (arith, less, line-long line first, line-within size line first)) (omega (arith, same)))
+
+-- kept lines that are laid change bytes of frames alone
+pub fold-laid :
+    (pool : Pool) (page frame : ℕ) (lines bytes : List ℕ) (there : page * page_bytes pool.page + page_bytes pool.page ≤ length pool.kept)
+    → fold (line_laid page frame) (record pool { bytes = bytes }) lines ≡ record pool { bytes = lines_over pool.page pool.kept page frame there lines bytes }
+fold-laid pool page frame [] bytes there = refl
+fold-laid pool page frame (line ∷ lines) bytes there = fold-laid pool page frame lines (overlaid bytes (line_place pool.page frame line) (line_kept pool page line)) there

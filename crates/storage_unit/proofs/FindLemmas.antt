@@ -1,0 +1,56 @@
+-- The first number of a range that passes a test.
+use Rattle.std.proofs.Common.{◌≡◌, ℕ, zero, suc, ◌+◌, ◌<◌, ◌≤◌, Bool, true, false, List, [], ◌∷◌, refl, ◌∙◌, ap, arith, Some, None, inl, inr}
+use Rattle.std.specs.Prelude.{find, map, option_map, cond}
+use Rattle.std.specs.List.{range_with_len}
+use Rattle.std.proofs.lemmas.Bool.{cases_lt}
+
+-- the first of what a function gives
+pub find-map : {A B : Type 0} (t : B → Bool) (f : A → B) (xs : List A) → find t (map f xs) ≡ option_map f (find (λ x. t (f x)) xs)
+find-map t f [] = refl
+find-map t f (x ∷ xs) = by_test (t (f x)) (find-map t f xs)
+  where
+    by_test : (passes : Bool) → find t (map f xs) ≡ option_map f (find (λ x. t (f x)) xs)
+        → cond passes (Some (f x)) (find t (map f xs)) ≡ option_map f (cond passes (Some x) (find (λ x. t (f x)) xs))
+    by_test true inner = refl
+    by_test false inner = inner
+
+-- tests that agree find the same
+pub find-same : {A : Type 0} (p q : A → Bool) (xs : List A) → ((x : A) → p x ≡ q x) → find p xs ≡ find q xs
+find-same p q [] same = refl
+find-same p q (x ∷ xs) same =
+    ap (λ (first : Bool). cond first (Some x) (find p xs)) (same x) ∙ ap (λ rest. cond (q x) (Some x) rest) (find-same p q xs same)
+
+-- where none is found, none passes
+pub none-passes : (p : ℕ → Bool) (start n : ℕ) → find p (range_with_len start n) ≡ None → (k : ℕ) → start ≤ k → k < start + n → p k ≡ false
+none-passes p start zero none k above below = absurd (omega (arith, above, below))
+none-passes p start (suc n) none k above below = by_test (p start) refl none (λ none above below. none-passes p (start + 1) n none k above below)
+  where
+    by_test : (passes : Bool) → p start ≡ passes → cond passes (Some start) (find p (range_with_len (start + 1) n)) ≡ None
+        → (find p (range_with_len (start + 1) n) ≡ None → start + 1 ≤ k → k < start + 1 + n → p k ≡ false) → p k ≡ false
+    by_test true is none rest = absurd (cc)
+    by_test false is none rest =
+        elim (cases_lt start k) [
+          | inl later ↦ rest none (omega (arith, later)) (omega (arith, below))
+          | inr here ↦
+              let same : k ≡ start = omega (arith, here, above) in
+              ap p same ∙ is
+        ]
+
+-- and where none passes, none is found
+pub none-found : (p : ℕ → Bool) (start n : ℕ) → ((k : ℕ) → start ≤ k → k < start + n → p k ≡ false) → find p (range_with_len start n) ≡ None
+none-found p start zero none = refl
+none-found p start (suc n) none =
+    ap (λ (first : Bool). cond first (Some start) (find p (range_with_len (start + 1) n))) (none start (omega arith) (omega arith))
+    ∙ none-found p (start + 1) n (λ k above below. none k (omega (arith, above)) (omega (arith, below)))
+
+-- the first that passes, where none before it does
+pub first-found : (p : ℕ → Bool) (start n at : ℕ) → start ≤ at → at < start + n → ((k : ℕ) → start ≤ k → k < at → p k ≡ false) → p at ≡ true → find p (range_with_len start n) ≡ Some at
+first-found p start zero at above below none is = absurd (omega (arith, above, below))
+first-found p start (suc n) at above below none is = elim (cases_lt start at) [
+  | inl later ↦
+      ap (λ (first : Bool). cond first (Some start) (find p (range_with_len (start + 1) n))) (none start (omega arith) later)
+      ∙ first-found p (start + 1) n at (omega (arith, later)) (omega (arith, below)) (λ k over less. none k (omega (arith, over)) less) is
+  | inr here ↦
+      let same : start ≡ at = omega (arith, here, above) in
+      ap (λ (first : Bool). cond first (Some start) (find p (range_with_len (start + 1) n))) (ap p same ∙ is) ∙ ap (λ (k : ℕ). Some k) same
+]

@@ -1,0 +1,205 @@
+-- What pages that leave, lines that are settled and pages that come in do to the bytes that a pool shows.
+use Rattle.std.proofs.Common.{◌≡◌, ℕ, ◌%◌, ◌<◌, Bool, true, false, List, [], ◌∷◌, length, refl, sym, ◌∙◌, ap, arith, Option, Some, None, inl, inr}
+use Rattle.std.specs.Prelude.{◌==◌, ◌&&◌, ◌||◌, not, if◌then◌else◌, slice_index, slice_index_or, slice_set, is_some, fold}
+use Rattle.std.specs.Option.{option_map_or}
+use Rattle.std.proofs.lemmas.Bool.{cases_eq, eq-eqb, ne_eqb}
+use Rattle.std.proofs.lemmas.List.{length-set, get_or-set_same, get_or-set_other}
+use Rattle.line_geometry.specs.Directory.{Layout, byte_count}
+use Rattle.line_geometry.specs.Lines.{line_of, page_of}
+use Rattle.line_geometry.specs.LineSets.{difference}
+use Rattle.line_geometry.proofs.LineSetLemmas.{is_in_where-below}
+use Rattle.lock_rules.specs.Sets.{has}
+use Rattle.lock_rules.specs.Lines.{page_of_line}
+use Rattle.frame_pool.specs.declared.model.Pool.{Pool}
+use Rattle.frame_pool.specs.Seen.{IsSeen}
+use Rattle.frame_pool.specs.Pool.{frame_at, marks_at, gone, page_out, with_room, emptied, settled}
+use Rattle.frame_pool.proofs.SeenLemmas.{gone-frame, gone-stays, seen-gone, Stays}
+use Rattle.storage_unit.specs.Bytes.{is_marked, byte_over, IsClean}
+use Rattle.storage_unit.specs.Laws.{is_among}
+use Rattle.storage_unit.proofs.ByteLemmas.{over-none, over-some, gone-over}
+
+-- a pool is clean where it shows the committed byte of each place that isn't marked
+pub clean-of :
+    (d : Layout) (pool : Pool) (committed : List ℕ)
+    → ((place : ℕ) → place < byte_count d → is_marked d pool place ≡ false → byte_over d pool committed place ≡ slice_index committed place) → IsClean d pool committed
+clean-of d pool committed shows = λ place frame below there unmarked. sym (over-some d pool committed place frame there) ∙ shows place below unmarked
+
+pub clean-shows :
+    (d : Layout) (pool : Pool) (committed : List ℕ) (place : ℕ) → IsClean d pool committed → place < byte_count d → is_marked d pool place ≡ false
+    → byte_over d pool committed place ≡ slice_index committed place
+clean-shows d pool committed place clean below unmarked = by_frame (frame_at pool (page_of d place)) refl
+  where
+    by_frame : (o : Option ℕ) → frame_at pool (page_of d place) ≡ o → byte_over d pool committed place ≡ slice_index committed place
+    by_frame (Some frame) is = over-some d pool committed place frame is ∙ clean place frame below is unmarked
+    by_frame None is = over-none d pool committed place is ∙ ap (λ (m : Bool). if m then slice_index pool.kept place else slice_index committed place) unmarked
+
+-- the marks stay where a page leaves
+pub gone-marked : (d : Layout) (pool : Pool) (page place : ℕ) → is_marked d (gone pool page) place ≡ is_marked d pool place
+gone-marked d pool page place = ap (λ (list : List (List ℕ)). has (slice_index_or list (page_of_line (line_of d place)) []) (line_of d place % 16)) (gone-stays pool page).marked
+
+-- where pages leave, one after another
+fold-frame : (pages : List ℕ) (pool : Pool) (p : ℕ) → frame_at (fold gone pool pages) p ≡ (if has pages p then None else frame_at pool p)
+fold-frame [] pool p = refl
+fold-frame (page ∷ pages) pool p =
+    fold-frame pages (gone pool page) p
+    ∙ ap (λ (o : Option ℕ). if has pages p then None else o) (gone-frame pool page p)
+    ∙ by_tests (page == p) (has pages p)
+  where
+    by_tests : (here later : Bool) → (if later then None else (if here then None else frame_at pool p)) ≡ (if here || later then None else frame_at pool p)
+    by_tests true true = refl
+    by_tests true false = refl
+    by_tests false true = refl
+    by_tests false false = refl
+
+fold-marked : (d : Layout) (pages : List ℕ) (pool : Pool) (place : ℕ) → is_marked d (fold gone pool pages) place ≡ is_marked d pool place
+fold-marked d [] pool place = refl
+fold-marked d (page ∷ pages) pool place = fold-marked d pages (gone pool page) place ∙ gone-marked d pool page place
+
+fold-over :
+    (d : Layout) (committed : List ℕ) (place : ℕ) (pages : List ℕ) (pool : Pool) → IsSeen pool → pool.page ≡ d.page
+    → byte_over d (fold gone pool pages) committed place
+    ≡ (if has pages (page_of d place) && not (is_marked d pool place) then slice_index committed place else byte_over d pool committed place)
+fold-over d committed place [] pool seen size = refl
+fold-over d committed place (page ∷ pages) pool seen size =
+    fold-over d committed place pages (gone pool page) (seen-gone pool page seen) ((gone-stays pool page).page ∙ size)
+    ∙ ap (λ (m : Bool). if has pages (page_of d place) && not m then slice_index committed place else byte_over d (gone pool page) committed place) (gone-marked d pool page place)
+    ∙ ap (λ (n : ℕ). if has pages (page_of d place) && not (is_marked d pool place) then slice_index committed place else n) (gone-over d pool committed page place seen size)
+    ∙ by_tests (page == page_of d place) (has pages (page_of d place)) (is_marked d pool place)
+  where
+    by_tests : (here later marked : Bool)
+        → (if later && not marked then slice_index committed place else (if here && not marked then slice_index committed place else byte_over d pool committed place))
+        ≡ (if (here || later) && not marked then slice_index committed place else byte_over d pool committed place)
+    by_tests true true true = refl
+    by_tests true true false = refl
+    by_tests true false true = refl
+    by_tests true false false = refl
+    by_tests false true true = refl
+    by_tests false true false = refl
+    by_tests false false true = refl
+    by_tests false false false = refl
+
+pub emptied-frame : (pool : Pool) (p : ℕ) → IsSeen pool → frame_at (emptied pool) p ≡ None
+emptied-frame pool p seen = fold-frame pool.resident pool p ∙ ap (λ (b : Bool). if b then None else frame_at pool p) (seen.resident p) ∙ by_frame (frame_at pool p)
+  where
+    by_frame : (o : Option ℕ) → (if is_some o then None else o) ≡ None
+    by_frame None = refl
+    by_frame (Some frame) = refl
+
+pub emptied-marked : (d : Layout) (pool : Pool) (place : ℕ) → is_marked d (emptied pool) place ≡ is_marked d pool place
+emptied-marked d pool place = fold-marked d pool.resident pool place
+
+pub emptied-over :
+    (d : Layout) (pool : Pool) (committed : List ℕ) (place : ℕ) → IsSeen pool → pool.page ≡ d.page
+    → byte_over d (emptied pool) committed place ≡ (if is_marked d pool place then byte_over d pool committed place else slice_index committed place)
+emptied-over d pool committed place seen size =
+    by_mark (is_marked d pool place) refl (fold-over d committed place pool.resident pool seen size)
+  where
+    by_mark : (marked : Bool) → is_marked d pool place ≡ marked
+        → byte_over d (emptied pool) committed place ≡ (if has pool.resident (page_of d place) && not (is_marked d pool place) then slice_index committed place else byte_over d pool committed place)
+        → byte_over d (emptied pool) committed place ≡ (if marked then byte_over d pool committed place else slice_index committed place)
+    by_mark true is shows =
+        shows ∙ ap (λ (m : Bool). if has pool.resident (page_of d place) && not m then slice_index committed place else byte_over d pool committed place) is
+        ∙ never (has pool.resident (page_of d place))
+      where
+        never : (b : Bool) → (if b && false then slice_index committed place else byte_over d pool committed place) ≡ byte_over d pool committed place
+        never true = refl
+        never false = refl
+    by_mark false is shows =
+        over-none d (emptied pool) committed place (emptied-frame pool (page_of d place) seen)
+        ∙ ap (λ (m : Bool). if m then slice_index (emptied pool).kept place else slice_index committed place) (emptied-marked d pool place ∙ is)
+
+pub emptied-clean : (d : Layout) (pool : Pool) (committed : List ℕ) → IsSeen pool → IsClean d (emptied pool) committed
+emptied-clean d pool committed seen = λ place frame below there unmarked. absurd (let clash : None ≡ Some frame = sym (emptied-frame pool (page_of d place) seen) ∙ there in cc)
+
+-- where the page that goes out for another has left
+pub record Fewer (d : Layout) (old new : Pool) (committed : List ℕ) : Type 0 where
+  pub stays : Stays old new
+  pub seen : IsSeen new
+  pub frames : (page : ℕ) → frame_at old page ≡ None → frame_at new page ≡ None
+  pub over : (place : ℕ) → place < byte_count d → byte_over d new committed place ≡ byte_over d old committed place
+  pub marks : (place : ℕ) → is_marked d new place ≡ is_marked d old place
+
+pub room-fewer : (d : Layout) (pool : Pool) (committed : List ℕ) (keep : Option ℕ) → IsSeen pool → pool.page ≡ d.page → IsClean d pool committed → Fewer d pool (with_room pool keep) committed
+room-fewer d pool committed keep seen size clean = by_out (page_out pool keep)
+  where
+    by_out : (o : Option ℕ) → Fewer d pool (option_map_or (gone pool) o pool) committed
+    by_out None = record {
+      stays = record { page = refl; frames = refl; bytes = refl; marked = refl; frame_of = refl };
+      seen = seen;
+      frames = λ page none. none;
+      over = λ place below. refl;
+      marks = λ place. refl;
+    }
+    by_out (Some page) = record {
+      stays = gone-stays pool page;
+      seen = seen-gone pool page seen;
+      frames = λ other none. gone-frame pool page other ∙ by_test (page == other) none;
+      over = λ place below. gone-over d pool committed page place seen size ∙ by_tests place below (page == page_of d place) (is_marked d pool place) refl;
+      marks = gone-marked d pool page;
+    }
+      where
+        by_test : {o : Option ℕ} (b : Bool) → o ≡ None → (if b then None else o) ≡ None
+        by_test true none = refl
+        by_test false none = none
+
+        by_tests : (place : ℕ) → place < byte_count d → (here marked : Bool) → is_marked d pool place ≡ marked
+            → (if here && not marked then slice_index committed place else byte_over d pool committed place) ≡ byte_over d pool committed place
+        by_tests place below true false is = sym (clean-shows d pool committed place clean below is)
+        by_tests place below true true is = refl
+        by_tests place below false marked is = refl
+
+-- lines that are settled
+module _ (d : Layout) (pool : Pool) (committed : List ℕ) (page : ℕ) (lines : List ℕ) (seen : IsSeen pool) (within : page < length pool.frame_of) where
+  abbrev after : Pool
+  after = settled pool page lines
+
+  pub seen-settled : IsSeen after
+  seen-settled = record {
+    bytes = seen.bytes;
+    page_in = seen.page_in;
+    marked = length-set pool.marked page (difference (marks_at pool page) lines) ∙ seen.marked;
+    kept = seen.kept;
+    resident = seen.resident;
+    there = seen.there;
+    back = seen.back;
+    above = seen.above;
+    below = seen.below;
+  }
+
+  -- what is marked then
+  pub settled-line : (line : ℕ) → has (marks_at after (page_of_line line)) (line % 16) ≡ (has (marks_at pool (page_of_line line)) (line % 16) && not (is_among page lines line))
+  settled-line line = elim (cases_eq page (page_of_line line)) [
+    | inl same ↦
+        ap (λ (n : ℕ). has (slice_index_or (slice_set pool.marked page (difference (marks_at pool page) lines)) n []) (line % 16)) (sym same)
+        ∙ ap (λ (set : List ℕ). has set (line % 16)) (get_or-set_same pool.marked page (difference (marks_at pool page) lines) [] (omega (arith, within, seen.marked)))
+        ∙ is_in_where-below (λ x. has (marks_at pool page) x && not (has lines x)) (line % 16) (omega arith)
+        ∙ ap (λ (n : ℕ). has (marks_at pool n) (line % 16) && not (has lines (line % 16))) same
+        ∙ sym (ap (λ (b : Bool). has (marks_at pool (page_of_line line)) (line % 16) && not (b && has lines (line % 16))) (eq-eqb page (page_of_line line) same))
+    | inr apart ↦
+        ap (λ (set : List ℕ). has set (line % 16)) (get_or-set_other pool.marked page (page_of_line line) (difference (marks_at pool page) lines) [] (λ e. apart (sym e)))
+        ∙ sym (all (has (marks_at pool (page_of_line line)) (line % 16)))
+        ∙ sym (ap (λ (b : Bool). has (marks_at pool (page_of_line line)) (line % 16) && not (b && has lines (line % 16))) (ne_eqb page (page_of_line line) apart))
+  ]
+    where
+      all : (b : Bool) → (b && true) ≡ b
+      all true = refl
+      all false = refl
+
+  -- the bytes: a line that was marked and is settled is as committed, if its page is in no frame
+  pub settled-over : (place : ℕ) → place < byte_count d → IsClean d pool committed
+      → (is_among page lines (line_of d place) ≡ true → is_marked d pool place ≡ true → frame_at pool (page_of d place) ≡ None → slice_index committed place ≡ byte_over d pool committed place)
+      → byte_over d after committed place ≡ byte_over d pool committed place
+  settled-over place below clean same = by_frame (frame_at pool (page_of d place)) refl
+    where
+      by_tests : (marked among : Bool) → is_marked d pool place ≡ marked → is_among page lines (line_of d place) ≡ among → frame_at pool (page_of d place) ≡ None
+          → (if marked && not among then slice_index pool.kept place else slice_index committed place) ≡ byte_over d pool committed place
+      by_tests true true m a none = same a m none
+      by_tests true false m a none = sym (over-none d pool committed place none ∙ ap (λ (b : Bool). if b then slice_index pool.kept place else slice_index committed place) m)
+      by_tests false among m a none = sym (clean-shows d pool committed place clean below m)
+
+      by_frame : (o : Option ℕ) → frame_at pool (page_of d place) ≡ o → byte_over d after committed place ≡ byte_over d pool committed place
+      by_frame (Some frame) is = over-some d after committed place frame is ∙ sym (over-some d pool committed place frame is)
+      by_frame None is =
+          over-none d after committed place is
+          ∙ ap (λ (b : Bool). if b then slice_index pool.kept place else slice_index committed place) (settled-line (line_of d place))
+          ∙ by_tests (is_marked d pool place) (is_among page lines (line_of d place)) refl refl is

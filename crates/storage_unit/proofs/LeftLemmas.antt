@@ -1,0 +1,335 @@
+-- What a permitted store leaves of the two lists of plain bytes, and of the marks.
+use Rattle.std.proofs.Common.{◌≡◌, ◌≢◌, ℕ, ◌+◌, ◌-◌, ◌*◌, ◌/◌, ◌%◌, ◌<◌, ◌≤◌, Bool, true, false, List, [], length, drop, refl, sym, ◌∙◌, ap, arith, Option, Some, None, inl, inr}
+use Rattle.std.specs.Prelude.{◌||◌, if◌then◌else◌, slice_index, slice_range, is_some}
+use Rattle.std.proofs.lemmas.Bool.{cases_lt}
+use Rattle.std.proofs.lemmas.List.{get_or_past, length-take, length-drop}
+use Rattle.std.proofs.lemmas.Grind.{same_number_lists}
+use Rattle.owned_list.specs.Overlay.{overlaid}
+use Rattle.owned_list.proofs.Overlay.{length-overlaid}
+use Rattle.line_geometry.specs.Segments.{page_bytes}
+use Rattle.line_geometry.specs.Directory.{byte_count}
+use Rattle.line_geometry.specs.Lines.{line_of, page_of}
+use Rattle.lock_rules.specs.Sets.{has}
+use Rattle.lock_rules.specs.Lines.{page_of_line}
+use Rattle.flat_machine.specs.declared.machine.Located.{Located}
+use Rattle.flat_machine.specs.declared.machine.Located.TheVariants.{Private, Shared, Refused}
+use Rattle.flat_machine.specs.Touched.{lines_at}
+use Rattle.segment_regs.specs.declared.registers.Virtual.{Virtual}
+use Rattle.frame_pool.specs.declared.model.Pool.{Pool}
+use Rattle.frame_pool.specs.Pool.{frame_at, page_at}
+use Rattle.storage_unit.specs.declared.model.Reach.{Reach}
+use Rattle.storage_unit.specs.Places.{place_of}
+use Rattle.storage_unit.specs.Bytes.{byte_in_frame, byte_over, bytes_over, private_bytes, is_line_marked, is_marked, IsClean}
+use Rattle.storage_unit.specs.Reach.{seat_of, is_there, put_byte, put_in_store, put_at}
+use Rattle.storage_unit.specs.Reached.{IsSound, Lies}
+use Rattle.storage_unit.specs.Rows.{ChangesBytes, StaysClean, LeavesSeats}
+use Rattle.storage_unit.proofs.SizeLemmas.{page-of-line, page-below}
+use Rattle.storage_unit.proofs.ByteLemmas.{in-range, same-bytes, byte-of-all, all-long, over-none, over-some}
+use Rattle.storage_unit.proofs.FillLemmas.{over-part, in-part}
+use Rattle.storage_unit.proofs.PlaceLemmas.{is-private, is-shared, never-refused}
+use Rattle.storage_unit.proofs.PutLemmas.{spots-long, marks-long, put-inside, put-outside, spot-none, place-put, line-put}
+use Rattle.storage_unit.proofs.StoreLemmas.{frame-room, frame-below}
+use Rattle.storage_unit.proofs.AfterLemmas.{there-frame}
+use Rattle.storage_unit.proofs.OpenLemmas.{each-line, each-byte}
+
+-- some bytes that were put where they lie
+pub record Put (old new : Reach) : Type 0 where
+  pub at : Virtual
+  pub bytes : List ℕ
+  pub lies : Lies old at (length bytes)
+  pub is : new ≡ put_at old (place_of old.directory at) bytes
+
+-- a place of the store that some bytes have
+pub shared-within : (state : Reach) (at : Virtual) (n a : ℕ) → Lies state at n → place_of state.directory at ≡ Shared a → a + n ≤ byte_count state.directory
+shared-within state at n a lies is =
+    let (own, place) = is-shared state.directory at a is in
+    let (bytes, found, fits, within) = lies.shared own in
+    omega (arith, place, fits, within)
+
+-- private bytes lie in the frames of the seat that is selected
+pub private-fits : (state : Reach) (at : Virtual) (n a : ℕ) → Lies state at n → place_of state.directory at ≡ Private a
+    → (seat_of state < 16) × (state.runner ≡ seat_of state + 1) × (a + n ≤ 16384)
+private-fits state at n a lies is =
+    let (own, offset) = is-private state.directory at a is in
+    let (seat, runner, few, segment, begun, fits) = lies.private own in
+    (omega (arith, runner, few), omega (arith, runner), omega (arith, offset, fits))
+
+pub range-long : (xs : List ℕ) (from count : ℕ) → from + count ≤ length xs → length (slice_range xs from (from + count)) ≡ count
+range-long xs from count fits = omega (arith, fits, length-take (from + count - from) (drop from xs), length-drop from xs)
+
+-- two parts of the same length with the same bytes
+same-part : (xs ys : List ℕ) (from count : ℕ) → from + count ≤ length xs → from + count ≤ length ys
+    → ((k : ℕ) → k < count → slice_index xs (from + k) ≡ slice_index ys (from + k))
+    → slice_range xs from (from + count) ≡ slice_range ys from (from + count)
+same-part xs ys from count fits others same =
+    same_number_lists (slice_range xs from (from + count)) (slice_range ys from (from + count))
+    (range-long xs from count fits ∙ sym (range-long ys from count others))
+    (λ k below.
+    let inside : k < count = omega (arith, below, range-long xs from count fits) in
+    in-range xs from count k inside ∙ same k inside ∙ sym (in-range ys from count k inside))
+
+-- a part of which some bytes are written over
+over-in-part : (xs bytes : List ℕ) (from count a : ℕ) → from + count ≤ length xs → a + length bytes ≤ count
+    → slice_range (overlaid xs (from + a) bytes) from (from + count) ≡ overlaid (slice_range xs from (from + count)) a bytes
+over-in-part xs bytes from count a fits inside =
+    same_number_lists (slice_range (overlaid xs (from + a) bytes) from (from + count)) (overlaid (slice_range xs from (from + count)) a bytes)
+    (long ∙ sym (length-overlaid (slice_range xs from (from + count)) a bytes (omega (arith, whole, inside)) ∙ whole))
+    (λ k below. element k (omega (arith, below, long)))
+  where
+    whole : length (slice_range xs from (from + count)) ≡ count
+    whole = range-long xs from count fits
+
+    all : from + a + length bytes ≤ length xs
+    all = omega (arith, fits, inside)
+
+    long : length (slice_range (overlaid xs (from + a) bytes) from (from + count)) ≡ count
+    long = range-long (overlaid xs (from + a) bytes) from count (omega (arith, fits, length-overlaid xs (from + a) bytes all))
+
+    room : a + length bytes ≤ length (slice_range xs from (from + count))
+    room = omega (arith, whole, inside)
+
+    outside : (k : ℕ) → k < count → ((j : ℕ) → j < length bytes → a + j ≡ k → ⊥) → slice_index (slice_range (overlaid xs (from + a) bytes) from (from + count)) k ≡ slice_index (overlaid (slice_range xs from (from + count)) a bytes) k
+    outside k below none =
+        in-range (overlaid xs (from + a) bytes) from count k below
+        ∙ over-part xs (from + a) bytes (from + k) all (λ j less same. none j less (omega (arith, same)))
+        ∙ sym (in-range xs from count k below)
+        ∙ sym (over-part (slice_range xs from (from + count)) a bytes k room none)
+
+    element : (k : ℕ) → k < count → slice_index (slice_range (overlaid xs (from + a) bytes) from (from + count)) k ≡ slice_index (overlaid (slice_range xs from (from + count)) a bytes) k
+    element k below = elim (cases_lt k a) [
+      | inl low ↦ outside k below (λ j less same. absurd (omega (arith, low, same)))
+      | inr high ↦
+          elim (cases_lt k (a + length bytes)) [
+            | inl within ↦
+                let less : k - a < length bytes = omega (arith, high, within) in
+                let spot : from + k ≡ from + a + (k - a) = omega (arith, high) in
+                let here : a + (k - a) ≡ k = omega (arith, high) in
+                in-range (overlaid xs (from + a) bytes) from count k below
+                ∙ ap (slice_index (overlaid xs (from + a) bytes)) spot
+                ∙ in-part xs (from + a) bytes (k - a) all less
+                ∙ sym (in-part (slice_range xs from (from + count)) a bytes (k - a) room less)
+                ∙ ap (slice_index (overlaid (slice_range xs from (from + count)) a bytes)) here
+            | inr past ↦ outside k below (λ j less same. absurd (omega (arith, past, less, same)))
+          ]
+    ]
+
+module _ (state : Reach) (sound : IsSound state) where
+  -- private frames have no page of the store
+  low-frame : (spot : ℕ) → spot < 128 * 2048 → page_at state.pool (spot / 2048) ≡ None
+  low-frame spot low = by_page (page_at state.pool (spot / 2048)) refl
+    where
+      by_page : (o : Option ℕ) → page_at state.pool (spot / 2048) ≡ o → page_at state.pool (spot / 2048) ≡ None
+      by_page None is = is
+      by_page (Some page) is = absurd (omega (arith, low, (frame-below state sound page (spot / 2048) is).0))
+
+  all-private : 128 * 2048 ≤ length state.pool.bytes
+  all-private = omega (arith, frame-room state sound 127 (omega arith))
+
+  -- private bytes stay where the store's are written
+  pub private-after : (from : ℕ) (bytes : List ℕ) (seat : ℕ) → seat < 16 → private_bytes (put_in_store state.directory state.pool from bytes) seat ≡ private_bytes state.pool seat
+  private-after from bytes seat few =
+      same-part (put_in_store state.directory state.pool from bytes).bytes state.pool.bytes (seat * 16384) 16384
+      (omega (arith, few, all-private, spots-long state.directory sound.two state.pool from bytes)) (omega (arith, few, all-private))
+      (λ k below.
+      let spot = seat * 16384 + k in
+      let low : spot < 128 * 2048 = omega (arith, few, below) in
+      let split : spot / 2048 * 2048 + spot % 2048 ≡ spot = omega arith in
+      ap (slice_index (put_in_store state.directory state.pool from bytes).bytes) (sym split)
+      ∙ spot-none state.directory sound.two state.pool from bytes (spot / 2048) (spot % 2048) (low-frame spot low) (omega arith) (omega (arith, low, all-private))
+      ∙ ap (slice_index state.pool.bytes) split)
+
+  module _ (a : ℕ) (bytes : List ℕ) (seat : ℕ) (few : seat < 16) (fits : a + length bytes ≤ 16384) where
+    abbrev written : Pool
+    written = record state.pool { bytes = overlaid state.pool.bytes (seat * 16384 + a) bytes }
+
+    room : seat * 16384 + a + length bytes ≤ length state.pool.bytes
+    room = omega (arith, few, fits, all-private)
+
+    -- other private bytes stay
+    pub private-other : (other : ℕ) → other < 16 → other ≢ seat → private_bytes (let now : Pool = record state.pool { bytes = overlaid state.pool.bytes (seat * 16384 + a) bytes } in now) other ≡ private_bytes state.pool other
+    private-other other low apart =
+        same-part written.bytes state.pool.bytes (other * 16384) 16384
+        (omega (arith, low, all-private, length-overlaid state.pool.bytes (seat * 16384 + a) bytes room)) (omega (arith, low, all-private))
+        (λ k below. over-part state.pool.bytes (seat * 16384 + a) bytes (other * 16384 + k) room (λ j less same. apart (omega (arith, same, less, below, fits))))
+
+    pub private-own : private_bytes (let now : Pool = record state.pool { bytes = overlaid state.pool.bytes (seat * 16384 + a) bytes } in now) seat ≡ overlaid (private_bytes state.pool seat) a bytes
+    private-own = over-in-part state.pool.bytes bytes (seat * 16384) 16384 a (omega (arith, few, all-private)) fits
+
+    -- bytes in frames of the store stay where private ones are written
+    pub frame-stays : (place frame : ℕ) → frame_at state.pool (page_of state.directory place) ≡ Some frame
+        → byte_in_frame state.directory (let now : Pool = record state.pool { bytes = overlaid state.pool.bytes (seat * 16384 + a) bytes } in now) place frame ≡ byte_in_frame state.directory state.pool place frame
+    frame-stays place frame is =
+        let high = (frame-below state sound (page_of state.directory place) frame (sound.seen.there (page_of state.directory place) frame is)).0 in
+        ap (λ s. slice_index written.bytes (frame * page_bytes s + place % page_bytes s)) sound.two
+        ∙ over-part state.pool.bytes (seat * 16384 + a) bytes (frame * 2048 + place % 2048) room (λ j less same. absurd (omega (arith, same, less, fits, few, high)))
+        ∙ sym (ap (λ s. slice_index state.pool.bytes (frame * page_bytes s + place % page_bytes s)) sound.two)
+
+    pub store-stays : (committed : List ℕ)
+        → bytes_over state.directory (let now : Pool = record state.pool { bytes = overlaid state.pool.bytes (seat * 16384 + a) bytes } in now) committed ≡ bytes_over state.directory state.pool committed
+    store-stays committed = same-bytes state.directory written state.pool committed committed (λ place below. at-place place (frame_at state.pool (page_of state.directory place)) refl)
+      where
+        at-place : (place : ℕ) (o : Option ℕ) → frame_at state.pool (page_of state.directory place) ≡ o → byte_over state.directory written committed place ≡ byte_over state.directory state.pool committed place
+        at-place place None is = over-none state.directory written committed place is ∙ sym (over-none state.directory state.pool committed place is)
+        at-place place (Some frame) is =
+            over-some state.directory written committed place frame is ∙ frame-stays place frame is ∙ sym (over-some state.directory state.pool committed place frame is)
+
+  module _ (a : ℕ) (bytes : List ℕ) (fits : a + length bytes ≤ byte_count state.directory) where
+    abbrev put : Pool
+    put = put_in_store state.directory state.pool a bytes
+
+    line-inside : (place : ℕ) → place < byte_count state.directory → page_of_line (line_of state.directory place) < length state.pool.marked
+    line-inside place below = omega (arith, page-of-line state.directory.page place, page-below state.directory place below, sound.seen.marked, sound.pages)
+
+    -- a place of a frame
+    pub frame-after : (place frame : ℕ) → frame_at state.pool (page_of state.directory place) ≡ Some frame
+        → byte_in_frame state.directory (put_in_store state.directory state.pool a bytes) place frame ≡ put_byte bytes a place (byte_in_frame state.directory state.pool place frame)
+    frame-after place frame is =
+        let there = sound.seen.there (page_of state.directory place) frame is in
+        place-put state.directory sound.two state.pool a bytes place frame there (frame-room state sound frame (frame-below state sound (page_of state.directory place) frame there).1)
+
+    -- the marks of its line
+    pub marked-after : (place : ℕ) → place < byte_count state.directory
+        → is_marked state.directory (put_in_store state.directory state.pool a bytes) place ≡ (is_marked state.directory state.pool place || has (lines_at state.directory (Shared a) (length bytes)) (line_of state.directory place))
+    marked-after place below = line-put state.directory sound.two state.pool a bytes (line_of state.directory place) (line-inside place below)
+
+    -- all lines that have some of the bytes are marked beside those that were
+    pub marks-written : (line : ℕ) → is_line_marked (put_in_store state.directory state.pool a bytes) line ≡ (is_line_marked state.pool line || has (lines_at state.directory (Shared a) (length bytes)) line)
+    marks-written line = elim (cases_lt (page_of_line line) (length state.pool.marked)) [
+      | inl below ↦ line-put state.directory sound.two state.pool a bytes line below
+      | inr past ↦
+          ap (λ (set : List ℕ). has set (line % 16)) (get_or_past put.marked (page_of_line line) [] (omega (arith, past, marks-long state.directory sound.two state.pool a bytes)))
+          ∙ sym
+          (ap (λ (set : List ℕ). has set (line % 16) || has (lines_at state.directory (Shared a) (length bytes)) line) (get_or_past state.pool.marked (page_of_line line) [] past)
+          ∙ none (has (lines_at state.directory (Shared a) (length bytes)) line) refl past)
+    ]
+      where
+        none : (b : Bool) → has (lines_at state.directory (Shared a) (length bytes)) line ≡ b → length state.pool.marked ≤ page_of_line line → b ≡ false
+        none false is past = refl
+        none true is past =
+            absurd
+            (omega
+            (arith, past, each-line state.directory a (length bytes) (λ line. page_of_line line < length state.pool.marked) (λ k less. line-inside (a + k) (omega (arith, less, fits))) line is))
+
+    -- bytes that are put are over those that were shown
+    pub store-after : (committed : List ℕ) → ((k : ℕ) → k < length bytes → is_there state (Shared (a + k)) ≡ true)
+        → bytes_over state.directory (put_in_store state.directory state.pool a bytes) committed ≡ overlaid (bytes_over state.directory state.pool committed) a bytes
+    store-after committed there =
+        same_number_lists (bytes_over state.directory put committed) (overlaid before a bytes)
+        (all-long state.directory put committed ∙ sym (length-overlaid before a bytes room' ∙ all-long state.directory state.pool committed))
+        (λ k below. element k (omega (arith, below, all-long state.directory put committed)))
+      where
+        before : List ℕ
+        before = bytes_over state.directory state.pool committed
+
+        room' : a + length bytes ≤ length (bytes_over state.directory state.pool committed)
+        room' = omega (arith, fits, all-long state.directory state.pool committed)
+
+        -- a place of the range
+        inside : (k : ℕ) → k < byte_count state.directory → a ≤ k → k < a + length bytes → byte_over state.directory put committed k ≡ slice_index (overlaid (bytes_over state.directory state.pool committed) a bytes) k
+        inside k below high less =
+            let same : a + (k - a) ≡ k = omega (arith, high) in
+            let (frame, is) = there-frame state sound k (ap (λ n. is_there state (Shared n)) (sym same) ∙ there (k - a) (omega (arith, high, less))) in
+            over-some state.directory put committed k frame is
+            ∙ frame-after k frame is
+            ∙ put-inside bytes a k (byte_in_frame state.directory state.pool k frame) high less
+            ∙ sym (in-part (bytes_over state.directory state.pool committed) a bytes (k - a) room' (omega (arith, high, less)))
+            ∙ ap (slice_index (overlaid (bytes_over state.directory state.pool committed) a bytes)) same
+
+        -- another place
+        outside : (k : ℕ) → k < byte_count state.directory → (a ≤ k → k < a + length bytes → ⊥) → byte_over state.directory put committed k ≡ slice_index (overlaid (bytes_over state.directory state.pool committed) a bytes) k
+        outside k below none =
+            by_frame (frame_at state.pool (page_of state.directory k)) refl
+            ∙ sym (byte-of-all state.directory state.pool committed k below)
+            ∙ sym (over-part (bytes_over state.directory state.pool committed) a bytes k room' (λ j less same. none (omega (arith, same)) (omega (arith, less, same))))
+          where
+            -- a line of a page that is in no frame has none of the bytes
+            unmarked : (b : Bool) → has (lines_at state.directory (Shared a) (length bytes)) (line_of state.directory k) ≡ b → frame_at state.pool (page_of state.directory k) ≡ None → b ≡ false
+            unmarked false is none = refl
+            unmarked true is none =
+                let (frame, has_it) = there-frame state sound k (each-line state.directory a (length bytes) (λ line. is_some (frame_at state.pool (page_of_line line)) ≡ true) there (line_of state.directory k) is) in
+                absurd (let clash : None ≡ Some frame = sym none ∙ has_it in cc)
+
+            or-false : (b : Bool) → (b || false) ≡ b
+            or-false true = refl
+            or-false false = refl
+
+            by_frame : (o : Option ℕ) → frame_at state.pool (page_of state.directory k) ≡ o → byte_over state.directory put committed k ≡ byte_over state.directory state.pool committed k
+            by_frame None is =
+                over-none state.directory put committed k is
+                ∙ ap (λ (b : Bool). if b then slice_index state.pool.kept k else slice_index committed k)
+                (marked-after k below
+                ∙ ap (λ (b : Bool). is_marked state.directory state.pool k || b) (unmarked (has (lines_at state.directory (Shared a) (length bytes)) (line_of state.directory k)) refl is)
+                ∙ or-false (is_marked state.directory state.pool k))
+                ∙ sym (over-none state.directory state.pool committed k is)
+            by_frame (Some frame) is =
+                over-some state.directory put committed k frame is
+                ∙ frame-after k frame is
+                ∙ put-outside bytes a k (byte_in_frame state.directory state.pool k frame) none
+                ∙ sym (over-some state.directory state.pool committed k frame is)
+
+        element : (k : ℕ) → k < byte_count state.directory → slice_index (bytes_over state.directory put committed) k ≡ slice_index (overlaid (bytes_over state.directory state.pool committed) a bytes) k
+        element k below =
+            byte-of-all state.directory put committed k below
+            ∙ elim (cases_lt k a) [
+              | inl low ↦ outside k below (λ high less. absurd (omega (arith, low, high)))
+              | inr high ↦
+                  elim (cases_lt k (a + length bytes)) [
+                    | inl less ↦ inside k below high less
+                    | inr past ↦ outside k below (λ above less. absurd (omega (arith, past, less)))
+                  ]
+            ]
+
+    -- what was clean stays so
+    pub clean-after : (committed : List ℕ) → IsClean state.directory state.pool committed → IsClean state.directory (put_in_store state.directory state.pool a bytes) committed
+    clean-after committed clean place frame below is unmarked =
+        frame-after place frame is
+        ∙ put-outside bytes a place (byte_in_frame state.directory state.pool place frame) outside
+        ∙ clean place frame below is (left (is_marked state.directory state.pool place) (has (lines_at state.directory (Shared a) (length bytes)) (line_of state.directory place)) both)
+      where
+        both : (is_marked state.directory state.pool place || has (lines_at state.directory (Shared a) (length bytes)) (line_of state.directory place)) ≡ false
+        both = sym (marked-after place below) ∙ unmarked
+
+        left : (b c : Bool) → (b || c) ≡ false → b ≡ false
+        left false c is = refl
+        left true c is = absurd (cc)
+
+        right : (b c : Bool) → (b || c) ≡ false → c ≡ false
+        right false c is = is
+        right true c is = absurd (cc)
+
+        outside : a ≤ place → place < a + length bytes → ⊥
+        outside high less =
+            let same : a + (place - a) ≡ place = omega (arith, high) in
+            let among : has (lines_at state.directory (Shared a) (length bytes)) (line_of state.directory place) ≡ true =
+            ap (λ n. has (lines_at state.directory (Shared a) (length bytes)) (line_of state.directory n)) (sym same) ∙ each-byte state.directory a (length bytes) (place - a) (omega (arith, high, less)) in
+            let not : has (lines_at state.directory (Shared a) (length bytes)) (line_of state.directory place) ≡ false =
+            right (is_marked state.directory state.pool place) (has (lines_at state.directory (Shared a) (length bytes)) (line_of state.directory place)) both in
+            let clash : true ≡ false = sym among ∙ not in
+            cc
+
+-- what a put changes, and what it leaves
+pub put-changes : (state : Reach) (place : Located) (bytes : List ℕ) → ChangesBytes state (put_at state place bytes)
+put-changes state (Private a) bytes = refl
+put-changes state (Shared a) bytes = refl
+put-changes state (Refused code) bytes = refl
+
+module _ (state : Reach) (sound : IsSound state) (at : Virtual) (bytes : List ℕ) (lies : Lies state at (length bytes)) where
+  pub put-clean : StaysClean state (put_at state (place_of state.directory at) bytes)
+  put-clean committed long clean = by_place (place_of state.directory at) refl
+    where
+      by_place : (place : Located) → place_of state.directory at ≡ place → IsClean (put_at state place bytes).directory (put_at state place bytes).pool committed
+      by_place (Private a) is = λ place frame below there unmarked.
+          let (few, runner, fits) = private-fits state at (length bytes) a lies is in
+          frame-stays state sound a bytes (seat_of state) few fits place frame there ∙ clean place frame below there unmarked
+      by_place (Shared a) is = clean-after state sound a bytes (shared-within state at (length bytes) a lies is) committed clean
+      by_place (Refused code) is = absurd (never-refused state.directory at code is)
+
+  pub put-seats : LeavesSeats state (put_at state (place_of state.directory at) bytes)
+  put-seats seat few other = by_place (place_of state.directory at) refl
+    where
+      by_place : (place : Located) → place_of state.directory at ≡ place → private_bytes (put_at state place bytes).pool seat ≡ private_bytes state.pool seat
+      by_place (Private a) is =
+          let (low, runner, fits) = private-fits state at (length bytes) a lies is in
+          private-other state sound a bytes (seat_of state) low fits seat few (λ same. other (omega (arith, same, runner)))
+      by_place (Shared a) is = private-after state sound a bytes seat few
+      by_place (Refused code) is = absurd (never-refused state.directory at code is)

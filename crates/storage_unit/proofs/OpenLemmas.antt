@@ -1,0 +1,123 @@
+-- An access is permitted exactly where the lines that it touches are open.
+use Rattle.std.proofs.Common.{◌≡◌, ℕ, zero, suc, ◌+◌, ◌-◌, ◌*◌, ◌/◌, ◌<◌, ◌≤◌, Bool, true, false, List, [], refl, sym, ◌∙◌, ap, subst, arith, Ok, inl, inr}
+use Rattle.std.specs.Prelude.{◌&&◌, nat_le, nat_lt, if◌then◌else◌}
+use Rattle.std.specs.List.{range_with_len}
+use Rattle.std.proofs.lemmas.Bool.{cases_lt}
+use Rattle.std.proofs.lemmas.Bool.Decides.{nat_tests}
+use Rattle.line_geometry.specs.declared.directory.PageSize.{PageSize}
+use Rattle.line_geometry.specs.declared.directory.PageSize.TheVariants.{Two, Four}
+use Rattle.line_geometry.specs.Segments.{page_bytes}
+use Rattle.line_geometry.specs.Directory.{Layout}
+use Rattle.line_geometry.specs.Lines.{line_of}
+use Rattle.lock_rules.specs.Sets.{has}
+use Rattle.lock_rules.specs.Lines.{page_of_line}
+use Rattle.lock_rules.proofs.Sets.{has-range, in_range}
+use Rattle.flat_machine.specs.declared.machine.Located.{Located}
+use Rattle.flat_machine.specs.declared.machine.Located.TheVariants.{Private, Shared, Refused}
+use Rattle.flat_machine.specs.declared.machine.Program.{Program}
+use Rattle.flat_machine.specs.Row.{located}
+use Rattle.flat_machine.specs.Touched.{lines_at}
+use Rattle.segment_regs.specs.declared.registers.Virtual.{Virtual}
+use Rattle.segment_regs.specs.Registers.{located_by}
+use Rattle.romp_cpu.specs.declared.storage.Access.{Access}
+use Rattle.romp_cpu.specs.declared.storage.Probe.{Probe}
+use Rattle.romp_cpu.specs.Answers.{answered_at, answered}
+use Rattle.romp_cpu.specs.Attempts.{lines_of_access}
+use Rattle.storage_unit.specs.declared.model.Reach.{Reach}
+use Rattle.storage_unit.specs.Places.{place_of, place_at}
+use Rattle.storage_unit.specs.Reach.{is_resident, is_refused, is_in_frame, refuses}
+use Rattle.storage_unit.specs.Reached.{IsSound}
+use Rattle.storage_unit.specs.Rows.{HasWindows, IsOpenLine, IsOpen}
+use Rattle.storage_unit.proofs.PlaceLemmas.{never-refused}
+use Rattle.storage_unit.proofs.AnswerLemmas.{permitted-located, permitted-lines, lines-permitted, answered-private}
+use Rattle.storage_unit.proofs.LocatedLemmas.{lies-where}
+
+-- each line from the first to the last of some bytes has one of them
+byte-of-line : (page : PageSize) (at more line : ℕ) → at / (page_bytes page / 16) ≤ line → line ≤ (at + more) / (page_bytes page / 16)
+    → (k : ℕ) × (k ≤ more) × ((at + k) / (page_bytes page / 16) ≡ line)
+byte-of-line Two at more line above below =
+    elim (cases_lt at (line * 128)) [
+      | inl later ↦ (line * 128 - at, omega (arith, below), omega (arith, later))
+      | inr here ↦ (0, omega arith, omega (arith, above, here))
+    ]
+byte-of-line Four at more line above below =
+    elim (cases_lt at (line * 256)) [
+      | inl later ↦ (line * 256 - at, omega (arith, below), omega (arith, later))
+      | inr here ↦ (0, omega arith, omega (arith, above, here))
+    ]
+
+-- and each byte lies in one of them
+line-of-byte : (page : PageSize) (at more k : ℕ) → k ≤ more
+    → (at / (page_bytes page / 16) ≤ (at + k) / (page_bytes page / 16)) × ((at + k) / (page_bytes page / 16) ≤ (at + more) / (page_bytes page / 16))
+line-of-byte Two at more k below = (omega arith, omega (arith, below))
+line-of-byte Four at more k below = (omega arith, omega (arith, below))
+
+-- a line of a range lies between its ends
+between : (low high line : ℕ) → has (range_with_len low (high + 1 - low)) line ≡ true → (low ≤ line) × (line ≤ high)
+between low high line inside =
+    let test : (nat_le low line && nat_lt line (low + (high + 1 - low))) ≡ true = sym (has-range low (high + 1 - low) line) ∙ inside in
+    (grind (arith, nat_tests, test), grind (arith, nat_tests, test))
+
+-- the lines of some bytes of the store, one by one
+pub each-line : (d : Layout) (at n : ℕ) (P : ℕ → Type 0) → ((k : ℕ) → k < n → P (line_of d (at + k))) → (line : ℕ) → has (lines_at d (Shared at) n) line ≡ true → P line
+each-line d at zero P all line inside = absurd (cc)
+each-line d at (suc more) P all line inside =
+    let (above, below) = between (line_of d at) (line_of d (at + more)) line inside in
+    let (k, few, is) = byte-of-line d.page at more line above below in
+    subst P is (all k (omega (arith, few)))
+
+-- and the bytes by their lines
+pub each-byte : (d : Layout) (at n k : ℕ) → k < n → has (lines_at d (Shared at) n) (line_of d (at + k)) ≡ true
+each-byte d at zero k below = absurd (omega (arith, below))
+each-byte d at (suc more) k below =
+    let (above, under) = line-of-byte d.page at more k (omega (arith, below)) in
+    in_range (line_of d at) (line_of d (at + more) + 1 - line_of d at) (line_of d (at + k)) above (omega (arith, above, under))
+
+module _ (f : Reach) (sound : IsSound f) (p : Program) (windows : HasWindows f p) (access : Access) where
+  abbrev place : Located
+  place = located p f.directory access.address access.bytes access.store
+
+  lies-at : (at : Virtual) → located_by f.registers access.address access.bytes access.store ≡ Ok at → place_of f.directory at ≡ place
+  lies-at at is = ap (place_at f.directory) (sym is) ∙ lies-where f p sound.legal windows access.address access.bytes access.store
+
+  open-line : (line : ℕ) (store : Bool) → is_resident f line ≡ true → is_refused f line store ≡ false → IsOpenLine f line store
+  open-line line store resident permits = record { resident = sound.seen.resident (page_of_line line) ∙ resident; permits = permits }
+
+  -- a permitted access touches open lines
+  pub permitted-open : answered f.registers (is_in_frame f) (refuses f) access ≡ Probe.Permitted → IsOpen f (lines_of_access p f.directory access)
+  permitted-open permitted =
+      let (at, is) = permitted-located f.registers (is_in_frame f) (refuses f) access permitted in
+      let here : answered_at (is_in_frame f) (refuses f) access (Ok at) ≡ Probe.Permitted = ap (answered_at (is_in_frame f) (refuses f) access) (sym is) ∙ permitted in
+      by_store access.store (lines_at f.directory place access.bytes) (each place at (lies-at at is) here)
+    where
+      each : (place : Located) (at : Virtual) → place_of f.directory at ≡ place → answered_at (is_in_frame f) (refuses f) access (Ok at) ≡ Probe.Permitted
+          → (line : ℕ) → has (lines_at f.directory place access.bytes) line ≡ true → IsOpenLine f line access.store
+      each (Private a) at lies here line inside = absurd (cc)
+      each (Refused code) at lies here line inside = absurd (cc)
+      each (Shared a) at lies here line inside =
+          each-line f.directory a access.bytes (λ line. IsOpenLine f line access.store)
+          (λ k below. let one = permitted-lines f at access.bytes access a refl lies here k below in open-line (line_of f.directory (a + k)) access.store one.0 one.1) line inside
+
+      by_store : (store : Bool) (lines : List ℕ) → ((line : ℕ) → has lines line ≡ true → IsOpenLine f line store)
+          → IsOpen f (if store then record { reads = []; writes = lines } else record { reads = lines; writes = [] })
+      by_store true lines all = record { reads = λ line inside. absurd (cc); writes = all }
+      by_store false lines all = record { reads = all; writes = λ line inside. absurd (cc) }
+
+  -- and an access of open lines, which lies somewhere, is permitted
+  pub open-permitted : (at : Virtual) → located_by f.registers access.address access.bytes access.store ≡ Ok at → IsOpen f (lines_of_access p f.directory access)
+      → answered f.registers (is_in_frame f) (refuses f) access ≡ Probe.Permitted
+  open-permitted at is opens =
+      ap (answered_at (is_in_frame f) (refuses f) access) is
+      ∙ by_place place (lies-at at is) (by_store access.store (lines_at f.directory place access.bytes) opens)
+    where
+      by_store : (store : Bool) (lines : List ℕ) → IsOpen f (if store then record { reads = []; writes = lines } else record { reads = lines; writes = [] })
+          → (line : ℕ) → has lines line ≡ true → IsOpenLine f line store
+      by_store true lines opens = opens.writes
+      by_store false lines opens = opens.reads
+
+      by_place : (place : Located) → place_of f.directory at ≡ place
+          → ((line : ℕ) → has (lines_at f.directory place access.bytes) line ≡ true → IsOpenLine f line access.store)
+          → answered_at (is_in_frame f) (refuses f) access (Ok at) ≡ Probe.Permitted
+      by_place (Private a) lies all = answered-private f at access.bytes access a refl lies
+      by_place (Refused code) lies all = absurd (never-refused f.directory at code lies)
+      by_place (Shared a) lies all = lines-permitted f at access.bytes access a refl lies (λ k below. let one = all (line_of f.directory (a + k)) (each-byte f.directory a access.bytes k below) in (sym (sound.seen.resident (page_of_line (line_of f.directory (a + k)))) ∙ one.resident, one.permits))

@@ -1,0 +1,311 @@
+-- What the calls of a unit leave of its pool and its table.
+use Rattle.std.proofs.Common.{◌≡◌, ◌≢◌, ℕ, ◌+◌, ◌<◌, Bool, true, false, List, [], ◌∷◌, ◌++◌, length, replicate, All, refl, sym, ◌∙◌, ap, subst, arith, get_or, Option, Some, None, inl, inr}
+use Rattle.std.specs.Prelude.{◌==◌, ◌||◌, not, nat_lt, cond, option_to_list, if◌then◌else◌, slice_index_or, slice_set, fold, find, is_some, option_map, option_and_then, IfSome}
+use Rattle.std.specs.Option.{option_map_or}
+use Rattle.std.proofs.lemmas.Bool.{cases_lt, cases_eq, eq-eqb, ne_eqb}
+use Rattle.std.proofs.lemmas.List.{length-set, set_past, get_or-set_same, get_or-set_other, get_or-replicate, length-replicate, get_or_past, same_lists}
+use Rattle.std.proofs.lemmas.List.Elements.{All-nil}
+use Rattle.tlb_model.specs.declared.tlb.Pair.{Pair}
+use Rattle.tlb_model.specs.Buffer.{IsOfTable, page_of}
+use Rattle.std.proofs.lemmas.List.FromFn.{get_or-map-range_with_len}
+use Rattle.line_geometry.specs.declared.directory.PageSize.TheVariants.{Two}
+use Rattle.line_geometry.specs.Directory.{Layout, page_count}
+use Rattle.line_geometry.specs.Legal.{IsLegal}
+use Rattle.line_geometry.specs.LineSets.{IsOfPage, difference, passing}
+use Rattle.line_geometry.proofs.LineSetLemmas.{of_page-where}
+use Rattle.lock_rules.specs.Sets.{has}
+use Rattle.inverted_table.specs.declared.key.Key.{Key}
+use Rattle.inverted_table.specs.Placed.{Placed, without_frame, look_up}
+use Rattle.frame_pool.specs.declared.model.Pool.{Pool}
+use Rattle.frame_pool.specs.Seen.{IsSeen}
+use Rattle.frame_pool.specs.Sizes as sizes
+use Rattle.frame_pool.specs.Pool.{frame_at, page_at, marks_at, gone, page_out, with_room, emptied, laid, line_laid}
+use Rattle.frame_pool.proofs.PoolLemmas.{gone-from}
+use Rattle.frame_pool.proofs.SeenLemmas.{some-within, gone-absent, gone-frame, gone-stays, seen-gone, Stays}
+use Rattle.storage_unit.specs.Places.{key_of_page}
+use Rattle.storage_unit.specs.Held.{AreOfPages, held_private, held_in, keys_with, keys_without}
+use Rattle.storage_unit.proofs.LeaveLemmas.{emptied-frame}
+use Rattle.storage_unit.proofs.HeldLemmas.{above, below, finds-page, keys-long, held-store, keys-store}
+
+-- kept lines that are laid change bytes of frames alone
+fold-bytes : (page frame : ℕ) (lines : List ℕ) (pool : Pool) → fold (line_laid page frame) pool lines ≡ record pool { bytes = (fold (line_laid page frame) pool lines).bytes }
+fold-bytes page frame [] pool = refl
+fold-bytes page frame (line ∷ lines) pool = fold-bytes page frame lines (line_laid page frame pool line)
+
+pub laid-bytes : (pool : Pool) (page : ℕ) → laid pool page ≡ record pool { bytes = (laid pool page).bytes }
+laid-bytes pool page = by_frame (frame_at pool page)
+  where
+    by_frame :
+        (o : Option ℕ) → option_map_or (λ frame. fold (line_laid page frame) pool (marks_at pool page)) o pool
+        ≡ record pool { bytes = (option_map_or (λ frame. fold (line_laid page frame) pool (marks_at pool page)) o pool).bytes }
+    by_frame None = refl
+    by_frame (Some frame) = fold-bytes page frame (marks_at pool page) pool
+
+-- marks of which one page's change to other lines of it
+pub marks-set : (marked : List (List ℕ)) (page : ℕ) (set : List ℕ) → AreOfPages marked → IsOfPage set → AreOfPages (slice_set marked page set)
+marks-set marked page set all one other = elim (cases_eq other page) [
+  | inr apart ↦ subst IsOfPage (sym (get_or-set_other marked page other set [] apart)) (all other)
+  | inl same ↦
+      elim (cases_lt page (length marked)) [
+        | inl below ↦ subst IsOfPage (sym (ap (λ n. slice_index_or (slice_set marked page set) n []) same ∙ get_or-set_same marked page set [] below)) one
+        | inr past ↦ subst IsOfPage (sym (ap (λ (list : List (List ℕ)). slice_index_or list other []) (set_past marked page set past))) (all other)
+      ]
+]
+
+pub marks-settled : (marked : List (List ℕ)) (page : ℕ) (lines other : List ℕ) → AreOfPages marked → AreOfPages (slice_set marked page (difference lines other))
+marks-settled marked page lines other all = marks-set marked page (difference lines other) all (of_page-where _)
+
+-- the sizes stay where all pages leave
+fold-stays : (pages : List ℕ) (pool : Pool) → Stays pool (fold gone pool pages)
+fold-stays [] pool = record { page = refl; frames = refl; bytes = refl; marked = refl; frame_of = refl }
+fold-stays (page ∷ pages) pool =
+    let first = gone-stays pool page in
+    let rest = fold-stays pages (gone pool page) in
+    record {
+      page = rest.page ∙ first.page;
+      frames = rest.frames ∙ first.frames;
+      bytes = rest.bytes ∙ first.bytes;
+      marked = rest.marked ∙ first.marked;
+      frame_of = rest.frame_of ∙ first.frame_of;
+    }
+
+pub emptied-stays : (pool : Pool) → Stays pool (emptied pool)
+emptied-stays pool = fold-stays pool.resident pool
+
+fold-seen : (pages : List ℕ) (pool : Pool) → IsSeen pool → IsSeen (fold gone pool pages)
+fold-seen [] pool seen = seen
+fold-seen (page ∷ pages) pool seen = fold-seen pages (gone pool page) (seen-gone pool page seen)
+
+-- no frame has a page then
+pub emptied-page : (pool : Pool) (frame : ℕ) → IsSeen pool → page_at (emptied pool) frame ≡ None
+emptied-page pool frame seen = by_page (page_at (emptied pool) frame) refl
+  where
+    by_page : (o : Option ℕ) → page_at (emptied pool) frame ≡ o → o ≡ None
+    by_page None is = refl
+    by_page (Some page) is =
+        absurd (let clash : None ≡ Some frame = sym (emptied-frame pool page seen) ∙ (fold-seen pool.resident pool seen).back page frame is in cc)
+
+-- the pool when a page has gone out for another
+pub room-stays : (pool : Pool) (keep : Option ℕ) → IsSeen pool → IsSeen (with_room pool keep) × Stays pool (with_room pool keep)
+room-stays pool keep seen = by_out (page_out pool keep)
+  where
+    by_out : (o : Option ℕ) → IsSeen (option_map_or (gone pool) o pool) × Stays pool (option_map_or (gone pool) o pool)
+    by_out None = (seen, record { page = refl; frames = refl; bytes = refl; marked = refl; frame_of = refl })
+    by_out (Some page) = (seen-gone pool page seen, gone-stays pool page)
+
+pub room-none : (pool : Pool) (keep : Option ℕ) (page : ℕ) → frame_at pool page ≡ None → frame_at (with_room pool keep) page ≡ None
+room-none pool keep page none = by_out (page_out pool keep)
+  where
+    by_test : (b : Bool) → (if b then None else frame_at pool page) ≡ None
+    by_test true = refl
+    by_test false = none
+
+    by_out : (o : Option ℕ) → frame_at (option_map_or (gone pool) o pool) page ≡ None
+    by_out None = none
+    by_out (Some out) = gone-frame pool out page ∙ by_test (out == page)
+
+pub absent-frame : (pool : Pool) (page : ℕ) → IsSeen pool → has pool.resident page ≡ false → frame_at pool page ≡ None
+absent-frame pool page seen absent = by_frame (frame_at pool page) (sym (seen.resident page) ∙ absent)
+  where
+    by_frame : (o : Option ℕ) → is_some o ≡ false → o ≡ None
+    by_frame None is = refl
+    by_frame (Some frame) is = absurd (cc)
+
+-- the page that goes out is one of the store
+find-has : (p : ℕ → Bool) (xs : List ℕ) (x : ℕ) → find p xs ≡ Some x → has xs x ≡ true
+find-has p [] x is = absurd (cc)
+find-has p (y ∷ ys) x is = by_test (p y) is (λ later. find-has p ys x later)
+  where
+    by_test : (b : Bool) → cond b (Some y) (find p ys) ≡ Some x → (find p ys ≡ Some x → has ys x ≡ true) → has (y ∷ ys) x ≡ true
+    by_test true is rest = let same : y ≡ x = cc in ap (λ (b : Bool). b || has ys x) (eq-eqb y x same)
+    by_test false is rest = any (y == x) (rest is)
+      where
+        any : (b : Bool) → has ys x ≡ true → (b || has ys x) ≡ true
+        any true inside = refl
+        any false inside = inside
+
+pub out-below : (pool : Pool) (keep : Option ℕ) (page : ℕ) → IsSeen pool → page_out pool keep ≡ Some page → page < length pool.frame_of
+out-below pool keep page seen is = by_room (nat_lt (length pool.resident) pool.frames) is
+  where
+    inside : has pool.resident page ≡ true → page < length pool.frame_of
+    inside there = by_frame (frame_at pool page) refl (sym (seen.resident page) ∙ there)
+      where
+        by_frame : (o : Option ℕ) → frame_at pool page ≡ o → is_some o ≡ true → page < length pool.frame_of
+        by_frame None at is = absurd (cc)
+        by_frame (Some frame) at is = some-within pool.frame_of page frame at
+
+    by_room : (b : Bool) → (if b then None else find (λ page. not (has (option_to_list keep) page)) pool.resident) ≡ Some page → page < length pool.frame_of
+    by_room true is = absurd (cc)
+    by_room false is = inside (find-has (λ page. not (has (option_to_list keep) page)) pool.resident page is)
+
+-- keys of a table without a frame
+pub without-keys : (table : Placed) (o : Option ℕ) → (option_map_or (without_frame table) o table).keys ≡ option_map_or (λ frame. slice_set table.keys frame None) o table.keys
+without-keys table None = refl
+without-keys table (Some frame) = refl
+
+pub without-entries : (table : Placed) (o : Option ℕ) → (option_map_or (without_frame table) o table).entries ≡ table.entries
+without-entries table None = refl
+without-entries table (Some frame) = refl
+
+-- all pages leave
+pub fold-long : (pool : Pool) (list : List ℕ) (from : List (Option Key)) → length (fold (keys_without pool) from list) ≡ length from
+fold-long pool [] from = refl
+fold-long pool (page ∷ list) from = fold-long pool list (keys_without pool from page) ∙ by_frame (frame_at pool page)
+  where
+    by_frame : (o : Option ℕ) → length (option_map_or (λ frame. slice_set from frame None) o from) ≡ length from
+    by_frame None = refl
+    by_frame (Some frame) = length-set from frame None
+
+pub fold-more : (pool : Pool) (list : List ℕ) (from : List (Option Key)) (page : ℕ) → fold (keys_without pool) from (list ++ page ∷ []) ≡ keys_without pool (fold (keys_without pool) from list) page
+fold-more pool [] from page = refl
+fold-more pool (first ∷ list) from page = fold-more pool list (keys_without pool from first) page
+
+module _ (d : Layout) (two : d.page ≡ Two) (legal : IsLegal d.segments) (pool : Pool) (seen : IsSeen pool) (size : pool.page ≡ Two) (pages : length pool.frame_of ≡ page_count d) (t : ℕ → ℕ) where
+  abbrev keys : List (Option Key)
+  keys = keys_with d t pool.frames pool.page_in
+
+  long : length pool.page_in ≡ 128 + pool.frames
+  long = subst (λ s. length pool.page_in ≡ sizes.frame_count s pool.frames) size seen.page_in
+
+  -- a page leaves
+  pub keys-gone : (page : ℕ) → option_map_or (λ frame. slice_set (keys_with d t pool.frames pool.page_in) frame None) (frame_at pool page) (keys_with d t pool.frames pool.page_in)
+      ≡ keys_with d t (gone pool page).frames (gone pool page).page_in
+  keys-gone page = by_frame (frame_at pool page) refl
+    where
+      by_frame : (o : Option ℕ) → frame_at pool page ≡ o → option_map_or (λ frame. slice_set keys frame None) o keys ≡ keys_with d t (gone pool page).frames (gone pool page).page_in
+      by_frame None is = ap (λ (p : Pool). keys_with d t p.frames p.page_in) (sym (gone-absent pool page is))
+      by_frame (Some frame) is =
+          let at = seen.there page frame is in
+          keys-store d t pool.frames pool.page_in frame None (above d two legal pool seen size pages t page frame at) (below d two legal pool seen size pages t page frame at)
+          (omega (arith, long, below d two legal pool seen size pages t page frame at))
+          ∙ ap (λ (p : Pool). keys_with d t p.frames p.page_in) (sym (gone-from pool page frame is))
+
+  -- the frame of a page, where it leaves, is one of the table's
+  pub frame-inside : (page : ℕ) → IfSome (frame_at pool page) (λ frame. frame < length (keys_with d t pool.frames pool.page_in))
+  frame-inside page = by_frame (frame_at pool page) refl
+    where
+      by_frame : (o : Option ℕ) → frame_at pool page ≡ o → IfSome o (λ frame. frame < length keys)
+      by_frame None is = tt
+      by_frame (Some frame) is =
+          omega (arith, keys-long d t pool.frames pool.page_in, below d two legal pool seen size pages t page frame (seen.there page frame is))
+
+  -- the frame of the page that goes out, as the table has it
+  pub out-frame : (keep : Option ℕ) → option_and_then (λ page. look_up (keys_with d t pool.frames pool.page_in) (key_of_page d page)) (page_out pool keep) ≡ option_and_then (frame_at pool) (page_out pool keep)
+  out-frame keep = by_out (page_out pool keep) refl
+    where
+      by_out : (o : Option ℕ) → page_out pool keep ≡ o → option_and_then (λ page. look_up keys (key_of_page d page)) o ≡ option_and_then (frame_at pool) o
+      by_out None is = refl
+      by_out (Some page) is = finds-page d two legal pool seen size pages t page (omega (arith, out-below pool keep page seen is, pages))
+
+  pub out-inside : (keep : Option ℕ) → IfSome (option_and_then (frame_at pool) (page_out pool keep)) (λ frame. frame < length (keys_with d t pool.frames pool.page_in))
+  out-inside keep = by_out (page_out pool keep)
+    where
+      by_out : (o : Option ℕ) → IfSome (option_and_then (frame_at pool) o) (λ frame. frame < length keys)
+      by_out None = tt
+      by_out (Some page) = frame-inside page
+
+  -- it leaves
+  pub keys-room : (keep : Option ℕ)
+      → option_map_or (λ frame. slice_set (keys_with d t pool.frames pool.page_in) frame None) (option_and_then (frame_at pool) (page_out pool keep)) (keys_with d t pool.frames pool.page_in)
+      ≡ keys_with d t (with_room pool keep).frames (with_room pool keep).page_in
+  keys-room keep = by_out (page_out pool keep)
+    where
+      by_out : (o : Option ℕ)
+          → option_map_or (λ frame. slice_set keys frame None) (option_and_then (frame_at pool) o) keys
+          ≡ keys_with d t (option_map_or (gone pool) o pool).frames (option_map_or (gone pool) o pool).page_in
+      by_out None = refl
+      by_out (Some page) = keys-gone page
+
+  -- a frame holds nothing then if its page is among them, else what it held
+  fold-key : (list : List ℕ) (from : List (Option Key)) (frame : ℕ) (e : Option Key) → frame < length from
+      → get_or (fold (keys_without pool) from list) frame e ≡ (if option_map_or (has list) (page_at pool frame) false then None else get_or from frame e)
+  fold-key [] from frame e below = by_page (page_at pool frame)
+    where
+      by_page : (o : Option ℕ) → get_or from frame e ≡ (if option_map_or (has []) o false then None else get_or from frame e)
+      by_page None = refl
+      by_page (Some page) = refl
+  fold-key (page ∷ list) from frame e below =
+      fold-key list (keys_without pool from page) frame e (omega (arith, below, fold-long pool (page ∷ []) from))
+      ∙ by_frame (frame_at pool page) refl
+    where
+      tests : (now later : Bool) → (if later then None else (if now then None else get_or from frame e)) ≡ (if now || later then None else get_or from frame e)
+      tests true true = refl
+      tests true false = refl
+      tests false true = refl
+      tests false false = refl
+
+      other : (o : Option ℕ) → ((p : ℕ) → o ≡ Some p → page ≢ p) → (if option_map_or (has list) o false then None else get_or from frame e) ≡ (if option_map_or (has (page ∷ list)) o false then None else get_or from frame e)
+      other None apart = refl
+      other (Some p) apart = ap (λ (b : Bool). if b || has list p then None else get_or from frame e) (sym (ne_eqb page p (apart p refl)))
+
+      by_frame : (o : Option ℕ) → frame_at pool page ≡ o
+          → (if option_map_or (has list) (page_at pool frame) false then None else get_or (option_map_or (λ f. slice_set from f None) o from) frame e)
+          ≡ (if option_map_or (has (page ∷ list)) (page_at pool frame) false then None else get_or from frame e)
+      by_frame None is =
+          other (page_at pool frame) (λ p at same. absurd (let clash : None ≡ Some frame = sym is ∙ ap (frame_at pool) same ∙ seen.back p frame at in cc))
+      by_frame (Some f) is = elim (cases_eq frame f) [
+        | inl same ↦
+            let at : page_at pool frame ≡ Some page = ap (page_at pool) same ∙ seen.there page f is in
+            ap (λ (n : Option Key). if option_map_or (has list) (page_at pool frame) false then None else n)
+            (ap (λ n. get_or (slice_set from f None) n e) same ∙ get_or-set_same from f None e (omega (arith, below, same)))
+            ∙ ap (λ (o : Option ℕ). if option_map_or (has list) o false then None else None) at
+            ∙ both (has list page)
+            ∙ sym (ap (λ (b : Bool). if b || has list page then None else get_or from frame e) (eq-eqb page page refl))
+            ∙ sym (ap (λ (o : Option ℕ). if option_map_or (has (page ∷ list)) o false then None else get_or from frame e) at)
+        | inr apart ↦
+            ap (λ (n : Option Key). if option_map_or (has list) (page_at pool frame) false then None else n) (get_or-set_other from f frame None e apart)
+            ∙ other (page_at pool frame) (λ p at same. apart (one frame f (sym (seen.back p frame at) ∙ ap (frame_at pool) (sym same) ∙ is)))
+      ]
+        where
+          both : (b : Bool) → (let none : Option Key = if b then None else None in none) ≡ None
+          both true = refl
+          both false = refl
+
+          one : (a b : ℕ) → Some a ≡ Some b → a ≡ b
+          one a b same = cc
+
+  pub keys-emptied : fold (keys_without pool) (keys_with d t pool.frames pool.page_in) pool.resident ≡ keys_with d t (emptied pool).frames (emptied pool).page_in
+  keys-emptied =
+      same_lists (fold (keys_without pool) keys pool.resident) (keys_with d t (emptied pool).frames (emptied pool).page_in)
+      (fold-long pool pool.resident keys ∙ keys-long d t pool.frames pool.page_in ∙ ap (λ n. 128 + n) (sym (emptied-stays pool).frames) ∙ sym (keys-long d t (emptied pool).frames (emptied pool).page_in))
+      (λ k e less. element k e (omega (arith, less, fold-long pool pool.resident keys, keys-long d t pool.frames pool.page_in)))
+    where
+      there : (k : ℕ) (e : Option Key) → k < 128 + pool.frames → (frames : ℕ) → frames ≡ pool.frames → (in_page : List (Option ℕ)) → get_or (keys_with d t frames in_page) k e ≡ held_in d t in_page k
+      there k e less frames is in_page = get_or-map-range_with_len (held_in d t in_page) 0 (128 + frames) k k e (omega (arith, less, is)) (omega arith)
+
+      element : (k : ℕ) (e : Option Key) → k < 128 + pool.frames → get_or (fold (keys_without pool) keys pool.resident) k e ≡ get_or (keys_with d t (emptied pool).frames (emptied pool).page_in) k e
+      element k e less =
+          fold-key pool.resident keys k e (omega (arith, less, keys-long d t pool.frames pool.page_in))
+          ∙ by_page (page_at pool k) refl
+          ∙ ap (λ (o : Option ℕ). if nat_lt k 128 then held_private t k else option_map (key_of_page d) o) (sym (emptied-page pool k seen))
+          ∙ sym (there k e less (emptied pool).frames (emptied-stays pool).frames (emptied pool).page_in)
+        where
+          by_page : (o : Option ℕ) → page_at pool k ≡ o
+              → (if option_map_or (has pool.resident) o false then None else get_or keys k e) ≡ (if nat_lt k 128 then held_private t k else option_map (key_of_page d) None)
+          by_page None is =
+              there k e less pool.frames refl pool.page_in ∙ ap (λ (o : Option ℕ). if nat_lt k 128 then held_private t k else option_map (key_of_page d) o) is
+          by_page (Some page) is =
+              let high = above d two legal pool seen size pages t page k is in
+              ap (λ (b : Bool). if b then None else get_or keys k e) (seen.resident page ∙ ap (λ (o : Option ℕ). is_some o) (seen.back page k is))
+              ∙ sym (held-store d t (slice_set pool.page_in k None) k high ∙ ap (λ (o : Option ℕ). option_map (key_of_page d) o) (get_or-set_same pool.page_in k None None (omega (arith, less, long))))
+              ∙ ap (λ (o : Option ℕ). if nat_lt k 128 then held_private t k else option_map (key_of_page d) o) (get_or-set_same pool.page_in k None None (omega (arith, less, long)))
+
+-- a buffer without pairs is of every table
+pub none-of_table : (keys : List (Option Key)) → IsOfTable (replicate 16 []) keys
+none-of_table keys = λ k d below.
+    subst (λ (pairs : List Pair). All (λ pair. look_up keys (page_of pair) ≡ Some pair.frame) pairs)
+    (sym (get_or-replicate 16 k [] d (omega (arith, below, length-replicate 16 (let none : List Pair = [] in none)))))
+    (All-nil (λ pair. look_up keys (page_of pair) ≡ Some pair.frame))
+
+no-lines : IsOfPage []
+unfolding passing
+no-lines = refl
+
+pub marks-none : (count : ℕ) → AreOfPages (replicate count [])
+marks-none count page = elim (cases_lt page count) [
+  | inl below ↦ subst IsOfPage (sym (get_or-replicate count page [] [] below)) empty
+  | inr past ↦ subst IsOfPage (sym (get_or_past (replicate count []) page [] (omega (arith, past, length-replicate count (let none : List ℕ = [] in none))))) empty
+]
+  where
+    empty : IsOfPage []
+    empty = no-lines

@@ -1,0 +1,245 @@
+-- What a store leaves, as it is written page by page, and what is shown after it.
+use Rattle.std.proofs.Common.{◌≡◌, ℕ, ◌+◌, ◌-◌, ◌*◌, ◌/◌, ◌%◌, ◌<◌, ◌≤◌, Bool, true, false, List, [], ◌++◌, length, refl, sym, ◌∙◌, ap, subst, arith, Option, Some, None, get_or, inl, inr}
+use Rattle.std.specs.Prelude.{◌&&◌, ◌||◌, nat_le, slice_index, slice_set}
+use Rattle.std.specs.Option.{option_map_or}
+use Rattle.std.proofs.lemmas.Bool.{cases_lt, cases_Bool}
+use Rattle.std.proofs.lemmas.Bool.Decides.{nat_tests}
+use Rattle.std.proofs.lemmas.List.{same_lists, length-append, get_or_append_left, get_or-append_right}
+use Rattle.std.proofs.lemmas.List.FromFn.{get_or-map-range_with_len, length-map-range_with_len}
+use Rattle.std.proofs.lemmas.Grind.{same_number_lists}
+use Rattle.line_geometry.specs.Segments.{page_bytes}
+use Rattle.line_geometry.specs.Directory.{start_of}
+use Rattle.line_geometry.specs.Lines.{page_of}
+use Rattle.line_geometry.specs.LineSets.{union, lines_where}
+use Rattle.line_geometry.proofs.LineSetLemmas.{where-alike, is_in_where-below, of_page-where}
+use Rattle.lock_rules.specs.Sets.{has}
+use Rattle.flat_machine.specs.declared.machine.Located.{Located}
+use Rattle.flat_machine.specs.declared.machine.Located.TheVariants.{Private, Shared, Refused}
+use Rattle.flat_machine.specs.Touched.{lines_at}
+use Rattle.segment_regs.specs.declared.registers.Virtual.{Virtual}
+use Rattle.inverted_table.specs.Keys.{key_of}
+use Rattle.inverted_table.specs.Placed.{look_up}
+use Rattle.frame_pool.specs.declared.model.Pool.{Pool}
+use Rattle.frame_pool.specs.Sizes as sizes
+use Rattle.frame_pool.specs.Pool.{frame_at, page_at, marks_at, marked_in, with_marks, with_bytes, lines_of_part}
+use Rattle.frame_pool.proofs.SoundLemmas.{page_part}
+use Rattle.storage_unit.specs.declared.model.Reach.{Reach}
+use Rattle.storage_unit.specs.Places.{is_private, offset_of, place_of, on}
+use Rattle.storage_unit.specs.Held.{AreOfPages, table_of}
+use Rattle.storage_unit.specs.Reach.{put_byte, spot_put, marks_put, put_in_store, put_at}
+use Rattle.storage_unit.specs.Reached.{IsSound, Lies}
+use Rattle.storage_unit.proofs.StateLemmas.{marks-set}
+use Rattle.frame_pool.proofs.SeenLemmas.{some-within}
+use Rattle.storage_unit.proofs.PrivateLemmas.{overlaid-then}
+use Rattle.storage_unit.proofs.PlaceLemmas.{private-is, shared-is, finds-own, finds-shared, place-byte}
+use Rattle.storage_unit.proofs.PutLemmas.{put-inside, put-outside, has-lines, page-bytes, page-marks}
+
+one-of : (a b : ℕ) → Some a ≡ Some b → a ≡ b
+one-of a b same = cc
+
+-- the frames have room for a page
+pub frame-room : (state : Reach) → IsSound state → (frame : ℕ) → frame < 128 + state.pool.frames → frame * 2048 + 2048 ≤ length state.pool.bytes
+frame-room state sound frame below =
+    omega (arith, page_part frame (128 + state.pool.frames) 2048 below, sound.seen.bytes ∙ ap (λ s. sizes.frame_count s state.pool.frames * page_bytes s) sound.size)
+
+pub frame-below : (state : Reach) → IsSound state → (page frame : ℕ) → page_at state.pool frame ≡ Some page → (128 ≤ frame) × (frame < 128 + state.pool.frames)
+frame-below state sound page frame is = (
+  subst (λ s. sizes.private_frames s ≤ frame) sound.size (sound.seen.above page frame is),
+  subst (λ s. frame < sizes.frame_count s state.pool.frames) sound.size (sound.seen.below page frame is),
+)
+
+-- marks of the page in a frame
+pub marked-of_pages : (pool : Pool) (frame : ℕ) (lines : List ℕ) → AreOfPages pool.marked → AreOfPages (marked_in pool frame lines).marked
+marked-of_pages pool frame lines all = by_page (page_at pool frame)
+  where
+    by_page : (o : Option ℕ) → AreOfPages (option_map_or (λ page. with_marks pool page lines) o pool).marked
+    by_page None = all
+    by_page (Some page) = marks-set pool.marked page (union (marks_at pool page) lines) all (of_page-where _)
+
+-- bytes that are written over those of the frame that the table found
+module _ (state : Reach) (sound : IsSound state) (at : Virtual) (bytes : List ℕ) (some : 0 < length bytes) (lies : Lies state at (length bytes)) (within : at.byte + length bytes ≤ 2048)
+    (frame : ℕ) (found : look_up (table_of state).keys (key_of at) ≡ Some frame) where
+  abbrev written : Pool
+  written = with_bytes (marked_in state.pool frame (lines_of_part state.pool.page at.byte (length bytes))) (frame * page_bytes state.pool.page + at.byte) bytes
+
+  pub put-found : (let now : Reach = record state { pool = with_bytes (marked_in state.pool frame (lines_of_part state.pool.page at.byte (length bytes))) (frame * page_bytes state.pool.page + at.byte) bytes } in now)
+      ≡ put_at state (place_of state.directory at) bytes
+  put-found = elim (cases_Bool (is_private at.segment)) [
+    | inl own ↦
+        let (seat, runner, few, segment, begun, fits) = lies.private own in
+        let same : seat * 8 + at.page ≡ frame = one-of (seat * 8 + at.page) frame (sym (finds-own state sound at (length bytes) some lies seat runner own) ∙ found) in
+        let spot : frame * 2048 + at.byte ≡ (state.runner - 1) * 16384 + offset_of at = omega (arith, runner, same) in
+        let none : page_at state.pool frame ≡ None = no-page (page_at state.pool frame) refl (omega (arith, same, few, fits, some)) in
+        ap (λ (o : Option ℕ). (let now : Reach = record state { pool = with_bytes (option_map_or (λ page. with_marks state.pool page (lines_of_part state.pool.page at.byte (length bytes))) o state.pool) (frame * page_bytes state.pool.page + at.byte) bytes } in now)) none
+        ∙ ap (λ s. (let now : Reach = record state { pool = with_bytes state.pool (frame * page_bytes s + at.byte) bytes } in now)) sound.size
+        ∙ ap (λ n. (let now : Reach = record state { pool = with_bytes state.pool n bytes } in now)) spot
+        ∙ sym (ap (λ place. put_at state place bytes) (private-is state.directory at own))
+    | inr other ↦
+        let place = start_of state.directory at.segment + offset_of at in
+        let byte : place % 2048 ≡ at.byte = place-byte state sound at (length bytes) some lies in
+        let page : page_of state.directory place ≡ place / 2048 = ap (λ s. place / page_bytes s) sound.two in
+        let there : page_at state.pool frame ≡ Some (place / 2048) =
+        sound.seen.there (place / 2048) frame (ap (frame_at state.pool) (sym page) ∙ sym (finds-shared state sound at (length bytes) some lies other) ∙ found) in
+        let room = frame-room state sound frame (frame-below state sound (place / 2048) frame there).1 in
+        let inside : place % 2048 + length bytes ≤ 2048 = omega (arith, byte, within) in
+        let low : place / 2048 < length state.pool.marked = omega (arith, sound.seen.marked, page-there (place / 2048) frame there) in
+        ap (λ (o : Option ℕ). (let now : Reach = record state { pool = with_bytes (option_map_or (λ p. with_marks state.pool p (lines_of_part state.pool.page at.byte (length bytes))) o state.pool) (frame * page_bytes state.pool.page + at.byte) bytes } in now)) there
+        ∙ ap (λ s. (let now : Reach = record state { pool = with_bytes (with_marks state.pool (place / 2048) (lines_of_part s at.byte (length bytes))) (frame * page_bytes s + at.byte) bytes } in now)) (sound.size ∙ sym sound.two)
+        ∙ ap (λ n. (let now : Reach = record state { pool = with_bytes (with_marks state.pool (place / 2048) (lines_of_part state.directory.page n (length bytes))) (frame * page_bytes state.directory.page + n) bytes } in now)) (sym byte)
+        ∙ ap (λ s. (let now : Reach = record state { pool = with_bytes (with_marks state.pool (place / 2048) (lines_of_part state.directory.page (place % 2048) (length bytes))) (frame * page_bytes s + place % 2048) bytes } in now)) sound.two
+        ∙ ap (λ (list : List ℕ). (let now : Reach = record state { pool = record state.pool { bytes = list; marked = slice_set state.pool.marked (place / 2048) (union (marks_at state.pool (place / 2048)) (lines_of_part state.directory.page (place % 2048) (length bytes))) } } in now))
+        (page-bytes state.directory sound.two state.pool sound.seen sound.marks place bytes frame some inside there room)
+        ∙ ap (λ (list : List (List ℕ)). (let now : Reach = record state { pool = record state.pool { bytes = (put_in_store state.directory state.pool place bytes).bytes; marked = list } } in now))
+        (page-marks state.directory sound.two state.pool sound.seen sound.marks place bytes frame some inside there room low)
+        ∙ sym (ap (λ p. put_at state p bytes) (shared-is state.directory at other))
+  ]
+    where
+      no-page : (o : Option ℕ) → page_at state.pool frame ≡ o → frame < 128 → o ≡ None
+      no-page None is below = refl
+      no-page (Some page) is below = absurd (omega (arith, below, (frame-below state sound page frame is).0))
+
+      page-there : (page f : ℕ) → page_at state.pool f ≡ Some page → page < length state.pool.frame_of
+      page-there page f is = some-within state.pool.frame_of page f (sound.seen.back page f is)
+
+-- bytes behind others, put after them
+module _ (state : Reach) (sound : IsSound state) (place : Located) (first second : List ℕ) (some : 0 < length first) (more : 0 < length second) where
+  put-twice : (place k old : ℕ) → put_byte second (place + length first) k (put_byte first place k old) ≡ put_byte (first ++ second) place k old
+  put-twice place k old = elim (cases_lt k place) [
+    | inl low ↦
+        put-outside second (place + length first) k (put_byte first place k old) (λ above below. absurd (omega (arith, low, above)))
+        ∙ put-outside first place k old (λ above below. absurd (omega (arith, low, above)))
+        ∙ sym (put-outside (first ++ second) place k old (λ above below. absurd (omega (arith, low, above))))
+    | inr high ↦
+        elim (cases_lt k (place + length first)) [
+          | inl inside ↦
+              put-outside second (place + length first) k (put_byte first place k old) (λ above below. absurd (omega (arith, inside, above)))
+              ∙ put-inside first place k old high inside
+              ∙ sym (get_or_append_left first second 0 (k - place) (omega (arith, high, inside)))
+              ∙ sym (put-inside (first ++ second) place k old high (omega (arith, inside, length-append first second)))
+          | inr past ↦
+              elim (cases_lt k (place + length first + length second)) [
+                | inl within ↦
+                    let back : k - place - length first ≡ k - (place + length first) = omega arith in
+                    put-inside second (place + length first) k (put_byte first place k old) past within
+                    ∙ ap (slice_index second) (sym back)
+                    ∙ sym (get_or-append_right first second (length first) (k - place) 0 refl (omega (arith, past)))
+                    ∙ sym (put-inside (first ++ second) place k old high (omega (arith, within, length-append first second)))
+                | inr beyond ↦
+                    put-outside second (place + length first) k (put_byte first place k old) (λ above below. absurd (omega (arith, beyond, below)))
+                    ∙ put-outside first place k old (λ above below. absurd (omega (arith, past, below)))
+                    ∙ sym (put-outside (first ++ second) place k old (λ above below. absurd (omega (arith, beyond, below, length-append first second))))
+              ]
+        ]
+  ]
+
+  spots-twice : (p : ℕ) → (put_in_store state.directory (put_in_store state.directory state.pool p first) (p + length first) second).bytes ≡ (put_in_store state.directory state.pool p (first ++ second)).bytes
+  spots-twice p =
+      same_number_lists (put_in_store state.directory (put_in_store state.directory state.pool p first) (p + length first) second).bytes (put_in_store state.directory state.pool p (first ++ second)).bytes
+      (long ∙ sym whole) (λ k below. element k (omega (arith, below, long)))
+    where
+      middle : length (put_in_store state.directory state.pool p first).bytes ≡ length state.pool.bytes
+      middle = length-map-range_with_len (spot_put state.directory state.pool p first) 0 (length state.pool.bytes)
+
+      long : length (put_in_store state.directory (put_in_store state.directory state.pool p first) (p + length first) second).bytes ≡ length state.pool.bytes
+      long = length-map-range_with_len (spot_put state.directory (put_in_store state.directory state.pool p first) (p + length first) second) 0 (length (put_in_store state.directory state.pool p first).bytes) ∙ middle
+
+      whole : length (put_in_store state.directory state.pool p (first ++ second)).bytes ≡ length state.pool.bytes
+      whole = length-map-range_with_len (spot_put state.directory state.pool p (first ++ second)) 0 (length state.pool.bytes)
+
+      one : (k : ℕ) → k < length state.pool.bytes → slice_index (put_in_store state.directory state.pool p first).bytes k ≡ spot_put state.directory state.pool p first k
+      one k below = get_or-map-range_with_len (spot_put state.directory state.pool p first) 0 (length state.pool.bytes) k k 0 below (omega arith)
+
+      element : (k : ℕ) → k < length state.pool.bytes
+          → slice_index (put_in_store state.directory (put_in_store state.directory state.pool p first) (p + length first) second).bytes k ≡ slice_index (put_in_store state.directory state.pool p (first ++ second)).bytes k
+      element k below =
+          get_or-map-range_with_len (spot_put state.directory (put_in_store state.directory state.pool p first) (p + length first) second) 0 (length (put_in_store state.directory state.pool p first).bytes) k k 0 (omega (arith, below, middle)) (omega arith)
+          ∙ ap (λ n. option_map_or (λ page. put_byte second (p + length first) (page * page_bytes state.directory.page + k % page_bytes state.directory.page) n) (page_at state.pool (k / page_bytes state.directory.page)) n) (one k below)
+          ∙ by_page (page_at state.pool (k / page_bytes state.directory.page))
+          ∙ sym (get_or-map-range_with_len (spot_put state.directory state.pool p (first ++ second)) 0 (length state.pool.bytes) k k 0 below (omega arith))
+        where
+          by_page : (o : Option ℕ)
+              → option_map_or (λ page. put_byte second (p + length first) (page * page_bytes state.directory.page + k % page_bytes state.directory.page)
+              (option_map_or (λ page. put_byte first p (page * page_bytes state.directory.page + k % page_bytes state.directory.page) (slice_index state.pool.bytes k)) o (slice_index state.pool.bytes k))) o
+              (option_map_or (λ page. put_byte first p (page * page_bytes state.directory.page + k % page_bytes state.directory.page) (slice_index state.pool.bytes k)) o (slice_index state.pool.bytes k))
+              ≡ option_map_or (λ page. put_byte (first ++ second) p (page * page_bytes state.directory.page + k % page_bytes state.directory.page) (slice_index state.pool.bytes k)) o (slice_index state.pool.bytes k)
+          by_page None = refl
+          by_page (Some page) = put-twice p (page * page_bytes state.directory.page + k % page_bytes state.directory.page) (slice_index state.pool.bytes k)
+
+  -- the lines of both
+  lines-twice : (p line : ℕ) → (has (lines_at state.directory (Shared p) (length first)) line || has (lines_at state.directory (Shared (p + length first)) (length second)) line)
+      ≡ has (lines_at state.directory (Shared p) (length (first ++ second))) line
+  lines-twice p line =
+      ap (λ (b : Bool). b || has (lines_at state.directory (Shared (p + length first)) (length second)) line) (has-lines state.directory p (length first) line sound.two some)
+      ∙ ap (λ (b : Bool). (nat_le (p / 128) line && nat_le line ((p + length first - 1) / 128)) || b) (has-lines state.directory (p + length first) (length second) line sound.two more)
+      ∙ tests
+      ∙ sym (has-lines state.directory p (length (first ++ second)) line sound.two (omega (arith, some, length-append first second)) ∙ ap (λ n. nat_le (p / 128) line && nat_le line ((p + n - 1) / 128)) (length-append first second))
+    where
+      tests : ((nat_le (p / 128) line && nat_le line ((p + length first - 1) / 128)) || (nat_le ((p + length first) / 128) line && nat_le line ((p + length first + length second - 1) / 128)))
+          ≡ (nat_le (p / 128) line && nat_le line ((p + (length first + length second) - 1) / 128))
+      tests =
+          let last : p + length first + length second - 1 ≡ p + (length first + length second) - 1 = omega arith in
+          let a : p / 128 ≤ (p + length first) / 128 = omega arith in
+          let b : (p + length first) / 128 ≤ (p + length first - 1) / 128 + 1 = omega (arith, some) in
+          let c : (p + length first - 1) / 128 ≤ (p + (length first + length second) - 1) / 128 = omega (arith, more) in
+          ap (λ n. (nat_le (p / 128) line && nat_le line ((p + length first - 1) / 128)) || (nat_le ((p + length first) / 128) line && nat_le line (n / 128))) last
+          ∙ joined (p / 128) ((p + length first - 1) / 128) ((p + length first) / 128) ((p + (length first + length second) - 1) / 128) line a b c
+        where
+          joined : (low mid next high line : ℕ) → low ≤ next → next ≤ mid + 1 → mid ≤ high
+              → ((nat_le low line && nat_le line mid) || (nat_le next line && nat_le line high)) ≡ (nat_le low line && nat_le line high)
+          joined low mid next high line a b c = grind (arith, nat_tests, a, b, c)
+
+  marks-twice : (p : ℕ) → (put_in_store state.directory (put_in_store state.directory state.pool p first) (p + length first) second).marked ≡ (put_in_store state.directory state.pool p (first ++ second)).marked
+  marks-twice p =
+      same_lists (put_in_store state.directory (put_in_store state.directory state.pool p first) (p + length first) second).marked (put_in_store state.directory state.pool p (first ++ second)).marked
+      (long ∙ sym whole) (λ k e below. element k e (omega (arith, below, long)))
+    where
+      middle : length (put_in_store state.directory state.pool p first).marked ≡ length state.pool.marked
+      middle = length-map-range_with_len (marks_put state.directory state.pool p (length first)) 0 (length state.pool.marked)
+
+      long : length (put_in_store state.directory (put_in_store state.directory state.pool p first) (p + length first) second).marked ≡ length state.pool.marked
+      long = length-map-range_with_len (marks_put state.directory (put_in_store state.directory state.pool p first) (p + length first) (length second)) 0 (length (put_in_store state.directory state.pool p first).marked) ∙ middle
+
+      whole : length (put_in_store state.directory state.pool p (first ++ second)).marked ≡ length state.pool.marked
+      whole = length-map-range_with_len (marks_put state.directory state.pool p (length (first ++ second))) 0 (length state.pool.marked)
+
+      among : (k x n q : ℕ) → x < 16 → has (lines_where (λ y. has (lines_at state.directory (Shared q) n) (k * 16 + y))) x ≡ has (lines_at state.directory (Shared q) n) (k * 16 + x)
+      among k x n q few = is_in_where-below (λ y. has (lines_at state.directory (Shared q) n) (k * 16 + y)) x few
+
+      three : (a b c : Bool) → ((a || b) || c) ≡ (a || (b || c))
+      three true b c = refl
+      three false b c = refl
+
+      element : (k : ℕ) (e : List ℕ) → k < length state.pool.marked
+          → get_or (put_in_store state.directory (put_in_store state.directory state.pool p first) (p + length first) second).marked k e ≡ get_or (put_in_store state.directory state.pool p (first ++ second)).marked k e
+      element k e below =
+          get_or-map-range_with_len (marks_put state.directory (put_in_store state.directory state.pool p first) (p + length first) (length second)) 0 (length (put_in_store state.directory state.pool p first).marked) k k e (omega (arith, below, middle)) (omega arith)
+          ∙ ap (λ (set : List ℕ). union set (lines_where (λ line. has (lines_at state.directory (Shared (p + length first)) (length second)) (k * 16 + line))))
+          (get_or-map-range_with_len (marks_put state.directory state.pool p (length first)) 0 (length state.pool.marked) k k [] below (omega arith))
+          ∙ where-alike
+          (λ x. has (marks_put state.directory state.pool p (length first) k) x || has (lines_where (λ line. has (lines_at state.directory (Shared (p + length first)) (length second)) (k * 16 + line))) x)
+          (λ x. has (marks_at state.pool k) x || has (lines_where (λ line. has (lines_at state.directory (Shared p) (length (first ++ second))) (k * 16 + line))) x)
+          (λ x few.
+          ap (λ (b : Bool). b || has (lines_where (λ line. has (lines_at state.directory (Shared (p + length first)) (length second)) (k * 16 + line))) x)
+          (is_in_where-below (λ y. has (marks_at state.pool k) y || has (lines_where (λ line. has (lines_at state.directory (Shared p) (length first)) (k * 16 + line))) y) x few)
+          ∙ three (has (marks_at state.pool k) x) (has (lines_where (λ line. has (lines_at state.directory (Shared p) (length first)) (k * 16 + line))) x)
+          (has (lines_where (λ line. has (lines_at state.directory (Shared (p + length first)) (length second)) (k * 16 + line))) x)
+          ∙ ap (λ (b : Bool). has (marks_at state.pool k) x || (b || has (lines_where (λ line. has (lines_at state.directory (Shared (p + length first)) (length second)) (k * 16 + line))) x)) (among k x (length first) p few)
+          ∙ ap (λ (b : Bool). has (marks_at state.pool k) x || (has (lines_at state.directory (Shared p) (length first)) (k * 16 + x) || b)) (among k x (length second) (p + length first) few)
+          ∙ ap (λ (b : Bool). has (marks_at state.pool k) x || b) (lines-twice p (k * 16 + x))
+          ∙ ap (λ (b : Bool). has (marks_at state.pool k) x || b) (sym (among k x (length (first ++ second)) p few)))
+          ∙ sym (get_or-map-range_with_len (marks_put state.directory state.pool p (length (first ++ second))) 0 (length state.pool.marked) k k e below (omega arith))
+
+  pub put-then : ((a : ℕ) → place ≡ Private a → (state.runner - 1) * 16384 + a + length first + length second ≤ length state.pool.bytes)
+      → put_at (put_at state place first) (on place (length first)) second ≡ put_at state place (first ++ second)
+  put-then fits = by_place place fits
+    where
+      by_place : (place : Located) → ((a : ℕ) → place ≡ Private a → (state.runner - 1) * 16384 + a + length first + length second ≤ length state.pool.bytes)
+          → put_at (put_at state place first) (on place (length first)) second ≡ put_at state place (first ++ second)
+      by_place (Private a) fits =
+          let sum : (state.runner - 1) * 16384 + (a + length first) ≡ (state.runner - 1) * 16384 + a + length first = omega arith in
+          ap (λ n. (let now : Reach = record state { pool = with_bytes (with_bytes state.pool ((state.runner - 1) * 16384 + a) first) n second } in now)) sum
+          ∙ ap (λ (list : List ℕ). (let now : Reach = record state { pool = record state.pool { bytes = list } } in now)) (overlaid-then state.pool.bytes ((state.runner - 1) * 16384 + a) first second (fits a refl))
+      by_place (Shared p) fits =
+          ap (λ (list : List ℕ). (let now : Reach = record state { pool = record state.pool { bytes = list; marked = (put_in_store state.directory (put_in_store state.directory state.pool p first) (p + length first) second).marked } } in now)) (spots-twice p)
+          ∙ ap (λ (list : List (List ℕ)). (let now : Reach = record state { pool = record state.pool { bytes = (put_in_store state.directory state.pool p (first ++ second)).bytes; marked = list } } in now)) (marks-twice p)
+      by_place (Refused code) fits = refl

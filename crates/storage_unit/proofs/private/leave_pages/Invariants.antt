@@ -1,0 +1,11 @@
+use Rattle.std.proofs.Common.{◌≡◌, replicate}
+use Rattle.std.specs.Prelude.{None}
+use Rattle.owned_list.specs.Overlay.{overlaid}
+use Rattle.tlb_model.specs.Buffer.{IsOfTable}
+use Rattle.storage_unit.proofs.private.leave_pages.Given as goal
+
+abbrev pub invariant-loop-index : goal.invariant-loop-index
+invariant-loop-index l = record {
+  table : l.table ≡ record l.initial.table { keys = overlaid l.initial.table.keys l.first (replicate l.index None) };
+  of_table : IsOfTable l.initial.buffer l.initial.table.keys → IsOfTable l.buffer l.table.keys;
+}

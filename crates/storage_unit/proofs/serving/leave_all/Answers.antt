@@ -1,0 +1,15 @@
+use Rattle.std.proofs.Common.{length, take, ap, arith}
+use Rattle.inverted_table.specs.Placed.{Placed}
+use Rattle.frame_pool.specs.View.{pool_of}
+use Rattle.storage_unit.proofs.StateLemmas.{fold-long}
+use Rattle.storage_unit.proofs.serving.leave_all.Goals as goal
+
+pub leave-requires : goal.leave-requires
+leave-requires c =
+    omega (
+      arith,
+      c.in-Some.ensures.below,
+      c.requires,
+      ap (λ (t : Placed). length t.keys) c.loop-page.invariant,
+      fold-long (pool_of c.args.pool.now) (take c.loop-page.page-index c.resident-page-items.result.now) c.args.table.now.keys,
+    )

@@ -1,0 +1,8 @@
+use Rattle.std.proofs.Common.{◌≡◌, take}
+use Rattle.std.specs.Prelude.{fold}
+use Rattle.frame_pool.specs.View.{pool_of}
+use Rattle.storage_unit.specs.Held.{keys_without}
+use Rattle.storage_unit.proofs.serving.leave_all.Given as goal
+
+abbrev pub invariant-loop-page : goal.invariant-loop-page
+invariant-loop-page l = l.table ≡ record l.initial.table { keys = fold (keys_without (pool_of l.pool)) l.initial.table.keys (take l.page-index l.page-items) }

@@ -1,0 +1,41 @@
+use Rattle.std.proofs.Common.{true, length, sym, ◌∙◌, ap}
+use Rattle.romp_cpu.specs.Answers.{answer_in}
+use Rattle.romp_cpu.specs.Shown.{bytes_from}
+use Rattle.storage_unit.specs.declared.model.Reach.{Reach}
+use Rattle.storage_unit.specs.Places.{place_of}
+use Rattle.storage_unit.specs.Reach.{byte_at, is_in_frame, refuses}
+use Rattle.storage_unit.specs.View.{reach_of}
+use Rattle.storage_unit.proofs.AccessLemmas.{begins}
+use Rattle.storage_unit.proofs.AfterLemmas.{shows, others-stay, answers-stay}
+use Rattle.storage_unit.proofs.UnitLemmas.{unit-sound}
+use Rattle.storage_unit.proofs.storage.UnitStorage.store.Goals as goal
+
+pub put-requires-clause-lies : goal.put-requires-clause-lies
+put-requires-clause-lies c =
+    let unit = c.args.self.now in
+    (begins (reach_of unit) (unit-sound unit) c.args.address (length c.args.from.now) true c.in-Ok.first c.requires (sym c.locate.ensures ∙ c.in-Ok.is)).lies
+
+pub put-requires-clause-there : goal.put-requires-clause-there
+put-requires-clause-there c =
+    let unit = c.args.self.now in
+    (begins (reach_of unit) (unit-sound unit) c.args.address (length c.args.from.now) true c.in-Ok.first c.requires (sym c.locate.ensures ∙ c.in-Ok.is)).there
+
+pub returns-in-Ok-clause-shows : goal.returns-in-Ok-clause-shows
+returns-in-Ok-clause-shows c =
+    let unit = c.args.self.now in
+    let b = begins (reach_of unit) (unit-sound unit) c.args.address (length c.args.from.now) true c.in-Ok.first c.requires (sym c.locate.ensures ∙ c.in-Ok.is) in
+    ap (λ (s : Reach). bytes_from (byte_at s) c.args.address (length c.args.from.now)) c.put.ensures
+    ∙ shows (reach_of unit) (unit-sound unit) c.args.address c.args.from.now c.in-Ok.first b.under b.there
+
+pub returns-in-Ok-clause-others : goal.returns-in-Ok-clause-others
+returns-in-Ok-clause-others c = λ other outside.
+    let unit = c.args.self.now in
+    let b = begins (reach_of unit) (unit-sound unit) c.args.address (length c.args.from.now) true c.in-Ok.first c.requires (sym c.locate.ensures ∙ c.in-Ok.is) in
+    ap (λ (s : Reach). byte_at s other) c.put.ensures
+    ∙ others-stay (reach_of unit) (unit-sound unit) c.args.address c.args.from.now c.in-Ok.first b.under b.there other outside
+
+pub returns-in-Ok-clause-answers : goal.returns-in-Ok-clause-answers
+returns-in-Ok-clause-answers c = λ access.
+    let unit = c.args.self.now in
+    ap (λ (s : Reach). answer_in (λ (r : Reach). r.registers) is_in_frame refuses s access) c.put.ensures
+    ∙ answers-stay (reach_of unit) (place_of unit.directory c.in-Ok.first) c.args.from.now access

@@ -1,0 +1,71 @@
+use Rattle.std.proofs.Common.{◌≡◌, ℕ, Bool, refl, sym, ◌∙◌, ap, Option, Some, None}
+use Rattle.std.specs.Prelude.{find, not, option_map, Ok}
+use Rattle.std.specs.List.{range_with_len}
+use Rattle.segment_regs.specs.declared.registers.Virtual.{Virtual}
+use Rattle.segment_regs.specs.Registers.{bytes_on}
+use Rattle.romp_cpu.specs.declared.storage.Access.{Access}
+use Rattle.romp_cpu.specs.declared.storage.Fault.{Fault}
+use Rattle.romp_cpu.specs.declared.storage.Probe.{Probe}
+use Rattle.romp_cpu.specs.Answers.{unless_refused_at, unless_absent_at, answered_at}
+use Rattle.storage_unit.specs.declared.model.Reach.{Reach}
+use Rattle.storage_unit.specs.Places.{place_of, on}
+use Rattle.storage_unit.specs.Reach.{is_there, is_kept_from, is_in_frame, refuses}
+use Rattle.storage_unit.specs.View.{reach_of}
+use Rattle.storage_unit.proofs.AnswerLemmas.{answered-by}
+use Rattle.storage_unit.proofs.unit.Unit.answer.Goals as goal
+
+none-of : (o : Option ℕ) → ((n : ℕ) → o ≡ Some n → ⊥) → o ≡ None
+none-of None some = refl
+none-of (Some n) some = absurd (some n refl)
+
+module _ (state : Reach) (first : Virtual) (bytes : ℕ) (store : Bool) where
+  abbrev absent : Option ℕ
+  absent = find (λ past. not (is_there state (on (place_of state.directory first) past))) (range_with_len 0 bytes)
+
+  abbrev refused : Option ℕ
+  refused = find (λ past. is_kept_from state (on (place_of state.directory first) past) store) (range_with_len 0 bytes)
+
+  by : (access : Access) → access.bytes ≡ bytes → access.store ≡ store
+      → unless_absent_at (option_map (bytes_on first) absent) (option_map (bytes_on first) refused) ≡ answered_at (is_in_frame state) (refuses state) access (Ok first)
+  by access same stores =
+      ap (λ b. unless_absent_at (option_map (bytes_on first) absent) (option_map (bytes_on first) (find (λ past. is_kept_from state (on (place_of state.directory first) past) b) (range_with_len 0 bytes)))) (sym stores)
+      ∙ sym (answered-by state first bytes access same)
+
+  page : (past : ℕ) (at : Virtual) → absent ≡ Some past → at ≡ bytes_on first past → (access : Access) → access.bytes ≡ bytes → access.store ≡ store
+      → Probe.Fault (Fault.Page at) ≡ answered_at (is_in_frame state) (refuses state) access (Ok first)
+  page past at is named access same stores =
+      ap (λ (v : Virtual). Probe.Fault (Fault.Page v)) named
+      ∙ ap (λ (o : Option ℕ). unless_absent_at (option_map (bytes_on first) o) (option_map (bytes_on first) refused)) (sym is)
+      ∙ by access same stores
+
+  rest : (o : Option ℕ) → absent ≡ None → refused ≡ o → (access : Access) → access.bytes ≡ bytes → access.store ≡ store
+      → unless_refused_at (option_map (bytes_on first) o) ≡ answered_at (is_in_frame state) (refuses state) access (Ok first)
+  rest o none is access same stores =
+      ap (λ (p : Option ℕ). unless_refused_at (option_map (bytes_on first) p)) (sym is)
+      ∙ ap (λ (p : Option ℕ). unless_absent_at (option_map (bytes_on first) p) (option_map (bytes_on first) refused)) (sym none)
+      ∙ by access same stores
+
+pub returns-in-Some-clause-answer : goal.returns-in-Some-clause-answer
+returns-in-Some-clause-answer c = λ access same stores.
+    page (reach_of c.args.self.now) c.args.first c.args.bytes c.args.store c.in-Some.past c.byte_past.result (sym c.first_absent.ensures.value ∙ c.in-Some.is) c.byte_past.ensures access same stores
+
+refused-is : (state now : Reach) (first : Virtual) (bytes : ℕ) (store : Bool) (o result : Option ℕ) → now ≡ state
+    → result ≡ find (λ past. is_kept_from now (on (place_of now.directory first) past) store) (range_with_len 0 bytes) → result ≡ o
+    → find (λ past. is_kept_from state (on (place_of state.directory first) past) store) (range_with_len 0 bytes) ≡ o
+refused-is state now first bytes store o result same is was =
+    ap (λ (s : Reach). find (λ past. is_kept_from s (on (place_of s.directory first) past) store) (range_with_len 0 bytes)) (sym same) ∙ sym is ∙ was
+
+pub returns-in-Some-first_refused-clause-answer : goal.returns-in-Some-first_refused-clause-answer
+returns-in-Some-first_refused-clause-answer c = λ access same stores.
+    let state = reach_of c.args.self.now in
+    ap (λ (v : Virtual). Probe.Fault (Fault.Lock v)) c.byte_past-in-Some-first_refused.ensures
+    ∙ rest state c.args.first c.args.bytes c.args.store (Some c.in-Some-first_refused.past) (sym c.first_absent.ensures.value ∙ none-of c.first_absent.result c.in_default.not-Some)
+    (refused-is state (reach_of c.first_absent.new.self) c.args.first c.args.bytes c.args.store (Some c.in-Some-first_refused.past) c.first_refused.result c.first_absent.ensures.state c.first_refused.ensures c.in-Some-first_refused.is)
+    access same stores
+
+pub returns-in-None-clause-answer : goal.returns-in-None-clause-answer
+returns-in-None-clause-answer c = λ access same stores.
+    let state = reach_of c.args.self.now in
+    rest state c.args.first c.args.bytes c.args.store None (sym c.first_absent.ensures.value ∙ none-of c.first_absent.result c.in_default.not-Some)
+    (refused-is state (reach_of c.first_absent.new.self) c.args.first c.args.bytes c.args.store None c.first_refused.result c.first_absent.ensures.state c.first_refused.ensures c.in-None.is)
+    access same stores

@@ -1,0 +1,36 @@
+use Rattle.std.proofs.Common.{ap}
+use Rattle.flat_machine.specs.Row.{plan}
+use Rattle.romp_cpu.specs.Shown.{halfword_of}
+use Rattle.romp_cpu.specs.Tried.{Tried}
+use Rattle.storage_unit.specs.declared.model.Reach.{Reach}
+use Rattle.storage_unit.specs.Reach.{byte_at}
+use Rattle.storage_unit.specs.View.{reach_of}
+use Rattle.storage_unit.proofs.UnitLemmas.{unit-sound}
+use Rattle.storage_unit.proofs.RowLemmas.{attempt-changes, attempt-clean, attempt-seats, attempt-is}
+use Rattle.storage_unit.proofs.unit.Unit.attempt.Goals as goal
+
+pub returns-clause-row : goal.returns-clause-row
+returns-clause-row c = λ program committed out windows long printed few.
+    attempt-is (reach_of c.args.self.now) (unit-sound c.args.self.now) program windows c.args.cpu.now committed out printed
+    (record { attempt = c.attempt.result; cpu = c.attempt.new.self; state = reach_of c.attempt.new.storage }) c.attempt.ensures.whole c.attempt.ensures.row few
+
+pub returns-clause-kept : goal.returns-clause-kept
+returns-clause-kept c =
+    let f = reach_of c.args.self.now in
+    let cpu = c.args.cpu.now in
+    attempt-changes f (unit-sound c.args.self.now) cpu (plan (halfword_of (byte_at f)) cpu.regs cpu.cs cpu.iar) c.attempt.ensures.whole (reach_of c.attempt.new.storage)
+    (ap (λ (t : Tried Reach). t.state) c.attempt.ensures.tried)
+
+pub returns-clause-clean : goal.returns-clause-clean
+returns-clause-clean c =
+    let f = reach_of c.args.self.now in
+    let cpu = c.args.cpu.now in
+    attempt-clean f (unit-sound c.args.self.now) cpu (plan (halfword_of (byte_at f)) cpu.regs cpu.cs cpu.iar) c.attempt.ensures.whole (reach_of c.attempt.new.storage)
+    (ap (λ (t : Tried Reach). t.state) c.attempt.ensures.tried)
+
+pub returns-clause-seats : goal.returns-clause-seats
+returns-clause-seats c =
+    let f = reach_of c.args.self.now in
+    let cpu = c.args.cpu.now in
+    attempt-seats f (unit-sound c.args.self.now) cpu (plan (halfword_of (byte_at f)) cpu.regs cpu.cs cpu.iar) c.attempt.ensures.whole (reach_of c.attempt.new.storage)
+    (ap (λ (t : Tried Reach). t.state) c.attempt.ensures.tried)

@@ -1,0 +1,176 @@
+use Rattle.std.proofs.Common.{◌≡◌, ℕ, ◌+◌, ◌<◌, ◌≤◌, false, List, length, sym, ◌∙◌, ap, subst, arith, Option, Some, None}
+use Rattle.std.specs.Prelude.{slice_set, option_and_then, option_map, IfSome}
+use Rattle.std.specs.Option.{option_map_or}
+use Rattle.inverted_table.specs.declared.key.Key.{Key}
+use Rattle.inverted_table.specs.Placed.{Placed, key_in, look_up, without_frame}
+use Rattle.tlb_model.specs.Buffer.{IsOfTable}
+use Rattle.tlb_model.proofs.TableLemmas.{of_table-entered}
+use Rattle.frame_pool.specs.declared.model.Pool.{Pool}
+use Rattle.frame_pool.specs.Sizes as sizes
+use Rattle.frame_pool.specs.Pool.{frame_at, page_out, with_room, Brought}
+use Rattle.frame_pool.specs.Seen.{IsSeen}
+use Rattle.lock_rules.specs.Sets.{has}
+use Rattle.line_geometry.specs.declared.directory.PageSize.TheVariants.{Two}
+use Rattle.line_geometry.specs.Directory.{page_count}
+use Rattle.std.proofs.lemmas.List.{length-set}
+use Rattle.frame_pool.specs.View.{pool_of}
+use Rattle.frame_pool.proofs.SeenLemmas.{pool-seen, Stays}
+use Rattle.storage_unit.specs.declared.unit.Unit.{Unit}
+use Rattle.storage_unit.specs.Places.{key_among, key_of_page}
+use Rattle.storage_unit.specs.Held.{keys_of, pages_begun, AreOfPages}
+use Rattle.storage_unit.proofs.HeldLemmas.{key-at, keys-long, held-store, finds-page, keys-store}
+use Rattle.storage_unit.proofs.StateLemmas.{room-stays, room-none, absent-frame, out-frame, out-inside, keys-room, without-keys, without-entries}
+use Rattle.storage_unit.proofs.unit.Unit.bring.Goals as goal
+
+module _ (unit : Unit) (page : ℕ) (keep : Option ℕ) where
+  -- the frame that the table finds is the one that the pool had
+  frame-is : (left : Option ℕ) (segments : List (ℕ × ℕ)) (out : Option ℕ) → left ≡ option_and_then (λ page. look_up unit.table.keys (key_among segments page)) out
+      → segments ≡ unit.directory.segments → out ≡ page_out (pool_of unit.pool) keep → left ≡ option_and_then (frame_at (pool_of unit.pool)) (page_out (pool_of unit.pool) keep)
+  frame-is left segments out is of went =
+      is
+      ∙ ap (option_and_then (λ page. look_up unit.table.keys (key_among segments page))) went
+      ∙ ap (λ (list : List (ℕ × ℕ)). option_and_then (λ page. look_up unit.table.keys (key_among list page)) (page_out (pool_of unit.pool) keep)) of
+      ∙ ap (λ (keys : List (Option Key)). option_and_then (λ page. look_up keys (key_of_page unit.directory page)) (page_out (pool_of unit.pool) keep)) unit.held
+      ∙ out-frame unit.directory unit.two unit.legal (pool_of unit.pool) (pool-seen unit.pool) unit.pool_size unit.pages (pages_begun unit.begun) keep
+
+  frame-inside : (left : Option ℕ) → left ≡ option_and_then (frame_at (pool_of unit.pool)) (page_out (pool_of unit.pool) keep) → IfSome left (λ frame. frame < length unit.table.keys)
+  frame-inside left is =
+      subst (λ (o : Option ℕ). IfSome o (λ frame. frame < length unit.table.keys)) (sym is)
+      (subst (λ (keys : List (Option Key)). IfSome (option_and_then (frame_at (pool_of unit.pool)) (page_out (pool_of unit.pool) keep)) (λ frame. frame < length keys)) (sym unit.held)
+      (out-inside unit.directory unit.two unit.legal (pool_of unit.pool) (pool-seen unit.pool) unit.pool_size unit.pages (pages_begun unit.begun) keep))
+
+  abbrev room : Pool
+  room = with_room (pool_of unit.pool) keep
+
+  -- the table when it has left
+  keys-between : (table : Placed) (left : Option ℕ) → left ≡ option_and_then (frame_at (pool_of unit.pool)) (page_out (pool_of unit.pool) keep)
+      → table ≡ option_map_or (without_frame unit.table) left unit.table → table.keys ≡ keys_of unit.directory unit.begun room.frames room.page_in
+  keys-between table left is now =
+      ap (λ (t : Placed). t.keys) now
+      ∙ without-keys unit.table left
+      ∙ ap (λ (o : Option ℕ). option_map_or (λ frame. slice_set unit.table.keys frame None) o unit.table.keys) is
+      ∙ ap (λ (keys : List (Option Key)). option_map_or (λ frame. slice_set keys frame None) (option_and_then (frame_at (pool_of unit.pool)) (page_out (pool_of unit.pool) keep)) keys) unit.held
+      ∙ keys-room unit.directory unit.two unit.legal (pool_of unit.pool) (pool-seen unit.pool) unit.pool_size unit.pages (pages_begun unit.begun) keep
+
+  module _ (new : Pool) (frame : ℕ) (came : Brought (pool_of unit.pool) new page keep frame) (within : page < page_count unit.directory) (absent : has (pool_of unit.pool).resident page ≡ false) where
+    stays : Stays (pool_of unit.pool) room
+    stays = (room-stays (pool_of unit.pool) keep (pool-seen unit.pool)).1
+
+    seen : IsSeen room
+    seen = (room-stays (pool_of unit.pool) keep (pool-seen unit.pool)).0
+
+    size : room.page ≡ Two
+    size = stays.page ∙ unit.pool_size
+
+    pages : length room.frame_of ≡ page_count unit.directory
+    pages = stays.frame_of ∙ unit.pages
+
+    above : 128 ≤ frame
+    above = subst (λ s. sizes.private_frames s ≤ frame) unit.pool_size came.above
+
+    below : frame < 128 + room.frames
+    below = omega (arith, subst (λ s. frame < sizes.frame_count s (pool_of unit.pool).frames) unit.pool_size came.below, stays.frames)
+
+    free : key_in (keys_of unit.directory unit.begun room.frames room.page_in) frame ≡ None
+    free =
+        key-at unit.directory (pages_begun unit.begun) room.frames room.page_in frame below
+        ∙ held-store unit.directory (pages_begun unit.begun) room.page_in frame above
+        ∙ ap (λ (o : Option ℕ). option_map (key_of_page unit.directory) o) came.free
+
+    unfound : look_up (keys_of unit.directory unit.begun room.frames room.page_in) (key_of_page unit.directory page) ≡ None
+    unfound =
+        finds-page unit.directory unit.two unit.legal room seen size pages (pages_begun unit.begun) page within
+        ∙ room-none (pool_of unit.pool) keep page (absent-frame (pool_of unit.pool) page (pool-seen unit.pool) absent)
+
+    entered-keys : slice_set (keys_of unit.directory unit.begun room.frames room.page_in) frame (Some (key_of_page unit.directory page)) ≡ keys_of unit.directory unit.begun new.frames new.page_in
+    entered-keys =
+        keys-store unit.directory (pages_begun unit.begun) room.frames room.page_in frame (Some page) above below
+        (omega (arith, below, subst (λ s. length room.page_in ≡ sizes.frame_count s room.frames) size seen.page_in))
+        ∙ ap (λ (p : Pool). keys_of unit.directory unit.begun p.frames p.page_in) (sym came.rest)
+
+pub leave_frame-requires : goal.leave_frame-requires
+leave_frame-requires c =
+    frame-inside c.args.self.now c.args.page c.args.keep c.frame_of-left.result
+    (frame-is c.args.self.now c.args.page c.args.keep c.frame_of-left.result c.segments-segments.result.now c.bring-slot.result.out c.frame_of-left.ensures c.segments-segments.ensures.value c.bring-slot.ensures.out)
+
+between : (unit : Unit) (page : ℕ) (keep : Option ℕ) (table : Placed) (left : Option ℕ) (segments : List (ℕ × ℕ)) (out : Option ℕ)
+    → left ≡ option_and_then (λ page. look_up unit.table.keys (key_among segments page)) out → segments ≡ unit.directory.segments → out ≡ page_out (pool_of unit.pool) keep
+    → table ≡ option_map_or (without_frame unit.table) left unit.table
+    → table.keys ≡ keys_of unit.directory unit.begun (with_room (pool_of unit.pool) keep).frames (with_room (pool_of unit.pool) keep).page_in
+between unit page keep table left segments out is of went now = keys-between unit page keep table left (frame-is unit page keep left segments out is of went) now
+
+pub enter-requires-clause-frame : goal.enter-requires-clause-frame
+enter-requires-clause-frame c =
+    let unit = c.args.self.now in
+    let room = with_room (pool_of unit.pool) c.args.keep in
+    let keys = between unit c.args.page c.args.keep c.leave_frame.new.table c.frame_of-left.result c.segments-segments.result.now c.bring-slot.result.out
+    c.frame_of-left.ensures c.segments-segments.ensures.value c.bring-slot.ensures.out c.leave_frame.ensures.table in
+    omega (
+      arith,
+      ap length keys,
+      keys-long unit.directory (pages_begun unit.begun) room.frames room.page_in,
+      below unit c.args.page c.args.keep (pool_of c.bring-slot.new.self) c.bring-slot.result.frame c.bring-slot.ensures.brought c.requires.page c.requires.absent,
+    )
+
+pub enter-requires-clause-free : goal.enter-requires-clause-free
+enter-requires-clause-free c =
+    let unit = c.args.self.now in
+    let keys = between unit c.args.page c.args.keep c.leave_frame.new.table c.frame_of-left.result c.segments-segments.result.now c.bring-slot.result.out
+    c.frame_of-left.ensures c.segments-segments.ensures.value c.bring-slot.ensures.out c.leave_frame.ensures.table in
+    ap (λ (list : List (Option Key)). key_in list c.bring-slot.result.frame) keys
+    ∙ free unit c.args.page c.args.keep (pool_of c.bring-slot.new.self) c.bring-slot.result.frame c.bring-slot.ensures.brought c.requires.page c.requires.absent
+
+key-is : (unit : Unit) (page : ℕ) (key : Key) (segments : List (ℕ × ℕ)) → key ≡ key_among segments page → segments ≡ unit.directory.segments → key ≡ key_of_page unit.directory page
+key-is unit page key segments is of = is ∙ ap (λ (list : List (ℕ × ℕ)). key_among list page) of
+
+pub enter-requires-clause-absent : goal.enter-requires-clause-absent
+enter-requires-clause-absent c =
+    let unit = c.args.self.now in
+    let keys = between unit c.args.page c.args.keep c.leave_frame.new.table c.frame_of-left.result c.segments-segments.result.now c.bring-slot.result.out
+    c.frame_of-left.ensures c.segments-segments.ensures.value c.bring-slot.ensures.out c.leave_frame.ensures.table in
+    ap (λ (list : List (Option Key)). look_up list c.key_among-key.result) keys
+    ∙ ap (λ (key : Key). look_up (keys_of unit.directory unit.begun (with_room (pool_of unit.pool) c.args.keep).frames (with_room (pool_of unit.pool) c.args.keep).page_in) key)
+    (key-is unit c.args.page c.key_among-key.result c.segments-segments.result.now c.key_among-key.ensures c.segments-segments.ensures.value)
+    ∙ unfound unit c.args.page c.args.keep (pool_of c.bring-slot.new.self) c.bring-slot.result.frame c.bring-slot.ensures.brought c.requires.page c.requires.absent
+
+pub invariant_of-self : goal.invariant_of-self
+invariant_of-self c =
+    let unit = c.args.self.now in
+    let new = pool_of c.bring-slot.new.self in
+    let frame = c.bring-slot.result.frame in
+    let came = c.bring-slot.ensures.brought in
+    let keys = between unit c.args.page c.args.keep c.leave_frame.new.table c.frame_of-left.result c.segments-segments.result.now c.bring-slot.result.out
+    c.frame_of-left.ensures c.segments-segments.ensures.value c.bring-slot.ensures.out c.leave_frame.ensures.table in
+    let key = key-is unit c.args.page c.key_among-key.result c.segments-segments.result.now c.key_among-key.ensures c.segments-segments.ensures.value in
+    let room = with_room (pool_of unit.pool) c.args.keep in
+    let left_keys : List (Option Key) = keys_of unit.directory unit.begun room.frames room.page_in in
+    let now : c.enter.new.self.keys ≡ slice_set left_keys frame (Some (key_of_page unit.directory c.args.page)) =
+    ap (λ (t : Placed). t.keys) c.enter.ensures
+    ∙ ap (λ (k : Key). slice_set c.leave_frame.new.table.keys frame (Some k)) key
+    ∙ ap (λ (list : List (Option Key)). slice_set list frame (Some (key_of_page unit.directory c.args.page))) keys in
+    let old = stays unit c.args.page c.args.keep new frame came c.requires.page c.requires.absent in
+    record {
+      sixteen = unit.sixteen;
+      two = unit.two;
+      legal = unit.legal;
+      pool_size = ap (λ (p : Pool). p.page) came.rest ∙ old.page ∙ unit.pool_size;
+      pages = ap (λ (p : Pool). length p.frame_of) came.rest ∙ length-set (with_room (pool_of unit.pool) c.args.keep).frame_of c.args.page (Some frame) ∙ old.frame_of ∙ unit.pages;
+      entries =
+          ap (λ (t : Placed). length t.entries) c.enter.ensures
+          ∙ ap (λ (t : Placed). length t.entries) c.leave_frame.ensures.table
+          ∙ ap length (without-entries unit.table c.frame_of-left.result) ∙ unit.entries;
+      marks = subst (λ (list : List (List ℕ)). AreOfPages list) (sym (ap (λ (p : Pool). p.marked) came.rest ∙ old.marked)) unit.marks;
+      held = now ∙ entered-keys unit c.args.page c.args.keep new frame came c.requires.page c.requires.absent;
+      remembered =
+          subst (λ (list : List (Option Key)). IsOfTable c.leave_frame.new.buffer list) (sym now)
+          (of_table-entered c.leave_frame.new.buffer left_keys frame (key_of_page unit.directory c.args.page)
+          (omega (
+            arith,
+            keys-long unit.directory (pages_begun unit.begun) room.frames room.page_in,
+            below unit c.args.page c.args.keep new frame came c.requires.page c.requires.absent,
+          ))
+          (free unit c.args.page c.args.keep new frame came c.requires.page c.requires.absent)
+          (unfound unit c.args.page c.args.keep new frame came c.requires.page c.requires.absent)
+          (subst (λ (list : List (Option Key)). IsOfTable c.leave_frame.new.buffer list) keys (c.leave_frame.ensures.of_table unit.remembered)));
+      selected = unit.selected;
+    }

@@ -1,0 +1,45 @@
+use Rattle.std.proofs.Common.{◌≡◌, sym, ◌∙◌, ap, subst, List, ℕ, ◌+◌, length, Option, arith}
+use Rattle.std.specs.Prelude.{fold}
+use Rattle.inverted_table.specs.declared.key.Key.{Key}
+use Rattle.inverted_table.specs.Placed.{Placed}
+use Rattle.tlb_model.specs.declared.tlb.Pair.{Pair}
+use Rattle.tlb_model.specs.Buffer.{IsOfTable}
+use Rattle.frame_pool.specs.declared.model.Pool.{Pool}
+use Rattle.frame_pool.specs.Sizes.{frame_count}
+use Rattle.frame_pool.specs.View.{pool_of}
+use Rattle.frame_pool.proofs.SeenLemmas.{pool-seen}
+use Rattle.storage_unit.specs.Held.{AreOfPages, keys_of, keys_without, pages_begun}
+use Rattle.storage_unit.proofs.HeldLemmas.{keys-long}
+use Rattle.storage_unit.proofs.StateLemmas.{emptied-stays, keys-emptied, none-of_table}
+use Rattle.storage_unit.proofs.unit.Unit.empty.Goals as goal
+
+pub leave_all-requires : goal.leave_all-requires
+leave_all-requires c =
+    let unit = c.args.self.now in
+    let pool = pool_of unit.pool in
+    let count : frame_count pool.page pool.frames ≡ 128 + pool.frames = ap (λ s. frame_count s pool.frames) unit.pool_size in
+    omega (arith, count, ap length unit.held, keys-long unit.directory (pages_begun unit.begun) pool.frames pool.page_in)
+
+pub invariant_of-self : goal.invariant_of-self
+invariant_of-self c =
+    let unit = c.args.self.now in
+    let pool = pool_of unit.pool in
+    let stays = emptied-stays pool in
+    let new = c.empty.ensures in
+    let table = c.leave_all.ensures in
+    record {
+      sixteen = unit.sixteen;
+      two = unit.two;
+      legal = unit.legal;
+      pool_size = ap (λ (p : Pool). p.page) new ∙ stays.page ∙ unit.pool_size;
+      pages = ap (λ (p : Pool). length p.frame_of) new ∙ stays.frame_of ∙ unit.pages;
+      entries = ap (λ (t : Placed). length t.entries) table ∙ unit.entries;
+      marks = subst (λ (list : List (List ℕ)). AreOfPages list) (sym (ap (λ (p : Pool). p.marked) new ∙ stays.marked)) unit.marks;
+      held =
+          ap (λ (t : Placed). t.keys) table
+          ∙ ap (λ (keys : List (Option Key)). fold (keys_without pool) keys pool.resident) unit.held
+          ∙ keys-emptied unit.directory unit.two unit.legal pool (pool-seen unit.pool) unit.pool_size unit.pages (pages_begun unit.begun)
+          ∙ ap (λ (p : Pool). keys_of unit.directory unit.begun p.frames p.page_in) (sym new);
+      remembered = subst (λ (classes : List (List Pair)). IsOfTable classes c.leave_all.new.table.keys) (sym c.new-self.ensures) (none-of_table c.leave_all.new.table.keys);
+      selected = unit.selected;
+    }

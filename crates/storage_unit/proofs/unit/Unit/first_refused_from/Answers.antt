@@ -1,0 +1,41 @@
+use Rattle.std.proofs.Common.{◌+◌, sym, ◌∙◌, ap, arith, inl, inr}
+use Rattle.std.proofs.lemmas.Bool.{cases_lt}
+use Rattle.line_geometry.specs.Lines.{line_of}
+use Rattle.line_geometry.proofs.Legal.{legal-bytes}
+use Rattle.storage_unit.specs.Reach.{is_refused}
+use Rattle.storage_unit.specs.View.{reach_of}
+use Rattle.storage_unit.proofs.FindLemmas.{none-found, first-found}
+use Rattle.storage_unit.proofs.ProbeLemmas.{same-line}
+use Rattle.storage_unit.proofs.UnitLemmas.{unit-sound}
+use Rattle.storage_unit.proofs.unit.Unit.first_refused_from.Goals as goal
+
+pub overflow_add-here : goal.overflow_add-here
+overflow_add-here c =
+    let unit = c.args.self.now in
+    omega (arith, c.from-in-loop-past.ensures, c.requires, c.loop-past-test.true, c.from.ensures, legal-bytes unit.directory unit.legal)
+
+pub returns-then-is_refused : goal.returns-then-is_refused
+returns-then-is_refused c =
+    let unit = c.args.self.now in
+    sym
+    (first-found (λ past. is_refused (reach_of unit) (line_of unit.directory (c.args.place + past)) c.args.store) 0 c.args.bytes c.loop-past.past (omega arith)
+    (omega (arith, c.loop-past-test.true, c.from.ensures)) (λ k above below. c.loop-past.invariant k below)
+    (ap (λ n. is_refused (reach_of unit) (line_of unit.directory (c.args.place + n)) c.args.store) (sym c.from-in-loop-past.ensures) ∙ sym c.is_refused.ensures ∙ c.if-is_refused.true))
+
+pub returns : goal.returns
+returns c =
+    let unit = c.args.self.now in
+    sym
+    (none-found (λ past. is_refused (reach_of unit) (line_of unit.directory (c.args.place + past)) c.args.store) 0 c.args.bytes
+    (λ k above below. c.loop-past.invariant k (omega (arith, below, c.loop-past-test.false, c.from.ensures))))
+
+pub loop-past-preserved : goal.loop-past-preserved
+loop-past-preserved c = λ k below.
+    let unit = c.args.self.now in
+    elim (cases_lt k c.loop-past.past) [
+      | inl before ↦ c.loop-past.invariant k before
+      | inr after ↦
+          same-line (reach_of unit) (unit-sound unit) c.args.place c.loop-past.past k c.args.store after (omega (arith, below, c.from-in-loop-past.ensures))
+          ∙ ap (λ n. is_refused (reach_of unit) (line_of unit.directory (c.args.place + n)) c.args.store) (sym c.from-in-loop-past.ensures)
+          ∙ sym c.is_refused.ensures ∙ c.if-is_refused.false
+    ]

@@ -1,0 +1,26 @@
+use Rattle.std.proofs.Common.{◌≡◌, sym, ◌∙◌, ap, subst, List, ℕ, length, arith}
+use Rattle.frame_pool.specs.declared.model.Pool.{Pool}
+use Rattle.frame_pool.specs.View.{pool_of}
+use Rattle.storage_unit.specs.Held.{AreOfPages, keys_of}
+use Rattle.storage_unit.proofs.StateLemmas.{laid-bytes}
+use Rattle.storage_unit.proofs.unit.Unit.lay_kept.Goals as goal
+
+pub lay_kept-requires : goal.lay_kept-requires
+lay_kept-requires c = omega (arith, c.requires, c.args.self.now.pages)
+
+pub invariant_of-self : goal.invariant_of-self
+invariant_of-self c =
+    let unit = c.args.self.now in
+    let new : pool_of c.lay_kept.new.self ≡ _ = c.lay_kept.ensures ∙ laid-bytes (pool_of unit.pool) c.args.page in
+    record {
+      sixteen = unit.sixteen;
+      two = unit.two;
+      legal = unit.legal;
+      pool_size = ap (λ (p : Pool). p.page) new ∙ unit.pool_size;
+      pages = ap (λ (p : Pool). length p.frame_of) new ∙ unit.pages;
+      entries = unit.entries;
+      marks = subst (λ (list : List (List ℕ)). AreOfPages list) (sym (ap (λ (p : Pool). p.marked) new)) unit.marks;
+      held = unit.held ∙ ap (λ (p : Pool). keys_of unit.directory unit.begun p.frames p.page_in) (sym new);
+      remembered = unit.remembered;
+      selected = unit.selected;
+    }

@@ -1,0 +1,33 @@
+use Rattle.std.proofs.Common.{◌∙◌, ap, refl, List, Option}
+use Rattle.inverted_table.specs.declared.key.Key.{Key}
+use Rattle.inverted_table.specs.Placed.{look_up}
+use Rattle.inverted_table.specs.Keys.{key_of}
+use Rattle.tlb_model.specs.Buffer.{found, after_found}
+use Rattle.storage_unit.proofs.unit.Unit.translate.Goals as goal
+
+pub invariant_of-self : goal.invariant_of-self
+invariant_of-self c =
+    let unit = c.args.self.now in
+    record {
+      sixteen = unit.sixteen;
+      two = unit.two;
+      legal = unit.legal;
+      pool_size = unit.pool_size;
+      pages = unit.pages;
+      entries = unit.entries;
+      marks = unit.marks;
+      held = unit.held;
+      remembered = c.find.ensures.kept unit.remembered;
+      selected = unit.selected;
+    }
+
+pub returns : goal.returns
+returns c =
+    let unit = c.args.self.now in
+    let key = key_of c.args.at in
+    record {
+      value = c.find.ensures.same unit.remembered ∙ ap (λ (keys : List (Option Key)). look_up keys key) unit.held;
+      found = c.find.ensures.answer ∙ ap (λ (keys : List (Option Key)). found unit.buffer (look_up keys key) key) unit.held;
+      buffer = c.find.ensures.after ∙ ap (λ (keys : List (Option Key)). after_found unit.buffer (look_up keys key) key) unit.held;
+      state = refl;
+    }

@@ -1,0 +1,54 @@
+use Rattle.std.proofs.Common.{sym, ◌∙◌, ap, subst, List, ℕ, ◌<◌, length, Option, None, arith}
+use Rattle.std.specs.Prelude.{slice_set, IfSome}
+use Rattle.std.specs.Option.{option_map_or}
+use Rattle.inverted_table.specs.declared.key.Key.{Key}
+use Rattle.inverted_table.specs.Placed.{Placed}
+use Rattle.frame_pool.specs.declared.model.Pool.{Pool}
+use Rattle.frame_pool.specs.Seen.{IsSeen}
+use Rattle.frame_pool.specs.Pool.{frame_at, marks_at, settled}
+use Rattle.frame_pool.specs.View.{pool_of}
+use Rattle.frame_pool.proofs.SeenLemmas.{pool-seen, gone-stays}
+use Rattle.storage_unit.specs.Held.{AreOfPages, keys_of, pages_begun}
+use Rattle.storage_unit.proofs.LeaveLemmas.{seen-settled}
+use Rattle.storage_unit.proofs.StateLemmas.{marks-settled, keys-gone, frame-inside, without-keys, without-entries}
+use Rattle.storage_unit.proofs.unit.Unit.undo.Goals as goal
+
+pub leave_frame-requires : goal.leave_frame-requires
+leave_frame-requires c =
+    let unit = c.args.self.now in
+    let pool = pool_of unit.pool in
+    subst (λ (o : Option ℕ). IfSome o (λ frame. frame < length unit.table.keys)) (sym c.frame_of.ensures.value)
+    (subst (λ (keys : List (Option Key)). IfSome (frame_at pool c.args.page) (λ frame. frame < length keys)) (sym unit.held)
+    (frame-inside unit.directory unit.two unit.legal pool (pool-seen unit.pool) unit.pool_size unit.pages (pages_begun unit.begun) c.args.page))
+
+pub undo-requires : goal.undo-requires
+undo-requires c = omega (arith, c.requires, c.args.self.now.pages)
+
+pub invariant_of-self : goal.invariant_of-self
+invariant_of-self c =
+    let unit = c.args.self.now in
+    let pool = pool_of unit.pool in
+    let between = settled pool c.args.page c.args.lines in
+    let new = c.undo.ensures in
+    let stays = gone-stays between c.args.page in
+    let seen : IsSeen between = seen-settled unit.directory pool pool.kept c.args.page c.args.lines (pool-seen unit.pool) (omega (arith, c.requires, unit.pages)) in
+    let table = c.leave_frame.ensures.table ∙ ap (λ (o : Option ℕ). option_map_or (λ frame. (let t : Placed = record unit.table { keys = slice_set unit.table.keys frame None } in t)) o unit.table) c.frame_of.ensures.value in
+    record {
+      sixteen = unit.sixteen;
+      two = unit.two;
+      legal = unit.legal;
+      pool_size = ap (λ (p : Pool). p.page) new ∙ stays.page ∙ unit.pool_size;
+      pages = ap (λ (p : Pool). length p.frame_of) new ∙ stays.frame_of ∙ unit.pages;
+      entries = ap (λ (t : Placed). length t.entries) table ∙ ap length (without-entries unit.table (frame_at pool c.args.page)) ∙ unit.entries;
+      marks =
+          subst (λ (list : List (List ℕ)). AreOfPages list) (sym (ap (λ (p : Pool). p.marked) new ∙ stays.marked))
+          (marks-settled pool.marked c.args.page (marks_at pool c.args.page) c.args.lines unit.marks);
+      held =
+          ap (λ (t : Placed). t.keys) table
+          ∙ without-keys unit.table (frame_at pool c.args.page)
+          ∙ ap (λ (keys : List (Option Key)). option_map_or (λ frame. slice_set keys frame None) (frame_at pool c.args.page) keys) unit.held
+          ∙ keys-gone unit.directory unit.two unit.legal between seen unit.pool_size unit.pages (pages_begun unit.begun) c.args.page
+          ∙ ap (λ (p : Pool). keys_of unit.directory unit.begun p.frames p.page_in) (sym new);
+      remembered = c.leave_frame.ensures.of_table unit.remembered;
+      selected = unit.selected;
+    }

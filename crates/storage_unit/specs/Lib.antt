@@ -1,0 +1,10 @@
+pub mod Places
+pub mod Bytes
+pub mod Reach
+pub mod Held
+pub mod Reached
+pub mod View
+pub mod UnitLending
+pub mod Served
+pub mod Rows
+pub mod Laws

@@ -1,0 +1,44 @@
+-- Where bytes lie: private storage, the flat place in the store, and the page that the table knows.
+use Rattle.std.specs.Prelude.{ℕ, ◌+◌, ◌-◌, ◌*◌, nat_le, nat_lt, if◌then◌else◌, Bool, List, [], ◌∷◌, Result, Ok, Err}
+use Rattle.line_geometry.specs.Directory.{Layout, start_of}
+use Rattle.flat_machine.specs.declared.machine.Located.{Located}
+use Rattle.flat_machine.specs.declared.machine.Located.TheVariants.{Private, Shared, Refused}
+use Rattle.segment_regs.specs.declared.registers.Check.{Check}
+use Rattle.segment_regs.specs.declared.registers.Virtual.{Virtual}
+use Rattle.inverted_table.specs.declared.key.Key.{Key}
+use Rattle.inverted_table.specs.Keys.{key_to}
+
+-- the private segment of a seat, and whether a segment is a private one
+abbrev pub private_segment : ℕ → ℕ
+private_segment seat = 3840 + seat
+
+abbrev pub is_private : ℕ → Bool
+is_private segment = nat_le 3840 segment
+
+-- the offset of a byte in its segment
+abbrev pub offset_of : Virtual → ℕ
+offset_of at = at.page * 2048 + at.byte
+
+-- where a byte lies: at an offset of private storage, or at a place of the store
+abbrev pub place_of : Layout → Virtual → Located
+place_of directory at =
+    if is_private at.segment then Private (offset_of at) else Shared (start_of directory at.segment + offset_of at)
+
+-- where an access lies, or that it is refused
+abbrev pub place_at : Layout → Result Virtual Check → Located
+place_at directory (Ok at) = place_of directory at
+place_at directory (Err check) = Refused check.0
+
+-- so many bytes on
+abbrev pub on : Located → ℕ → Located
+on (Private at) past = Private (at + past)
+on (Shared at) past = Shared (at + past)
+on (Refused code) past = Refused code
+
+-- the page of a segment that a flat page is
+abbrev pub key_among : List (ℕ × ℕ) → (page : ℕ) → Key
+key_among [] page = key_to 0 page
+key_among (segment ∷ segments) page = if nat_lt page segment.1 then key_to segment.0 page else key_among segments (page - segment.1)
+
+abbrev pub key_of_page : Layout → ℕ → Key
+key_of_page directory page = key_among directory.segments page

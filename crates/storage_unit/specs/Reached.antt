@@ -1,0 +1,48 @@
+-- What holds of the state of every unit, and the bytes that the seat that is selected may reach.
+use Rattle.std.specs.Prelude.{◌≡◌, ℕ, ◌+◌, ◌≤◌, ◌<◌, ◌^◌, not, Bool, true, false, List, map, length, is_some, slice_index_or, Some}
+use Rattle.std.specs.List.{range_with_len}
+use Rattle.line_geometry.specs.declared.directory.PageSize.TheVariants.{Two}
+use Rattle.line_geometry.specs.Directory.{length_of, start_of, byte_count, page_count}
+use Rattle.line_geometry.specs.Legal.{IsLegal}
+use Rattle.inverted_table.specs.Keys.{key_of}
+use Rattle.inverted_table.specs.Placed.{look_up}
+use Rattle.frame_pool.specs.Seen.{IsSeen}
+use Rattle.storage_unit.specs.Held.{AreOfPages, IsSelected, table_of}
+use Rattle.flat_machine.specs.declared.machine.Located.{Located}
+use Rattle.segment_regs.specs.declared.registers.Virtual.{Virtual}
+use Rattle.storage_unit.specs.declared.model.Reach.{Reach}
+use Rattle.storage_unit.specs.Places.{private_segment, is_private, offset_of, place_of, on}
+use Rattle.storage_unit.specs.Reach.{byte_of, is_there}
+
+-- what holds of every unit: its parts have the sizes of its store, and the seat that is selected may reach what its
+-- registers name
+pub record IsSound (state : Reach) : Type 0 where
+  pub sixteen : length state.begun ≡ 16
+  pub two : state.directory.page ≡ Two
+  pub legal : IsLegal state.directory.segments
+  pub seen : IsSeen state.pool
+  pub size : state.pool.page ≡ Two
+  pub pages : length state.pool.frame_of ≡ page_count state.directory
+  pub entries : length state.entries ≡ page_count state.directory
+  pub marks : AreOfPages state.pool.marked
+  pub selected : IsSelected state.directory state.begun state.runner state.registers
+
+-- so many bytes from a byte on lie in the private storage of the seat that is selected, which is begun, or in a segment of
+-- the store
+pub record Lies (state : Reach) (at : Virtual) (count : ℕ) : Type 0 where
+  pub within : at.byte < 2048
+  pub few : offset_of at + count ≤ 2 ^ 22
+  pub private : is_private at.segment ≡ true → (seat : ℕ) × (state.runner ≡ seat + 1) × (seat < 16) × (at.segment ≡ private_segment seat) × (slice_index_or state.begun seat false ≡ true) × (offset_of at + count ≤ 16384)
+  pub shared : is_private at.segment ≡ false → (bytes : ℕ) × (length_of state.directory at.segment ≡ Some bytes) × (offset_of at + count ≤ bytes) × (start_of state.directory at.segment + bytes ≤ byte_count state.directory)
+
+-- so many bytes from a byte on are in frames
+abbrev pub AreThere : Reach → Virtual → (count : ℕ) → Type 0
+AreThere state first count = (past : ℕ) → past < count → is_there state (on (place_of state.directory first) past) ≡ true
+
+-- so many bytes from a place on, as they are shown
+abbrev pub bytes_shown : Reach → Located → (count : ℕ) → List ℕ
+bytes_shown state first count = map (λ past. byte_of state (on first past)) (range_with_len 0 count)
+
+-- whether the table has no frame with the page of a byte
+abbrev pub is_absent : Reach → Virtual → Bool
+is_absent state at = not (is_some (look_up (table_of state).keys (key_of at)))

@@ -1,0 +1,39 @@
+-- What the calls of a unit leave.
+use Rattle.std.specs.Prelude.{ℕ, ◌+◌, ◌*◌, ◌-◌, ◌==◌, if◌then◌else◌, List, ◌++◌, length, map, replicate, slice_set, true, false, None}
+use Rattle.line_geometry.specs.Directory.{Layout, page_count}
+use Rattle.inverted_table.specs.Placed.{unowned, cleared_entry}
+use Rattle.frame_pool.specs.Pool as pool
+use Rattle.storage_unit.specs.declared.model.Reach.{Reach}
+
+-- a unit that has just been made
+abbrev pub made : Layout → (frames : ℕ) → Reach
+made directory frames =
+    record {
+      pool = pool.fresh directory.page frames (page_count directory);
+      entries = replicate (page_count directory) unowned;
+      begun = replicate 16 false;
+      directory = directory;
+      registers = replicate 16 None;
+      runner = 0;
+    }
+
+-- a seat is begun, its private bytes an image and zeros after it
+abbrev pub begun : Reach → (seat : ℕ) → List ℕ → Reach
+begun state seat image =
+    record state {
+      pool = pool.with_bytes state.pool (seat * 16384) (image ++ replicate (16384 - length image) 0);
+      begun = slice_set state.begun seat true;
+    }
+
+-- a seat has ended; if it was selected, none is
+abbrev pub ended : Reach → (seat : ℕ) → Reach
+ended state seat =
+    record state {
+      begun = slice_set state.begun seat false;
+      registers = if state.runner == seat + 1 then replicate 16 None else state.registers;
+      runner = if state.runner == seat + 1 then 0 else state.runner;
+    }
+
+-- all entries of an identifier are nobody's
+abbrev pub released : Reach → (tid : ℕ) → Reach
+released state tid = record state { entries = map (cleared_entry tid) state.entries }

@@ -1,0 +1,15 @@
+//! The storage unit: frames, page table and look-aside buffer, as the storage that a processor runs over (docs/MODEL.md).
+#![tactic(auto)]
+
+pub mod laws;
+mod model;
+mod private;
+mod serving;
+mod storage;
+#[cfg(test)]
+mod tests;
+mod unit;
+
+pub use model::Reach;
+pub use private::PRIVATE;
+pub use unit::Unit;

@@ -1,0 +1,162 @@
+// Pages that come in and go out, and entries that are set.
+ghost use Rattle.std.specs.Prelude.{◌≡◌, ◌*◌, ◌<◌, ◌≤◌, false, length, fold, slice_set, option_and_then, IfSome};
+ghost use Rattle.std.specs.Option.{option_map_or};
+ghost use Rattle.inverted_table.specs.Placed.{look_up, without_frame};
+ghost use Rattle.tlb_model.specs.Buffer.{IsOfTable};
+ghost use Rattle.frame_pool.specs.View.{pool_of};
+ghost use Rattle.storage_unit.specs.Held.{keys_without};
+ghost use Rattle.std.specs.Borrow.{sem};
+ghost use Rattle.line_geometry.specs.Directory.{page_count};
+ghost use Rattle.line_geometry.specs.Segments.{page_bytes};
+ghost use Rattle.lock_rules.specs.Sets.{has};
+ghost use Rattle.frame_pool.specs.Sizes.{frame_count};
+ghost use Rattle.frame_pool.specs.Pool.{Brought, page_out, frame_bytes, settled, undone, emptied, laid};
+ghost use Rattle.storage_unit.specs.Places.{key_among};
+ghost use Rattle.storage_unit.specs.Served.{released};
+
+use super::unit::Unit;
+use frame_pool::{FramePool, Slot};
+use inverted_table::{Key, Table};
+use line_geometry::LineSet;
+use lockbit_rules::Authority;
+use segment_regs::Virtual;
+use tlb_model::Tlb;
+
+impl Unit {
+    ghost use Rattle.storage_unit.specs.UnitLending.{LendsPage};
+    ghost use Rattle.storage_unit.specs.View.{reach_of};
+
+    /// Brings in a page that isn't resident, as the pool does. What its frame held is still there: it is to be filled, and
+    /// then its kept lines laid over it.
+    pub fn bring(&mut self, page: u16, keep: Option<u16>) -> Slot
+        requires page { page < page_count (reach_of self.old).directory }
+        requires absent { has (reach_of self.old).pool.resident page ≡ false }
+        ensures out { result.out ≡ page_out (reach_of self.old).pool keep }
+        ensures brought { Brought (reach_of self.old).pool (reach_of self.new).pool page keep result.frame }
+        ensures rest { reach_of self.new ≡ record (reach_of self.old) { pool = (reach_of self.new).pool } }
+    {
+        let slot = self.pool.bring(page, keep);
+        let segments = self.directory.segments();
+        let left = frame_of(&self.table, segments, slot.out);
+        leave_frame(&mut self.table, &mut self.buffer, left);
+        let key = key_among(segments, page);
+        self.table.enter(slot.frame, key.segment, key.page);
+        slot
+    }
+
+    /// Lends a frame, to be filled. Nothing else can be written through a part of the unit that is lent.
+    pub fn page_mut(&mut self, frame: u16) -> &mut [u8]
+        requires { frame < frame_count (reach_of self.old).pool.page (reach_of self.old).pool.frames }
+        ensures* writes_back { sem 𝓛 (LendsPage self.entry (frame * page_bytes (reach_of self.entry.now).pool.page) result) }
+        ensures value { result.now ≡ frame_bytes (reach_of self.old).pool frame }
+    {
+        self.pool.page_mut(frame)
+    }
+
+    /// The kept lines of a page lie over those of its frame.
+    pub fn lay_kept(&mut self, page: u16)
+        requires { page < page_count (reach_of self.old).directory }
+        ensures { reach_of self.new ≡ record (reach_of self.old) { pool = laid (reach_of self.old).pool page } }
+    {
+        self.pool.lay_kept(page);
+    }
+
+    /// Lines of a page are no longer marked.
+    pub fn settle(&mut self, page: u16, lines: LineSet)
+        requires { page < page_count (reach_of self.old).directory }
+        ensures { reach_of self.new ≡ record (reach_of self.old) { pool = settled (reach_of self.old).pool page lines } }
+    {
+        self.pool.settle(page, lines);
+    }
+
+    /// A page leaves its frame, if it is in one, and these of its lines are forgotten.
+    pub fn undo(&mut self, page: u16, lines: LineSet)
+        requires { page < page_count (reach_of self.old).directory }
+        ensures { reach_of self.new ≡ record (reach_of self.old) { pool = undone (reach_of self.old).pool page lines } }
+    {
+        leave_frame(&mut self.table, &mut self.buffer, self.pool.frame_of(page));
+        self.pool.undo(page, lines);
+    }
+
+    /// All pages leave their frames. Their marked lines are kept.
+    pub fn empty(&mut self)
+        ensures { reach_of self.new ≡ record (reach_of self.old) { pool = emptied (reach_of self.old).pool } }
+    {
+        leave_all(&self.pool, &mut self.table);
+        self.buffer = Tlb::new();
+        self.pool.empty();
+    }
+
+    /// Sets the entry of a page.
+    pub fn set_authority(&mut self, page: u16, value: Authority)
+        requires { page < page_count (reach_of self.old).directory }
+        ensures { reach_of self.new ≡ record (reach_of self.old) { entries = slice_set (reach_of self.old).entries page value } }
+    {
+        self.table.set_authority(page, value);
+    }
+
+    /// Each entry of an identifier becomes nobody's.
+    pub fn clear(&mut self, tid: u8)
+        ensures { reach_of self.new ≡ released (reach_of self.old) tid }
+    {
+        self.table.clear(tid);
+    }
+}
+
+/// The frame that holds a page of the store, if one is asked for.
+fn frame_of(table: &Table, segments: &[(u16, u16)], page: Option<u16>) -> Option<u16>
+    ensures { result ≡ option_and_then (λ page. look_up table.now.keys (key_among segments.now page)) page }
+{
+    let key = key_among(segments, page?);
+    table.find(Virtual {
+        segment: key.segment,
+        page: key.page,
+        byte: 0,
+    })
+}
+
+/// A frame holds nothing, and the buffer forgets it, if one is named.
+fn leave_frame(table: &mut Table, buffer: &mut Tlb, frame: Option<u16>)
+    requires { IfSome frame (λ frame. frame < length table.old.keys) }
+    ensures table { table.new ≡ option_map_or (without_frame table.old) frame table.old }
+    ensures of_table { IsOfTable buffer.old table.old.keys → IsOfTable buffer.new table.new.keys }
+{
+    if let Some(frame) = frame {
+        table.leave(frame);
+        buffer.forget(frame);
+    }
+}
+
+/// The frames of all resident pages hold nothing.
+fn leave_all(pool: &FramePool, table: &mut Table)
+    requires { frame_count (pool_of pool.now).page (pool_of pool.now).frames ≤ length table.old.keys }
+    ensures { table.new ≡ record table.old { keys = fold (keys_without (pool_of pool.now)) table.old.keys (pool_of pool.now).resident } }
+{
+    for page in pool.resident() {
+        if let Some(frame) = pool.frame_of(*page) {
+            table.leave(frame);
+        }
+    }
+}
+
+/// The page of a segment that a flat page is.
+fn key_among(segments: &[(u16, u16)], page: u16) -> Key
+    ensures { result ≡ key_among segments.now page }
+{
+    match segments {
+        [] => Key {
+            segment: 0,
+            page: u32::from(page),
+        },
+        [first, rest @ ..] => {
+            if page < first.1 {
+                Key {
+                    segment: first.0,
+                    page: u32::from(page),
+                }
+            } else {
+                key_among(rest, page - first.1)
+            }
+        }
+    }
+}

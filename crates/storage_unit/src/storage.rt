@@ -1,0 +1,274 @@
+// The unit as a storage.
+ghost use Rattle.std.specs.Prelude.{◌≡◌, ◌+◌, ◌*◌, ◌-◌, ◌<◌, ◌≤◌, ◌^◌, ℕ, length, find, not, Ok};
+ghost use Rattle.std.specs.List.{range_with_len};
+ghost use Rattle.byteorder.specs.Endian.{big_number};
+ghost use Rattle.segment_regs.specs.Registers.{bytes_on};
+ghost use Rattle.line_geometry.specs.Directory.{byte_count};
+ghost use Rattle.line_geometry.specs.Lines.{line_of};
+ghost use Rattle.romp_cpu.specs.Answers.{answered_at};
+ghost use Rattle.romp_cpu.specs.Attempts.{IsOfFewBytes};
+ghost use Rattle.romp_cpu.specs.declared.storage.Access.{Access};
+ghost use Rattle.storage_unit.specs.Places.{place_of, on};
+ghost use Rattle.storage_unit.specs.Reach.{is_there, is_kept_from, is_in_frame, refuses, is_refused, put_at};
+ghost use Rattle.storage_unit.specs.Rows.{GivesRows, ChangesBytes, StaysClean, LeavesSeats};
+ghost use Rattle.storage_unit.specs.Reached.{Lies, AreThere, bytes_shown, is_absent};
+
+use super::model::Reach;
+use super::private::PRIVATE;
+use super::unit::Unit;
+use byteorder::{BigEndian, ByteOrder};
+use romp_cpu::{Access, Attempt, Cpu, Fault, Probe, Storage};
+use segment_regs::{Check, Virtual};
+
+/// The byte so many past another in its segment.
+fn byte_past(first: Virtual, past: u16) -> Virtual
+    requires { first.page * 2048 + first.byte ≤ 2 ^ 22 }
+    ensures { result ≡ bytes_on first past }
+{
+    let offset = first.page * 2048 + u32::from(first.byte) + u32::from(past);
+    Virtual {
+        segment: first.segment,
+        page: offset / 2048,
+        byte: (offset % 2048) as u16,
+    }
+}
+
+impl Unit {
+    ghost use Rattle.storage_unit.specs.View.{reach_of};
+
+    /// The answer to an access of so many bytes that begins at a byte.
+    fn answer(&mut self, first: Virtual, bytes: u8, store: bool) -> Probe
+        requires { Lies (reach_of self.old) first bytes }
+        ensures answer { (access : Access) → access.bytes ≡ bytes → access.store ≡ store → result ≡ answered_at (is_in_frame (reach_of self.old)) (refuses (reach_of self.old)) access (Ok first) }
+        ensures state { reach_of self.new ≡ reach_of self.old }
+    {
+        if let Some(past) = self.first_absent(first, bytes) {
+            return Probe::Fault(Fault::Page(byte_past(first, past)));
+        }
+        match self.first_refused(first, bytes, store) {
+            Some(past) => Probe::Fault(Fault::Lock(byte_past(first, past))),
+            None => Probe::Permitted,
+        }
+    }
+
+    /// How many bytes past a byte the first of so many lies whose page is in no frame. Each page is asked for once.
+    fn first_absent(&mut self, first: Virtual, bytes: u8) -> Option<u16>
+        requires { Lies (reach_of self.old) first bytes }
+        ensures value { result ≡ find (λ past. not (is_there (reach_of self.old) (on (place_of (reach_of self.old).directory first) past))) (range_with_len 0 bytes) }
+        ensures state { reach_of self.new ≡ reach_of self.old }
+    {
+        if bytes == 0 {
+            return None;
+        }
+        if self.is_absent(first) {
+            return Some(0);
+        }
+        let rest = 2048 - first.byte;
+        if u16::from(bytes) <= rest {
+            return None;
+        }
+        if self.is_absent(byte_past(first, rest)) {
+            Some(rest)
+        } else {
+            None
+        }
+    }
+
+    /// Whether no frame holds the page of a byte, as the buffer and the table have it.
+    fn is_absent(&mut self, at: Virtual) -> bool
+        ensures value { result ≡ is_absent (reach_of self.old) at }
+        ensures state { reach_of self.new ≡ reach_of self.old }
+    {
+        self.translate(at).is_none()
+    }
+
+    /// How many bytes past a byte the first of so many lies that the entry of its page refuses. Each line is looked at once.
+    fn first_refused(&self, first: Virtual, bytes: u8, store: bool) -> Option<u16>
+        requires { Lies (reach_of self.now) first bytes }
+        ensures { result ≡ find (λ past. is_kept_from (reach_of self.now) (on (place_of (reach_of self.now).directory first) past) store) (range_with_len 0 bytes) }
+    {
+        if first.segment >= PRIVATE {
+            return None;
+        }
+        let offset = first.page * 2048 + u32::from(first.byte);
+        self.first_refused_from(
+            self.directory.start_of(first.segment) + offset,
+            bytes,
+            store,
+        )
+    }
+
+    /// The same of bytes of the store from a place on.
+    fn first_refused_from(&self, place: u32, bytes: u8, store: bool) -> Option<u16>
+        requires { place + bytes ≤ byte_count (reach_of self.now).directory }
+        ensures { result ≡ find (λ past. is_refused (reach_of self.now) (line_of (reach_of self.now).directory (place + past)) store) (range_with_len 0 bytes) }
+    {
+        let mut past = 0u16;
+        while past < u16::from(bytes) {
+            let here = place + u32::from(past);
+            if self.is_refused(here, store) {
+                return Some(past);
+            }
+            past += 128 - (here % 128) as u16;
+        }
+        None
+    }
+
+    /// Whether the entry of a place's page refuses the seat that is selected.
+    fn is_refused(&self, place: u32, store: bool) -> bool
+        requires { place < byte_count (reach_of self.now).directory }
+        ensures { result ≡ is_refused (reach_of self.now) (line_of (reach_of self.now).directory place) store }
+    {
+        let page = self.directory.page_of(place);
+        let line = (self.directory.line_of(place) % 16) as u8;
+        !self.table.authority(page).permits(self.runner, line, store)
+    }
+
+    /// The halfword of two bytes that lie in frames.
+    fn halfword(&self, first: Virtual) -> u16
+        requires lies { Lies (reach_of self.now) first 2 }
+        requires there { AreThere (reach_of self.now) first 2 }
+        ensures { result ≡ big_number 2 (bytes_shown (reach_of self.now) (place_of (reach_of self.now).directory first) 2) }
+    {
+        let mut halfword = [0; 2];
+        self.copy(first, &mut halfword);
+        BigEndian::read_u16(&halfword)
+    }
+
+    /// Copies some bytes that lie in frames, page by page.
+    fn copy(&self, first: Virtual, into: &mut [u8])
+        requires some { 0 < length into.old }
+        requires lies { Lies (reach_of self.now) first (length into.old) }
+        requires there { AreThere (reach_of self.now) first (length into.old) }
+        ensures { into.new ≡ bytes_shown (reach_of self.now) (place_of (reach_of self.now).directory first) (length into.old) }
+    {
+        let rest = 2048 - usize::from(first.byte);
+        if into.len() <= rest {
+            self.copy_part(first, into);
+        } else {
+            let (front, back) = into.split_at_mut(rest);
+            self.copy_part(first, front);
+            self.copy(byte_past(first, rest as u16), back);
+        }
+    }
+
+    /// Copies some bytes of one page that is in a frame.
+    fn copy_part(&self, first: Virtual, into: &mut [u8])
+        requires some { 0 < length into.old }
+        requires within { first.byte + length into.old ≤ 2048 }
+        requires lies { Lies (reach_of self.now) first (length into.old) }
+        requires there { AreThere (reach_of self.now) first (length into.old) }
+        ensures { into.new ≡ bytes_shown (reach_of self.now) (place_of (reach_of self.now).directory first) (length into.old) }
+    {
+        if let Some(frame) = self.table.find(first) {
+            into.copy_from_slice(self.pool.part(frame, usize::from(first.byte), into.len()));
+        }
+    }
+
+    /// Writes some bytes over those from a byte on, which lie in frames, page by page.
+    fn put(&mut self, first: Virtual, from: &[u8])
+        requires some { 0 < length from.now }
+        requires lies { Lies (reach_of self.old) first (length from.now) }
+        requires there { AreThere (reach_of self.old) first (length from.now) }
+        ensures { reach_of self.new ≡ put_at (reach_of self.old) (place_of (reach_of self.old).directory first) from.now }
+    {
+        let rest = 2048 - usize::from(first.byte);
+        if from.len() <= rest {
+            self.put_part(first, from);
+        } else {
+            self.put_part(first, &from[..rest]);
+            self.put(byte_past(first, rest as u16), &from[rest..]);
+        }
+    }
+
+    /// The same within one page.
+    fn put_part(&mut self, first: Virtual, from: &[u8])
+        requires some { 0 < length from.now }
+        requires within { first.byte + length from.now ≤ 2048 }
+        requires lies { Lies (reach_of self.old) first (length from.now) }
+        requires there { AreThere (reach_of self.old) first (length from.now) }
+        ensures { reach_of self.new ≡ put_at (reach_of self.old) (place_of (reach_of self.old).directory first) from.now }
+    {
+        if let Some(frame) = self.table.find(first) {
+            self.pool
+                .part_mut(frame, usize::from(first.byte), from.len())
+                .copy_from_slice(from);
+        }
+    }
+}
+
+impl Storage for Unit {
+    ghost use Rattle.storage_unit.specs.Reach.{byte_at, is_in_frame, refuses, stored};
+    ghost use Rattle.storage_unit.specs.View.{reach_of};
+
+    type State = Reach;
+
+    ghost state = { reach_of };
+
+    ghost byte_at = { byte_at };
+
+    ghost registers = { λ state. state.registers };
+
+    ghost is_in_frame = { is_in_frame };
+
+    ghost refuses = { refuses };
+
+    ghost stored = { stored };
+
+    #[inline(always)]
+    fn fetch(&self, address: u32) -> Option<u16> {
+        if address > 16382 {
+            return None;
+        }
+        match self.registers.locate(address, 2, false) {
+            Ok(first) => Some(self.halfword(first)),
+            Err(_) => Some(0),
+        }
+    }
+
+    #[inline(always)]
+    fn probe(&mut self, wants: &Access) -> Probe {
+        let bytes = u32::from(wants.bytes);
+        match self.registers.locate(wants.address, bytes, wants.store) {
+            Err(Check(code)) => Probe::Check(code),
+            Ok(first) => self.answer(first, wants.bytes, wants.store),
+        }
+    }
+
+    #[inline(always)]
+    fn load(&self, address: u32, into: &mut [u8]) {
+        if into.is_empty() {
+            return;
+        }
+        if let Ok(first) = self.registers.locate(address, 0, false) {
+            self.copy(first, into);
+        }
+    }
+
+    #[inline(always)]
+    fn store(&mut self, address: u32, from: &[u8]) {
+        if from.is_empty() {
+            return;
+        }
+        if let Ok(first) = self.registers.locate(address, 0, false) {
+            self.put(first, from);
+        }
+    }
+}
+
+impl Unit {
+    ghost use Rattle.storage_unit.specs.View.{reach_of};
+
+    /// One attempt of the next instruction of a processor over this unit. Whatever bytes are committed, it is the program's
+    /// row on the private bytes of the seat and the bytes of the store that the unit shows over them (docs/MODEL.md).
+    #[inline(always)]
+    pub fn attempt(&mut self, cpu: &mut Cpu) -> Attempt
+        ensures row { GivesRows result cpu.old cpu.new (reach_of self.old) (reach_of self.new) }
+        ensures kept { ChangesBytes (reach_of self.old) (reach_of self.new) }
+        ensures clean { StaysClean (reach_of self.old) (reach_of self.new) }
+        ensures seats { LeavesSeats (reach_of self.old) (reach_of self.new) }
+        ensures few { IsOfFewBytes result }
+    {
+        cpu.attempt(self)
+    }
+}

@@ -1,0 +1,114 @@
+// The unit's parts, and that they agree.
+ghost use Rattle.std.specs.Prelude.{◌≡◌, ◌≤◌, length, IfOk};
+ghost use Rattle.line_geometry.specs.declared.directory.PageSize.TheVariants.{Two};
+ghost use Rattle.line_geometry.specs.Directory.{page_count};
+ghost use Rattle.line_geometry.specs.Legal.{IsLegal};
+ghost use Rattle.frame_pool.specs.View.{pool_of};
+ghost use Rattle.inverted_table.specs.Keys.{key_of};
+ghost use Rattle.inverted_table.specs.Placed.{look_up};
+ghost use Rattle.tlb_model.specs.Buffer.{IsOfTable, found, after_found};
+ghost use Rattle.storage_unit.specs.Held.{keys_of, AreOfPages, IsSelected, table_of};
+ghost use Rattle.storage_unit.specs.Served.{made};
+
+use super::private::PRIVATE_FRAMES;
+use frame_pool::FramePool;
+use inverted_table::Table;
+use line_geometry::Directory;
+use segment_regs::{SegmentRegs, Virtual};
+use std::alloc::{AllocError, Global};
+use store_format::Header;
+use tlb_model::Tlb;
+
+/// Frames, page table and look-aside buffer of a store with pages of 2,048 bytes, with the segment registers of the seat
+/// that is selected (docs/MODEL.md). They agree: the table has a page of the store in a frame exactly where the pool has
+/// it there, and a seat's private pages in its private frames exactly where it is begun; and each pair of the buffer is in
+/// the table. So no part is lent to be written, but the bytes of a frame.
+#[derive(Drop)]
+pub struct Unit {
+    pub(crate) pool: FramePool,
+    pub(crate) table: Table,
+    pub(crate) buffer: Tlb,
+    pub(crate) begun: [bool; 16],
+    pub(crate) directory: Directory,
+    pub(crate) registers: SegmentRegs,
+    pub(crate) runner: u8,
+    ghost sixteen: { length begun ≡ 16 },
+    ghost two: { directory.page ≡ Two },
+    ghost legal: { IsLegal directory.segments },
+    ghost pool_size: { (pool_of pool).page ≡ Two },
+    ghost pages: { length (pool_of pool).frame_of ≡ page_count directory },
+    ghost entries: { length table.entries ≡ page_count directory },
+    ghost marks: { AreOfPages (pool_of pool).marked },
+    ghost held: { table.keys ≡ keys_of directory begun (pool_of pool).frames (pool_of pool).page_in },
+    ghost remembered: { IsOfTable buffer table.keys },
+    ghost selected: { IsSelected directory begun runner registers },
+}
+
+impl Unit {
+    ghost use Rattle.storage_unit.specs.View.{reach_of, buffer_of};
+
+    /// A unit over a store with this header, with so many frames for its pages. No page is in a frame, each is nobody's, no
+    /// seat is begun and none selected. It takes all memory that the unit will need.
+    ///
+    /// # Errors
+    ///
+    /// There is no memory.
+    pub fn new(alloc: Global, header: &Header, frames: u16) -> Result<Unit, AllocError>
+        requires some { 2 ≤ frames }
+        requires few { frames ≤ 1024 }
+        ensures { IfOk result (λ unit. reach_of unit ≡ made header.now.directory frames) }
+    {
+        let directory = *header.directory();
+        let pages = directory.pages();
+        let _segments = directory.segments();
+        Ok(Unit {
+            pool: FramePool::new(alloc, directory.page(), frames, pages)?,
+            table: Table::new(alloc, PRIVATE_FRAMES + frames, pages)?,
+            buffer: Tlb::new(),
+            begun: [false; 16],
+            directory,
+            registers: SegmentRegs::none(),
+            runner: 0,
+        })
+    }
+
+    /// The directory of the store.
+    pub fn directory(&self) -> &Directory
+        ensures { result.now ≡ (reach_of self.now).directory }
+    {
+        &self.directory
+    }
+
+    /// The frames.
+    pub fn pool(&self) -> &FramePool
+        ensures { pool_of result.now ≡ (reach_of self.now).pool }
+    {
+        &self.pool
+    }
+
+    /// The page table.
+    pub fn table(&self) -> &Table
+        ensures { result.now ≡ table_of (reach_of self.now) }
+    {
+        &self.table
+    }
+
+    /// The look-aside buffer. Each of its pairs is in the table.
+    pub fn buffer(&self) -> &Tlb
+        ensures value { result.now ≡ buffer_of self.now }
+        ensures of_table { IsOfTable (buffer_of self.now) (table_of (reach_of self.now)).keys }
+    {
+        &self.buffer
+    }
+
+    /// The frame that holds the page of an address, as the table has it: asked of the buffer first, which then stays, and
+    /// else of the table, whose answer comes into the buffer. All else stays.
+    pub fn translate(&mut self, at: Virtual) -> Option<u16>
+        ensures value { result ≡ look_up (table_of (reach_of self.old)).keys (key_of at) }
+        ensures found { result ≡ found (buffer_of self.old) (look_up (table_of (reach_of self.old)).keys (key_of at)) (key_of at) }
+        ensures buffer { buffer_of self.new ≡ after_found (buffer_of self.old) (look_up (table_of (reach_of self.old)).keys (key_of at)) (key_of at) }
+        ensures state { reach_of self.new ≡ reach_of self.old }
+    {
+        self.buffer.find(&self.table, at)
+    }
+}
