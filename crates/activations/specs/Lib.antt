@@ -1,6 +1,7 @@
 pub mod Touched
 pub mod Activity
 pub mod Follows
+pub mod Kept
 pub mod Steps
 pub mod Attempted
 pub mod Serving

@@ -1,6 +1,11 @@
 -- The lines that an access touches, page by page.
-use Rattle.std.specs.Prelude.{ℕ, ◌+◌, ◌-◌, ◌*◌, ◌<◌, ◌==◌, ◌||◌, ◌≡◌, not, if◌then◌else◌, Bool, true, false, filter, slice_index_or, List, [], ◌∷◌, length, map}
+use Rattle.std.specs.Prelude.{ℕ, ◌+◌, ◌-◌, ◌*◌, ◌<◌, ◌==◌, ◌||◌, ◌≡◌, not, if◌then◌else◌, Bool, true, false, filter, slice_index_or, List, [], ◌∷◌, ◌++◌, All, length, map}
 use Rattle.line_locks.specs.Flat.{lines_wanted}
+use Rattle.line_locks.specs.Held.{AreWithin}
+use Rattle.line_geometry.specs.Directory.{Layout, page_count}
+use Rattle.lock_rules.specs.Lines.{pages_of}
+use Rattle.desk_law.specs.Consistent.{AreDistinct}
+use Rattle.seats.proofs.Numbers.{AreOfPage}
 use Rattle.lock_rules.specs.Sets.{has}
 use Rattle.std.specs.List.{list_any, range_with_len}
 use Rattle.lockbit_rules.specs.declared.Authority.{Authority}
@@ -52,3 +57,11 @@ pages_refused owned tid wants = pages_wanted (filter (refuses_want owned tid) wa
 pub record IsApart (wants : List Want) (want : Want) : Type 0 where
   pub reads : (line : ℕ) → line < 16 → has (lines_wanted wants).reads (want.page * 16 + line) ≡ has want.reads line
   pub writes : (line : ℕ) → line < 16 → has (lines_wanted wants).writes (want.page * 16 + line) ≡ has want.writes line
+
+-- These are lines of the store by their pages: each page is there once, and what is wanted of it are lines of it.
+pub record AreWanted (directory : Layout) (wants : List Want) : Type 0 where
+  pub within : AreWithin (page_count directory) wants
+  pub sets : AreOfPage wants
+  pub apart : All (IsApart wants) wants
+  pub once : AreDistinct (pages_wanted wants)
+  pub pages : pages_wanted wants ≡ pages_of ((lines_wanted wants).reads ++ (lines_wanted wants).writes)
