@@ -1,3 +1,4 @@
+pub mod AskLemmas
 pub mod BeginBytes
 pub mod BeginLemmas
 pub mod CommitLemmas
@@ -9,6 +10,7 @@ pub mod ExecuteLemmas
 pub mod GrantLemmas
 pub mod HoldingLemmas
 pub mod IdleLemmas
+pub mod KeptLemmas
 pub mod LimitLemmas
 pub mod LineLemmas
 pub mod PoolLemmas

@@ -1,16 +1,24 @@
 -- What stays while those that run are served.
-use Rattle.std.specs.Prelude.{◌≡◌, ℕ, ◌≤◌, ◌<◌}
-use Rattle.seats.specs.Seating.{sitter}
+use Rattle.std.specs.Prelude.{◌≡◌, ℕ, ◌+◌, ◌≤◌, ◌<◌, true}
+use Rattle.lock_rules.specs.Sets.{has}
+use Rattle.seats.specs.Seating.{sitter, number_in}
 use Rattle.activations.specs.Activity.{Activity}
+use Rattle.activations.specs.Attempted.{IsSelected}
 
--- in no seat so many rows have been passed
+-- in each seat at most so many rows were done
 abbrev pub AreRowsWithin : Activity → (rows : ℕ) → Type 0
 AreRowsWithin a rows = (seat : ℕ) → seat < 16 → (sitter a.seating seat).rows ≤ rows
 
--- what only an opening or a begin sets is as before, and no seat has more rows
-pub record KeepsParts (old new : Activity) : Type 0 where
+-- what only an opening or a begin sets is as before, and at most so many rows more were done in a seat
+pub record KeepsParts (old new : Activity) (more : ℕ) : Type 0 where
   pub programs : new.programs ≡ old.programs
   pub most_lines : new.most_lines ≡ old.most_lines
   pub next : new.next ≡ old.next
   pub directory : new.reach.directory ≡ old.reach.directory
-  pub rows : (rows : ℕ) → AreRowsWithin old rows → AreRowsWithin new rows
+  pub rows : (rows : ℕ) → AreRowsWithin old rows → AreRowsWithin new (rows + more)
+
+-- who sits in a seat sits there still, as he was, and is selected still where he was
+pub record StaysSeated (old new : Activity) (seat : ℕ) : Type 0 where
+  pub taken : has new.seating.taken seat ≡ true
+  pub number : number_in new.seating seat ≡ number_in old.seating seat
+  pub selected : IsSelected old seat → IsSelected new seat

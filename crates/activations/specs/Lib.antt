@@ -9,4 +9,6 @@ pub mod Turning
 pub mod View
 pub mod Begins
 pub mod Ends
+pub mod Fetching
 pub mod Serves
+pub mod Instructed

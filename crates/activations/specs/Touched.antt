@@ -65,3 +65,9 @@ pub record AreWanted (directory : Layout) (wants : List Want) : Type 0 where
   pub apart : All (IsApart wants) wants
   pub once : AreDistinct (pages_wanted wants)
   pub pages : pages_wanted wants ≡ pages_of ((lines_wanted wants).reads ++ (lines_wanted wants).writes)
+
+-- the first and the second page of a touch, where they are marked
+abbrev pub pages_among : Touch → Bool × Bool → List ℕ
+pages_among Touch.Nothing marks = []
+pages_among (Touch.One want) marks = if marks.0 then want.page ∷ [] else []
+pages_among (Touch.Two first second) marks = (if marks.0 then first.page ∷ [] else []) ++ (if marks.1 then second.page ∷ [] else [])

@@ -1,5 +1,5 @@
 // Who waits for whom, and the cycles that are broken.
-ghost use Rattle.std.specs.Prelude.{◌≡◌, ◌≤◌, ◌+◌, ◌==◌, true, ℕ, List, [], ◌∷◌, ◌++◌, length, map, IsSome, Some, ◌<◌};
+ghost use Rattle.std.specs.Prelude.{◌≡◌, ◌≤◌, ◌+◌, ◌==◌, true, ℕ, List, [], ◌∷◌, ◌++◌, length, map, IsSome, Some, ◌<◌, OnOk, IfErr};
 ghost use Rattle.arrayvec.specs.ArrayVec.{array_vec_len};
 ghost use Rattle.lock_rules.specs.Sets.{has};
 ghost use Rattle.lock_rules.specs.Waits.{victim_of};
@@ -14,8 +14,9 @@ use desk::{Cycle, TurnEnd};
 impl Activations {
     ghost use Rattle.activations.specs.Activity.{Activity};
     ghost use Rattle.activations.specs.Follows.{IsSound};
+    ghost use Rattle.activations.specs.Kept.{KeepsParts, StaysSeated};
     ghost use Rattle.activations.specs.Serving.{IsContested};
-    ghost use Rattle.activations.specs.Turning.{counts_of, IsSettled};
+    ghost use Rattle.activations.specs.Turning.{counts_of, IsSettled, IsContestEnd};
     ghost use Rattle.activations.specs.View.{activity_of};
     ghost use Rattle.line_locks.specs.declared.request.Request.{Request};
     ghost use Rattle.seats.specs.Seating.{number_in, sitter};
@@ -30,6 +31,10 @@ impl Activations {
         requires room { array_vec_len tally.old.cycles + length (activity_of self.old).seating.taken ≤ 16 }
         ensures sound { IsSound (activity_of self.new) }
         ensures room { array_vec_len tally.new.cycles + length (activity_of self.new).seating.taken ≤ 16 }
+        ensures parts { KeepsParts (activity_of self.old) (activity_of self.new) 0 }
+        ensures tally { tally.new ≡ record tally.old { cycles = tally.new.cycles } }
+        ensures stays { OnOk result (StaysSeated (activity_of self.old) (activity_of self.new) seat) }
+        ensures ends { IfErr result (IsContestEnd (number_in (activity_of self.old).seating seat)) }
         ensures settled { (begins : Word → Turning) (attempt : Attempt) (refused : List ℕ) (first : Desk) (committed : List ℕ) (order : List (ℕ × ℕ)) → attempt.entry.number ≡ number_in (activity_of self.old).seating seat → IsContested begins attempt refused first (activity_of self.old) committed order (counts_of tally.old) → IsSettled result begins attempt refused (activity_of self.new) committed order (counts_of tally.new) }
     {
         let number = self.seats.sitter(seat).number;

@@ -32,6 +32,7 @@ impl Activations {
         requires taken { has (activity_of self.old).seating.taken seat ≡ true }
         ensures shape { activity_of self.new ≡ rolled (activity_of self.old) seat (activity_of self.new).reach.pool }
         ensures sound { IsSound (activity_of self.new) }
+        ensures undone { HasUndone (activity_of self.old).seating.holding seat (activity_of self.old).reach (record (activity_of self.old).reach { pool = (activity_of self.new).reach.pool }) }
         ensures rolls { (committed : List ℕ) → AreConsistent (store_over (activity_of self.old) committed) (activity_of self.old).most_lines (activity_of self.old).next (entries (activity_of self.old)) → IsKept (activity_of self.old) committed → RollsBack (activity_of self.old) seat (activity_of self.new).reach.pool committed }
     {
         undo_written(&self.seats, &mut self.unit, seat);

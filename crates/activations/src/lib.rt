@@ -5,12 +5,16 @@
 mod activations;
 mod contest;
 mod endings;
+mod fetching;
+mod granting;
+mod instructions;
 pub mod laws;
 mod live;
 mod rows;
 mod serving;
 mod tally;
 mod touch;
+mod touching;
 
 pub use activations::Activations;
 pub use live::Live;

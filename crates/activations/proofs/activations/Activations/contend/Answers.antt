@@ -3,6 +3,7 @@ use Rattle.std.proofs.lemmas.Bool.{eq-eqb, ne_eqb}
 use Rattle.std.specs.Option.{option_map}
 use Rattle.lock_rules.specs.Waits.{victim_of}
 use Rattle.seats.specs.Seating.{number_in, seat_of, sitter}
+use Rattle.seats.specs.declared.seat.Seat.{Seat}
 use Rattle.seats.specs.Waiting.{cycle_of}
 use Rattle.seats.proofs.Numbers.{seat-found}
 use Rattle.desk.specs.Instruction.{Victim}
@@ -13,6 +14,8 @@ use Rattle.lock_rules.specs.Sets.{has}
 use Rattle.activations.specs.Steps.{rolled}
 use Rattle.activations.specs.Serving.{IsOver}
 use Rattle.activations.specs.Turning.{Contests, counts_of}
+use Rattle.activations.specs.Kept.{KeepsParts, StaysSeated}
+use Rattle.activations.proofs.KeptLemmas.{keeps-itself, keeps-rolled, stays-itself, stays-rolled, tally-on}
 use Rattle.activations.proofs.ContendLemmas.{fewer, contests-on, contests-lost, stays-taken, recorded, victim-sits, told-settles, told-stays}
 use Rattle.activations.proofs.activations.Activations.contend.Goals.{in-Some+in_default-seat_of, in_default}
 use Rattle.activations.proofs.activations.Activations.contend.Goals as goal
@@ -45,6 +48,11 @@ returns-then-victim-number-clause-settled c begins attempt refused first committ
     subst (λ (a : Activity). IsOver begins a committed order (record (counts_of c.loop-members.tally) { cycles = map (λ (cycle : Cycle). cycle.members.items) c.push.new.self.items }) Victim) (sym c.roll_back.ensures.shape)
     (subst (λ (these : List (List ℕ)). IsOver begins (rolled (activity_of c.loop-members.self) c.in-Some-seat_of.loser (activity_of c.roll_back.new.self).reach.pool) committed order (record (counts_of c.loop-members.tally) { cycles = these }) Victim) (sym cycles) lost)
 
+pub returns-then-victim-number-clause-parts : goal.returns-then-victim-number-clause-parts
+returns-then-victim-number-clause-parts c =
+    subst (λ (a : Activity). KeepsParts (activity_of c.args.self.now) a 0) (sym c.roll_back.ensures.shape)
+    (keeps-rolled (activity_of c.args.self.now) (activity_of c.loop-members.self) c.in-Some-seat_of.loser 0 (activity_of c.roll_back.new.self).reach.pool c.loop-members.invariant.6)
+
 pub loop-members-smaller : goal.loop-members-smaller
 loop-members-smaller c =
     let sits : seat_of (activity_of c.loop-members.self).seating (victim_of c.in-Some.members.items) ≡ Some c.in-Some-seat_of.loser =
@@ -76,7 +84,25 @@ loop-members-preserved c =
       omega (arith, less, c.loop-members.invariant.4, c.push.ensures.len),
       subst (λ (a : Activity). Contests c.args.seat (activity_of c.args.self.now) (counts_of c.args.tally.now) a (record (counts_of c.loop-members.tally) { cycles = map (λ (cycle : Cycle). cycle.members.items) c.push.new.self.items })) (sym c.roll_back.ensures.shape)
           (subst (λ (these : List (List ℕ)). Contests c.args.seat (activity_of c.args.self.now) (counts_of c.args.tally.now) (rolled (activity_of c.loop-members.self) c.in-Some-seat_of.loser (activity_of c.roll_back.new.self).reach.pool) (record (counts_of c.loop-members.tally) { cycles = these })) (sym cycles) on),
+      subst (λ (a : Activity). KeepsParts (activity_of c.args.self.now) a 0) (sym c.roll_back.ensures.shape)
+          (keeps-rolled (activity_of c.args.self.now) (activity_of c.loop-members.self) c.in-Some-seat_of.loser 0 (activity_of c.roll_back.new.self).reach.pool c.loop-members.invariant.6),
+      subst (λ (a : Activity). StaysSeated (activity_of c.args.self.now) a c.args.seat) (sym c.roll_back.ensures.shape)
+          (stays-rolled (activity_of c.args.self.now) (activity_of c.loop-members.self) c.args.seat c.in-Some-seat_of.loser (activity_of c.roll_back.new.self).reach.pool c.loop-members.invariant.7 stays),
+      tally-on c.args.tally.now c.loop-members.tally _ c.loop-members.invariant.8,
     )
+
+pub loop-members-init : goal.loop-members-init
+loop-members-init c = (
+  c.requires.sound,
+  c.requires.taken,
+  ap (λ (who : Seat). who.number) (sym c.sitter.ensures),
+  c.requires.waits,
+  c.requires.room,
+  λ begins attempt refused first committed order number contested. contested,
+  keeps-itself (activity_of c.args.self.now),
+  stays-itself (activity_of c.args.self.now) c.args.seat c.requires.taken,
+  refl,
+)
 
 pub returns-then-is_empty-clause-settled : goal.returns-then-is_empty-clause-settled
 returns-then-is_empty-clause-settled c begins attempt refused first committed order number contested = elim c.match-cycle_from.branch [

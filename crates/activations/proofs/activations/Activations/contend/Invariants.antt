@@ -4,6 +4,7 @@ use Rattle.lock_rules.specs.Sets.{has}
 use Rattle.seats.specs.Seating.{number_in, sitter}
 use Rattle.activations.specs.Follows.{IsSound}
 use Rattle.activations.specs.Turning.{counts_of, Contests}
+use Rattle.activations.specs.Kept.{KeepsParts, StaysSeated}
 use Rattle.activations.specs.View.{activity_of}
 use Rattle.activations.proofs.activations.Activations.contend.Given as goal
 
@@ -15,6 +16,9 @@ invariant-loop-members l =
     × IsSome (sitter (activity_of l.self).seating l.seat).waits
     × (array_vec_len l.tally.cycles + length (activity_of l.self).seating.taken ≤ 16)
     × Contests l.seat (activity_of l.initial.self) (counts_of l.initial.tally) (activity_of l.self) (counts_of l.tally)
+    × KeepsParts (activity_of l.initial.self) (activity_of l.self) 0
+    × StaysSeated (activity_of l.initial.self) (activity_of l.self) l.seat
+    × (l.tally ≡ record l.initial.tally { cycles = l.tally.cycles })
 
 abbrev pub decreases-loop-members : goal.decreases-loop-members
 decreases-loop-members l = length (activity_of l.self).seating.taken

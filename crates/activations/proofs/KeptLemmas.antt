@@ -1,0 +1,74 @@
+-- What stays while those that run are served: of a rollback of another, and one after another.
+use Rattle.std.specs.Prelude.{◌≡◌, refl, ℕ, ◌+◌, ◌<◌, ◌≤◌, ◌==◌, ◌&&◌, not, if◌then◌else◌, Bool, true, false, None, replicate, Result, Ok, Err, OnOk}
+use Rattle.std.proofs.Common.{arith, ap, sym, ◌∙◌, subst}
+use Rattle.std.proofs.lemmas.Bool.{eqb-true, eq-eqb, both_ways}
+use Rattle.lock_rules.specs.Sets.{has}
+use Rattle.lock_rules.proofs.Sets.{has-filter}
+use Rattle.arrayvec.specs.ArrayVec.{ArrayVec}
+use Rattle.desk.specs.declared.answers.Cycle.{Cycle}
+use Rattle.frame_pool.specs.declared.model.Pool.{Pool}
+use Rattle.activations.specs.declared.tally.Tally.{Tally}
+use Rattle.activations.specs.Activity.{Activity}
+use Rattle.activations.specs.Attempted.{IsSelected}
+use Rattle.activations.specs.Kept.{AreRowsWithin, KeepsParts, StaysSeated}
+use Rattle.activations.specs.Steps.{rolled}
+
+pub keeps-itself : (a : Activity) → KeepsParts a a 0
+keeps-itself a = record { programs = refl; most_lines = refl; next = refl; directory = refl; rows = λ rows within seat below. let here = within seat below in omega (arith, here) }
+
+pub keeps-on : (a b c : Activity) (more other : ℕ) → KeepsParts a b more → KeepsParts b c other → KeepsParts a c (more + other)
+keeps-on a b c more other first second = record {
+  programs = second.programs ∙ first.programs;
+  most_lines = second.most_lines ∙ first.most_lines;
+  next = second.next ∙ first.next;
+  directory = second.directory ∙ first.directory;
+  rows = λ rows within seat below. let here = second.rows (rows + more) (first.rows rows within) seat below in omega (arith, here);
+}
+
+pub keeps-rolled : (first a : Activity) (seat more : ℕ) (pool : Pool) → KeepsParts first a more → KeepsParts first (rolled a seat pool) more
+keeps-rolled first a seat more pool keeps = record { programs = keeps.programs; most_lines = keeps.most_lines; next = keeps.next; directory = keeps.directory; rows = keeps.rows }
+
+pub stays-itself : (a : Activity) (seat : ℕ) → has a.seating.taken seat ≡ true → StaysSeated a a seat
+stays-itself a seat taken = record { taken = taken; number = refl; selected = λ is. is }
+
+pub stays-on : (a b c : Activity) (seat : ℕ) → StaysSeated a b seat → StaysSeated b c seat → StaysSeated a c seat
+stays-on a b c seat first second = record { taken = second.taken; number = second.number ∙ first.number; selected = λ is. second.selected (first.selected is) }
+
+-- another is rolled back
+pub stays-rolled : (first a : Activity) (seat loser : ℕ) (pool : Pool) → StaysSeated first a seat → has (rolled a loser pool).seating.taken seat ≡ true → StaysSeated first (rolled a loser pool) seat
+stays-rolled first a seat loser pool stays inside = record {
+  taken = inside;
+  number = stays.number;
+  selected = λ is.
+      let was : IsSelected a seat = stays.selected is in
+      let other : (a.reach.runner == loser + 1) ≡ false = apart (a.reach.runner == loser + 1) refl was.runner in
+      record {
+        runner = ap (λ (b : Bool). if b then 0 else a.reach.runner) other ∙ was.runner;
+        registers = ap (λ (b : Bool). if b then replicate 16 None else a.reach.registers) other ∙ was.registers;
+      };
+}
+  where
+    never : (b : Bool) → (b && false) ≡ false
+    never true = refl
+    never false = refl
+
+    gone : seat ≡ loser → has (rolled a loser pool).seating.taken seat ≡ false
+    gone same =
+        has-filter (λ other. not (other == loser)) a.seating.taken seat
+        ∙ ap (λ (b : Bool). has a.seating.taken seat && not b) (eq-eqb seat loser same)
+        ∙ never (has a.seating.taken seat)
+
+    apart : (same : Bool) → (a.reach.runner == loser + 1) ≡ same → a.reach.runner ≡ seat + 1 → same ≡ false
+    apart true e runner =
+        let one : seat + 1 ≡ loser + 1 = sym runner ∙ eqb-true a.reach.runner (loser + 1) e in
+        absurd (both_ways (has (rolled a loser pool).seating.taken seat) (gone (omega (arith, one))) inside)
+    apart false e runner = refl
+
+-- and of a tally only its cycles are others
+pub tally-on : (first before : Tally) (cycles : ArrayVec Cycle) → before ≡ record first { cycles = before.cycles } → record before { cycles = cycles } ≡ record first { cycles = cycles }
+tally-on first before cycles same = ap (λ (t : Tally). let that : Tally = record t { cycles = cycles } in that) same
+
+-- what follows where an answer is Ok
+pub ok-then : {T E P Q : Type 0} (result : Result T E) → (P → Q) → OnOk result P → OnOk result Q
+ok-then (Ok it) follows is = follows is
+ok-then (Err fault) follows is = is

@@ -1,0 +1,73 @@
+use Rattle.std.proofs.Common.{◌≡◌, false, ℕ, IsSome, ap, arith, sym, ◌∙◌, subst}
+use Rattle.std.specs.Result.{OnOk, IfErr}
+use Rattle.line_locks.specs.Held.{AreWithin}
+use Rattle.line_locks.specs.declared.request.Want.{Want}
+use Rattle.seats.specs.Seating.{Seating, IsSeating, sitter, number_in}
+use Rattle.seats.specs.Waiting.{holders}
+use Rattle.desk.specs.declared.answers.TurnEnd.{TurnEnd}
+use Rattle.activations.specs.Activity.{Activity, desk_over}
+use Rattle.activations.specs.Follows.{IsSound}
+use Rattle.activations.specs.Kept.{KeepsParts, StaysSeated}
+use Rattle.activations.specs.Serving.{IsContested}
+use Rattle.activations.specs.Turning.{IsContestEnd, counts_of}
+use Rattle.activations.specs.View.{activity_of}
+use Rattle.activations.specs.Touched.{with_whole_page, wants_of}
+use Rattle.activations.proofs.AskLemmas.{asked-within, some-holders, sound-asking, asks-now, keeps-asking, stays-asking, asked-whole}
+use Rattle.activations.proofs.KeptLemmas.{keeps-on, stays-on, ok-then}
+use Rattle.seats.proofs.Kept.{taken-below}
+use Rattle.activations.proofs.activations.Activations.ask.Goals as goal
+
+pub holders-requires : goal.holders-requires
+holders-requires c = asked-within (activity_of c.args.self.now) (wants_of c.args.touch.now) c.request-request.result.wants.items c.requires.sound c.requires.wanted c.request-request.ensures
+
+pub wait-requires-clause-seat : goal.wait-requires-clause-seat
+wait-requires-clause-seat c = taken-below c.args.self.now.seats c.requires.sound.seating c.args.seat c.requires.taken
+
+pub wait-requires-clause-pages : goal.wait-requires-clause-pages
+wait-requires-clause-pages c = asked-within (activity_of c.args.self.now) (wants_of c.args.touch.now) c.request-request.result.wants.items c.requires.sound c.requires.wanted c.request-request.ensures
+
+pub contend-requires-clause-sound : goal.contend-requires-clause-sound
+contend-requires-clause-sound c =
+    let a = activity_of c.args.self.now in
+    subst (λ (s : Seating). IsSound (record a { seating = s })) (sym c.wait.ensures)
+    (sound-asking a c.args.seat c.request-request.result c.requires.sound c.requires.taken
+    (asked-within a (wants_of c.args.touch.now) c.request-request.result.wants.items c.requires.sound c.requires.wanted c.request-request.ensures)
+    (asked-whole (wants_of c.args.touch.now) c.request-request.result.wants.items c.requires.wanted.sets c.request-request.ensures))
+
+pub contend-requires-clause-waits : goal.contend-requires-clause-waits
+contend-requires-clause-waits c =
+    subst (λ (s : Seating). IsSome (sitter s c.args.seat).waits) (sym c.wait.ensures)
+    (asks-now (activity_of c.args.self.now) c.args.seat c.request-request.result c.requires.sound c.requires.taken)
+
+pub returns-clause-parts : goal.returns-clause-parts
+returns-clause-parts c =
+    let a = activity_of c.args.self.now in
+    subst (λ (n : ℕ). KeepsParts a (activity_of c.contend.new.self) n) (omega arith)
+    (keeps-on a (record a { seating = c.wait.new.self }) (activity_of c.contend.new.self) 0 0
+    (subst (λ (s : Seating). KeepsParts a (record a { seating = s }) 0) (sym c.wait.ensures) (keeps-asking a c.args.seat c.request-request.result c.requires.sound c.requires.taken))
+    c.contend.ensures.parts)
+
+pub returns-clause-stays : goal.returns-clause-stays
+returns-clause-stays c =
+    let a = activity_of c.args.self.now in
+    ok-then c.contend.result
+    (stays-on a (record a { seating = c.wait.new.self }) (activity_of c.contend.new.self) c.args.seat
+    (subst (λ (s : Seating). StaysSeated a (record a { seating = s }) c.args.seat) (sym c.wait.ensures) (stays-asking a c.args.seat c.request-request.result c.requires.sound c.requires.taken)))
+    c.contend.ensures.stays
+
+pub returns-clause-ends : goal.returns-clause-ends
+returns-clause-ends c =
+    subst (λ (n : ℕ). IfErr c.contend.result (IsContestEnd n))
+    (subst (λ (s : Seating). number_in s c.args.seat ≡ number_in c.args.self.now.seats c.args.seat) (sym c.wait.ensures) (stays-asking (activity_of c.args.self.now) c.args.seat c.request-request.result c.requires.sound c.requires.taken).number)
+    c.contend.ensures.ends
+
+pub returns-clause-settled : goal.returns-clause-settled
+returns-clause-settled c begins attempt refused committed order asked =
+    let a = activity_of c.args.self.now in
+    let here = stays-asking a c.args.seat c.request-request.result c.requires.sound c.requires.taken in
+    let others = some-holders c.holders.result.items (sym c.is_empty.ensures ∙ c.if-is_empty.false) in
+    c.contend.ensures.settled begins attempt refused (desk_over a committed order) committed order
+    (asked.number ∙ sym (subst (λ (s : Seating). number_in s c.args.seat ≡ number_in c.args.self.now.seats c.args.seat) (sym c.wait.ensures) here.number))
+    (subst (λ (s : Seating). IsContested begins attempt refused (desk_over a committed order) (record a { seating = s }) committed order (counts_of c.args.tally.now)) (sym c.wait.ensures)
+    (asked.contested c.request-request.result others.0 others.1 c.request-request.ensures
+    (sym (c.holders.ensures ∙ ap (holders c.args.self.now.seats c.args.seat) c.request-request.ensures) ∙ others.2)))

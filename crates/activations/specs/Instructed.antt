@@ -1,0 +1,81 @@
+-- What one instruction of who sits in a seat comes to, stage by stage.
+use Rattle.std.specs.Prelude.{◌≡◌, ℕ, ◌+◌, ◌≤◌, List, [], ◌∷◌, map, Bool, Result, Ok, Err}
+use Rattle.outside.specs.declared.world.Outside.{Ghosts}
+use Rattle.outside.specs.Causes.{Rose}
+use Rattle.flat_machine.specs.declared.machine.Plain.{Plain}
+use Rattle.flat_machine.specs.Row.{On, Commit, Check, row}
+use Rattle.line_locks.specs.Flat.{lines_wanted}
+use Rattle.line_locks.specs.declared.request.Request.{Request}
+use Rattle.line_locks.specs.declared.request.Want.{Want}
+use Rattle.romp_cpu.specs.declared.storage.Access.{Access}
+use Rattle.desk.specs.declared.answers.TurnEnd.{TurnEnd}
+use Rattle.desk.specs.declared.answers.TurnEnd.TheVariants as end
+use Rattle.desk.specs.Instruction.{Word, Counts, Attempt, Turning}
+use Rattle.seats.specs.Seating.{number_in}
+use Rattle.seats.specs.Waiting.{holders}
+use Rattle.activations.specs.declared.live.Live.{Live}
+use Rattle.activations.specs.declared.tally.Tally.{Tally}
+use Rattle.activations.specs.declared.touch.Touch.{Touch}
+use Rattle.activations.specs.Activity.{Activity, program_in, desk_over}
+use Rattle.activations.specs.Attempted.{IsShut, plain_in}
+use Rattle.activations.specs.Serving.{IsFree, IsContested, Goes, asking}
+use Rattle.activations.specs.Steps.{counted, executed, HasExecuted}
+use Rattle.activations.specs.Touched.{wants_of, pages_among, with_whole_page}
+use Rattle.activations.specs.Turning.{HasEnded}
+
+-- one row more was counted at most, with four pages, two before and two after its grants, and two refused ones
+pub record TalliesMore (old new : Tally) : Type 0 where
+  pub ran : new.ran ≤ old.ran + 1
+  pub pages : new.pages ≤ old.pages + 4
+  pub locks : new.locks ≤ old.locks + 2
+
+-- an end of a turn before its commit call: the disk's faults have risen where a page couldn't be read, and nowhere else
+abbrev pub IsEndOfRows : {W : Type 0} → Ghosts W → (before after : W) → TurnEnd → Type 0
+IsEndOfRows G before after end.Disk = Rose (G.disk_faults before) (G.disk_faults after)
+IsEndOfRows G before after end.Idle = ⊥
+IsEndOfRows G before after (end.Committed number steps) = ⊥
+IsEndOfRows G before after (end.Closed doubt number) = ⊥
+IsEndOfRows G before after end.Shut = ⊥
+IsEndOfRows G before after _ = G.disk_faults after ≡ G.disk_faults before
+
+-- a program check
+abbrev pub IsCheck : TurnEnd → Type 0
+IsCheck (end.Checked code address) = Unit {0}
+IsCheck _ = ⊥
+
+-- an instruction took effect, or its turn came to this end
+abbrev pub IsInstruction : {U : Type 0} → Result U TurnEnd → (begins : Word → Turning) → Activity → (committed : List ℕ) → (order : List (ℕ × ℕ)) → Counts → Type 0
+IsInstruction (Ok nothing) begins a committed order counts = Goes begins a committed order counts
+IsInstruction (Err end) begins a committed order counts = HasEnded end begins a committed order counts
+
+-- what is asked for in a seat is free where nobody holds it, and else contested
+pub record IsAsked (begins : Word → Turning) (attempt : Attempt) (refused : List ℕ) (a : Activity) (seat : ℕ) (wants : List Want) (committed : List ℕ) (order : List (ℕ × ℕ)) (counts : Counts) : Type 0 where
+  pub number : attempt.entry.number ≡ number_in a.seating seat
+  pub free : holders a.seating seat (map with_whole_page wants) ≡ [] → IsFree begins attempt refused a committed order counts
+  pub contested : (request : Request) (holder : ℕ) (others : List ℕ) → request.wants.items ≡ map with_whole_page wants → holders a.seating seat (map with_whole_page wants) ≡ holder ∷ others
+      → IsContested begins attempt refused (desk_over a committed order) (asking a seat request) committed order counts
+
+-- the pages that a row touches are there, and what it asks for is to be got
+pub record IsPrepared (begins : Word → Turning) (a : Activity) (seat : ℕ) (touch : Touch) (refused : Bool × Bool) (committed : List ℕ) (order : List (ℕ × ℕ)) (counts : Counts) : Type 0 where
+  pub attempt : Attempt
+  pub next : Plain
+  pub goes : attempt.outcome ≡ On next
+  pub lines : attempt.lines ≡ lines_wanted (wants_of touch)
+  pub asked : IsAsked begins attempt (pages_among touch refused) a seat (wants_of touch) committed order counts
+
+-- that, or its turn came to this end
+abbrev pub Prepares : Result (Touch × (Bool × Bool)) TurnEnd → (begins : Word → Turning) → Activity → (seat : ℕ) → (committed : List ℕ) → (order : List (ℕ × ℕ)) → Counts → Type 0
+Prepares (Ok got) begins a seat committed order counts = IsPrepared begins a seat got.0 got.1 committed order counts
+Prepares (Err end) begins a seat committed order counts = HasEnded end begins a committed order counts
+
+-- What it asked for was got: it can't be refused any more, and once it has taken effect that is the desk's instruction.
+pub record IsServed (begins : Word → Turning) (a : Activity) (seat : ℕ) (committed : List ℕ) (order : List (ℕ × ℕ)) (counts : Counts) : Type 0 where
+  pub goes : (live : Live) (bytes : List ℕ) (marked : List (List ℕ)) → HasExecuted a seat live bytes marked committed
+      → Goes begins (counted (executed a seat live bytes marked) seat 1) committed order (record counts { ran = counts.ran + 1 })
+  pub row_goes : (next : Plain) × (row (program_in a seat) a.reach.directory (plain_in a seat committed) ≡ On next)
+  pub is_open : (access : Access) → IsShut a seat access → ⊥
+
+-- that, or its turn came to this end
+abbrev pub Serves : {U : Type 0} → Result U TurnEnd → (begins : Word → Turning) → Activity → (seat : ℕ) → (committed : List ℕ) → (order : List (ℕ × ℕ)) → Counts → Type 0
+Serves (Ok nothing) begins a seat committed order counts = IsServed begins a seat committed order counts
+Serves (Err end) begins a seat committed order counts = HasEnded end begins a committed order counts

@@ -1,0 +1,231 @@
+// One instruction of who sits in a seat: it takes effect, once its access has been served where it must be.
+ghost use Rattle.std.specs.Prelude.{◌≡◌, ◌+◌, ◌<◌, ◌≤◌, ◌^◌, ℕ, List, true, length, map, IfErr, IfOk, OnOk};
+ghost use Rattle.arrayvec.specs.ArrayVec.{array_vec_len};
+ghost use Rattle.lock_rules.specs.Sets.{has};
+ghost use Rattle.outside.specs.Causes.{Rose};
+ghost use Rattle.outside.specs.Runs.{OnlyAsks};
+ghost use Rattle.redo_journal.specs.Held.{HoldsAtLeast};
+ghost use Rattle.store_format.specs.Header.{total};
+ghost use Rattle.desk.specs.Instruction.{Word, Turning, Counts};
+ghost use Rattle.desk.specs.Instruction as desk;
+ghost use Rattle.desk.specs.declared.answers.TurnEnd.TheVariants as end;
+ghost use Rattle.line_geometry.specs.Directory.{byte_count};
+ghost use Rattle.storage_unit.specs.Bytes.{IsClean};
+ghost use Rattle.flat_machine.specs.Row as row;
+ghost use Rattle.flat_machine.specs.declared.machine.Plain.{Plain};
+ghost use Rattle.line_locks.specs.Flat.{lines_wanted};
+ghost use Rattle.activations.specs.Touched.{wants_of, pages_among, pages_wanted, AreWanted};
+
+use super::activations::Activations;
+use super::tally::Tally;
+use super::touch::Touch;
+use desk::TurnEnd;
+use outside::{Failed, Outside};
+use restart::Durable;
+use romp_cpu::{Access, Attempt};
+
+impl Activations {
+    ghost use Rattle.activations.specs.Activity.{live_in, program_in};
+    ghost use Rattle.activations.specs.Attempted.{IsSelected, IsShut, plain_in};
+    ghost use Rattle.activations.specs.Fetching.{IsStoreOf, HasBrokenOff};
+    ghost use Rattle.activations.specs.Follows.{IsSound, Follows};
+    ghost use Rattle.activations.specs.Instructed.{TalliesMore, IsEndOfRows, IsCheck, IsInstruction, IsAsked, IsServed, Prepares, Serves};
+    ghost use Rattle.activations.specs.Kept.{KeepsParts, AreRowsWithin, StaysSeated};
+    ghost use Rattle.activations.specs.Serves.{IsFetched};
+    ghost use Rattle.activations.specs.Serving.{IsFree, instruction_in};
+    ghost use Rattle.activations.specs.Steps.{rolled, with_pool};
+    ghost use Rattle.activations.specs.Turning.{counts_of, HasEnded, IsSettled, IsContestEnd};
+    ghost use Rattle.activations.specs.View.{activity_of};
+    ghost use Rattle.seats.specs.Seating.{number_in};
+
+    /// Who sits in a seat, which is selected, gets what the access of his next row asks for, and the row takes effect.
+    ///
+    /// # Errors
+    ///
+    /// The end of the turn: it asks for too many lines, a page can't be read, it waits, or it is a victim.
+    pub(super) fn serve<W: Outside>(&mut self, store: &Durable, outside: &mut W, seat: u8, access: Access, tally: &mut Tally) -> Result<(), TurnEnd>
+        requires sound { IsSound (activity_of self.old) }
+        requires taken { has (activity_of self.old).seating.taken seat ≡ true }
+        requires selected { IsSelected (activity_of self.old) seat }
+        requires shut { IsShut (activity_of self.old) seat access }
+        requires rows { AreRowsWithin (activity_of self.old) (2 ^ 63) }
+        requires store { store.now.header.directory ≡ (activity_of self.old).reach.directory }
+        requires room { HoldsAtLeast W.Outside (total store.now.header) outside.old }
+        requires cycles { array_vec_len tally.old.cycles + length (activity_of self.old).seating.taken ≤ 16 }
+        requires tally { (tally.old.ran < 1000000) × (tally.old.pages < 4000000) × (tally.old.locks < 2000000) }
+        ensures sound { IsSound (activity_of self.new) }
+        ensures asks { OnlyAsks W.Outside outside.old outside.new }
+        ensures parts { KeepsParts (activity_of self.old) (activity_of self.new) 1 }
+        ensures cycles { array_vec_len tally.new.cycles + length (activity_of self.new).seating.taken ≤ 16 }
+        ensures tally { TalliesMore tally.old tally.new }
+        ensures stays { OnOk result (StaysSeated (activity_of self.old) (activity_of self.new) seat) }
+        ensures calm { OnOk result (W.disk_faults outside.new ≡ W.disk_faults outside.old) }
+        ensures ends { IfErr result (IsEndOfRows W.Outside outside.old outside.new) }
+        ensures served { (committed : List ℕ) (order : List (ℕ × ℕ)) → IsStoreOf W.Outside store.now outside.old committed → Follows (activity_of self.old) committed → IsInstruction result (instruction_in (activity_of self.old) seat committed order (counts_of tally.old)) (activity_of self.new) committed order (counts_of tally.new) }
+    {
+        let (touch, refused) = self.prepare(store, outside, seat, access, tally)?;
+        self.ask(seat, &touch, tally)?;
+        self.get(store, outside, seat, &touch, refused, tally)?;
+        self.go_on(seat, tally)
+    }
+
+    /// The lines of an access, whose pages come in and are counted where their entries refuse one of them.
+    ///
+    /// # Errors
+    ///
+    /// The end of the turn: it asks for too many lines, or a page can't be read.
+    fn prepare<W: Outside>(&mut self, store: &Durable, outside: &mut W, seat: u8, access: Access, tally: &mut Tally) -> Result<(Touch, (bool, bool)), TurnEnd>
+        requires sound { IsSound (activity_of self.old) }
+        requires taken { has (activity_of self.old).seating.taken seat ≡ true }
+        requires selected { IsSelected (activity_of self.old) seat }
+        requires shut { IsShut (activity_of self.old) seat access }
+        requires store { store.now.header.directory ≡ (activity_of self.old).reach.directory }
+        requires room { HoldsAtLeast W.Outside (total store.now.header) outside.old }
+        requires tally { (tally.old.pages < 4000000) × (tally.old.locks < 2000000) }
+        ensures sound { IsSound (activity_of self.new) }
+        ensures wanted { IfOk result (λ got. AreWanted (activity_of self.new).reach.directory (wants_of got.0)) }
+        ensures asks { OnlyAsks W.Outside outside.old outside.new }
+        ensures parts { KeepsParts (activity_of self.old) (activity_of self.new) 0 }
+        ensures fewer { length (activity_of self.new).seating.taken ≤ length (activity_of self.old).seating.taken }
+        ensures tally { tally.new ≡ record tally.old { pages = tally.new.pages; locks = tally.new.locks } }
+        ensures few { (tally.new.pages ≤ tally.old.pages + 2) × (tally.new.locks ≤ tally.old.locks + 2) }
+        ensures stays { OnOk result (StaysSeated (activity_of self.old) (activity_of self.new) seat) }
+        ensures calm { OnOk result (W.disk_faults outside.new ≡ W.disk_faults outside.old) }
+        ensures ends { IfErr result (IsEndOfRows W.Outside outside.old outside.new) }
+        ensures prepared { (committed : List ℕ) (order : List (ℕ × ℕ)) → IsStoreOf W.Outside store.now outside.old committed → Follows (activity_of self.old) committed → Prepares result (instruction_in (activity_of self.old) seat committed order (counts_of tally.old)) (activity_of self.new) seat committed order (counts_of tally.new) }
+    {
+        let touch = self.touch_of(seat, access);
+        self.keep_limit(seat, &touch)?;
+        self.bring(store, outside, seat, &touch, tally)?;
+        let refused = self.refused(seat, &touch);
+        tally.locks += u32::from(refused.0) + u32::from(refused.1);
+        Ok((touch, refused))
+    }
+
+    /// The pages of a touch come in.
+    ///
+    /// # Errors
+    ///
+    /// A page can't be read: who sits in the seat is rolled back, and no page is resident.
+    fn bring<W: Outside>(&mut self, store: &Durable, outside: &mut W, seat: u8, touch: &Touch, tally: &mut Tally) -> Result<(), TurnEnd>
+        requires sound { IsSound (activity_of self.old) }
+        requires taken { has (activity_of self.old).seating.taken seat ≡ true }
+        requires wanted { AreWanted (activity_of self.old).reach.directory (wants_of touch.now) }
+        requires store { store.now.header.directory ≡ (activity_of self.old).reach.directory }
+        requires room { HoldsAtLeast W.Outside (total store.now.header) outside.old }
+        requires few { tally.old.pages + 2 < 2 ^ 32 }
+        ensures sound { IsSound (activity_of self.new) }
+        ensures asks { OnlyAsks W.Outside outside.old outside.new }
+        ensures tally { tally.new ≡ record tally.old { pages = tally.new.pages } }
+        ensures few { tally.new.pages ≤ tally.old.pages + 2 }
+        ensures calm { OnOk result (W.disk_faults outside.new ≡ W.disk_faults outside.old) }
+        ensures shape { OnOk result (activity_of self.new ≡ with_pool (activity_of self.old) (activity_of self.new).reach.pool) }
+        ensures fetched { OnOk result ((committed : List ℕ) (order : List (ℕ × ℕ)) → IsStoreOf W.Outside store.now outside.old committed → IsClean (activity_of self.old).reach.directory (activity_of self.old).reach.pool committed → IsFetched (activity_of self.old) committed order (pages_wanted (wants_of touch.now)) tally.old.pages (activity_of self.new).reach.pool tally.new.pages) }
+        ensures ends { IfErr result (λ end. (end ≡ end.Disk) × Rose (W.disk_faults outside.old) (W.disk_faults outside.new)) }
+        ensures broke { IfErr result (λ end. HasBrokenOff W.Outside store.now outside.old (activity_of self.old) seat (pages_wanted (wants_of touch.now)) tally.old.pages (activity_of self.new) tally.new.pages) }
+    {
+        match self.fetch(store, outside, touch, tally) {
+            Ok(()) => Ok(()),
+            Err(Failed) => {
+                self.roll_back(seat);
+                Err(TurnEnd::Disk)
+            }
+        }
+    }
+
+    /// Who sits in a seat waits while somebody else holds what he asks for, and cycles of waits are broken.
+    ///
+    /// # Errors
+    ///
+    /// The end of the turn: he is a victim, or still waits.
+    fn ask(&mut self, seat: u8, touch: &Touch, tally: &mut Tally) -> Result<(), TurnEnd>
+        requires sound { IsSound (activity_of self.old) }
+        requires taken { has (activity_of self.old).seating.taken seat ≡ true }
+        requires wanted { AreWanted (activity_of self.old).reach.directory (wants_of touch.now) }
+        requires cycles { array_vec_len tally.old.cycles + length (activity_of self.old).seating.taken ≤ 16 }
+        ensures sound { IsSound (activity_of self.new) }
+        ensures cycles { array_vec_len tally.new.cycles + length (activity_of self.new).seating.taken ≤ 16 }
+        ensures parts { KeepsParts (activity_of self.old) (activity_of self.new) 0 }
+        ensures tally { tally.new ≡ record tally.old { cycles = tally.new.cycles } }
+        ensures stays { OnOk result (StaysSeated (activity_of self.old) (activity_of self.new) seat) }
+        ensures ends { IfErr result (IsContestEnd (number_in (activity_of self.old).seating seat)) }
+        ensures settled { (begins : Word → Turning) (attempt : desk.Attempt) (refused : List ℕ) (committed : List ℕ) (order : List (ℕ × ℕ)) → IsAsked begins attempt refused (activity_of self.old) seat (wants_of touch.now) committed order (counts_of tally.old) → IsSettled result begins attempt refused (activity_of self.new) committed order (counts_of tally.new) }
+    {
+        let request = touch.request();
+        if self.seats.holders(seat, &request).is_empty() {
+            return Ok(());
+        }
+        self.seats.wait(seat, request);
+        self.contend(seat, tally)
+    }
+
+    /// Who sits in a seat holds what he asked for, is granted the pages that refused him, and they come in again where a
+    /// rollback took them out.
+    ///
+    /// # Errors
+    ///
+    /// The end of the turn: a page can't be read.
+    fn get<W: Outside>(&mut self, store: &Durable, outside: &mut W, seat: u8, touch: &Touch, refused: (bool, bool), tally: &mut Tally) -> Result<(), TurnEnd>
+        requires sound { IsSound (activity_of self.old) }
+        requires taken { has (activity_of self.old).seating.taken seat ≡ true }
+        requires selected { IsSelected (activity_of self.old) seat }
+        requires wanted { AreWanted (activity_of self.old).reach.directory (wants_of touch.now) }
+        requires store { store.now.header.directory ≡ (activity_of self.old).reach.directory }
+        requires room { HoldsAtLeast W.Outside (total store.now.header) outside.old }
+        requires few { tally.old.pages + 2 < 2 ^ 32 }
+        ensures sound { IsSound (activity_of self.new) }
+        ensures asks { OnlyAsks W.Outside outside.old outside.new }
+        ensures parts { KeepsParts (activity_of self.old) (activity_of self.new) 0 }
+        ensures fewer { length (activity_of self.new).seating.taken ≤ length (activity_of self.old).seating.taken }
+        ensures tally { tally.new ≡ record tally.old { pages = tally.new.pages } }
+        ensures few { tally.new.pages ≤ tally.old.pages + 2 }
+        ensures stays { OnOk result (StaysSeated (activity_of self.old) (activity_of self.new) seat) }
+        ensures calm { OnOk result (W.disk_faults outside.new ≡ W.disk_faults outside.old) }
+        ensures ends { IfErr result (λ end. (end ≡ end.Disk) × Rose (W.disk_faults outside.old) (W.disk_faults outside.new)) }
+        ensures served { (begins : Word → Turning) (attempt : desk.Attempt) (next : Plain) (committed : List ℕ) (order : List (ℕ × ℕ)) → IsStoreOf W.Outside store.now outside.old committed → attempt.entry.number ≡ number_in (activity_of self.old).seating seat → attempt.outcome ≡ row.On next → attempt.lines ≡ lines_wanted (wants_of touch.now) → IsFree begins attempt (pages_among touch.now refused) (activity_of self.old) committed order (counts_of tally.old) → Serves result begins (activity_of self.new) seat committed order (counts_of tally.new) }
+    {
+        self.take(seat, touch, refused);
+        self.bring(store, outside, seat, touch, tally)
+    }
+
+    /// The row of who sits in a seat, whose access was served, takes effect and is counted.
+    fn go_on(&mut self, seat: u8, tally: &mut Tally) -> Result<(), TurnEnd>
+        requires sound { IsSound (activity_of self.old) }
+        requires taken { has (activity_of self.old).seating.taken seat ≡ true }
+        requires selected { IsSelected (activity_of self.old) seat }
+        requires rows { AreRowsWithin (activity_of self.old) (2 ^ 63) }
+        requires few { tally.old.ran < 2 ^ 32 - 1 }
+        ensures sound { IsSound (activity_of self.new) }
+        ensures parts { KeepsParts (activity_of self.old) (activity_of self.new) 1 }
+        ensures fewer { length (activity_of self.new).seating.taken ≤ length (activity_of self.old).seating.taken }
+        ensures tally { tally.new ≡ record tally.old { ran = tally.new.ran } }
+        ensures few { tally.new.ran ≤ tally.old.ran + 1 }
+        ensures stays { OnOk result (StaysSeated (activity_of self.old) (activity_of self.new) seat) }
+        ensures ends { IfErr result IsCheck }
+        ensures went { (begins : Word → Turning) (committed : List ℕ) (order : List (ℕ × ℕ)) → length committed ≡ byte_count (activity_of self.old).reach.directory → IsClean (activity_of self.old).reach.directory (activity_of self.old).reach.pool committed → IsServed begins (activity_of self.old) seat committed order (counts_of tally.old) → IsInstruction result begins (activity_of self.new) committed order (counts_of tally.new) }
+    {
+        match self.execute(seat) {
+            Attempt::Went | Attempt::Print(_) => {
+                self.seats.go_on(seat, 1);
+                tally.ran += 1;
+                Ok(())
+            }
+            Attempt::Check(code) => Err(self.check(seat, code)),
+            Attempt::Fault(..) | Attempt::Commit => Err(self.check(seat, 0)),
+        }
+    }
+
+    /// A program check: who sits in a seat is rolled back.
+    fn check(&mut self, seat: u8, code: u8) -> TurnEnd
+        requires sound { IsSound (activity_of self.old) }
+        requires taken { has (activity_of self.old).seating.taken seat ≡ true }
+        ensures sound { IsSound (activity_of self.new) }
+        ensures end { result ≡ end.Checked code (live_in (activity_of self.old) seat).cpu.iar }
+        ensures shape { activity_of self.new ≡ rolled (activity_of self.old) seat (activity_of self.new).reach.pool }
+        ensures checked { (committed : List ℕ) (order : List (ℕ × ℕ)) (counts : Counts) → IsSelected (activity_of self.old) seat → Follows (activity_of self.old) committed → row.row (program_in (activity_of self.old) seat) (activity_of self.old).reach.directory (plain_in (activity_of self.old) seat committed) ≡ row.Check code → HasEnded result (instruction_in (activity_of self.old) seat committed order counts) (activity_of self.new) committed order counts }
+    {
+        let address = self.live[usize::from(seat)].cpu.iar;
+        self.roll_back(seat);
+        TurnEnd::Checked(code, address)
+    }
+}
