@@ -9,7 +9,8 @@ use Rattle.desk.specs.declared.answers.Cycle.{Cycle}
 use Rattle.frame_pool.specs.declared.model.Pool.{Pool}
 use Rattle.activations.specs.declared.tally.Tally.{Tally}
 use Rattle.activations.specs.Activity.{Activity}
-use Rattle.activations.specs.Attempted.{IsSelected}
+use Rattle.seats.specs.Seating.{sitter}
+use Rattle.activations.specs.Attempted.{IsSelected, TookEffect}
 use Rattle.activations.specs.Kept.{AreRowsWithin, KeepsParts, StaysSeated}
 use Rattle.activations.specs.Steps.{rolled}
 
@@ -72,3 +73,16 @@ tally-on first before cycles same = ap (λ (t : Tally). let that : Tally = recor
 pub ok-then : {T E P Q : Type 0} (result : Result T E) → (P → Q) → OnOk result P → OnOk result Q
 ok-then (Ok it) follows is = follows is
 ok-then (Err fault) follows is = is
+
+-- a row that took effect
+pub keeps-took : (a after : Activity) (seat : ℕ) → TookEffect a seat after → KeepsParts a after 0
+keeps-took a after seat took = record {
+  programs = ap (λ (x : Activity). x.programs) took.shape;
+  most_lines = ap (λ (x : Activity). x.most_lines) took.shape;
+  next = ap (λ (x : Activity). x.next) took.shape;
+  directory = ap (λ (x : Activity). x.reach.directory) took.shape;
+  rows = λ rows within at less.
+      let here = within at less in
+      let same : (sitter after.seating at).rows ≡ (sitter a.seating at).rows = ap (λ (x : Activity). (sitter x.seating at).rows) took.shape in
+      omega (arith, here, same);
+}

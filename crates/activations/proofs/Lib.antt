@@ -7,6 +7,7 @@ pub mod ContestLemmas
 pub mod EndLemmas
 pub mod EndingLemmas
 pub mod ExecuteLemmas
+pub mod GoOnLemmas
 pub mod GrantLemmas
 pub mod HoldingLemmas
 pub mod IdleLemmas

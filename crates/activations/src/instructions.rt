@@ -194,7 +194,7 @@ impl Activations {
         requires taken { has (activity_of self.old).seating.taken seat ≡ true }
         requires selected { IsSelected (activity_of self.old) seat }
         requires rows { AreRowsWithin (activity_of self.old) (2 ^ 63) }
-        requires few { tally.old.ran < 2 ^ 32 - 1 }
+        requires few { tally.old.ran + 1 < 2 ^ 32 }
         ensures sound { IsSound (activity_of self.new) }
         ensures parts { KeepsParts (activity_of self.old) (activity_of self.new) 1 }
         ensures fewer { length (activity_of self.new).seating.taken ≤ length (activity_of self.old).seating.taken }

@@ -1,0 +1,71 @@
+-- The row whose access was served: it takes effect.
+use Rattle.std.specs.Prelude.{◌≡◌, refl, ℕ, ◌+◌, ◌<◌, ◌≤◌, ◌==◌, not, Bool, true, false, List, filter, length, None}
+use Rattle.std.proofs.Common.{arith, ap, sym, ◌∙◌, subst}
+use Rattle.std.proofs.lemmas.Bool.{eqb-true}
+use Rattle.lock_rules.specs.Sets.{has}
+use Rattle.line_geometry.specs.Directory.{byte_count}
+use Rattle.flat_machine.specs.Row.{Outcome, On, Commit, Check, row}
+use Rattle.frame_pool.specs.declared.model.Pool.{Pool}
+use Rattle.desk.specs.Instruction.{Word, Counts, Turning}
+use Rattle.seats.specs.declared.seat.Seat.{Seat}
+use Rattle.seats.specs.Seating.{sitter, went_on}
+use Rattle.seats.proofs.Kept.{taken-below}
+use Rattle.storage_unit.specs.Bytes.{IsClean}
+use Rattle.activations.specs.Activity.{Activity, live_in, program_in}
+use Rattle.activations.specs.Attempted.{TookEffect, CameTo, IsShut, plain_in}
+use Rattle.activations.specs.Follows.{IsSound}
+use Rattle.activations.specs.Instructed.{IsServed}
+use Rattle.activations.specs.Kept.{AreRowsWithin, KeepsParts}
+use Rattle.activations.specs.Serving.{Goes}
+use Rattle.activations.specs.Steps.{counted, rolled}
+use Rattle.activations.proofs.ContendLemmas.{fewer}
+use Rattle.activations.proofs.SittingLemmas.{sitter-there, sitter-other}
+
+-- rows that are counted, and nothing else
+pub keeps-counted : (a : Activity) (seat rows : ℕ) → IsSound a → has a.seating.taken seat ≡ true → KeepsParts a (counted a seat rows) rows
+keeps-counted a seat rows sound taken = record {
+  programs = refl;
+  most_lines = refl;
+  next = refl;
+  directory = refl;
+  rows = λ bound within at less. within_still bound within at less (at == seat) refl;
+}
+  where
+    below : seat < 16
+    below = taken-below a.seating sound.seating seat taken
+
+    who : Seat
+    who = record (sitter a.seating seat) { rows = (sitter a.seating seat).rows + rows; waits = None }
+
+    within_still : (bound : ℕ) → AreRowsWithin a bound → (at : ℕ) → at < 16 → (same : Bool) → (at == seat) ≡ same → (sitter (went_on a.seating seat rows) at).rows ≤ bound + rows
+    within_still bound within at less true e =
+        let here = within seat below in
+        let same : (sitter (went_on a.seating seat rows) at).rows ≡ (sitter a.seating seat).rows + rows =
+        ap (λ (n : ℕ). (sitter (went_on a.seating seat rows) n).rows) (eqb-true at seat e) ∙ ap (λ (s : Seat). s.rows) (sitter-there a.seating seat who sound.seating.sixteen below) in
+        omega (arith, here, same)
+    within_still bound within at less false e =
+        let here = within at less in
+        let same : (sitter (went_on a.seating seat rows) at).rows ≡ (sitter a.seating at).rows = ap (λ (s : Seat). s.rows) (sitter-other a.seating seat who at e) in
+        omega (arith, here, same)
+
+-- fewer sit after a rollback
+pub fewer-rolled : (a after : Activity) (seat : ℕ) (pool : Pool) → has a.seating.taken seat ≡ true → after ≡ rolled a seat pool → length after.seating.taken ≤ length a.seating.taken
+fewer-rolled a after seat pool taken shape =
+    let less = fewer a.seating.taken seat taken in
+    let same : length after.seating.taken ≡ length (filter (λ other. not (other == seat)) a.seating.taken) = ap (λ (x : Activity). length x.seating.taken) shape in
+    omega (arith, less, same)
+
+-- a row that took effect
+module _ (begins : Word → Turning) (a after : Activity) (seat : ℕ) (committed : List ℕ) (order : List (ℕ × ℕ)) (counts : Counts)
+    (long : length committed ≡ byte_count a.reach.directory) (served : IsServed begins a seat committed order counts) where
+  pub took-served : IsClean a.reach.directory a.reach.pool committed → TookEffect a seat after → Goes begins (counted after seat 1) committed order (record counts { ran = counts.ran + 1 })
+  took-served clean took =
+      subst (λ (x : Activity). Goes begins (counted x seat 1) committed order (record counts { ran = counts.ran + 1 })) (sym took.shape)
+      (served.goes (live_in after seat) after.reach.pool.bytes after.reach.pool.marked (took.went committed long clean))
+
+  -- it comes to nothing else
+  pub not-check : (code : ℕ) → CameTo (Check code) a seat after → ⊥
+  not-check code came = let goes = served.row_goes.1 in let check = came.1 committed long in cc (goes, check)
+
+  pub not-commit : CameTo Commit a seat after → ⊥
+  not-commit came = let goes = served.row_goes.1 in let commit = came.1 committed long in cc (goes, commit)
