@@ -11,6 +11,7 @@ mod rows;
 mod serving;
 mod tally;
 mod touch;
+mod touching;
 
 pub use activations::Activations;
 pub use live::Live;
