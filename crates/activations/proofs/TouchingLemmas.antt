@@ -2,18 +2,18 @@
 use Rattle.std.specs.Prelude.{◌≡◌, refl, ℕ, zero, suc, ◌+◌, ◌-◌, ◌*◌, ◌/◌, ◌%◌, ◌^◌, ◌<◌, ◌≤◌, ◌==◌, ◌||◌, ◌&&◌, nat_le, nat_lt, not, if◌then◌else◌, cond, Bool, true, false, List, [], ◌∷◌, ◌++◌, All, length, map, slice_index_or, Option, Some, None, Result, Ok, Err}
 use Rattle.std.specs.List.{range_with_len}
 use Rattle.std.proofs.Common.{arith, ap, sym, ◌∙◌, subst}
-use Rattle.std.proofs.lemmas.Bool.{eqb-true, eqb-false, leb-true}
+use Rattle.std.proofs.lemmas.Bool.{eqb-true, eq-eqb, leb-true, both_ways}
 use Rattle.std.proofs.lemmas.Bool.Decides.{nat_tests}
 use Rattle.std.proofs.lemmas.List.{append-nil}
 use Rattle.std.proofs.lemmas.List.FromFn.{length-range_with_len}
 use Rattle.std.proofs.lemmas.List.Sums.{sum_by-le}
-use Rattle.std.proofs.lemmas.List.Elements.{All-nil, All-cons, All-head, All-from_get_or}
+use Rattle.std.proofs.lemmas.List.Elements.{All-nil, All-cons, All-head, All-tail, All-get_or, All-from_get_or}
 use Rattle.line_geometry.specs.declared.directory.PageSize.{PageSize}
 use Rattle.line_geometry.specs.declared.directory.PageSize.TheVariants.{Two, Four}
 use Rattle.line_geometry.specs.Directory.{Layout, start_of, length_of, byte_count, page_count}
 use Rattle.line_geometry.specs.Legal.{IsLegal}
 use Rattle.line_geometry.specs.Lines.{line_of, line_count}
-use Rattle.line_geometry.specs.LineSets.{passing, between, lines_where, IsOfPage}
+use Rattle.line_geometry.specs.LineSets.{passing, between, difference, lines_where, IsOfPage}
 use Rattle.line_geometry.specs.Segments.{page_bytes}
 use Rattle.line_geometry.proofs.LineSetLemmas.{of_page-where}
 use Rattle.line_geometry.proofs.Within.{line-below, segment-within}
@@ -21,7 +21,8 @@ use Rattle.lock_rules.specs.Sets.{has}
 use Rattle.lock_rules.specs.Lines.{Lines, no_lines, pages_of}
 use Rattle.line_locks.specs.declared.request.Want.{Want}
 use Rattle.line_locks.specs.Flat.{lines_wanted}
-use Rattle.line_locks.specs.Held.{nothing, write_count}
+use Rattle.line_locks.specs.Held.{nothing, write_count, AreWithin}
+use Rattle.line_locks.specs.Holding.{of_seat, held_at}
 use Rattle.flat_machine.specs.declared.machine.Located.{Located}
 use Rattle.flat_machine.specs.declared.machine.Located.TheVariants.{Private, Shared, Refused}
 use Rattle.flat_machine.specs.declared.machine.Plain.{Plain}
@@ -38,7 +39,7 @@ use Rattle.romp_cpu.specs.Segments.{registers_of_program}
 use Rattle.desk.specs.declared.answers.TurnEnd.{TurnEnd}
 use Rattle.desk.specs.Answers.{ending_told}
 use Rattle.desk.specs.Instruction.{Counts}
-use Rattle.desk_law.specs.Consistent.{AreConsistent}
+use Rattle.desk_law.specs.Consistent.{AreConsistent, AreDistinct}
 use Rattle.desk_law.proofs.Entries.{filter-short}
 use Rattle.seats.proofs.Numbers.{AreOfPage}
 use Rattle.storage_unit.specs.declared.model.Reach.{Reach}
@@ -50,7 +51,9 @@ use Rattle.activations.specs.Serves.{IsToServe, AreTouched, attempt_in, lines_wi
 use Rattle.activations.specs.Serving.{IsOver, instruction_in}
 use Rattle.activations.specs.Steps.{rolled, RollsBack}
 use Rattle.activations.specs.Turning.{HasEnded}
-use Rattle.activations.specs.Touched.{lines_between, pages_wanted, AreWanted}
+use Rattle.activations.specs.declared.touch.Touch.{Touch}
+use Rattle.activations.specs.Touched.{lines_between, pages_wanted, wants_of, AreWanted}
+use Rattle.activations.proofs.LimitLemmas.{written-none, written-one, written-two}
 use Rattle.activations.proofs.RefusedLemmas.{apart-one, apart-two}
 use Rattle.activations.proofs.StartLemmas.{lines-are, journal}
 use Rattle.activations.proofs.TouchLemmas.{sets_between, page-between}
@@ -291,6 +294,57 @@ few-written pages of few =
       sum_by-le (λ (held : List ℕ × List ℕ). length held.1) 16 pages
           (All-from_get_or (λ (held : List ℕ × List ℕ). length held.1 ≤ 16) pages nothing (λ page below. few-of-page _ (of.writes page))),
     )
+
+-- How many lines will have been written, with those of a touch.
+module _ (a : Activity) (seat : ℕ) (sound : IsSound a) where
+  abbrev pages : List (List ℕ × List ℕ)
+  pages = of_seat a.seating.holding seat
+
+  pub few-held : IsLegal a.reach.directory.segments → seat < 16 → write_count pages ≤ 16384
+  few-held legal below =
+      let long : length pages ≡ a.seating.holding.pages =
+      All-get_or (λ (held : List (List ℕ × List ℕ)). length held ≡ a.seating.holding.pages) a.seating.holding.seats seat [] (omega (arith, below, sound.seating.whole.0)) sound.seating.whole.1 in
+      few-written pages (sound.lines seat) (omega (arith, long, sound.pages, legal.pages))
+
+  pub counts-none : (touch : Touch) → touch ≡ Touch.Nothing → write_count pages ≡ lines_with a seat (wants_of touch)
+  counts-none touch is =
+      sym (written-none pages (sound.lines seat) (record { reads = All-nil (λ (w : Want). IsOfPage w.reads); writes = All-nil (λ (w : Want). IsOfPage w.writes) }))
+      ∙ ap (λ (t : Touch). lines_with a seat (wants_of t)) (sym is)
+
+  module _ (touch : Touch) (wanted : AreWanted a.reach.directory (wants_of touch)) where
+    pub counts-one : (want : Want) → touch ≡ Touch.One want
+        → write_count pages + length (difference want.writes (held_at a.seating.holding seat want.page).1) ≡ lines_with a seat (wants_of touch)
+    counts-one want is =
+        sym (written-one pages (sound.lines seat) want (subst (λ (t : Touch). AreOfPage (wants_of t)) is wanted.sets))
+        ∙ ap (λ (t : Touch). lines_with a seat (wants_of t)) (sym is)
+
+    module _ (first second : Want) (is : touch ≡ Touch.Two first second) where
+      within-two : AreWithin (page_count a.reach.directory) (first ∷ second ∷ [])
+      within-two = subst (λ (t : Touch). AreWithin (page_count a.reach.directory) (wants_of t)) is wanted.within
+
+      pub first-within : first.page < page_count a.reach.directory
+      first-within = All-head (λ (w : Want). w.page < page_count a.reach.directory) first (second ∷ []) within-two
+
+      pub second-within : second.page < page_count a.reach.directory
+      second-within =
+          All-head (λ (w : Want). w.page < page_count a.reach.directory) second []
+          (All-tail (λ (w : Want). w.page < page_count a.reach.directory) first (second ∷ []) within-two)
+
+      pub counts-two : write_count pages
+          + (length (difference first.writes (held_at a.seating.holding seat first.page).1) + length (difference second.writes (held_at a.seating.holding seat second.page).1))
+          ≡ lines_with a seat (wants_of touch)
+      counts-two =
+          sym (written-two pages (sound.lines seat) first second (subst (λ (t : Touch). AreOfPage (wants_of t)) is wanted.sets) others)
+          ∙ ap (λ (t : Touch). lines_with a seat (wants_of t)) (sym is)
+        where
+          others : first.page ≡ second.page → ⊥
+          others same =
+              both_ways (second.page == first.page)
+              (or_none (second.page == first.page) (subst (λ (t : Touch). AreDistinct (pages_wanted (wants_of t))) is wanted.once).0) (eq-eqb second.page first.page (sym same))
+            where
+              or_none : (b : Bool) → (b || false) ≡ false → b ≡ false
+              or_none true e = e
+              or_none false e = e
 
 -- Past the limit who sits in the seat is rolled back, and the turn ends with that.
 pub over-limit : (a now : Activity) (seat : ℕ) (wants : List Want) (end : TurnEnd) → now ≡ rolled a seat now.reach.pool

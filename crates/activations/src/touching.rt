@@ -5,7 +5,9 @@ ghost use Rattle.line_geometry.specs.Directory.{start_of, byte_count, page_count
 ghost use Rattle.line_geometry.specs.Lines.{line_of};
 ghost use Rattle.line_geometry.specs.LineSets.{difference};
 ghost use Rattle.line_locks.specs.Flat.{lines_wanted};
-ghost use Rattle.line_locks.specs.Holding.{held_at};
+ghost use Rattle.line_locks.specs.Held.{write_count};
+ghost use Rattle.line_locks.specs.Holding.{of_seat, held_at};
+ghost use Rattle.segment_regs.specs.Registers.{located_by};
 ghost use Rattle.romp_cpu.specs.Attempts.{lines_of_access};
 ghost use Rattle.flat_machine.specs.declared.machine.Plain.{Plain};
 ghost use Rattle.storage_unit.specs.Places.{offset_of};
@@ -18,11 +20,11 @@ use desk::TurnEnd;
 use line_geometry::Directory;
 use line_locks::Want;
 use romp_cpu::Access;
-use segment_regs::Virtual;
+use segment_regs::{Check, Virtual};
 use storage_unit::PRIVATE;
 
 impl Activations {
-    ghost use Rattle.activations.specs.Activity.{program_in};
+    ghost use Rattle.activations.specs.Activity.{live_in, program_in};
     ghost use Rattle.activations.specs.Follows.{IsSound};
     ghost use Rattle.activations.specs.Serves.{lines_with, IsToServe};
     ghost use Rattle.activations.specs.Serving.{instruction_in};
@@ -39,9 +41,7 @@ impl Activations {
         ensures lines { lines_wanted (wants_of result) ≡ lines_of_access (program_in (activity_of self.now) seat) (activity_of self.now).reach.directory access }
         ensures wanted { AreWanted (activity_of self.now).reach.directory (wants_of result) }
     {
-        let registers = &self.live[usize::from(seat)].registers;
-        let Ok(first) = registers.locate(access.address, u32::from(access.bytes), access.store)
-        else {
+        let Ok(first) = self.locate(seat, access) else {
             return Touch::Nothing;
         };
         if first.segment >= PRIVATE {
@@ -49,6 +49,16 @@ impl Activations {
         } else {
             touch_from(&self.directory, first, access)
         }
+    }
+
+    /// Where an access of who sits in a seat lies.
+    fn locate(&self, seat: u8, access: Access) -> Result<Virtual, Check>
+        requires sound { IsSound (activity_of self.now) }
+        requires taken { has (activity_of self.now).seating.taken seat ≡ true }
+        ensures { result ≡ located_by (live_in (activity_of self.now) seat).registers access.address access.bytes access.store }
+    {
+        let registers = &self.live[usize::from(seat)].registers;
+        registers.locate(access.address, u32::from(access.bytes), access.store)
     }
 
     /// Who sits in a seat is rolled back where his record would have too many lines.
@@ -82,7 +92,7 @@ impl Activations {
         requires wanted { AreWanted (activity_of self.now).reach.directory (wants_of touch.now) }
         ensures { result ≡ lines_with (activity_of self.now) seat (wants_of touch.now) }
     {
-        let held = self.seats.locks().written_lines(seat);
+        let held = self.held_lines(seat);
         match touch {
             Touch::Nothing => held,
             Touch::One(only) => held + self.new_lines(seat, only),
@@ -90,6 +100,16 @@ impl Activations {
                 held + (self.new_lines(seat, first) + self.new_lines(seat, second))
             }
         }
+    }
+
+    /// How many lines a seat holds to write.
+    fn held_lines(&self, seat: u8) -> u32
+        requires sound { IsSound (activity_of self.now) }
+        requires seat { seat < 16 }
+        ensures value { result ≡ write_count (of_seat (activity_of self.now).seating.holding seat) }
+        ensures few { result ≤ 16384 }
+    {
+        self.seats.locks().written_lines(seat)
     }
 
     /// How many of the lines that are wanted of a page to write a seat doesn't hold to write yet.
