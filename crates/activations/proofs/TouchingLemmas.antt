@@ -1,8 +1,8 @@
 -- The lines that an access touches, page by page, and how many will have been written with them.
-use Rattle.std.specs.Prelude.{◌≡◌, refl, ℕ, zero, suc, ◌+◌, ◌-◌, ◌*◌, ◌/◌, ◌%◌, ◌^◌, ◌<◌, ◌≤◌, ◌==◌, ◌||◌, ◌&&◌, nat_le, nat_lt, not, if◌then◌else◌, cond, Bool, true, false, List, [], ◌∷◌, ◌++◌, All, length, map, slice_index_or, Option, Some, None, Result, Ok, Err}
+use Rattle.std.specs.Prelude.{◌≡◌, refl, ℕ, zero, suc, ◌+◌, ◌-◌, ◌/◌, ◌%◌, ◌^◌, ◌<◌, ◌≤◌, ◌==◌, ◌||◌, ◌&&◌, nat_le, nat_lt, not, if◌then◌else◌, Bool, true, false, List, [], ◌∷◌, ◌++◌, length, slice_index_or, Option, Some, None, Result, Ok, Err}
 use Rattle.std.specs.List.{range_with_len}
 use Rattle.std.proofs.Common.{arith, ap, sym, ◌∙◌, subst}
-use Rattle.std.proofs.lemmas.Bool.{eqb-true, eq-eqb, leb-true, both_ways}
+use Rattle.std.proofs.lemmas.Bool.{eqb-true, eq-eqb, ne_eqb, leb-true, both_ways}
 use Rattle.std.proofs.lemmas.Bool.Decides.{nat_tests}
 use Rattle.std.proofs.lemmas.List.{append-nil}
 use Rattle.std.proofs.lemmas.List.FromFn.{length-range_with_len}
@@ -13,7 +13,7 @@ use Rattle.line_geometry.specs.declared.directory.PageSize.TheVariants.{Two, Fou
 use Rattle.line_geometry.specs.Directory.{Layout, start_of, length_of, byte_count, page_count}
 use Rattle.line_geometry.specs.Legal.{IsLegal}
 use Rattle.line_geometry.specs.Lines.{line_of, line_count}
-use Rattle.line_geometry.specs.LineSets.{passing, between, difference, lines_where, IsOfPage}
+use Rattle.line_geometry.specs.LineSets.{passing, between, difference, IsOfPage}
 use Rattle.line_geometry.specs.Segments.{page_bytes}
 use Rattle.line_geometry.proofs.LineSetLemmas.{of_page-where}
 use Rattle.line_geometry.proofs.Within.{line-below, segment-within}
@@ -43,7 +43,7 @@ use Rattle.desk_law.specs.Consistent.{AreConsistent, AreDistinct}
 use Rattle.desk_law.proofs.Entries.{filter-short}
 use Rattle.seats.proofs.Numbers.{AreOfPage}
 use Rattle.storage_unit.specs.declared.model.Reach.{Reach}
-use Rattle.storage_unit.specs.Places.{private_segment, is_private, offset_of, place_of, place_at}
+use Rattle.storage_unit.specs.Places.{private_segment, is_private, offset_of, place_at}
 use Rattle.storage_unit.proofs.LocatedLemmas.{lies-where}
 use Rattle.activations.specs.Activity.{Activity, live_in, program_in, entries, store_over}
 use Rattle.activations.specs.Follows.{AreOfPages, IsSound, IsKept}
@@ -105,18 +105,11 @@ two-pages first last order near differs = by_test (last == first) refl
     by_test false e =
         let count : last + 1 - first ≡ 2 = grind (arith, nat_tests) in
         let next : last ≡ first + 1 = grind (arith, nat_tests) in
-        let other : (last / 16 == first / 16) ≡ false = unequal (last / 16) (first / 16) (λ same. differs (sym same)) in
+        let other : (last / 16 == first / 16) ≡ false = ne_eqb (last / 16) (first / 16) (λ same. differs (sym same)) in
         let away : ((first + 1) / 16 == first / 16) ≡ false = ap (λ (n : ℕ). n / 16 == first / 16) (sym next) ∙ other in
         ap (λ (n : ℕ). first / 16 ∷ n / 16 ∷ []) next
         ∙ sym (ap (λ (again : Bool). if again || false then (first + 1) / 16 ∷ [] else first / 16 ∷ (first + 1) / 16 ∷ []) away)
         ∙ sym (ap (λ (n : ℕ). pages_of (range_with_len first n)) count)
-      where
-        unequal : (x y : ℕ) → (x ≡ y → ⊥) → (x == y) ≡ false
-        unequal x y differs = by_case (x == y) refl
-          where
-            by_case : (same : Bool) → (x == y) ≡ same → same ≡ false
-            by_case true e = absurd (differs (eqb-true x y e))
-            by_case false e = refl
 
 two-between : (first last : ℕ) (store : Bool) → first ≤ last → last ≤ first + 1 → (first / 16 ≡ last / 16 → ⊥)
     → first / 16 ∷ last / 16 ∷ [] ≡ pages_of ((lines_between first last store).reads ++ (lines_between first last store).writes)
@@ -134,7 +127,7 @@ wanted-two d one two first last store page page' set set' lines order near diffe
       (All-cons (λ (w : Want). w.page < page_count d) two [] (omega (arith, page', below)) (All-nil (λ (w : Want). w.page < page_count d)));
   sets = sets;
   apart = apart-two one two sets others;
-  once = (by_test (two.page == one.page) refl, (refl, tt));
+  once = (ap (λ (same : Bool). same || false) (ne_eqb two.page one.page (λ same. others (sym same))), (refl, tt));
   pages =
       (λ i. page i ∷ page' i ∷ []) ∙ two-between first last store order near differs
       ∙ ap (λ (l : Lines). pages_of (l.reads ++ l.writes)) (sym lines);
@@ -142,10 +135,6 @@ wanted-two d one two first last store page page' set set' lines order near diffe
   where
     others : one.page ≡ two.page → ⊥
     others same = differs (sym page ∙ same ∙ page')
-
-    by_test : (same : Bool) → (two.page == one.page) ≡ same → (same || false) ≡ false
-    by_test true e = absurd (others (sym (eqb-true two.page one.page e)))
-    by_test false e = refl
 
     sets : AreOfPage (one ∷ two ∷ [])
     sets = record {

@@ -1,6 +1,6 @@
-use Rattle.std.proofs.Common.{◌≡◌, ◌+◌, ◌-◌, ◌<◌, ◌∙◌, ap, arith}
+use Rattle.std.proofs.Common.{◌≡◌, ◌+◌, ◌-◌, ◌∙◌, ap, arith}
 use Rattle.line_geometry.specs.Directory.{start_of}
-use Rattle.line_geometry.specs.Lines.{line_of, line_count}
+use Rattle.line_geometry.specs.Lines.{line_of}
 use Rattle.storage_unit.specs.Places.{offset_of}
 use Rattle.activations.proofs.TouchingLemmas.{near-lines}
 use Rattle.activations.proofs.touching.touch_from.Goals as goal

@@ -26,5 +26,10 @@ returns-in-One c =
 
 pub returns-in-Two : goal.returns-in-Two
 returns-in-Two c =
-    omega (arith, c.held_lines-held.ensures.value, c.new_lines-in-Two.ensures.value, c.new_lines-in-Two-2.ensures.value,
-    counts-two (activity_of c.args.self.now) c.args.seat c.requires.sound c.args.touch.now c.requires.wanted c.in-Two.first c.in-Two.second c.in-Two.is)
+    omega (
+      arith,
+      c.held_lines-held.ensures.value,
+      c.new_lines-in-Two.ensures.value,
+      c.new_lines-in-Two-2.ensures.value,
+      counts-two (activity_of c.args.self.now) c.args.seat c.requires.sound c.args.touch.now c.requires.wanted c.in-Two.first c.in-Two.second c.in-Two.is,
+    )
