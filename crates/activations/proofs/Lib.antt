@@ -27,6 +27,7 @@ pub mod StrideLemmas
 pub mod TableLemmas
 pub mod TakenLemmas
 pub mod TouchLemmas
+pub mod TouchingLemmas
 pub mod UndoLemmas
 pub mod VacateLemmas
 pub mod WaitLemmas

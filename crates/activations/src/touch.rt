@@ -1,9 +1,10 @@
 // The lines that an access touches, page by page.
-ghost use Rattle.std.specs.Prelude.{◌≡◌, ◌+◌, ◌*◌, ◌/◌, ◌<◌, ◌≤◌, ◌^◌, ◌++◌, ◌∷◌, [], ℕ, map};
-ghost use Rattle.lock_rules.specs.Lines.{pages_of};
+ghost use Rattle.std.specs.Prelude.{◌≡◌, ◌+◌, ◌/◌, ◌<◌, ◌≤◌, ◌^◌, ◌∷◌, [], map};
+ghost use Rattle.line_geometry.specs.Directory.{Layout};
+ghost use Rattle.line_geometry.specs.Lines.{line_count};
 ghost use Rattle.line_locks.specs.Flat.{lines_wanted};
-ghost use Rattle.line_locks.specs.Held.{AreWithin};
-ghost use Rattle.activations.specs.Touched.{lines_between, pages_wanted, wants_of, with_whole_page};
+ghost use Rattle.seats.proofs.Numbers.{AreOfPage};
+ghost use Rattle.activations.specs.Touched.{lines_between, wants_of, with_whole_page, AreWanted};
 
 use arrayvec::ArrayVec;
 use line_geometry::LineSet;
@@ -24,8 +25,7 @@ impl Touch {
         requires near { last ≤ first + 1 }
         requires few { last < 2 ^ 20 }
         ensures lines { lines_wanted (wants_of result) ≡ lines_between first last store }
-        ensures pages { pages_wanted (wants_of result) ≡ pages_of ((lines_between first last store).reads ++ (lines_between first last store).writes) }
-        ensures within { (pages : ℕ) → last < pages * 16 → AreWithin pages (wants_of result) }
+        ensures wanted { (directory : Layout) → last < line_count directory → AreWanted directory (wants_of result) }
     {
         if first / 16 == last / 16 {
             Touch::One(want_of(first, last, store))
@@ -59,6 +59,7 @@ fn want_of(first: u32, last: u32, store: bool) -> Want
     requires few { last < 2 ^ 20 }
     ensures page { result.page ≡ first / 16 }
     ensures lines { lines_wanted (result ∷ []) ≡ lines_between first last store }
+    ensures sets { AreOfPage (result ∷ []) }
 {
     let lines = LineSet::between((first % 16) as u8, (last % 16) as u8);
     let (reads, writes) = if store {

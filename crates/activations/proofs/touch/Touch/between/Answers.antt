@@ -1,9 +1,14 @@
-use Rattle.std.proofs.Common.{ℕ, [], ◌∷◌, ◌∙◌, ap, arith}
-use Rattle.std.proofs.lemmas.Bool.Decides.{nat_tests}
-use Rattle.activations.proofs.TouchLemmas.{page-between}
+use Rattle.std.proofs.Common.{rules}
+use Rattle.activations.proofs.TouchingLemmas.{wanted-one, wanted-two}
 use Rattle.activations.proofs.touch.Touch.between.Goals as goal
 
-pub returns-then-first-last-clause-pages : goal.returns-then-first-last-clause-pages
-returns-then-first-last-clause-pages c =
-    ap (λ (page : ℕ). page ∷ []) c.want_of.ensures.page
-    ∙ page-between c.args.first c.args.last c.args.store c.requires.order c.requires.near (grind (arith, nat_tests, c.if-first-last.true))
+pub returns-then-first-last-clause-wanted : goal.returns-then-first-last-clause-wanted
+returns-then-first-last-clause-wanted c directory below =
+    wanted-one directory c.want_of.result c.args.first c.args.last c.args.store c.want_of.ensures.page c.want_of.ensures.sets c.want_of.ensures.lines
+    c.requires.order c.requires.near c.if-first-last.true below
+
+pub returns-else-first-last-clause-wanted : goal.returns-else-first-last-clause-wanted
+returns-else-first-last-clause-wanted c directory below =
+    wanted-two directory c.want_of-else-first-last.result c.want_of-else-first-last-2.result c.args.first c.args.last c.args.store
+    c.want_of-else-first-last.ensures.page c.want_of-else-first-last-2.ensures.page c.want_of-else-first-last.ensures.sets c.want_of-else-first-last-2.ensures.sets
+    (search rules) c.requires.order c.requires.near c.if-first-last.false below

@@ -1,0 +1,347 @@
+-- The lines that an access touches, page by page, and how many will have been written with them.
+use Rattle.std.specs.Prelude.{◌≡◌, refl, ℕ, zero, suc, ◌+◌, ◌-◌, ◌/◌, ◌%◌, ◌^◌, ◌<◌, ◌≤◌, ◌==◌, ◌||◌, ◌&&◌, nat_le, nat_lt, not, if◌then◌else◌, Bool, true, false, List, [], ◌∷◌, ◌++◌, length, slice_index_or, Option, Some, None, Result, Ok, Err}
+use Rattle.std.specs.List.{range_with_len}
+use Rattle.std.proofs.Common.{arith, ap, sym, ◌∙◌, subst}
+use Rattle.std.proofs.lemmas.Bool.{eqb-true, eq-eqb, ne_eqb, leb-true, both_ways}
+use Rattle.std.proofs.lemmas.Bool.Decides.{nat_tests}
+use Rattle.std.proofs.lemmas.List.{append-nil}
+use Rattle.std.proofs.lemmas.List.FromFn.{length-range_with_len}
+use Rattle.std.proofs.lemmas.List.Sums.{sum_by-le}
+use Rattle.std.proofs.lemmas.List.Elements.{All-nil, All-cons, All-head, All-tail, All-get_or, All-from_get_or}
+use Rattle.line_geometry.specs.declared.directory.PageSize.{PageSize}
+use Rattle.line_geometry.specs.declared.directory.PageSize.TheVariants.{Two, Four}
+use Rattle.line_geometry.specs.Directory.{Layout, start_of, length_of, byte_count, page_count}
+use Rattle.line_geometry.specs.Legal.{IsLegal}
+use Rattle.line_geometry.specs.Lines.{line_of, line_count}
+use Rattle.line_geometry.specs.LineSets.{passing, between, difference, IsOfPage}
+use Rattle.line_geometry.specs.Segments.{page_bytes}
+use Rattle.line_geometry.proofs.LineSetLemmas.{of_page-where}
+use Rattle.line_geometry.proofs.Within.{line-below, segment-within}
+use Rattle.lock_rules.specs.Sets.{has}
+use Rattle.lock_rules.specs.Lines.{Lines, no_lines, pages_of}
+use Rattle.line_locks.specs.declared.request.Want.{Want}
+use Rattle.line_locks.specs.Flat.{lines_wanted}
+use Rattle.line_locks.specs.Held.{nothing, write_count, AreWithin}
+use Rattle.line_locks.specs.Holding.{of_seat, held_at}
+use Rattle.flat_machine.specs.declared.machine.Located.{Located}
+use Rattle.flat_machine.specs.declared.machine.Located.TheVariants.{Private, Shared, Refused}
+use Rattle.flat_machine.specs.declared.machine.Plain.{Plain}
+use Rattle.flat_machine.specs.declared.machine.Program.{Program}
+use Rattle.flat_machine.specs.declared.machine.Window.{Window}
+use Rattle.flat_machine.specs.Row.{in_segment, in_window, in_register, located}
+use Rattle.flat_machine.specs.Touched.{lines_at}
+use Rattle.segment_regs.specs.declared.registers.Check.{Check}
+use Rattle.segment_regs.specs.declared.registers.Virtual.{Virtual}
+use Rattle.segment_regs.specs.Registers.{located_by}
+use Rattle.romp_cpu.specs.declared.storage.Access.{Access}
+use Rattle.romp_cpu.specs.Attempts.{lines_of_access}
+use Rattle.romp_cpu.specs.Segments.{registers_of_program}
+use Rattle.desk.specs.declared.answers.TurnEnd.{TurnEnd}
+use Rattle.desk.specs.Answers.{ending_told}
+use Rattle.desk.specs.Instruction.{Counts}
+use Rattle.desk_law.specs.Consistent.{AreConsistent, AreDistinct}
+use Rattle.desk_law.proofs.Entries.{filter-short}
+use Rattle.seats.proofs.Numbers.{AreOfPage}
+use Rattle.storage_unit.specs.declared.model.Reach.{Reach}
+use Rattle.storage_unit.specs.Places.{private_segment, is_private, offset_of, place_at}
+use Rattle.storage_unit.proofs.LocatedLemmas.{lies-where}
+use Rattle.activations.specs.Activity.{Activity, live_in, program_in, entries, store_over}
+use Rattle.activations.specs.Follows.{AreOfPages, IsSound, IsKept}
+use Rattle.activations.specs.Serves.{IsToServe, AreTouched, attempt_in, lines_with}
+use Rattle.activations.specs.Serving.{IsOver, instruction_in}
+use Rattle.activations.specs.Steps.{rolled, RollsBack}
+use Rattle.activations.specs.Turning.{HasEnded}
+use Rattle.activations.specs.declared.touch.Touch.{Touch}
+use Rattle.activations.specs.Touched.{lines_between, pages_wanted, wants_of, AreWanted}
+use Rattle.activations.proofs.LimitLemmas.{written-none, written-one, written-two}
+use Rattle.activations.proofs.RefusedLemmas.{apart-one, apart-two}
+use Rattle.activations.proofs.StartLemmas.{lines-are, journal}
+use Rattle.activations.proofs.TouchLemmas.{sets_between, page-between}
+
+-- no line is a set of lines
+of-none : IsOfPage []
+unfolding passing
+of-none = refl
+
+-- the lines from a first to a last of one page are sets of it
+pub sets-one : (page first last : ℕ) (store : Bool) (sets : List ℕ × List ℕ) → sets ≡ sets_between first last store
+    → AreOfPage (record { page = page; reads = sets.0; writes = sets.1 } ∷ [])
+sets-one page first last store sets is =
+    subst (λ (pair : List ℕ × List ℕ). AreOfPage (record { page = page; reads = pair.0; writes = pair.1 } ∷ [])) (sym is) (by_store store)
+  where
+    of-between : IsOfPage (between (first % 16) (last % 16))
+    of-between = of_page-where (λ line. nat_le (first % 16) line && nat_le line (last % 16))
+
+    alone : (want : Want) → IsOfPage want.reads → IsOfPage want.writes → AreOfPage (want ∷ [])
+    alone want reads writes = record {
+      reads = All-cons (λ (w : Want). IsOfPage w.reads) want [] reads (All-nil (λ (w : Want). IsOfPage w.reads));
+      writes = All-cons (λ (w : Want). IsOfPage w.writes) want [] writes (All-nil (λ (w : Want). IsOfPage w.writes));
+    }
+
+    by_store : (store : Bool) → AreOfPage (record { page = page; reads = (sets_between first last store).0; writes = (sets_between first last store).1 } ∷ [])
+    by_store true = alone (record { page = page; reads = []; writes = between (first % 16) (last % 16) }) of-none of-between
+    by_store false = alone (record { page = page; reads = between (first % 16) (last % 16); writes = [] }) of-between of-none
+
+-- lines of one page of the store
+pub wanted-one : (d : Layout) (want : Want) (first last : ℕ) (store : Bool) → want.page ≡ first / 16 → AreOfPage (want ∷ [])
+    → lines_wanted (want ∷ []) ≡ lines_between first last store → first ≤ last → last ≤ first + 1 → first / 16 ≡ last / 16 → last < line_count d
+    → AreWanted d (want ∷ [])
+wanted-one d want first last store page sets lines order near one below = record {
+  within = All-cons (λ (w : Want). w.page < page_count d) want [] (omega (arith, page, order, below)) (All-nil (λ (w : Want). w.page < page_count d));
+  sets = sets;
+  apart = apart-one want sets;
+  once = (refl, tt);
+  pages =
+      ap (λ (p : ℕ). p ∷ []) page ∙ page-between first last store order near one
+      ∙ ap (λ (l : Lines). pages_of (l.reads ++ l.writes)) (sym lines);
+}
+
+-- two neighbours on different pages have these pages
+two-pages : (first last : ℕ) → first ≤ last → last ≤ first + 1 → (first / 16 ≡ last / 16 → ⊥) → first / 16 ∷ last / 16 ∷ [] ≡ pages_of (range_with_len first (last + 1 - first))
+two-pages first last order near differs = by_test (last == first) refl
+  where
+    by_test : (same : Bool) → (last == first) ≡ same → first / 16 ∷ last / 16 ∷ [] ≡ pages_of (range_with_len first (last + 1 - first))
+    by_test true e = absurd (differs (ap (λ (n : ℕ). n / 16) (sym (eqb-true last first e))))
+    by_test false e =
+        let count : last + 1 - first ≡ 2 = grind (arith, nat_tests) in
+        let next : last ≡ first + 1 = grind (arith, nat_tests) in
+        let other : (last / 16 == first / 16) ≡ false = ne_eqb (last / 16) (first / 16) (λ same. differs (sym same)) in
+        let away : ((first + 1) / 16 == first / 16) ≡ false = ap (λ (n : ℕ). n / 16 == first / 16) (sym next) ∙ other in
+        ap (λ (n : ℕ). first / 16 ∷ n / 16 ∷ []) next
+        ∙ sym (ap (λ (again : Bool). if again || false then (first + 1) / 16 ∷ [] else first / 16 ∷ (first + 1) / 16 ∷ []) away)
+        ∙ sym (ap (λ (n : ℕ). pages_of (range_with_len first n)) count)
+
+two-between : (first last : ℕ) (store : Bool) → first ≤ last → last ≤ first + 1 → (first / 16 ≡ last / 16 → ⊥)
+    → first / 16 ∷ last / 16 ∷ [] ≡ pages_of ((lines_between first last store).reads ++ (lines_between first last store).writes)
+two-between first last true order near differs = two-pages first last order near differs
+two-between first last false order near differs =
+    two-pages first last order near differs ∙ ap pages_of (sym (append-nil (range_with_len first (last + 1 - first))))
+
+-- lines of two pages of the store
+pub wanted-two : (d : Layout) (one two : Want) (first last : ℕ) (store : Bool) → one.page ≡ first / 16 → two.page ≡ last / 16 → AreOfPage (one ∷ []) → AreOfPage (two ∷ [])
+    → lines_wanted (one ∷ two ∷ []) ≡ lines_between first last store → first ≤ last → last ≤ first + 1 → (first / 16 ≡ last / 16 → ⊥) → last < line_count d
+    → AreWanted d (one ∷ two ∷ [])
+wanted-two d one two first last store page page' set set' lines order near differs below = record {
+  within =
+      All-cons (λ (w : Want). w.page < page_count d) one (two ∷ []) (omega (arith, page, order, below))
+      (All-cons (λ (w : Want). w.page < page_count d) two [] (omega (arith, page', below)) (All-nil (λ (w : Want). w.page < page_count d)));
+  sets = sets;
+  apart = apart-two one two sets others;
+  once = (ap (λ (same : Bool). same || false) (ne_eqb two.page one.page (λ same. others (sym same))), (refl, tt));
+  pages =
+      (λ i. page i ∷ page' i ∷ []) ∙ two-between first last store order near differs
+      ∙ ap (λ (l : Lines). pages_of (l.reads ++ l.writes)) (sym lines);
+}
+  where
+    others : one.page ≡ two.page → ⊥
+    others same = differs (sym page ∙ same ∙ page')
+
+    sets : AreOfPage (one ∷ two ∷ [])
+    sets = record {
+      reads = All-cons (λ (w : Want). IsOfPage w.reads) one (two ∷ []) (All-head (λ (w : Want). IsOfPage w.reads) one [] set.reads) set'.reads;
+      writes = All-cons (λ (w : Want). IsOfPage w.writes) one (two ∷ []) (All-head (λ (w : Want). IsOfPage w.writes) one [] set.writes) set'.writes;
+    }
+
+-- no line
+pub wanted-none : (d : Layout) → AreWanted d []
+wanted-none d = record {
+  within = All-nil (λ (w : Want). w.page < page_count d);
+  sets = record { reads = All-nil (λ (w : Want). IsOfPage w.reads); writes = All-nil (λ (w : Want). IsOfPage w.writes) };
+  apart = All-nil _;
+  once = tt;
+  pages = refl;
+}
+
+-- few bytes lie in one line or two
+near : (page : PageSize) (at bytes : ℕ) → 0 < bytes → bytes ≤ 64 → at + bytes ≤ 2 ^ 22
+    → (at / (page_bytes page / 16) ≤ (at + bytes - 1) / (page_bytes page / 16)) × ((at + bytes - 1) / (page_bytes page / 16) ≤ at / (page_bytes page / 16) + 1)
+    × ((at + bytes - 1) / (page_bytes page / 16) < 2 ^ 20)
+near Two at bytes some few small = (omega (arith, some), omega (arith, some, few), omega (arith, some, small))
+near Four at bytes some few small = (omega (arith, some), omega (arith, some, few), omega (arith, some, small))
+
+pub near-lines : (d : Layout) (at bytes : ℕ) → 0 < bytes → bytes ≤ 64 → at + bytes ≤ byte_count d → byte_count d ≤ 2 ^ 22
+    → (line_of d at ≤ line_of d (at + bytes - 1)) × (line_of d (at + bytes - 1) ≤ line_of d at + 1) × (line_of d (at + bytes - 1) < 2 ^ 20)
+    × (line_of d (at + bytes - 1) < line_count d)
+near-lines d at bytes some few within small =
+    let (order, next, low) = near d.page at bytes some few (omega (arith, within, small)) in
+    (order, next, low, line-below d (at + bytes - 1) (omega (arith, some, within)))
+
+-- what lies in the store ends there
+in-store : (d : Layout) (w : Window) (long : Option ℕ) (offset bytes : ℕ) (store : Bool) (at : ℕ) → length_of d w.segment ≡ long
+    → in_segment d w long offset bytes store ≡ Shared at → at + bytes ≤ byte_count d
+in-store d w None offset bytes store at found is = absurd (cc)
+in-store d w (Some long) offset bytes store at found is = by_tests (nat_le (offset + bytes) long) (store && not w.write) refl is
+  where
+    by_tests : (inside refused : Bool) → nat_le (offset + bytes) long ≡ inside
+        → (if inside then (if refused then Refused 7 else Shared (start_of d w.segment + offset)) else Refused 2) ≡ Shared at → at + bytes ≤ byte_count d
+    by_tests true true fits is = absurd (cc)
+    by_tests true false fits is =
+        let here : start_of d w.segment + offset ≡ at = cc in
+        omega (arith, here, leb-true (offset + bytes) long fits, segment-within d w.segment long found)
+    by_tests false refused fits is = absurd (cc)
+
+shared-ends : (p : Program) (d : Layout) (i offset bytes : ℕ) (store : Bool) (at : ℕ) → in_register p d i offset bytes store ≡ Shared at → at + bytes ≤ byte_count d
+shared-ends p d zero offset bytes store at is = by_test (nat_le (offset + bytes) 16384) is
+  where
+    by_test : (inside : Bool) → (if inside then Private offset else Refused 2) ≡ Shared at → at + bytes ≤ byte_count d
+    by_test true is = absurd (cc)
+    by_test false is = absurd (cc)
+shared-ends p d (suc i) offset bytes store at is = by_window (slice_index_or p.windows i None) is
+  where
+    by_window : (w : Option Window) → in_window d w offset bytes store ≡ Shared at → at + bytes ≤ byte_count d
+    by_window None is = absurd (cc)
+    by_window (Some w) is = in-store d w (length_of d w.segment) offset bytes store at refl is
+
+lines-of : (d : Layout) (at bytes : ℕ) → 0 < bytes → range_with_len (line_of d at) (line_of d (at + bytes - 1) + 1 - line_of d at) ≡ lines_at d (Shared at) bytes
+lines-of d at zero some = absurd (omega (arith, some))
+lines-of d at (suc more) some = ap (λ n. range_with_len (line_of d at) (line_of d n + 1 - line_of d at)) (omega arith)
+
+-- the lines of an access by where it lies
+abbrev by_store : Bool → List ℕ → Lines
+by_store store lines = if store then record { reads = []; writes = lines } else record { reads = lines; writes = [] }
+
+empty : (store : Bool) → no_lines ≡ by_store store []
+empty true = refl
+empty false = refl
+
+-- The access of who sits in a seat.
+module _ (a : Activity) (seat : ℕ) (sound : IsSound a) (taken : has a.seating.taken seat ≡ true) (legal : IsLegal a.reach.directory.segments) (access : Access) where
+  -- the unit with the seat's registers
+  abbrev selected : Reach
+  selected = record a.reach { registers = (live_in a seat).registers; runner = seat + 1 }
+
+  found-where : (found : Result Virtual Check) → located_by (live_in a seat).registers access.address access.bytes access.store ≡ found
+      → place_at a.reach.directory found ≡ located (program_in a seat) a.reach.directory access.address access.bytes access.store
+  found-where found is =
+      let here : seat + 1 - 1 ≡ seat = omega arith in
+      ap (place_at a.reach.directory) (sym is)
+      ∙ lies-where selected (program_in a seat) legal
+      (record { selected = omega arith; registers = (sound.set_up seat taken).registers ∙ ap (λ (s : ℕ). registers_of_program (program_in a seat) a.reach.directory (private_segment s)) (sym here) })
+      access.address access.bytes access.store
+
+  nowhere : (place : Located) → located (program_in a seat) a.reach.directory access.address access.bytes access.store ≡ place → lines_at a.reach.directory place access.bytes ≡ []
+      → no_lines ≡ lines_of_access (program_in a seat) a.reach.directory access
+  nowhere place is none =
+      empty access.store ∙ sym (ap (by_store access.store) none)
+      ∙ sym (ap (λ (at : Located). by_store access.store (lines_at a.reach.directory at access.bytes)) is)
+
+  -- it touches none where it is refused, or lies in private storage
+  pub touches-refused : (check : Check) → located_by (live_in a seat).registers access.address access.bytes access.store ≡ Err check
+      → no_lines ≡ lines_of_access (program_in a seat) a.reach.directory access
+  touches-refused check is = nowhere (Refused check.0) (sym (found-where (Err check) is)) refl
+
+  module _ (first : Virtual) (is : located_by (live_in a seat).registers access.address access.bytes access.store ≡ Ok first) where
+    pub touches-private : is_private first.segment ≡ true → no_lines ≡ lines_of_access (program_in a seat) a.reach.directory access
+    touches-private own =
+        nowhere (Private (offset_of first))
+        (sym (found-where (Ok first) is) ∙ ap (λ (b : Bool). if b then Private (offset_of first) else Shared (start_of a.reach.directory first.segment + offset_of first)) own) refl
+
+    abbrev place : ℕ
+    place = start_of a.reach.directory first.segment + offset_of first
+
+    module _ (low : is_private first.segment ≡ false) where
+      shared : located (program_in a seat) a.reach.directory access.address access.bytes access.store ≡ Shared place
+      shared = sym (found-where (Ok first) is) ∙ ap (λ (b : Bool). if b then Private (offset_of first) else Shared place) low
+
+      -- and else those from its first byte's to its last byte's, all in the store
+      pub touches-shared : 0 < access.bytes
+          → lines_between (line_of a.reach.directory place) (line_of a.reach.directory (place + access.bytes - 1)) access.store ≡ lines_of_access (program_in a seat) a.reach.directory access
+      touches-shared some =
+          ap (by_store access.store) (lines-of a.reach.directory place access.bytes some)
+          ∙ sym (ap (λ (at : Located). by_store access.store (lines_at a.reach.directory at access.bytes)) shared)
+
+      pub touches-within : place + access.bytes ≤ byte_count a.reach.directory
+      touches-within = shared-ends (program_in a seat) a.reach.directory (access.address / 2 ^ 28) (access.address % 2 ^ 28) access.bytes access.store place shared
+
+-- The lines that a row touches, told page by page, are those of the instruction under way.
+pub are-touched : (a : Activity) (seat : ℕ) (committed : List ℕ) (order : List (ℕ × ℕ)) (wants : List Want) (next : Plain) (to : IsToServe a seat committed wants next)
+    → AreWanted a.reach.directory wants → AreTouched (attempt_in a seat committed order wants next to) wants
+are-touched a seat committed order wants next to wanted = record {
+  pages =
+      ap (λ (l : Lines). pages_of (l.reads ++ l.writes))
+      (lines-are a seat committed order (record { ran = 0; pages = 0; locks = 0; cycles = [] }) wants next to.sound to.taken to.runner to.follows to.goes to.touches)
+      ∙ sym wanted.pages;
+  apart = wanted.apart;
+  sets = wanted.sets;
+}
+
+-- a set of a page has at most sixteen lines
+few-of-page : (set : List ℕ) → IsOfPage set → length set ≤ 16
+unfolding passing
+few-of-page set of =
+    let all = length-range_with_len 0 16 in
+    let kept = filter-short (λ line. has set line) (range_with_len 0 16) in
+    let same = ap length of in
+    omega (arith, all, kept, same)
+
+-- so what is held of so few pages is few
+pub few-written : (pages : List (List ℕ × List ℕ)) → AreOfPages pages → length pages ≤ 1024 → write_count pages ≤ 16384
+few-written pages of few =
+    omega (
+      arith,
+      few,
+      sum_by-le (λ (held : List ℕ × List ℕ). length held.1) 16 pages
+          (All-from_get_or (λ (held : List ℕ × List ℕ). length held.1 ≤ 16) pages nothing (λ page below. few-of-page _ (of.writes page))),
+    )
+
+-- How many lines will have been written, with those of a touch.
+module _ (a : Activity) (seat : ℕ) (sound : IsSound a) where
+  abbrev pages : List (List ℕ × List ℕ)
+  pages = of_seat a.seating.holding seat
+
+  pub few-held : IsLegal a.reach.directory.segments → seat < 16 → write_count pages ≤ 16384
+  few-held legal below =
+      let long : length pages ≡ a.seating.holding.pages =
+      All-get_or (λ (held : List (List ℕ × List ℕ)). length held ≡ a.seating.holding.pages) a.seating.holding.seats seat [] (omega (arith, below, sound.seating.whole.0)) sound.seating.whole.1 in
+      few-written pages (sound.lines seat) (omega (arith, long, sound.pages, legal.pages))
+
+  pub counts-none : (touch : Touch) → touch ≡ Touch.Nothing → write_count pages ≡ lines_with a seat (wants_of touch)
+  counts-none touch is =
+      sym (written-none pages (sound.lines seat) (record { reads = All-nil (λ (w : Want). IsOfPage w.reads); writes = All-nil (λ (w : Want). IsOfPage w.writes) }))
+      ∙ ap (λ (t : Touch). lines_with a seat (wants_of t)) (sym is)
+
+  module _ (touch : Touch) (wanted : AreWanted a.reach.directory (wants_of touch)) where
+    pub counts-one : (want : Want) → touch ≡ Touch.One want
+        → write_count pages + length (difference want.writes (held_at a.seating.holding seat want.page).1) ≡ lines_with a seat (wants_of touch)
+    counts-one want is =
+        sym (written-one pages (sound.lines seat) want (subst (λ (t : Touch). AreOfPage (wants_of t)) is wanted.sets))
+        ∙ ap (λ (t : Touch). lines_with a seat (wants_of t)) (sym is)
+
+    module _ (first second : Want) (is : touch ≡ Touch.Two first second) where
+      within-two : AreWithin (page_count a.reach.directory) (first ∷ second ∷ [])
+      within-two = subst (λ (t : Touch). AreWithin (page_count a.reach.directory) (wants_of t)) is wanted.within
+
+      pub first-within : first.page < page_count a.reach.directory
+      first-within = All-head (λ (w : Want). w.page < page_count a.reach.directory) first (second ∷ []) within-two
+
+      pub second-within : second.page < page_count a.reach.directory
+      second-within =
+          All-head (λ (w : Want). w.page < page_count a.reach.directory) second []
+          (All-tail (λ (w : Want). w.page < page_count a.reach.directory) first (second ∷ []) within-two)
+
+      pub counts-two : write_count pages
+          + (length (difference first.writes (held_at a.seating.holding seat first.page).1) + length (difference second.writes (held_at a.seating.holding seat second.page).1))
+          ≡ lines_with a seat (wants_of touch)
+      counts-two =
+          sym (written-two pages (sound.lines seat) first second (subst (λ (t : Touch). AreOfPage (wants_of t)) is wanted.sets) others)
+          ∙ ap (λ (t : Touch). lines_with a seat (wants_of t)) (sym is)
+        where
+          others : first.page ≡ second.page → ⊥
+          others same =
+              both_ways (second.page == first.page)
+              (or_none (second.page == first.page) (subst (λ (t : Touch). AreDistinct (pages_wanted (wants_of t))) is wanted.once).0) (eq-eqb second.page first.page (sym same))
+            where
+              or_none : (b : Bool) → (b || false) ≡ false → b ≡ false
+              or_none true e = e
+              or_none false e = e
+
+-- Past the limit who sits in the seat is rolled back, and the turn ends with that.
+pub over-limit : (a now : Activity) (seat : ℕ) (wants : List Want) (end : TurnEnd) → now ≡ rolled a seat now.reach.pool
+    → ((committed : List ℕ) → AreConsistent (store_over a committed) a.most_lines a.next (entries a) → IsKept a committed → RollsBack a seat now.reach.pool committed)
+    → nat_lt a.most_lines (lines_with a seat wants) ≡ true → end ≡ TurnEnd.Journal (lines_with a seat wants) a.most_lines
+    → (committed : List ℕ) (order : List (ℕ × ℕ)) (counts : Counts) (next : Plain) → IsToServe a seat committed wants next
+    → HasEnded end (instruction_in a seat committed order counts) now committed order counts
+over-limit a now seat wants end shape rolls over is committed order counts next to printed =
+    subst (λ (left : Activity). IsOver (instruction_in a seat committed order counts) left committed order counts (ending_told end printed)) (sym shape)
+    (subst (λ (how : TurnEnd). IsOver (instruction_in a seat committed order counts) (rolled a seat now.reach.pool) committed order counts (ending_told how printed)) (sym is)
+    (journal a seat committed order counts wants next to.sound to.taken to.runner to.follows to.goes to.touches now.reach.pool (rolls committed to.follows.orderly.active to.follows.kept) over))

@@ -1,0 +1,19 @@
+use Rattle.std.proofs.Common.{◌≡◌, true, ap, arith}
+use Rattle.std.specs.Prelude.{nat_lt}
+use Rattle.std.proofs.lemmas.Bool.Decides.{nat_tests}
+use Rattle.desk.specs.declared.answers.TurnEnd.{TurnEnd}
+use Rattle.activations.specs.Activity.{Activity}
+use Rattle.activations.specs.Serves.{lines_with}
+use Rattle.activations.specs.Touched.{wants_of}
+use Rattle.activations.specs.View.{activity_of}
+use Rattle.activations.proofs.TouchingLemmas.{over-limit}
+use Rattle.activations.proofs.activations.Activations.keep_limit.Goals as goal
+
+pub returns-then-lines-self-clause-over : goal.returns-then-lines-self-clause-over
+returns-then-lines-self-clause-over c =
+    let most : c.roll_back.new.self.most_lines ≡ c.args.self.now.most_lines = ap (λ (a : Activity). a.most_lines) c.roll_back.ensures.shape in
+    let over : nat_lt c.args.self.now.most_lines (lines_with (activity_of c.args.self.now) c.args.seat (wants_of c.args.touch.now)) ≡ true =
+    grind (arith, nat_tests, c.if-lines-self.true, c.lines_with-lines.ensures) in
+    over-limit (activity_of c.args.self.now) (activity_of c.roll_back.new.self) c.args.seat (wants_of c.args.touch.now)
+    (TurnEnd.Journal c.lines_with-lines.result c.roll_back.new.self.most_lines) c.roll_back.ensures.shape c.roll_back.ensures.rolls over
+    (λ i. TurnEnd.Journal (c.lines_with-lines.ensures i) (most i))

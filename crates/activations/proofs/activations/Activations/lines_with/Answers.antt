@@ -1,0 +1,35 @@
+use Rattle.std.proofs.Common.{◌∙◌, arith}
+use Rattle.activations.specs.View.{activity_of}
+use Rattle.activations.proofs.TouchingLemmas.{counts-none, counts-one, counts-two, first-within, second-within}
+use Rattle.activations.proofs.activations.Activations.lines_with.Goals as goal
+
+pub overflow_add-result : goal.overflow_add-result
+overflow_add-result c = omega (arith, c.held_lines-held.ensures.few, c.new_lines.ensures.few)
+
+pub overflow_add-result-in-Two-2 : goal.overflow_add-result-in-Two-2
+overflow_add-result-in-Two-2 c = omega (arith, c.held_lines-held.ensures.few, c.new_lines-in-Two.ensures.few, c.new_lines-in-Two-2.ensures.few)
+
+pub new_lines-requires-in-Two-clause-page : goal.new_lines-requires-in-Two-clause-page
+new_lines-requires-in-Two-clause-page c =
+    first-within (activity_of c.args.self.now) c.args.seat c.requires.sound c.args.touch.now c.requires.wanted c.in-Two.first c.in-Two.second c.in-Two.is
+
+pub new_lines-requires-in-Two-2-clause-page : goal.new_lines-requires-in-Two-2-clause-page
+new_lines-requires-in-Two-2-clause-page c =
+    second-within (activity_of c.args.self.now) c.args.seat c.requires.sound c.args.touch.now c.requires.wanted c.in-Two.first c.in-Two.second c.in-Two.is
+
+pub returns-in-Nothing : goal.returns-in-Nothing
+returns-in-Nothing c = c.held_lines-held.ensures.value ∙ counts-none (activity_of c.args.self.now) c.args.seat c.requires.sound c.args.touch.now c.in-Nothing.is
+
+pub returns-in-One : goal.returns-in-One
+returns-in-One c =
+    omega (arith, c.held_lines-held.ensures.value, c.new_lines.ensures.value, counts-one (activity_of c.args.self.now) c.args.seat c.requires.sound c.args.touch.now c.requires.wanted c.in-One.only c.in-One.is)
+
+pub returns-in-Two : goal.returns-in-Two
+returns-in-Two c =
+    omega (
+      arith,
+      c.held_lines-held.ensures.value,
+      c.new_lines-in-Two.ensures.value,
+      c.new_lines-in-Two-2.ensures.value,
+      counts-two (activity_of c.args.self.now) c.args.seat c.requires.sound c.args.touch.now c.requires.wanted c.in-Two.first c.in-Two.second c.in-Two.is,
+    )

@@ -1,0 +1,10 @@
+use Rattle.std.proofs.Common.{◌∙◌}
+use Rattle.segment_regs.specs.Registers.{located_by}
+use Rattle.activations.specs.View.{activity_of}
+use Rattle.activations.proofs.ExecuteLemmas.{runs-there}
+use Rattle.activations.proofs.activations.Activations.locate.Goals as goal
+
+pub returns : goal.returns
+returns c =
+    let runs = runs-there (activity_of c.args.self.now) c.args.seat c.requires.sound c.requires.taken c.index.result.now c.from.result c.from.ensures c.index.ensures in
+    c.locate.ensures ∙ (λ i. located_by (runs i).registers c.args.access.address (c.from-2.ensures i) c.args.access.store)

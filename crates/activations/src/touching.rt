@@ -1,0 +1,143 @@
+// The lines of the store that an access touches, and the most that are written.
+ghost use Rattle.std.specs.Prelude.{◌≡◌, ◌+◌, ◌-◌, ◌<◌, ◌≤◌, true, false, nat_lt, ℕ, List, length, OnOk, IfErr};
+ghost use Rattle.lock_rules.specs.Sets.{has};
+ghost use Rattle.line_geometry.specs.Directory.{start_of, byte_count, page_count};
+ghost use Rattle.line_geometry.specs.Lines.{line_of};
+ghost use Rattle.line_geometry.specs.LineSets.{difference};
+ghost use Rattle.line_locks.specs.Flat.{lines_wanted};
+ghost use Rattle.line_locks.specs.Held.{write_count};
+ghost use Rattle.line_locks.specs.Holding.{of_seat, held_at};
+ghost use Rattle.segment_regs.specs.Registers.{located_by};
+ghost use Rattle.romp_cpu.specs.Attempts.{lines_of_access};
+ghost use Rattle.flat_machine.specs.declared.machine.Plain.{Plain};
+ghost use Rattle.storage_unit.specs.Places.{offset_of};
+ghost use Rattle.desk.specs.Instruction.{Counts};
+ghost use Rattle.activations.specs.Touched.{lines_between, wants_of, AreWanted};
+
+use super::activations::Activations;
+use super::touch::Touch;
+use desk::TurnEnd;
+use line_geometry::Directory;
+use line_locks::Want;
+use romp_cpu::Access;
+use segment_regs::{Check, Virtual};
+use storage_unit::PRIVATE;
+
+impl Activations {
+    ghost use Rattle.activations.specs.Activity.{live_in, program_in};
+    ghost use Rattle.activations.specs.Follows.{IsSound};
+    ghost use Rattle.activations.specs.Serves.{lines_with, IsToServe};
+    ghost use Rattle.activations.specs.Serving.{instruction_in};
+    ghost use Rattle.activations.specs.Steps.{rolled};
+    ghost use Rattle.activations.specs.Turning.{HasEnded};
+    ghost use Rattle.activations.specs.View.{activity_of};
+
+    /// The lines of the store that an access of who sits in a seat touches.
+    pub(super) fn touch_of(&self, seat: u8, access: Access) -> Touch
+        requires sound { IsSound (activity_of self.now) }
+        requires taken { has (activity_of self.now).seating.taken seat ≡ true }
+        requires some { 0 < access.bytes }
+        requires few { access.bytes ≤ 64 }
+        ensures lines { lines_wanted (wants_of result) ≡ lines_of_access (program_in (activity_of self.now) seat) (activity_of self.now).reach.directory access }
+        ensures wanted { AreWanted (activity_of self.now).reach.directory (wants_of result) }
+    {
+        let Ok(first) = self.locate(seat, access) else {
+            return Touch::Nothing;
+        };
+        if first.segment >= PRIVATE {
+            Touch::Nothing
+        } else {
+            touch_from(&self.directory, first, access)
+        }
+    }
+
+    /// Where an access of who sits in a seat lies.
+    fn locate(&self, seat: u8, access: Access) -> Result<Virtual, Check>
+        requires sound { IsSound (activity_of self.now) }
+        requires taken { has (activity_of self.now).seating.taken seat ≡ true }
+        ensures { result ≡ located_by (live_in (activity_of self.now) seat).registers access.address access.bytes access.store }
+    {
+        let registers = &self.live[usize::from(seat)].registers;
+        registers.locate(access.address, u32::from(access.bytes), access.store)
+    }
+
+    /// Who sits in a seat is rolled back where his record would have too many lines.
+    ///
+    /// # Errors
+    ///
+    /// [`TurnEnd::Journal`] exactly where they are more than a record may have.
+    pub(super) fn keep_limit(&mut self, seat: u8, touch: &Touch) -> Result<(), TurnEnd>
+        requires sound { IsSound (activity_of self.old) }
+        requires taken { has (activity_of self.old).seating.taken seat ≡ true }
+        requires wanted { AreWanted (activity_of self.old).reach.directory (wants_of touch.now) }
+        ensures sound { IsSound (activity_of self.new) }
+        ensures kept { OnOk result ((activity_of self.new ≡ activity_of self.old) × (nat_lt (activity_of self.old).most_lines (lines_with (activity_of self.old) seat (wants_of touch.now)) ≡ false)) }
+        ensures journal { IfErr result (λ end. (end ≡ TurnEnd.Journal (lines_with (activity_of self.old) seat (wants_of touch.now)) (activity_of self.old).most_lines) × ((activity_of self.old).most_lines < lines_with (activity_of self.old) seat (wants_of touch.now))) }
+        ensures rolled { IfErr result (λ end. activity_of self.new ≡ rolled (activity_of self.old) seat (activity_of self.new).reach.pool) }
+        ensures over { IfErr result (λ end. (committed : List ℕ) (order : List (ℕ × ℕ)) (counts : Counts) (next : Plain) → IsToServe (activity_of self.old) seat committed (wants_of touch.now) next → HasEnded end (instruction_in (activity_of self.old) seat committed order counts) (activity_of self.new) committed order counts) }
+    {
+        let lines = self.lines_with(seat, touch);
+        if lines > self.most_lines {
+            self.roll_back(seat);
+            Err(TurnEnd::Journal(lines, self.most_lines))
+        } else {
+            Ok(())
+        }
+    }
+
+    /// How many lines who sits in a seat will have written, with those of a touch.
+    fn lines_with(&self, seat: u8, touch: &Touch) -> u32
+        requires sound { IsSound (activity_of self.now) }
+        requires seat { seat < 16 }
+        requires wanted { AreWanted (activity_of self.now).reach.directory (wants_of touch.now) }
+        ensures { result ≡ lines_with (activity_of self.now) seat (wants_of touch.now) }
+    {
+        let held = self.held_lines(seat);
+        match touch {
+            Touch::Nothing => held,
+            Touch::One(only) => held + self.new_lines(seat, only),
+            Touch::Two(first, second) => {
+                held + (self.new_lines(seat, first) + self.new_lines(seat, second))
+            }
+        }
+    }
+
+    /// How many lines a seat holds to write.
+    fn held_lines(&self, seat: u8) -> u32
+        requires sound { IsSound (activity_of self.now) }
+        requires seat { seat < 16 }
+        ensures value { result ≡ write_count (of_seat (activity_of self.now).seating.holding seat) }
+        ensures few { result ≤ 16384 }
+    {
+        self.seats.locks().written_lines(seat)
+    }
+
+    /// How many of the lines that are wanted of a page to write a seat doesn't hold to write yet.
+    fn new_lines(&self, seat: u8, want: &Want) -> u32
+        requires sound { IsSound (activity_of self.now) }
+        requires seat { seat < 16 }
+        requires page { want.now.page < page_count (activity_of self.now).reach.directory }
+        ensures value { result ≡ length (difference want.now.writes (held_at (activity_of self.now).seating.holding seat want.now.page).1) }
+        ensures few { result ≤ 16 }
+    {
+        let (_, writes) = self.seats.locks().held(seat, want.page);
+        want.writes.difference(writes).count()
+    }
+}
+
+/// The lines that an access touches whose first byte is one of the store.
+fn touch_from(directory: &Directory, first: Virtual, access: Access) -> Touch
+    requires some { 0 < access.bytes }
+    requires few { access.bytes ≤ 64 }
+    requires within { start_of directory.now first.segment + offset_of first + access.bytes ≤ byte_count directory.now }
+    ensures lines { lines_wanted (wants_of result) ≡ lines_between (line_of directory.now (start_of directory.now first.segment + offset_of first)) (line_of directory.now (start_of directory.now first.segment + offset_of first + access.bytes - 1)) access.store }
+    ensures wanted { AreWanted directory.now (wants_of result) }
+{
+    let place = directory.start_of(first.segment) + (first.page * 2048 + u32::from(first.byte));
+    let end = place + u32::from(access.bytes) - 1;
+    Touch::between(
+        directory.line_of(place),
+        directory.line_of(end),
+        access.store,
+    )
+}
