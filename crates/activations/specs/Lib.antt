@@ -10,3 +10,4 @@ pub mod View
 pub mod Begins
 pub mod Ends
 pub mod Serves
+pub mod Fetching

@@ -5,6 +5,7 @@
 mod activations;
 mod contest;
 mod endings;
+mod fetching;
 pub mod laws;
 mod live;
 mod rows;
