@@ -8,12 +8,11 @@ use Rattle.std.proofs.lemmas.List.Quantifiers.{position-Some}
 use Rattle.line_geometry.specs.declared.directory.PageSize.{PageSize}
 use Rattle.line_geometry.specs.declared.directory.PageSize.TheVariants.{Two}
 use Rattle.line_geometry.specs.Directory.{Layout, byte_count, page_count}
-use Rattle.line_geometry.specs.Lines.{line_count}
 use Rattle.line_geometry.specs.Segments.{page_bytes}
 use Rattle.line_geometry.proofs.Within.{byte_count-pages}
 use Rattle.lock_rules.specs.Resident.{brought}
 use Rattle.lock_rules.specs.Sets.{has}
-use Rattle.lock_rules.proofs.Sets.{has_left, has_right}
+use Rattle.lock_rules.proofs.Sets.{has_left}
 use Rattle.owned_list.specs.Overlay.{overlaid}
 use Rattle.outside.specs.declared.world.Outside.{Ghosts}
 use Rattle.outside.specs.Runs.{OnlyAsks, FewerLater, held_of}
@@ -29,7 +28,7 @@ use Rattle.frame_pool.specs.declared.model.Pool.{Pool}
 use Rattle.frame_pool.specs.declared.pages.StorePages.{StorePages}
 use Rattle.frame_pool.specs.Places.{index_out}
 use Rattle.frame_pool.specs.PlacesView.{places_of}
-use Rattle.frame_pool.specs.Pool.{Brought, frame_at, frame_bytes, marks_at, with_room, with_bytes, emptied, laid, line_laid, line_kept}
+use Rattle.frame_pool.specs.Pool.{Brought, frame_at, frame_bytes, marks_at, with_bytes, emptied, laid, line_laid, line_kept}
 use Rattle.frame_pool.specs.PoolLending.{with_frame_part}
 use Rattle.frame_pool.specs.View.{pool_of}
 use Rattle.frame_pool.specs.Seen.{IsSeen}

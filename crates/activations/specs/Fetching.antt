@@ -1,5 +1,5 @@
 -- Pages of a touch that come in from the store on the disk.
-use Rattle.std.specs.Prelude.{◌≡◌, ℕ, ◌+◌, ◌<◌, if◌then◌else◌, true, false, List, [], ◌∷◌, Option, Some, option_to_list}
+use Rattle.std.specs.Prelude.{◌≡◌, ℕ, ◌+◌, ◌<◌, if◌then◌else◌, true, false, List, [], Option, Some, option_to_list}
 use Rattle.lock_rules.specs.Resident.{brought}
 use Rattle.lock_rules.specs.Sets.{has}
 use Rattle.frame_pool.specs.declared.model.Pool.{Pool}
@@ -19,7 +19,7 @@ pub record IsStoreOf {W : Type 0} (G : Ghosts W) (store : KeptStore) (outside : 
   pub number : ℕ
   pub stood : stands (held_of G outside) ≡ Stands number (record { directory = store.header.directory; bytes = committed })
 
--- A page that is resident stays, and one that isn't is counted and comes in. Another that is to stay, stays.
+-- A page that was resident stays, and one that wasn't is counted and has come in. Another that is to stay has stayed.
 pub record IsIn (old new : Pool) (page : ℕ) (keep : Option ℕ) (before after : ℕ) : Type 0 where
   pub resident : new.resident ≡ (if has old.resident page then old.resident else brought old.frames (option_to_list keep) old.resident page)
   pub counted : after ≡ (if has old.resident page then before else before + 1)
@@ -31,8 +31,7 @@ pub record IsUnread (old new : Pool) (page : ℕ) (before after : ℕ) : Type 0 
   pub none : new.resident ≡ []
   pub counted : after ≡ before + 1
 
--- Pages came in from here up to the one that was counted last: that one couldn't be read, and all pages went out, of which
--- nothing of what all see changed.
+-- The page that was counted last couldn't be read: all pages went out, and of what all see nothing changed.
 pub record IsBrokenOff (a : Activity) (committed : List ℕ) (order : List (ℕ × ℕ)) (pages : List ℕ) (before : ℕ) (pool : Pool) (after : ℕ) : Type 0 where
   pub moved : IsMoved a.reach.pool pool
   pub keeps : Keeps a.reach.directory a.reach.pool pool committed

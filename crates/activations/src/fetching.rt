@@ -1,5 +1,5 @@
 // Pages come in from the store on the disk.
-ghost use Rattle.std.specs.Prelude.{◌≡◌, ◌+◌, ◌<◌, ◌≤◌, ◌^◌, ℕ, true, false, List, [], Option, Some, OnOk, OnErr, option_to_list};
+ghost use Rattle.std.specs.Prelude.{◌≡◌, ◌+◌, ◌<◌, ◌≤◌, ◌^◌, ℕ, true, false, List, [], OnOk, OnErr, option_to_list};
 ghost use Rattle.line_geometry.specs.Directory.{page_count};
 ghost use Rattle.lock_rules.specs.Resident.{brought};
 ghost use Rattle.lock_rules.specs.Sets.{has};
@@ -67,7 +67,8 @@ impl Activations {
         }
     }
 
-    /// Counts and brings in a page that isn't resident, while another may stay.
+    /// Brings in a page if it isn't resident, and counts it then. Another page, if one is named, stays. If it can't be read,
+    /// all pages go out.
     fn fetch_page<W: Outside>(
         &mut self,
         store: &Durable,
@@ -97,7 +98,7 @@ impl Activations {
     }
 }
 
-/// Brings in a page that isn't resident, while another may stay. If it can't be read, all pages go out.
+/// Brings in a page that isn't resident. Another page, if one is named, stays. If it can't be read, all pages go out.
 fn bring_page<W: Outside>(
     unit: &mut Unit,
     store: &Durable,

@@ -1,4 +1,3 @@
-use Rattle.storage_unit.specs.View.{reach_of}
 use Rattle.activations.proofs.BringLemmas.{now-moved, now-came, now-keeps, out-moved, out-none, out-keeps}
 use Rattle.activations.proofs.fetching.bring_page.Goals as goal
 
