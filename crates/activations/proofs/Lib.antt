@@ -32,3 +32,5 @@ pub mod UndoLemmas
 pub mod VacateLemmas
 pub mod WaitLemmas
 pub mod WrittenLemmas
+pub mod BringLemmas
+pub mod FetchLemmas
