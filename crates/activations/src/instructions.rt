@@ -121,8 +121,8 @@ impl Activations {
         ensures calm { OnOk result (W.disk_faults outside.new ≡ W.disk_faults outside.old) }
         ensures shape { OnOk result (activity_of self.new ≡ with_pool (activity_of self.old) (activity_of self.new).reach.pool) }
         ensures fetched { OnOk result ((committed : List ℕ) (order : List (ℕ × ℕ)) → IsStoreOf W.Outside store.now outside.old committed → IsClean (activity_of self.old).reach.directory (activity_of self.old).reach.pool committed → IsFetched (activity_of self.old) committed order (pages_wanted (wants_of touch.now)) tally.old.pages (activity_of self.new).reach.pool tally.new.pages) }
-        ensures ends { IfErr result (λ end. (end ≡ end.Disk) × Rose (W.disk_faults outside.old) (W.disk_faults outside.new)) }
-        ensures broke { IfErr result (λ end. HasBrokenOff W.Outside store.now outside.old (activity_of self.old) seat (pages_wanted (wants_of touch.now)) tally.old.pages (activity_of self.new) tally.new.pages) }
+        ensures ends { IfErr result (λ over. (over ≡ end.Disk) × Rose (W.disk_faults outside.old) (W.disk_faults outside.new)) }
+        ensures broke { IfErr result (λ over. HasBrokenOff W.Outside store.now outside.old (activity_of self.old) seat (pages_wanted (wants_of touch.now)) tally.old.pages (activity_of self.new) tally.new.pages) }
     {
         match self.fetch(store, outside, touch, tally) {
             Ok(()) => Ok(()),
@@ -181,7 +181,7 @@ impl Activations {
         ensures few { tally.new.pages ≤ tally.old.pages + 2 }
         ensures stays { OnOk result (StaysSeated (activity_of self.old) (activity_of self.new) seat) }
         ensures calm { OnOk result (W.disk_faults outside.new ≡ W.disk_faults outside.old) }
-        ensures ends { IfErr result (λ end. (end ≡ end.Disk) × Rose (W.disk_faults outside.old) (W.disk_faults outside.new)) }
+        ensures ends { IfErr result (λ over. (over ≡ end.Disk) × Rose (W.disk_faults outside.old) (W.disk_faults outside.new)) }
         ensures served { (begins : Word → Turning) (attempt : desk.Attempt) (next : Plain) (committed : List ℕ) (order : List (ℕ × ℕ)) → IsStoreOf W.Outside store.now outside.old committed → attempt.entry.number ≡ number_in (activity_of self.old).seating seat → attempt.outcome ≡ row.On next → attempt.lines ≡ lines_wanted (wants_of touch.now) → IsFree begins attempt (pages_among touch.now refused) (activity_of self.old) committed order (counts_of tally.old) → Serves result begins (activity_of self.new) seat committed order (counts_of tally.new) }
     {
         self.take(seat, touch, refused);
