@@ -7,6 +7,8 @@ pub mod EndLemmas
 pub mod EndingLemmas
 pub mod ExecuteLemmas
 pub mod GrantLemmas
+pub mod GrantedLemmas
+pub mod GrantingLemmas
 pub mod HoldingLemmas
 pub mod IdleLemmas
 pub mod LimitLemmas

@@ -1,5 +1,5 @@
 -- An instruction that is served, from where it began.
-use Rattle.std.specs.Prelude.{◌≡◌, ℕ, ◌+◌, Some, List, [], ◌∷◌, map, slice_set}
+use Rattle.std.specs.Prelude.{◌≡◌, ℕ, ◌+◌, Some, List, [], ◌∷◌, filter, map, slice_index_or, slice_set}
 use Rattle.line_locks.specs.declared.request.Want.{Want}
 use Rattle.line_locks.specs.Holding.{held_at}
 use Rattle.lockbit_rules.specs.declared.Authority.{Authority}
@@ -7,10 +7,12 @@ use Rattle.lockbit_rules.specs.Entries.{entry_of, granted}
 use Rattle.line_locks.specs.declared.request.Request.{Request}
 use Rattle.seats.specs.Seating.{took, waiting_for}
 use Rattle.activations.specs.Touched.{with_whole_page}
-use Rattle.desk.specs.Desk.{Desk}
+use Rattle.desk.specs.Desk.{Desk, nobody}
+use Rattle.desk.specs.Desk as desk
 use Rattle.desk.specs.Holdings.{conflicts_of}
-use Rattle.desk.specs.Instruction.{Word, Counts, Attempt, Turning, Over, Going, Ending, instruction, contest_ends, gets}
+use Rattle.desk.specs.Instruction.{Word, Counts, Attempt, Turning, Over, Going, Ending, instruction, contest_ends, gets, refuses, lines_within, touched_pages}
 use Rattle.desk_law.specs.Beside.{Reads}
+use Rattle.desk_law.proofs.Contest.{KeepsPages}
 use Rattle.desk_law.proofs.ContestRounds.{contest, IsUnderWay}
 use Rattle.desk_law.proofs.GoesOn.{IsReady}
 use Rattle.desk_law.proofs.ServesConflicts.{marked}
@@ -47,6 +49,16 @@ AreGranted a seat (page ∷ pages) old new =
     (one : Authority)
     × (entry_of one ≡ granted (seat + 1) (held_at a.seating.holding seat page).0 (held_at a.seating.holding seat page).1)
     × AreGranted a seat pages (slice_set old page one) new
+
+-- the entries of the pages are others
+abbrev pub with_entries : Activity → (entries : List Authority) → Activity
+with_entries a entries = record a { reach = record a.reach { entries = entries } }
+
+-- These are the pages of an attempt whose authority refused it once, and of those that it owned then the authority is as it was.
+pub record WereRefused (attempt : Attempt) (refused : List ℕ) (now : Desk) : Type 0 where
+  pub once : List desk.Authority
+  pub are : filter (λ page. refuses (slice_index_or once page nobody) attempt.entry.number (lines_within page attempt.lines)) (touched_pages attempt) ≡ refused
+  pub keeps : KeepsPages attempt.entry.number once now.authority
 
 -- a seat holds what it asked for, and its refused pages are granted
 abbrev pub locked : Activity → (seat : ℕ) → List Want → (entries : List Authority) → Activity

@@ -5,6 +5,7 @@
 mod activations;
 mod contest;
 mod endings;
+mod granting;
 pub mod laws;
 mod live;
 mod rows;
