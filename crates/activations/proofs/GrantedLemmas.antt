@@ -1,5 +1,5 @@
 -- Who took what he asked for is granted it as on the desk: his lines are open then, and his next row isn't refused.
-use Rattle.std.specs.Prelude.{◌≡◌, refl, ℕ, zero, suc, ◌+◌, ◌-◌, ◌<◌, ◌≤◌, ◌==◌, ◌⊎◌, if◌then◌else◌, Bool, true, false, List, [], ◌∷◌, ◌++◌, filter, length, map, slice_index_or, Some}
+use Rattle.std.specs.Prelude.{◌≡◌, refl, ℕ, zero, suc, ◌+◌, ◌-◌, ◌<◌, ◌≤◌, ◌==◌, if◌then◌else◌, Bool, true, false, List, [], ◌∷◌, ◌++◌, filter, length, slice_index_or, Some}
 use Rattle.std.proofs.Common.{arith, ap, sym, ◌∙◌, subst, inl, inr}
 use Rattle.std.proofs.lemmas.Bool.{eqb-true, or_cases}
 use Rattle.std.proofs.lemmas.List.Elements.{All-head, All-tail}
@@ -12,7 +12,7 @@ use Rattle.line_locks.specs.Held.{AreWithin}
 use Rattle.line_locks.specs.Holding.{of_seat}
 use Rattle.lockbit_rules.specs.declared.Authority.{Authority}
 use Rattle.flat_machine.specs.declared.machine.Plain.{Plain}
-use Rattle.flat_machine.specs.Row.{Outcome, On, Commit, Check, row}
+use Rattle.flat_machine.specs.Row.{On, Commit, Check, row}
 use Rattle.flat_machine.specs.After.{after}
 use Rattle.flat_machine.specs.Touched.{touched}
 use Rattle.frame_pool.specs.declared.model.Pool.{Pool}
@@ -21,9 +21,9 @@ use Rattle.desk.specs.Desk.{Desk, Entry, nobody}
 use Rattle.desk.specs.Desk as desk
 use Rattle.desk.specs.Holdings.{wanted}
 use Rattle.desk.specs.Instruction.{Word, Counts, Attempt, Turning, granted, locks_with, touched_pages, with_grants}
-use Rattle.desk_law.specs.Changes.{gone_on}
 use Rattle.desk_law.specs.Beside.{AreAlike, AreThere, IsThere, IsState, over_all, owners_told}
-use Rattle.desk_law.specs.Consistent.{IsAmong, Ascend, due_to, permitted}
+use Rattle.desk_law.specs.Changes.{gone_on}
+use Rattle.desk_law.specs.Consistent.{Ascend, due_to, permitted}
 use Rattle.desk_law.specs.Orderly.{IsOrderly}
 use Rattle.desk_law.proofs.AttemptsOnCurrent.{wanted-is}
 use Rattle.desk_law.proofs.Contest.{KeepsPages}
@@ -37,16 +37,15 @@ use Rattle.desk_law.proofs.SharedBytes.{RunsOn, row-on-current}
 use Rattle.desk_law.proofs.TurnsStay.{resident-granted}
 use Rattle.seats.specs.Seating.{sitter}
 use Rattle.seats.proofs.Kept.{taken-below, long-seat}
-use Rattle.seats.proofs.Numbers.{AreOfPage}
 use Rattle.storage_unit.specs.Bytes.{private_bytes}
-use Rattle.storage_unit.specs.Rows.{IsOpen, IsOpenLine, IsShutOut, plain_over}
+use Rattle.storage_unit.specs.Rows.{IsOpen, IsOpenLine, IsShutOut}
 use Rattle.activations.specs.Activity.{Activity, live_in, program_in, entry_in, entries, store_over, desk_over, authority_under, number_under, locks_in, state_in, shown}
 use Rattle.activations.specs.Attempted.{plain_in, IsShut, IsStopped}
 use Rattle.activations.specs.Follows.{IsSound}
 use Rattle.activations.specs.Serves.{IsFetched}
 use Rattle.activations.specs.Serving.{AreGranted, IsFree, WereRefused, locked}
 use Rattle.activations.specs.Steps.{with_pool}
-use Rattle.activations.specs.Touched.{AreWanted, IsApart, pages_refused, pages_wanted, refuses_want}
+use Rattle.activations.specs.Touched.{AreWanted, pages_refused, pages_wanted, refuses_want}
 use Rattle.activations.proofs.EndLemmas.{sound-pool}
 use Rattle.activations.proofs.GrantLemmas.{opened}
 use Rattle.activations.proofs.GrantingLemmas.{within-whole}

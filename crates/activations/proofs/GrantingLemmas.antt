@@ -49,6 +49,18 @@ within-whole pages (want ∷ wants) within =
     by_test true below = below
     by_test false below = below
 
+-- the pages of a touch are within those of the store
+pub one_within : (pages : ℕ) (touch : Touch) (want : Want) → AreWithin pages (wants_of touch) → touch ≡ Touch.One want → want.page < pages
+one_within pages touch want within is = All-head (λ (w : Want). w.page < pages) want [] (subst (λ (t : Touch). AreWithin pages (wants_of t)) is within)
+
+pub first_within : (pages : ℕ) (touch : Touch) (first second : Want) → AreWithin pages (wants_of touch) → touch ≡ Touch.Two first second → first.page < pages
+first_within pages touch first second within is = All-head (λ (w : Want). w.page < pages) first (second ∷ []) (subst (λ (t : Touch). AreWithin pages (wants_of t)) is within)
+
+pub second_within : (pages : ℕ) (touch : Touch) (first second : Want) → AreWithin pages (wants_of touch) → touch ≡ Touch.Two first second → second.page < pages
+second_within pages touch first second within is =
+    All-head (λ (w : Want). w.page < pages) second []
+    (All-tail (λ (w : Want). w.page < pages) first (second ∷ []) (subst (λ (t : Touch). AreWithin pages (wants_of t)) is within))
+
 -- grants look at what is held alone
 pub granted-same : (a other : Activity) (seat : ℕ) (pages : List ℕ) (old new : List Authority) → a.seating ≡ other.seating → AreGranted a seat pages old new → AreGranted other seat pages old new
 granted-same a other seat [] old new same is = is
@@ -57,11 +69,6 @@ granted-same a other seat (page ∷ pages) old new same (one, entry, rest) = (
   entry ∙ (λ i. granted (seat + 1) (held_at (same i).holding seat page).0 (held_at (same i).holding seat page).1),
   granted-same a other seat pages (slice_set old page one) new same rest,
 )
-
--- some are granted, and then others
-pub granted-then : (a : Activity) (seat : ℕ) (pages more : List ℕ) (old between new : List Authority) → AreGranted a seat pages old between → AreGranted a seat more between new → AreGranted a seat (pages ++ more) old new
-granted-then a seat [] more old between new is later = subst (λ (entries : List Authority). AreGranted a seat more entries new) is later
-granted-then a seat (page ∷ pages) more old between new (one, entry, rest) later = (one, entry, granted-then a seat pages more (slice_set old page one) between new rest later)
 
 granted-length : (a : Activity) (seat : ℕ) (pages : List ℕ) (old new : List Authority) → AreGranted a seat pages old new → length new ≡ length old
 granted-length a seat [] old new is = ap length is
@@ -109,23 +116,12 @@ taken-sound a seat wants pages owned sound taken is = record {
         (subst AreOfPages (sym (same-with a.seating.holding seat more sound.seating.whole below)) (more-of-pages (of_seat a.seating.holding seat) (map with_whole_page wants) (sound.lines seat)))
     by_test at false e = subst AreOfPages (sym (other-with a.seating.holding seat more sound.seating.whole at e)) (sound.lines at)
 
--- the same of what is left once the seating was taken and the entries were set: no page, those of one grant, and those of two
-module _ (a : Activity) (seat : ℕ) (wants : List Want) (seating : Seating) (sound : IsSound a) (taken : has a.seating.taken seat ≡ true) (is : seating ≡ took a.seating seat (map with_whole_page wants)) where
-  pub sound-one : (new : Activity) (pages : List ℕ) → new ≡ with_entries (record a { seating = seating }) new.reach.entries → AreGranted (record a { seating = seating }) seat pages a.reach.entries new.reach.entries → IsSound new
-  sound-one new pages shape grants =
-      subst IsSound (sym (shape ∙ (λ i. with_entries (record a { seating = is i }) new.reach.entries)))
-      (taken-sound a seat wants pages new.reach.entries sound taken (granted-same (record a { seating = seating }) (locked a seat wants new.reach.entries) seat pages a.reach.entries new.reach.entries is grants))
-
-  pub sound-none : IsSound (record a { seating = seating })
-  sound-none = sound-one (record a { seating = seating }) [] refl refl
-
-  pub sound-two : (between new : Activity) (pages more : List ℕ) → between ≡ with_entries (record a { seating = seating }) between.reach.entries
-      → AreGranted (record a { seating = seating }) seat pages a.reach.entries between.reach.entries
-      → new ≡ with_entries between new.reach.entries → AreGranted between seat more between.reach.entries new.reach.entries → IsSound new
-  sound-two between new pages more first grants second others =
-      sound-one new (pages ++ more) (second ∙ ap (λ (b : Activity). with_entries b new.reach.entries) first)
-      (granted-then (record a { seating = seating }) seat pages more a.reach.entries between.reach.entries new.reach.entries grants
-      (granted-same between (record a { seating = seating }) seat more between.reach.entries new.reach.entries (ap (λ (b : Activity). b.seating) first) others))
+-- the same of what is left once the seating was taken and then the entries were set
+pub sound-then : (a new : Activity) (seat : ℕ) (wants : List Want) (pages : List ℕ) (seating : Seating) → IsSound a → has a.seating.taken seat ≡ true → seating ≡ took a.seating seat (map with_whole_page wants)
+    → new ≡ with_entries (record a { seating = seating }) new.reach.entries → AreGranted (record a { seating = seating }) seat pages a.reach.entries new.reach.entries → IsSound new
+sound-then a new seat wants pages seating sound taken is shape grants =
+    subst IsSound (sym (shape ∙ (λ i. with_entries (record a { seating = is i }) new.reach.entries)))
+    (taken-sound a seat wants pages new.reach.entries sound taken (granted-same (record a { seating = seating }) (locked a seat wants new.reach.entries) seat pages a.reach.entries new.reach.entries is grants))
 
 -- The pages of a touch that are picked where its entry refuses them are those that are refused.
 pub picked-refused : (owned : List Authority) (tid : ℕ) (touch : Touch) → pages_picked touch (each_refused owned tid touch) ≡ pages_refused owned tid (wants_of touch)
