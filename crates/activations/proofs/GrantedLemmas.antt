@@ -19,14 +19,12 @@ use Rattle.frame_pool.specs.declared.model.Pool.{Pool}
 use Rattle.romp_cpu.specs.declared.storage.Access.{Access}
 use Rattle.desk.specs.Desk.{Desk, Entry, nobody}
 use Rattle.desk.specs.Desk as desk
-use Rattle.desk.specs.Holdings.{wanted}
 use Rattle.desk.specs.Instruction.{Word, Counts, Attempt, Turning, granted, locks_with, touched_pages, with_grants}
 use Rattle.desk_law.specs.Beside.{AreAlike, AreThere, IsThere, IsState, over_all, owners_told}
 use Rattle.desk_law.specs.Changes.{gone_on}
-use Rattle.desk_law.specs.Consistent.{Ascend, due_to, permitted}
+use Rattle.desk_law.specs.Consistent.{due_to, permitted}
 use Rattle.desk_law.specs.Orderly.{IsOrderly}
 use Rattle.desk_law.proofs.AttemptsOnCurrent.{wanted-is}
-use Rattle.desk_law.proofs.Contest.{KeepsPages}
 use Rattle.desk_law.proofs.Entries.{one-entry}
 use Rattle.desk_law.proofs.FetchedThere.{fetched-there}
 use Rattle.desk_law.proofs.GoesOn.{grants-held, row-goes-on}
@@ -43,13 +41,12 @@ use Rattle.activations.specs.Activity.{Activity, live_in, program_in, entry_in, 
 use Rattle.activations.specs.Attempted.{plain_in, IsShut, IsStopped}
 use Rattle.activations.specs.Follows.{IsSound}
 use Rattle.activations.specs.Serves.{IsFetched}
-use Rattle.activations.specs.Serving.{AreGranted, IsFree, WereRefused, locked}
+use Rattle.activations.specs.Serving.{AreGranted, IsFree, locked}
 use Rattle.activations.specs.Steps.{with_pool}
 use Rattle.activations.specs.Touched.{AreWanted, pages_refused, pages_wanted, refuses_want}
 use Rattle.activations.proofs.EndLemmas.{sound-pool}
 use Rattle.activations.proofs.GrantLemmas.{opened}
 use Rattle.activations.proofs.GrantingLemmas.{within-whole}
-use Rattle.activations.proofs.RefusedLemmas.{refused-are}
 use Rattle.activations.proofs.TakenLemmas.{taken-alike, granted-all}
 
 -- a page that is refused is one of those that are wanted
@@ -69,25 +66,6 @@ refused-below owned tid pages (want ∷ wants) within page inside =
           | inr later ↦ rest later
         ]
     by_test false there rest = rest there
-
--- what is refused as the serving begins were refused then
-pub refused-first : (a : Activity) (seat : ℕ) (committed : List ℕ) (order : List (ℕ × ℕ)) (attempt : Attempt) (wants : List Want) (pool : Pool) → IsSound a → Ascend 0 (entries a) a.next
-    → has a.seating.taken seat ≡ true → attempt.entry.number ≡ (sitter a.seating seat).number → attempt.lines ≡ lines_wanted wants → AreWanted a.reach.directory wants
-    → WereRefused attempt (pages_refused a.reach.entries (seat + 1) wants) (desk_over (with_pool a pool) committed order)
-refused-first a seat committed order attempt wants pool sound ascend taken number lines wanted = record {
-  once = (desk_over a committed order).authority;
-  are = refused-are a seat committed order attempt wants sound ascend taken number lines
-      (ap (λ (l : Lines). pages_of (l.reads ++ l.writes)) lines ∙ sym wanted.pages) wanted.apart wanted.sets;
-  keeps = λ page own. refl;
-}
-
--- and were also where the attempt's own pages are still its own
-pub refused-since : (attempt : Attempt) (refused : List ℕ) (first now : Desk) → WereRefused attempt refused first → KeepsPages attempt.entry.number first.authority now.authority → WereRefused attempt refused now
-refused-since attempt refused first now were keeps = record {
-  once = were.once;
-  are = were.are;
-  keeps = λ page own. keeps page (ap (λ (one : desk.Authority). one.owner == attempt.entry.number) (were.keeps page own) ∙ own) ∙ were.keeps page own;
-}
 
 -- the numbers under identifiers are those of who sits there, whatever is held
 under-locked : (a : Activity) (seat : ℕ) (wants : List Want) (owned : List Authority) → number_under (locked a seat wants owned) ≡ number_under a
@@ -141,15 +119,15 @@ module _ (begins : Word → Turning) (attempt : Attempt) (refused : List ℕ) (a
       × (owners_told (number_under a) (authority_under owned) ≡ granted attempt (locks_with attempt (desk_over a committed order)) refused (desk_over a committed order).authority)
   granted-free = (granted-locks, granted-entries)
 
-  module _ (pool : Pool) (runner : a.reach.runner ≡ seat + 1) (were : WereRefused attempt refused (desk_over a committed order))
+  module _ (pool : Pool) (runner : a.reach.runner ≡ seat + 1)
       (resident : (page : ℕ) → has (pages_wanted wants) page ≡ true → has pool.resident page ≡ true) where
     abbrev there : Activity
     there = with_pool (locked a seat wants owned) pool
 
     are : AreThere (got attempt refused pool.resident old) attempt.entry.number attempt.lines
     are =
-        subst (λ (pages : List ℕ). AreThere (got attempt pages pool.resident old) attempt.entry.number attempt.lines) were.are
-        (served-there attempt were.once old pool.resident free.ready were.keeps
+        subst (λ (pages : List ℕ). AreThere (got attempt pages pool.resident old) attempt.entry.number attempt.lines) free.were.are
+        (served-there attempt free.were.once old pool.resident free.ready free.were.keeps
         (λ page touched. resident page (ap (λ (pages : List ℕ). has pages page) (wanted_here.pages ∙ ap (λ (l : Lines). pages_of (l.reads ++ l.writes)) (sym lines)) ∙ touched)))
 
     authority-there : (desk_over (with_pool (locked a seat wants owned) pool) committed order).authority ≡ (got attempt refused pool.resident old).authority

@@ -19,11 +19,18 @@ use Rattle.desk_law.proofs.ServesConflicts.{marked}
 use Rattle.activations.specs.Activity.{Activity, entry_in, desk_over}
 use Rattle.activations.specs.Follows.{IsKept, Follows}
 
+-- These are the pages of an attempt whose authority refused it once, and of those that it owned then the authority is as it was.
+pub record WereRefused (attempt : Attempt) (refused : List ℕ) (now : Desk) : Type 0 where
+  pub once : List desk.Authority
+  pub are : filter (λ page. refuses (slice_index_or once page nobody) attempt.entry.number (lines_within page attempt.lines)) (touched_pages attempt) ≡ refused
+  pub keeps : KeepsPages attempt.entry.number once now.authority
+
 -- An instruction is contested: wherever it began, the contest goes on from here.
 pub record IsContested (begins : Word → Turning) (attempt : Attempt) (refused : List ℕ) (first : Desk) (a : Activity) (committed : List ℕ) (order : List (ℕ × ℕ)) (counts : Counts) : Type 0 where
   pub comes : (word : Word) → Reads word counts.pages → begins word ≡ contest_ends word attempt refused (contest attempt.entry.number (desk_over a committed order) counts)
   pub ready : IsReady attempt first
   pub under_way : IsUnderWay first (desk_over a committed order) (marked attempt)
+  pub were : WereRefused attempt refused first
   pub kept : IsKept a committed
 
 -- it came to its end: this desk, these counts and this ending
@@ -36,6 +43,7 @@ pub record IsFree (begins : Word → Turning) (attempt : Attempt) (refused : Lis
   pub comes : (word : Word) → Reads word counts.pages → begins word ≡ gets word attempt refused (desk_over a committed order) counts
   pub free : conflicts_of (desk_over a committed order) attempt.entry ≡ []
   pub ready : IsReady attempt (desk_over a committed order)
+  pub were : WereRefused attempt refused (desk_over a committed order)
   pub follows : Follows a committed
 
 -- the next instruction of who sits in a seat, with what the turn has counted
@@ -53,12 +61,6 @@ AreGranted a seat (page ∷ pages) old new =
 -- the entries of the pages are others
 abbrev pub with_entries : Activity → (entries : List Authority) → Activity
 with_entries a entries = record a { reach = record a.reach { entries = entries } }
-
--- These are the pages of an attempt whose authority refused it once, and of those that it owned then the authority is as it was.
-pub record WereRefused (attempt : Attempt) (refused : List ℕ) (now : Desk) : Type 0 where
-  pub once : List desk.Authority
-  pub are : filter (λ page. refuses (slice_index_or once page nobody) attempt.entry.number (lines_within page attempt.lines)) (touched_pages attempt) ≡ refused
-  pub keeps : KeepsPages attempt.entry.number once now.authority
 
 -- a seat holds what it asked for, and its refused pages are granted
 abbrev pub locked : Activity → (seat : ℕ) → List Want → (entries : List Authority) → Activity
