@@ -3,7 +3,6 @@ use Rattle.std.specs.Prelude.{◌≡◌, refl, ℕ, ◌+◌, ◌<◌, ◌≤◌,
 use Rattle.std.proofs.Common.{arith, ap, sym, ◌∙◌, subst, inl, inr}
 use Rattle.std.proofs.lemmas.Bool.{eqb-true}
 use Rattle.lock_rules.specs.Sets.{has}
-use Rattle.line_geometry.specs.Directory.{byte_count}
 use Rattle.flat_machine.specs.Row.{Outcome, On, Commit, Check, row}
 use Rattle.romp_cpu.specs.declared.cpu.Attempt.{Attempt}
 use Rattle.frame_pool.specs.declared.model.Pool.{Pool}
@@ -11,7 +10,6 @@ use Rattle.desk.specs.Instruction.{Word, Counts, Turning}
 use Rattle.seats.specs.declared.seat.Seat.{Seat}
 use Rattle.seats.specs.Seating.{sitter, went_on}
 use Rattle.seats.proofs.Kept.{taken-below}
-use Rattle.storage_unit.specs.Bytes.{IsClean}
 use Rattle.activations.specs.Activity.{Activity, live_in, program_in}
 use Rattle.activations.specs.Attempted.{TookEffect, WasAttempted, CameTo, IsShut, plain_in}
 use Rattle.activations.specs.Follows.{IsSound}
@@ -58,18 +56,18 @@ fewer-rolled a after seat pool taken shape =
 
 -- a row that took effect
 module _ (begins : Word → Turning) (a after : Activity) (seat : ℕ) (committed : List ℕ) (order : List (ℕ × ℕ)) (counts : Counts)
-    (long : length committed ≡ byte_count a.reach.directory) (served : IsServed begins a seat committed order counts) where
-  pub took-served : IsClean a.reach.directory a.reach.pool committed → TookEffect a seat after → Goes begins (counted after seat 1) committed order (record counts { ran = counts.ran + 1 })
-  took-served clean took =
+    (served : IsServed begins a seat committed order counts) where
+  pub took-served : TookEffect a seat after → Goes begins (counted after seat 1) committed order (record counts { ran = counts.ran + 1 })
+  took-served took =
       subst (λ (x : Activity). Goes begins (counted x seat 1) committed order (record counts { ran = counts.ran + 1 })) (sym took.shape)
-      (served.goes (live_in after seat) after.reach.pool.bytes after.reach.pool.marked (took.went committed long clean))
+      (served.goes (live_in after seat) after.reach.pool.bytes after.reach.pool.marked (took.went committed served.long served.clean))
 
   -- it comes to nothing else
   pub not-check : (code : ℕ) → CameTo (Check code) a seat after → ⊥
-  not-check code came = let goes = served.row_goes.1 in let check = came.1 committed long in cc (goes, check)
+  not-check code came = let goes = served.row_goes.1 in let check = came.1 committed served.long in cc (goes, check)
 
   pub not-commit : CameTo Commit a seat after → ⊥
-  not-commit came = let goes = served.row_goes.1 in let commit = came.1 committed long in cc (goes, commit)
+  not-commit came = let goes = served.row_goes.1 in let commit = came.1 committed served.long in cc (goes, commit)
 
 -- who sat there sits there still
 pub still-taken : (a after : Activity) (seat : ℕ) → has a.seating.taken seat ≡ true → TookEffect a seat after → has after.seating.taken seat ≡ true

@@ -22,6 +22,7 @@ pub mod RefusedLemmas
 pub mod RequestLemmas
 pub mod RollbackLemmas
 pub mod RowLemmas
+pub mod ServeLemmas
 pub mod ServedLemmas
 pub mod SittingLemmas
 pub mod StartLemmas

@@ -1,9 +1,10 @@
 -- What one instruction of who sits in a seat comes to, stage by stage.
-use Rattle.std.specs.Prelude.{◌≡◌, ℕ, ◌+◌, ◌≤◌, List, [], ◌∷◌, map, Bool, Result, Ok, Err}
+use Rattle.std.specs.Prelude.{◌≡◌, ℕ, ◌+◌, ◌≤◌, List, [], ◌∷◌, length, map, Bool, Result, Ok, Err}
 use Rattle.outside.specs.declared.world.Outside.{Ghosts}
 use Rattle.outside.specs.Causes.{Rose}
 use Rattle.flat_machine.specs.declared.machine.Plain.{Plain}
 use Rattle.flat_machine.specs.Row.{On, Commit, Check, row}
+use Rattle.line_geometry.specs.Directory.{byte_count}
 use Rattle.line_locks.specs.Flat.{lines_wanted}
 use Rattle.line_locks.specs.declared.request.Request.{Request}
 use Rattle.line_locks.specs.declared.request.Want.{Want}
@@ -13,6 +14,7 @@ use Rattle.desk.specs.declared.answers.TurnEnd.TheVariants as end
 use Rattle.desk.specs.Instruction.{Word, Counts, Attempt, Turning}
 use Rattle.seats.specs.Seating.{number_in}
 use Rattle.seats.specs.Waiting.{holders}
+use Rattle.storage_unit.specs.Bytes.{IsClean}
 use Rattle.activations.specs.declared.live.Live.{Live}
 use Rattle.activations.specs.declared.tally.Tally.{Tally}
 use Rattle.activations.specs.declared.touch.Touch.{Touch}
@@ -72,6 +74,8 @@ Prepares (Err end) begins a seat committed order counts = HasEnded end begins a 
 pub record IsServed (begins : Word → Turning) (a : Activity) (seat : ℕ) (committed : List ℕ) (order : List (ℕ × ℕ)) (counts : Counts) : Type 0 where
   pub goes : (live : Live) (bytes : List ℕ) (marked : List (List ℕ)) → HasExecuted a seat live bytes marked committed
       → Goes begins (counted (executed a seat live bytes marked) seat 1) committed order (record counts { ran = counts.ran + 1 })
+  pub long : length committed ≡ byte_count a.reach.directory
+  pub clean : IsClean a.reach.directory a.reach.pool committed
   pub row_goes : (next : Plain) × (row (program_in a seat) a.reach.directory (plain_in a seat committed) ≡ On next)
   pub is_open : (access : Access) → IsShut a seat access → ⊥
 

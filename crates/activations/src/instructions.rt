@@ -9,7 +9,6 @@ ghost use Rattle.store_format.specs.Header.{total};
 ghost use Rattle.desk.specs.Instruction.{Word, Turning, Counts};
 ghost use Rattle.desk.specs.Instruction as desk;
 ghost use Rattle.desk.specs.declared.answers.TurnEnd.TheVariants as end;
-ghost use Rattle.line_geometry.specs.Directory.{byte_count};
 ghost use Rattle.storage_unit.specs.Bytes.{IsClean};
 ghost use Rattle.flat_machine.specs.Row as row;
 ghost use Rattle.flat_machine.specs.declared.machine.Plain.{Plain};
@@ -24,6 +23,15 @@ use outside::{Failed, Outside};
 use restart::Durable;
 use romp_cpu::{Access, Attempt};
 
+/// How the next instruction of an activation went.
+#[derive(Debug, Clone, Copy, PartialEq, Eq)]
+pub enum Went {
+    /// It took effect.
+    On,
+    /// It is the commit call.
+    AtCommit,
+}
+
 impl Activations {
     ghost use Rattle.activations.specs.Activity.{live_in, program_in};
     ghost use Rattle.activations.specs.Attempted.{IsSelected, IsShut, plain_in};
@@ -35,8 +43,60 @@ impl Activations {
     ghost use Rattle.activations.specs.Serving.{IsFree, instruction_in};
     ghost use Rattle.activations.specs.Steps.{rolled, with_pool};
     ghost use Rattle.activations.specs.Turning.{counts_of, HasEnded, IsSettled, IsContestEnd};
+    ghost use Rattle.activations.specs.Turns.{IsStep, MayBeShut};
     ghost use Rattle.activations.specs.View.{activity_of};
     ghost use Rattle.seats.specs.Seating.{number_in};
+
+    /// The next instruction of who sits in a seat, which is selected. Its access may be known already not to be permitted.
+    ///
+    /// # Errors
+    ///
+    /// The end of the turn: a check, or as [`Activations::serve`].
+    pub(super) fn instruct<W: Outside>(
+        &mut self,
+        store: &Durable,
+        outside: &mut W,
+        seat: u8,
+        shut: Option<Access>,
+        tally: &mut Tally,
+    ) -> Result<Went, TurnEnd>
+        requires sound { IsSound (activity_of self.old) }
+        requires taken { has (activity_of self.old).seating.taken seat ≡ true }
+        requires selected { IsSelected (activity_of self.old) seat }
+        requires shut { MayBeShut (activity_of self.old) seat shut }
+        requires rows { AreRowsWithin (activity_of self.old) (2 ^ 63) }
+        requires store { store.now.header.directory ≡ (activity_of self.old).reach.directory }
+        requires room { HoldsAtLeast W.Outside (total store.now.header) outside.old }
+        requires cycles { array_vec_len tally.old.cycles + length (activity_of self.old).seating.taken ≤ 16 }
+        requires tally { (tally.old.ran < 1000000) × (tally.old.pages < 4000000) × (tally.old.locks < 2000000) }
+        ensures sound { IsSound (activity_of self.new) }
+        ensures asks { OnlyAsks W.Outside outside.old outside.new }
+        ensures parts { KeepsParts (activity_of self.old) (activity_of self.new) 1 }
+        ensures cycles { array_vec_len tally.new.cycles + length (activity_of self.new).seating.taken ≤ 16 }
+        ensures tally { TalliesMore tally.old tally.new }
+        ensures stays { OnOk result (StaysSeated (activity_of self.old) (activity_of self.new) seat) }
+        ensures calm { OnOk result (W.disk_faults outside.new ≡ W.disk_faults outside.old) }
+        ensures ends { IfErr result (IsEndOfRows W.Outside outside.old outside.new) }
+        ensures step { (committed : List ℕ) (order : List (ℕ × ℕ)) → IsStoreOf W.Outside store.now outside.old committed → Follows (activity_of self.old) committed → IsStep result (instruction_in (activity_of self.old) seat committed order (counts_of tally.old)) (activity_of self.new) seat committed order (counts_of tally.new) }
+    {
+        if let Some(access) = shut {
+            self.serve(store, outside, seat, access, tally)?;
+            return Ok(Went::On);
+        }
+        match self.execute(seat) {
+            Attempt::Went | Attempt::Print(_) => {
+                self.seats.go_on(seat, 1);
+                tally.ran += 1;
+                Ok(Went::On)
+            }
+            Attempt::Fault(_, access) => {
+                self.serve(store, outside, seat, access, tally)?;
+                Ok(Went::On)
+            }
+            Attempt::Commit => Ok(Went::AtCommit),
+            Attempt::Check(code) => Err(self.check(seat, code)),
+        }
+    }
 
     /// Who sits in a seat, which is selected, gets what the access of his next row asks for, and the row takes effect.
     ///
@@ -203,7 +263,7 @@ impl Activations {
         ensures few { tally.new.ran ≤ tally.old.ran + 1 }
         ensures stays { OnOk result (StaysSeated (activity_of self.old) (activity_of self.new) seat) }
         ensures ends { IfErr result IsCheck }
-        ensures went { (begins : Word → Turning) (committed : List ℕ) (order : List (ℕ × ℕ)) → length committed ≡ byte_count (activity_of self.old).reach.directory → IsClean (activity_of self.old).reach.directory (activity_of self.old).reach.pool committed → IsServed begins (activity_of self.old) seat committed order (counts_of tally.old) → IsInstruction result begins (activity_of self.new) committed order (counts_of tally.new) }
+        ensures went { (begins : Word → Turning) (committed : List ℕ) (order : List (ℕ × ℕ)) → IsServed begins (activity_of self.old) seat committed order (counts_of tally.old) → IsInstruction result begins (activity_of self.new) committed order (counts_of tally.new) }
     {
         match self.execute(seat) {
             Attempt::Went | Attempt::Print(_) => {

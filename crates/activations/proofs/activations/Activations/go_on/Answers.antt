@@ -27,10 +27,10 @@ returns-in-Went-clause-parts c =
     (keeps-counted a c.args.seat 1 c.execute.ensures.sound (still-taken (activity_of c.args.self.now) a c.args.seat c.requires.taken (took-either c.execute.result (activity_of c.args.self.now) (activity_of c.execute.new.self) c.args.seat c.in-Went.is c.execute.ensures.went))))
 
 pub returns-in-Went-clause-went : goal.returns-in-Went-clause-went
-returns-in-Went-clause-went c begins committed order long clean served =
+returns-in-Went-clause-went c begins committed order served =
     let a = activity_of c.execute.new.self in
     subst (λ (s : Seating). Goes begins (record a { seating = s }) committed order (record (counts_of c.args.tally.now) { ran = c.args.tally.now.ran + 1 })) (sym c.go_on.ensures)
-    (took-served begins (activity_of c.args.self.now) a c.args.seat committed order (counts_of c.args.tally.now) long served clean (took-either c.execute.result (activity_of c.args.self.now) (activity_of c.execute.new.self) c.args.seat c.in-Went.is c.execute.ensures.went))
+    (took-served begins (activity_of c.args.self.now) a c.args.seat committed order (counts_of c.args.tally.now) served (took-either c.execute.result (activity_of c.args.self.now) (activity_of c.execute.new.self) c.args.seat c.in-Went.is c.execute.ensures.went))
 
 pub returns-in-Check-clause-fewer : goal.returns-in-Check-clause-fewer
 returns-in-Check-clause-fewer c =
@@ -38,8 +38,8 @@ returns-in-Check-clause-fewer c =
     (subst (λ (attempt : Attempt). WasAttempted attempt (activity_of c.args.self.now) c.args.seat (activity_of c.execute.new.self)) c.in-Check.is c.execute.ensures.went).0 c.check.ensures.shape
 
 pub returns-in-Check-clause-went : goal.returns-in-Check-clause-went
-returns-in-Check-clause-went c begins committed order long clean served =
-    absurd (not-check begins (activity_of c.args.self.now) (activity_of c.execute.new.self) c.args.seat committed order (counts_of c.args.tally.now) long served c.in-Check.code
+returns-in-Check-clause-went c begins committed order served =
+    absurd (not-check begins (activity_of c.args.self.now) (activity_of c.execute.new.self) c.args.seat committed order (counts_of c.args.tally.now) served c.in-Check.code
     (subst (λ (attempt : Attempt). WasAttempted attempt (activity_of c.args.self.now) c.args.seat (activity_of c.execute.new.self)) c.in-Check.is c.execute.ensures.went))
 
 pub returns-in-Fault-clause-fewer : goal.returns-in-Fault-clause-fewer
@@ -51,11 +51,11 @@ returns-in-Fault-clause-fewer c =
     fewer-checked (activity_of c.args.self.now) (activity_of c.execute.new.self) (activity_of c.check-in-Fault.new.self) c.args.seat _ c.requires.taken same c.check-in-Fault.ensures.shape
 
 pub returns-in-Fault-clause-went : goal.returns-in-Fault-clause-went
-returns-in-Fault-clause-went c begins committed order long clean served = elim c.in-Fault.is [
+returns-in-Fault-clause-went c begins committed order served = elim c.in-Fault.is [
   | inl (fault, access, is) ↦
       absurd (served.is_open access
       (subst (λ (attempt : Attempt). WasAttempted attempt (activity_of c.args.self.now) c.args.seat (activity_of c.execute.new.self)) is c.execute.ensures.went).1)
   | inr is ↦
-      absurd (not-commit begins (activity_of c.args.self.now) (activity_of c.execute.new.self) c.args.seat committed order (counts_of c.args.tally.now) long served
+      absurd (not-commit begins (activity_of c.args.self.now) (activity_of c.execute.new.self) c.args.seat committed order (counts_of c.args.tally.now) served
       (subst (λ (attempt : Attempt). WasAttempted attempt (activity_of c.args.self.now) c.args.seat (activity_of c.execute.new.self)) is c.execute.ensures.went))
 ]
