@@ -13,6 +13,7 @@ pub mod GrantedLemmas
 pub mod GrantingLemmas
 pub mod HoldingLemmas
 pub mod IdleLemmas
+pub mod InstructLemmas
 pub mod KeptLemmas
 pub mod LimitLemmas
 pub mod LineLemmas

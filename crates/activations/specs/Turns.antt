@@ -22,7 +22,7 @@ use Rattle.activations.specs.Turning.{HasEnded}
 -- the commit call of who sits in a seat, at a state
 abbrev pub commit_call : Activity → (seat : ℕ) → (committed : List ℕ) → (order : List (ℕ × ℕ)) → Plain → desk.Attempt
 commit_call a seat committed order now =
-    record { entry = entry_in a seat; now = now; outcome = Commit; lines = wanted (desk_over a committed order) (entry_in a seat) }
+    record { entry = entry_in a seat; now = now; outcome = row (program_in a seat) a.reach.directory now; lines = wanted (desk_over a committed order) (entry_in a seat) }
 
 -- who sits in a seat is at his commit call
 pub record IsAtCommit (begins : Word → Turning) (a : Activity) (seat : ℕ) (committed : List ℕ) (order : List (ℕ × ℕ)) (counts : Counts) : Type 0 where

@@ -1,0 +1,64 @@
+-- One instruction of who sits in a seat: a row that takes effect, and the commit call.
+use Rattle.std.specs.Prelude.{◌≡◌, refl, ℕ, ◌+◌, ◌-◌, true, List}
+use Rattle.std.proofs.Common.{arith, ap, sym, ◌∙◌, subst}
+use Rattle.lock_rules.specs.Sets.{has}
+use Rattle.flat_machine.specs.declared.machine.Plain.{Plain}
+use Rattle.flat_machine.specs.Row.{Commit, row}
+use Rattle.desk.specs.Instruction.{Word, Counts}
+use Rattle.desk_law.specs.Beside.{IsState, over_all}
+use Rattle.storage_unit.specs.Bytes.{private_bytes}
+use Rattle.storage_unit.specs.Rows.{plain_over}
+use Rattle.activations.specs.Activity.{Activity, live_in, program_in, entry_in, store_over, state_in, shown}
+use Rattle.activations.specs.Attempted.{IsSelected, TookEffect, CameTo, plain_in}
+use Rattle.activations.specs.Follows.{IsSound, Follows}
+use Rattle.activations.specs.Serving.{Goes, instruction_in}
+use Rattle.activations.specs.Steps.{counted, executed, GoesOn}
+use Rattle.activations.specs.Turns.{IsAtCommit}
+use Rattle.activations.proofs.CommitLemmas.{ends}
+use Rattle.activations.proofs.RowLemmas.{goes-on}
+
+module _ (a : Activity) (seat : ℕ) (committed : List ℕ) (order : List (ℕ × ℕ)) (counts : Counts)
+    (sound : IsSound a) (taken : has a.seating.taken seat ≡ true) (selected : IsSelected a seat) (follows : Follows a committed) where
+  -- a row that takes effect
+  pub row-goes : (after : Activity) → TookEffect a seat after → Goes (instruction_in a seat committed order counts) (counted after seat 1) committed order (record counts { ran = counts.ran + 1 })
+  row-goes after took =
+      subst (λ (x : Activity). Goes (instruction_in a seat committed order counts) (counted x seat 1) committed order (record counts { ran = counts.ran + 1 })) (sym took.shape)
+      (record { comes = λ word reads. goes.is_instruction word order counts; follows = goes.follows })
+    where
+      goes : GoesOn a seat (live_in after seat) after.reach.pool.bytes after.reach.pool.marked committed
+      goes = goes-on a seat (live_in after seat) after.reach.pool.bytes after.reach.pool.marked committed sound taken selected.runner follows (took.went committed follows.kept.long follows.kept.clean)
+
+  state : IsState (store_over a committed) (entry_in a seat) (state_in a seat)
+  state = follows.kept.stand seat taken
+
+  now : Plain
+  now = over_all (state_in a seat) state.bytes
+
+  runs_here : a.reach.runner - 1 ≡ seat
+  runs_here = ap (λ (n : ℕ). n - 1) selected.runner ∙ omega arith
+
+  -- the state over the bytes that all see is what the unit shows
+  shows : over_all now (shown a committed) ≡ plain_in a seat committed
+  shows i = record {
+    regs = (live_in a seat).cpu.regs;
+    cs = (live_in a seat).cpu.cs;
+    iar = (live_in a seat).cpu.iar;
+    private = private_bytes a.reach.pool (sym runs_here i);
+    store = shown a committed;
+    out = (live_in a seat).out;
+  }
+
+  -- the commit call
+  pub at-commit : (after : Activity) → CameTo Commit a seat after → IsAtCommit (instruction_in a seat committed order counts) after seat committed order counts
+  at-commit after came =
+      subst (λ (x : Activity). IsAtCommit (instruction_in a seat committed order counts) x seat committed order counts) (sym came.0)
+      (record {
+        now = now;
+        at = state.at;
+        goes = call;
+        comes = λ word reads. (ends a seat committed now sound taken follows state.at call order counts).comes word;
+        follows = follows;
+      })
+    where
+      call : row (program_in a seat) a.reach.directory (over_all now (shown a committed)) ≡ Commit
+      call = ap (row (program_in a seat) a.reach.directory) shows ∙ came.1 committed follows.kept.long

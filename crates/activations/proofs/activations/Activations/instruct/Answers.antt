@@ -1,0 +1,62 @@
+use Rattle.std.proofs.Common.{◌≡◌, ◌+◌, Ok, Err, ap, arith, sym, ◌∙◌, subst}
+use Rattle.std.proofs.lemmas.Result.{err_from_is_err_and}
+use Rattle.desk.specs.declared.answers.TurnEnd.{TurnEnd}
+use Rattle.romp_cpu.specs.declared.cpu.Attempt.{Attempt}
+use Rattle.flat_machine.specs.Row.{Commit, Check}
+use Rattle.seats.specs.Seating.{Seating}
+use Rattle.activations.specs.Activity.{Activity}
+use Rattle.activations.specs.Attempted.{WasAttempted, CameTo}
+use Rattle.activations.specs.Follows.{IsSound}
+use Rattle.activations.specs.Kept.{KeepsParts}
+use Rattle.activations.specs.Serving.{Goes, instruction_in}
+use Rattle.activations.specs.Turning.{HasEnded, counts_of}
+use Rattle.activations.specs.View.{activity_of}
+use Rattle.activations.proofs.GoOnLemmas.{keeps-counted, still-taken, took-either, fewer-checked}
+use Rattle.activations.proofs.InstructLemmas.{row-goes, at-commit}
+use Rattle.activations.proofs.KeptLemmas.{keeps-took, keeps-on}
+use Rattle.activations.proofs.StrideLemmas.{sound-counted}
+use Rattle.activations.proofs.activations.Activations.instruct.Goals as goal
+
+pub returns-in_err-serve-clause-step : goal.returns-in_err-serve-clause-step
+returns-in_err-serve-clause-step g c committed order store follows = ?
+
+pub returns-in-Went-clause-sound : goal.returns-in-Went-clause-sound
+returns-in-Went-clause-sound g c =
+    let a = activity_of c.execute.new.self in
+    let took = took-either c.execute.result (activity_of c.args.self.now) a c.args.seat c.in-Went.is c.execute.ensures.went in
+    subst (λ (s : Seating). IsSound (record a { seating = s })) (sym c.go_on.ensures)
+    (sound-counted a c.args.seat 1 c.execute.ensures.sound (still-taken (activity_of c.args.self.now) a c.args.seat c.requires.taken took))
+
+pub returns-in-Went-clause-parts : goal.returns-in-Went-clause-parts
+returns-in-Went-clause-parts g c =
+    let a = activity_of c.execute.new.self in
+    let took = took-either c.execute.result (activity_of c.args.self.now) a c.args.seat c.in-Went.is c.execute.ensures.went in
+    subst (λ (s : Seating). KeepsParts (activity_of c.args.self.now) (record a { seating = s }) 1) (sym c.go_on.ensures)
+    (keeps-on (activity_of c.args.self.now) a (record a { seating = _ }) 0 1 (keeps-took (activity_of c.args.self.now) a c.args.seat took)
+    (keeps-counted a c.args.seat 1 c.execute.ensures.sound (still-taken (activity_of c.args.self.now) a c.args.seat c.requires.taken took)))
+
+pub returns-in-Went-clause-step : goal.returns-in-Went-clause-step
+returns-in-Went-clause-step g c committed order store follows =
+    let a = activity_of c.execute.new.self in
+    let took = took-either c.execute.result (activity_of c.args.self.now) a c.args.seat c.in-Went.is c.execute.ensures.went in
+    subst (λ (s : Seating). Goes (instruction_in (activity_of c.args.self.now) c.args.seat committed order (counts_of c.args.tally.now)) (record a { seating = s }) committed order (record (counts_of c.args.tally.now) { ran = c.args.tally.now.ran + 1 })) (sym c.go_on.ensures)
+    (row-goes (activity_of c.args.self.now) c.args.seat committed order (counts_of c.args.tally.now) c.requires.sound c.requires.taken c.requires.selected follows a took)
+
+pub returns-in_ok-serve-in-Fault-clause-step : goal.returns-in_ok-serve-in-Fault-clause-step
+returns-in_ok-serve-in-Fault-clause-step g c committed order store follows = ?
+
+pub returns-in-Commit-clause-step : goal.returns-in-Commit-clause-step
+returns-in-Commit-clause-step g c committed order store follows =
+    at-commit (activity_of c.args.self.now) c.args.seat committed order (counts_of c.args.tally.now) c.requires.sound c.requires.taken c.requires.selected follows (activity_of c.execute.new.self)
+    (subst (λ (attempt : Attempt). WasAttempted attempt (activity_of c.args.self.now) c.args.seat (activity_of c.execute.new.self)) c.in-Commit.is c.execute.ensures.went)
+
+pub returns-in-Check-clause-cycles : goal.returns-in-Check-clause-cycles
+returns-in-Check-clause-cycles g c =
+    let came = subst (λ (attempt : Attempt). WasAttempted attempt (activity_of c.args.self.now) c.args.seat (activity_of c.execute.new.self)) c.in-Check.is c.execute.ensures.went in
+    let fewer = fewer-checked (activity_of c.args.self.now) (activity_of c.execute.new.self) (activity_of c.check.new.self) c.args.seat _ c.requires.taken came.0 c.check.ensures.shape in
+    omega (arith, fewer, c.requires.cycles)
+
+pub returns-in-Check-clause-step : goal.returns-in-Check-clause-step
+returns-in-Check-clause-step g c committed order store follows =
+    let came = subst (λ (attempt : Attempt). WasAttempted attempt (activity_of c.args.self.now) c.args.seat (activity_of c.execute.new.self)) c.in-Check.is c.execute.ensures.went in
+    ?
