@@ -15,6 +15,7 @@ pub mod KeptLemmas
 pub mod LimitLemmas
 pub mod LineLemmas
 pub mod PoolLemmas
+pub mod PrepareLemmas
 pub mod PrintedLemmas
 pub mod RefusedLemmas
 pub mod RequestLemmas
