@@ -18,6 +18,7 @@ pub mod KeptLemmas
 pub mod LimitLemmas
 pub mod LineLemmas
 pub mod PoolLemmas
+pub mod PrepareLemmas
 pub mod PrintedLemmas
 pub mod RefusedLemmas
 pub mod RequestLemmas

@@ -1,0 +1,77 @@
+use Rattle.std.proofs.Common.{◌+◌, sym, ◌∙◌, ap, subst}
+use Rattle.desk.specs.declared.answers.TurnEnd.{TurnEnd}
+use Rattle.storage_unit.specs.Bytes.{IsClean}
+use Rattle.activations.specs.declared.tally.Tally.{Tally}
+use Rattle.activations.specs.Activity.{Activity}
+use Rattle.activations.specs.Fetching.{HasBrokenOff}
+use Rattle.activations.specs.Instructed.{IsPrepared}
+use Rattle.activations.specs.Serves.{IsFetched}
+use Rattle.activations.specs.Serving.{instruction_in}
+use Rattle.activations.specs.Steps.{with_pool}
+use Rattle.activations.specs.Touched.{wants_of, pages_wanted}
+use Rattle.activations.specs.Turning.{HasEnded, HasBroken, counts_of}
+use Rattle.activations.specs.View.{activity_of}
+use Rattle.activations.proofs.GoOnLemmas.{fewer-rolled}
+use Rattle.activations.proofs.PrepareLemmas.{is-to-serve, prepare-broke, prepared-so, ends-so}
+use Rattle.activations.proofs.activations.Activations.prepare.Goals as goal
+
+pub returns-in_err-keep_limit-clause-fewer : goal.returns-in_err-keep_limit-clause-fewer
+returns-in_err-keep_limit-clause-fewer g c =
+    fewer-rolled (activity_of c.args.self.now) (activity_of c.keep_limit.new.self) c.args.seat _ c.requires.taken c.in_err-keep_limit.ensures.rolled
+
+pub returns-in_err-keep_limit-clause-prepared : goal.returns-in_err-keep_limit-clause-prepared
+returns-in_err-keep_limit-clause-prepared g c committed order is follows =
+    let counts = counts_of c.args.tally.now in
+    let to = is-to-serve (activity_of c.args.self.now) c.args.seat c.args.access (wants_of c.touch_of-touch.result) c.requires.sound c.requires.taken c.requires.selected c.requires.shut
+    c.touch_of-touch.ensures.lines committed follows in
+    ends-so c.from_residual.result c.in_err-keep_limit.field-0.0 c.from_residual.ensures.1 (instruction_in (activity_of c.args.self.now) c.args.seat committed order counts)
+    (activity_of c.keep_limit.new.self) c.args.seat committed order counts (c.in_err-keep_limit.ensures.over committed order counts to.0 to.1)
+
+pub returns-in_err-bring-clause-fewer : goal.returns-in_err-bring-clause-fewer
+returns-in_err-bring-clause-fewer g c =
+    let broke : HasBrokenOff g.W.Outside c.args.store.now c.args.outside.now (activity_of c.args.self.now) c.args.seat (pages_wanted (wants_of c.touch_of-touch.result)) c.args.tally.now.pages
+    (activity_of c.bring.new.self) c.bring.new.tally.pages =
+    subst
+    (λ (a : Activity). HasBrokenOff g.W.Outside c.args.store.now c.args.outside.now a c.args.seat (pages_wanted (wants_of c.touch_of-touch.result)) c.args.tally.now.pages
+    (activity_of c.bring.new.self) c.bring.new.tally.pages)
+    c.in_ok-keep_limit.ensures.kept.0 c.in_err-bring.ensures.broke in
+    fewer-rolled (with_pool (activity_of c.args.self.now) broke.pool) (activity_of c.bring.new.self) c.args.seat _ c.requires.taken broke.shape
+
+pub returns-in_err-bring-clause-prepared : goal.returns-in_err-bring-clause-prepared
+returns-in_err-bring-clause-prepared g c committed order is follows =
+    let a = activity_of c.args.self.now in
+    let counts = counts_of c.args.tally.now in
+    let begins = instruction_in a c.args.seat committed order counts in
+    let to = is-to-serve a c.args.seat c.args.access (wants_of c.touch_of-touch.result) c.requires.sound c.requires.taken c.requires.selected c.requires.shut
+    c.touch_of-touch.ensures.lines committed follows in
+    let broke =
+    prepare-broke a c.args.seat committed order counts c.touch_of-touch.result to.0 to.1 c.touch_of-touch.ensures.wanted c.in_ok-keep_limit.ensures.kept.1
+    g.W.Outside c.args.store.now c.args.outside.now (activity_of c.bring.new.self) c.bring.new.tally.pages is
+    (subst
+    (λ (a : Activity). HasBrokenOff g.W.Outside c.args.store.now c.args.outside.now a c.args.seat (pages_wanted (wants_of c.touch_of-touch.result)) c.args.tally.now.pages
+    (activity_of c.bring.new.self) c.bring.new.tally.pages)
+    c.in_ok-keep_limit.ensures.kept.0 c.in_err-bring.ensures.broke) in
+    ends-so c.from_residual-in_err-bring.result c.in_err-bring.field-0.0 c.from_residual-in_err-bring.ensures.1 begins (activity_of c.bring.new.self) c.args.seat committed order
+    (counts_of c.bring.new.tally)
+    (subst (λ (how : TurnEnd). HasEnded how begins (activity_of c.bring.new.self) committed order (counts_of c.bring.new.tally)) (sym c.in_err-bring.ensures.ends.0)
+    (subst (λ (t : Tally). HasBroken begins (activity_of c.bring.new.self) committed order (counts_of t)) (sym c.bring.ensures.tally) broke))
+
+pub returns-clause-prepared : goal.returns-clause-prepared
+returns-clause-prepared g c committed order is follows =
+    let a = activity_of c.args.self.now in
+    let new = activity_of c.bring.new.self in
+    let counts = counts_of c.args.tally.now in
+    let begins = instruction_in a c.args.seat committed order counts in
+    let to = is-to-serve a c.args.seat c.args.access (wants_of c.touch_of-touch.result) c.requires.sound c.requires.taken c.requires.selected c.requires.shut
+    c.touch_of-touch.ensures.lines committed follows in
+    let same = c.in_ok-keep_limit.ensures.kept.0 in
+    let fetched : IsFetched a committed order (pages_wanted (wants_of c.touch_of-touch.result)) c.args.tally.now.pages new.reach.pool c.bring.new.tally.pages =
+    subst
+    (λ (x : Activity). IsClean x.reach.directory x.reach.pool committed → IsFetched x committed order (pages_wanted (wants_of c.touch_of-touch.result)) c.args.tally.now.pages new.reach.pool c.bring.new.tally.pages)
+    same (c.in_ok-bring.ensures.fetched committed order is) follows.kept.clean in
+    subst
+    (λ (t : Tally). IsPrepared begins new c.args.seat c.touch_of-touch.result c.refused-refused.result committed order (record (counts_of t) { locks = t.locks + (c.from.result + c.from-2.result) }))
+    (sym c.bring.ensures.tally)
+    (prepared-so a c.args.seat committed order counts c.touch_of-touch.result to.0 to.1 c.touch_of-touch.ensures.wanted c.in_ok-keep_limit.ensures.kept.1 new.reach.pool c.bring.new.tally.pages
+    fetched new c.refused-refused.result c.from.result c.from-2.result (c.in_ok-bring.ensures.shape ∙ ap (λ (x : Activity). with_pool x new.reach.pool) same) c.refused-refused.ensures
+    c.from.ensures c.from-2.ensures)
