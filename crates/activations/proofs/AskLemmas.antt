@@ -118,6 +118,7 @@ module _ (a : Activity) (seat : ℕ) (request : Request) (sound : IsSound a) (ta
     most_lines = refl;
     next = refl;
     directory = refl;
+    fewer = omega arith;
     rows = λ rows within at less. within_still rows within at less (at == seat) refl;
   }
     where

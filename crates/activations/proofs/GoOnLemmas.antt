@@ -17,7 +17,6 @@ use Rattle.activations.specs.Instructed.{IsServed}
 use Rattle.activations.specs.Kept.{AreRowsWithin, KeepsParts}
 use Rattle.activations.specs.Serving.{Goes}
 use Rattle.activations.specs.Steps.{counted, rolled}
-use Rattle.activations.proofs.ContendLemmas.{fewer}
 use Rattle.activations.proofs.SittingLemmas.{sitter-there, sitter-other}
 
 -- rows that are counted, and nothing else
@@ -27,6 +26,7 @@ keeps-counted a seat rows sound taken = record {
   most_lines = refl;
   next = refl;
   directory = refl;
+  fewer = omega arith;
   rows = λ bound within at less. within_still bound within at less (at == seat) refl;
 }
   where
@@ -46,13 +46,6 @@ keeps-counted a seat rows sound taken = record {
         let here = within at less in
         let same : (sitter (went_on a.seating seat rows) at).rows ≡ (sitter a.seating at).rows = ap (λ (s : Seat). s.rows) (sitter-other a.seating seat who at e) in
         omega (arith, here, same)
-
--- fewer sit after a rollback
-pub fewer-rolled : (a after : Activity) (seat : ℕ) (pool : Pool) → has a.seating.taken seat ≡ true → after ≡ rolled a seat pool → length after.seating.taken ≤ length a.seating.taken
-fewer-rolled a after seat pool taken shape =
-    let less = fewer a.seating.taken seat taken in
-    let same : length after.seating.taken ≡ length (filter (λ other. not (other == seat)) a.seating.taken) = ap (λ (x : Activity). length x.seating.taken) shape in
-    omega (arith, less, same)
 
 -- a row that took effect
 module _ (begins : Word → Turning) (a after : Activity) (seat : ℕ) (committed : List ℕ) (order : List (ℕ × ℕ)) (counts : Counts)
@@ -77,7 +70,3 @@ still-taken a after seat taken took = ap (λ (x : Activity). has x.seating.taken
 pub took-either : (attempt : Attempt) (a after : Activity) (seat : ℕ) → (attempt ≡ Attempt.Went) ⊎ ((byte : ℕ) × (attempt ≡ Attempt.Print byte)) → WasAttempted attempt a seat after → TookEffect a seat after
 took-either attempt a after seat (inl is) went = subst (λ (one : Attempt). WasAttempted one a seat after) is went
 took-either attempt a after seat (inr (byte, is)) went = subst (λ (one : Attempt). WasAttempted one a seat after) is went
-
--- fewer sit after a check
-pub fewer-checked : (a same after : Activity) (seat : ℕ) (pool : Pool) → has a.seating.taken seat ≡ true → same ≡ a → after ≡ rolled same seat pool → length after.seating.taken ≤ length a.seating.taken
-fewer-checked a same after seat pool taken is shape = fewer-rolled a after seat pool taken (shape ∙ ap (λ (x : Activity). rolled x seat pool) is)

@@ -1,10 +1,11 @@
 -- One instruction of who sits in a seat: a row that takes effect, and the commit call.
-use Rattle.std.specs.Prelude.{◌≡◌, refl, ℕ, ◌+◌, ◌-◌, true, List}
+use Rattle.std.specs.Prelude.{◌≡◌, refl, ℕ, ◌+◌, ◌-◌, true, List, [], Result, Err}
 use Rattle.std.proofs.Common.{arith, ap, sym, ◌∙◌, subst}
 use Rattle.lock_rules.specs.Sets.{has}
 use Rattle.flat_machine.specs.declared.machine.Plain.{Plain}
 use Rattle.flat_machine.specs.Row.{Commit, row}
-use Rattle.desk.specs.Instruction.{Word, Counts}
+use Rattle.desk.specs.declared.answers.TurnEnd.{TurnEnd}
+use Rattle.desk.specs.Instruction.{Word, Counts, Turning}
 use Rattle.desk_law.specs.Beside.{IsState, over_all}
 use Rattle.storage_unit.specs.Bytes.{private_bytes}
 use Rattle.storage_unit.specs.Rows.{plain_over}
@@ -13,7 +14,9 @@ use Rattle.activations.specs.Attempted.{IsSelected, TookEffect, CameTo, plain_in
 use Rattle.activations.specs.Follows.{IsSound, Follows}
 use Rattle.activations.specs.Serving.{Goes, instruction_in}
 use Rattle.activations.specs.Steps.{counted, executed, GoesOn}
-use Rattle.activations.specs.Turns.{IsAtCommit}
+use Rattle.activations.specs.declared.instructions.Went.{Went}
+use Rattle.activations.specs.Turning.{HasEnded}
+use Rattle.activations.specs.Turns.{IsAtCommit, IsStep}
 use Rattle.activations.proofs.CommitLemmas.{ends}
 use Rattle.activations.proofs.RowLemmas.{goes-on}
 
@@ -28,10 +31,10 @@ module _ (a : Activity) (seat : ℕ) (committed : List ℕ) (order : List (ℕ �
       goes : GoesOn a seat (live_in after seat) after.reach.pool.bytes after.reach.pool.marked committed
       goes = goes-on a seat (live_in after seat) after.reach.pool.bytes after.reach.pool.marked committed sound taken selected.runner follows (took.went committed follows.kept.long follows.kept.clean)
 
-  state : IsState (store_over a committed) (entry_in a seat) (state_in a seat)
+  abbrev state : IsState (store_over a committed) (entry_in a seat) (state_in a seat)
   state = follows.kept.stand seat taken
 
-  now : Plain
+  abbrev now : Plain
   now = over_all (state_in a seat) state.bytes
 
   runs_here : a.reach.runner - 1 ≡ seat
@@ -56,9 +59,14 @@ module _ (a : Activity) (seat : ℕ) (committed : List ℕ) (order : List (ℕ �
         now = now;
         at = state.at;
         goes = call;
-        comes = λ word reads. (ends a seat committed now sound taken follows state.at call order counts).comes word;
+        comes = λ word reads. (ends a seat a.reach.pool [] committed now sound taken follows state.at call order counts).comes word;
         follows = follows;
       })
     where
       call : row (program_in a seat) a.reach.directory (over_all now (shown a committed)) ≡ Commit
       call = ap (row (program_in a seat) a.reach.directory) shows ∙ came.1 committed follows.kept.long
+
+-- an end that is handed on
+pub stepped : (result : Result Went TurnEnd) (end : TurnEnd) → result ≡ Err end → (begins : Word → Turning) (a : Activity) (seat : ℕ) (committed : List ℕ) (order : List (ℕ × ℕ)) (counts : Counts)
+    → HasEnded end begins a committed order counts → IsStep result begins a seat committed order counts
+stepped result end is begins a seat committed order counts ended = subst (λ (r : Result Went TurnEnd). IsStep r begins a seat committed order counts) (sym is) ended

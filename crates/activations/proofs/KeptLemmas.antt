@@ -1,5 +1,5 @@
 -- What stays while those that run are served: of a rollback of another, and one after another.
-use Rattle.std.specs.Prelude.{◌≡◌, refl, ℕ, ◌+◌, ◌<◌, ◌≤◌, ◌==◌, ◌&&◌, not, if◌then◌else◌, Bool, true, false, None, replicate, Result, Ok, Err, OnOk}
+use Rattle.std.specs.Prelude.{◌≡◌, refl, ℕ, ◌+◌, ◌<◌, ◌≤◌, ◌==◌, ◌&&◌, not, if◌then◌else◌, Bool, true, false, List, [], ◌∷◌, filter, length, None, replicate, Result, Ok, Err, OnOk}
 use Rattle.std.proofs.Common.{arith, ap, sym, ◌∙◌, subst}
 use Rattle.std.proofs.lemmas.Bool.{eqb-true, eq-eqb, both_ways}
 use Rattle.lock_rules.specs.Sets.{has}
@@ -12,10 +12,20 @@ use Rattle.activations.specs.Activity.{Activity}
 use Rattle.seats.specs.Seating.{sitter}
 use Rattle.activations.specs.Attempted.{IsSelected, TookEffect}
 use Rattle.activations.specs.Kept.{AreRowsWithin, KeepsParts, StaysSeated}
-use Rattle.activations.specs.Steps.{rolled}
+use Rattle.activations.specs.Steps.{rolled, with_pool}
+
+-- none more are left of those but one
+no-more : (taken : List ℕ) (seat : ℕ) → length (filter (λ other. not (other == seat)) taken) ≤ length taken
+no-more [] seat = omega arith
+no-more (one ∷ taken) seat = keeps (one == seat) (no-more taken seat)
+  where
+    keeps : (same : Bool) → length (filter (λ other. not (other == seat)) taken) ≤ length taken
+        → length (if not same then one ∷ filter (λ other. not (other == seat)) taken else filter (λ other. not (other == seat)) taken) ≤ length (one ∷ taken)
+    keeps true few = omega (arith, few)
+    keeps false few = omega (arith, few)
 
 pub keeps-itself : (a : Activity) → KeepsParts a a 0
-keeps-itself a = record { programs = refl; most_lines = refl; next = refl; directory = refl; rows = λ rows within seat below. let here = within seat below in omega (arith, here) }
+keeps-itself a = record { programs = refl; most_lines = refl; next = refl; directory = refl; fewer = omega arith; rows = λ rows within seat below. let here = within seat below in omega (arith, here) }
 
 pub keeps-on : (a b c : Activity) (more other : ℕ) → KeepsParts a b more → KeepsParts b c other → KeepsParts a c (more + other)
 keeps-on a b c more other first second = record {
@@ -23,11 +33,12 @@ keeps-on a b c more other first second = record {
   most_lines = second.most_lines ∙ first.most_lines;
   next = second.next ∙ first.next;
   directory = second.directory ∙ first.directory;
+  fewer = let less = first.fewer in let then_less = second.fewer in omega (arith, less, then_less);
   rows = λ rows within seat below. let here = second.rows (rows + more) (first.rows rows within) seat below in omega (arith, here);
 }
 
 pub keeps-rolled : (first a : Activity) (seat more : ℕ) (pool : Pool) → KeepsParts first a more → KeepsParts first (rolled a seat pool) more
-keeps-rolled first a seat more pool keeps = record { programs = keeps.programs; most_lines = keeps.most_lines; next = keeps.next; directory = keeps.directory; rows = keeps.rows }
+keeps-rolled first a seat more pool keeps = record { programs = keeps.programs; most_lines = keeps.most_lines; next = keeps.next; directory = keeps.directory; fewer = let less = keeps.fewer in let few = no-more a.seating.taken seat in omega (arith, less, few); rows = keeps.rows }
 
 pub stays-itself : (a : Activity) (seat : ℕ) → has a.seating.taken seat ≡ true → StaysSeated a a seat
 stays-itself a seat taken = record { taken = taken; number = refl; selected = λ is. is }
@@ -81,8 +92,33 @@ keeps-took a after seat took = record {
   most_lines = ap (λ (x : Activity). x.most_lines) took.shape;
   next = ap (λ (x : Activity). x.next) took.shape;
   directory = ap (λ (x : Activity). x.reach.directory) took.shape;
+  fewer = let same : length after.seating.taken ≡ length a.seating.taken = ap (λ (x : Activity). length x.seating.taken) took.shape in omega (arith, same);
   rows = λ rows within at less.
       let here = within at less in
       let same : (sitter after.seating at).rows ≡ (sitter a.seating at).rows = ap (λ (x : Activity). (sitter x.seating at).rows) took.shape in
       omega (arith, here, same);
 }
+
+-- one was rolled back, perhaps after other pages came into the frames
+pub keeps-left : (a after : Activity) (seat : ℕ) (pool : Pool) → after ≡ rolled a seat pool → KeepsParts a after 0
+keeps-left a after seat pool shape = subst (λ (x : Activity). KeepsParts a x 0) (sym shape) (keeps-rolled a a seat 0 pool (keeps-itself a))
+
+pub keeps-broke : (a after : Activity) (seat : ℕ) (between pool : Pool) → after ≡ rolled (with_pool a between) seat pool → KeepsParts a after 0
+keeps-broke a after seat between pool shape =
+    let keeps = keeps-left (with_pool a between) after seat pool shape in
+    record { programs = keeps.programs; most_lines = keeps.most_lines; next = keeps.next; directory = keeps.directory; fewer = keeps.fewer; rows = keeps.rows }
+
+-- fewer rows than so many more
+pub keeps-less : (a b : Activity) (few more : ℕ) → few ≤ more → KeepsParts a b few → KeepsParts a b more
+keeps-less a b few more less keeps = record {
+  programs = keeps.programs;
+  most_lines = keeps.most_lines;
+  next = keeps.next;
+  directory = keeps.directory;
+  fewer = keeps.fewer;
+  rows = λ rows within seat below. let here = keeps.rows rows within seat below in omega (arith, here, less);
+}
+
+-- or by a check, where nothing else had changed
+pub keeps-checked : (a same after : Activity) (seat : ℕ) (pool : Pool) → same ≡ a → after ≡ rolled same seat pool → KeepsParts a after 1
+keeps-checked a same after seat pool is shape = keeps-less a after 0 1 (omega arith) (keeps-left a after seat pool (shape ∙ ap (λ (x : Activity). rolled x seat pool) is))

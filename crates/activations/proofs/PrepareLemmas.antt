@@ -27,10 +27,11 @@ use Rattle.activations.specs.Instructed.{IsAsked, IsPrepared, Prepares}
 use Rattle.activations.specs.Serves.{IsToServe, IsFetched, AreTouched, attempt_in, lines_with, counted_with}
 use Rattle.activations.specs.Serving.{instruction_in}
 use Rattle.activations.specs.Steps.{with_pool, rolled, RollsBack}
-use Rattle.activations.specs.Touched.{AreWanted, wants_of, pages_wanted, refuses_want, each_refused, pages_refused, pages_among}
+use Rattle.activations.specs.Touched.{AreWanted, wants_of, pages_wanted, refuses_want, each_refused, pages_refused, pages_picked}
 use Rattle.activations.specs.Turning.{HasBroken, HasEnded}
 use Rattle.activations.proofs.EndLemmas.{rolled-follows}
 use Rattle.activations.proofs.PoolLemmas.{moved-desk, moved-follows}
+use Rattle.activations.proofs.GrantingLemmas.{picked-refused}
 use Rattle.activations.proofs.StartLemmas.{outcome, lines-are, breaks, free, contested}
 use Rattle.activations.proofs.TouchingLemmas.{are-touched}
 
@@ -87,24 +88,7 @@ is-to-serve a seat access wants sound taken selected shut lines committed follow
     let out = shut.shut committed follows.kept.long in
     (out.next, record { sound = sound; taken = taken; runner = selected.runner; follows = follows; goes = out.goes; touches = out.touches ∙ sym lines })
 
--- the pages of a touch that its entries refuse are those of it that are refused
-pub among-refused : (owned : List Authority) (tid : ℕ) (touch : Touch) → pages_among touch (each_refused owned tid touch) ≡ pages_refused owned tid (wants_of touch)
-among-refused owned tid Touch.Nothing = refl
-among-refused owned tid (Touch.One want) = by_test (refuses_want owned tid want)
-  where
-    by_test : (refused : Bool) → (if refused then want.page ∷ [] else []) ≡ pages_wanted (if refused then want ∷ [] else [])
-    by_test true = refl
-    by_test false = refl
-among-refused owned tid (Touch.Two first second) = by_tests (refuses_want owned tid first) (refuses_want owned tid second)
-  where
-    by_tests : (one other : Bool) → (if one then first.page ∷ [] else []) ++ (if other then second.page ∷ [] else [])
-        ≡ pages_wanted (if one then first ∷ (if other then second ∷ [] else []) else (if other then second ∷ [] else []))
-    by_tests true true = refl
-    by_tests true false = refl
-    by_tests false true = refl
-    by_tests false false = refl
-
--- and as many as are marked
+-- as many pages are refused as are marked
 pub count-refused : (owned : List Authority) (tid : ℕ) (touch : Touch)
     → bool_byte (each_refused owned tid touch).0 + bool_byte (each_refused owned tid touch).1 ≡ length (pages_refused owned tid (wants_of touch))
 count-refused owned tid Touch.Nothing = refl
@@ -157,7 +141,7 @@ module _ (a : Activity) (seat : ℕ) (committed : List ℕ) (order : List (ℕ �
           goes = own.1;
           lines = lines-are a seat committed order counts (wants_of touch) next to.sound to.taken to.runner to.follows to.goes to.touches;
           asked = subst (λ (those : List ℕ). IsAsked (instruction_in a seat committed order counts) attempt those (with_pool a pool) seat (wants_of touch) committed order (counted_with counts after refused))
-              (sym (among-refused a.reach.entries (seat + 1) touch))
+              (sym (picked-refused a.reach.entries (seat + 1) touch))
               (record {
                 number = refl;
                 free = λ none.

@@ -14,16 +14,6 @@ pub handed : {U : Type 0} (result : Result U TurnEnd) (end : TurnEnd) → result
     → HasEnded end begins a committed order counts → IsInstruction result begins a committed order counts
 handed {U} result end is begins a committed order counts ended = subst (λ (r : Result U TurnEnd). IsInstruction r begins a committed order counts) (sym is) ended
 
--- fewer rows than so many more
-pub keeps-less : (a b : Activity) (few more : ℕ) → few ≤ more → KeepsParts a b few → KeepsParts a b more
-keeps-less a b few more less keeps = record {
-  programs = keeps.programs;
-  most_lines = keeps.most_lines;
-  next = keeps.next;
-  directory = keeps.directory;
-  rows = λ rows within seat below. let here = keeps.rows rows within seat below in omega (arith, here, less);
-}
-
 -- rows that stay within a bound
 pub still-within : (a b : Activity) (rows : ℕ) → KeepsParts a b 0 → AreRowsWithin a rows → AreRowsWithin b rows
 still-within a b rows keeps within seat below = let here = keeps.rows rows within seat below in omega (arith, here)

@@ -1,5 +1,5 @@
 -- What stays while those that run are served.
-use Rattle.std.specs.Prelude.{◌≡◌, ℕ, ◌+◌, ◌≤◌, ◌<◌, true}
+use Rattle.std.specs.Prelude.{◌≡◌, ℕ, ◌+◌, ◌≤◌, ◌<◌, true, length}
 use Rattle.lock_rules.specs.Sets.{has}
 use Rattle.seats.specs.Seating.{sitter, number_in}
 use Rattle.activations.specs.Activity.{Activity}
@@ -9,12 +9,13 @@ use Rattle.activations.specs.Attempted.{IsSelected}
 abbrev pub AreRowsWithin : Activity → (rows : ℕ) → Type 0
 AreRowsWithin a rows = (seat : ℕ) → seat < 16 → (sitter a.seating seat).rows ≤ rows
 
--- what only an opening or a begin sets is as before, and at most so many rows more were done in a seat
+-- what only an opening or a begin sets is as before, nobody has sat down, and at most so many rows more were done in a seat
 pub record KeepsParts (old new : Activity) (more : ℕ) : Type 0 where
   pub programs : new.programs ≡ old.programs
   pub most_lines : new.most_lines ≡ old.most_lines
   pub next : new.next ≡ old.next
   pub directory : new.reach.directory ≡ old.reach.directory
+  pub fewer : length new.seating.taken ≤ length old.seating.taken
   pub rows : (rows : ℕ) → AreRowsWithin old rows → AreRowsWithin new (rows + more)
 
 -- who sits in a seat sits there still, as he was, and is selected still where he was

@@ -146,7 +146,6 @@ impl Activations {
         ensures wanted { IfOk result (λ got. AreWanted (activity_of self.new).reach.directory (wants_of got.0)) }
         ensures asks { OnlyAsks W.Outside outside.old outside.new }
         ensures parts { KeepsParts (activity_of self.old) (activity_of self.new) 0 }
-        ensures fewer { length (activity_of self.new).seating.taken ≤ length (activity_of self.old).seating.taken }
         ensures tally { tally.new ≡ record tally.old { pages = tally.new.pages; locks = tally.new.locks } }
         ensures few { (tally.new.pages ≤ tally.old.pages + 2) × (tally.new.locks ≤ tally.old.locks + 2) }
         ensures stays { OnOk result (StaysSeated (activity_of self.old) (activity_of self.new) seat) }
@@ -258,7 +257,6 @@ impl Activations {
         requires few { tally.old.ran + 1 < 2 ^ 32 }
         ensures sound { IsSound (activity_of self.new) }
         ensures parts { KeepsParts (activity_of self.old) (activity_of self.new) 1 }
-        ensures fewer { length (activity_of self.new).seating.taken ≤ length (activity_of self.old).seating.taken }
         ensures tally { tally.new ≡ record tally.old { ran = tally.new.ran } }
         ensures few { tally.new.ran ≤ tally.old.ran + 1 }
         ensures stays { OnOk result (StaysSeated (activity_of self.old) (activity_of self.new) seat) }

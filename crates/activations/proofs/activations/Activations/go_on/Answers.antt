@@ -8,8 +8,8 @@ use Rattle.activations.specs.Kept.{KeepsParts}
 use Rattle.activations.specs.Serving.{Goes}
 use Rattle.activations.specs.Turning.{counts_of}
 use Rattle.activations.specs.View.{activity_of}
-use Rattle.activations.proofs.GoOnLemmas.{keeps-counted, took-served, not-check, not-commit, still-taken, took-either, fewer-checked}
-use Rattle.activations.proofs.KeptLemmas.{keeps-took, keeps-on}
+use Rattle.activations.proofs.GoOnLemmas.{keeps-counted, took-served, not-check, not-commit, still-taken, took-either}
+use Rattle.activations.proofs.KeptLemmas.{keeps-took, keeps-on, keeps-checked}
 use Rattle.activations.proofs.StrideLemmas.{sound-counted}
 use Rattle.activations.proofs.activations.Activations.go_on.Goals as goal
 
@@ -32,9 +32,9 @@ returns-in-Went-clause-went c begins committed order served =
     subst (λ (s : Seating). Goes begins (record a { seating = s }) committed order (record (counts_of c.args.tally.now) { ran = c.args.tally.now.ran + 1 })) (sym c.go_on.ensures)
     (took-served begins (activity_of c.args.self.now) a c.args.seat committed order (counts_of c.args.tally.now) served (took-either c.execute.result (activity_of c.args.self.now) (activity_of c.execute.new.self) c.args.seat c.in-Went.is c.execute.ensures.went))
 
-pub returns-in-Check-clause-fewer : goal.returns-in-Check-clause-fewer
-returns-in-Check-clause-fewer c =
-    fewer-checked (activity_of c.args.self.now) (activity_of c.execute.new.self) (activity_of c.check.new.self) c.args.seat _ c.requires.taken
+pub returns-in-Check-clause-parts : goal.returns-in-Check-clause-parts
+returns-in-Check-clause-parts c =
+    keeps-checked (activity_of c.args.self.now) (activity_of c.execute.new.self) (activity_of c.check.new.self) c.args.seat _
     (subst (λ (attempt : Attempt). WasAttempted attempt (activity_of c.args.self.now) c.args.seat (activity_of c.execute.new.self)) c.in-Check.is c.execute.ensures.went).0 c.check.ensures.shape
 
 pub returns-in-Check-clause-went : goal.returns-in-Check-clause-went
@@ -42,13 +42,13 @@ returns-in-Check-clause-went c begins committed order served =
     absurd (not-check begins (activity_of c.args.self.now) (activity_of c.execute.new.self) c.args.seat committed order (counts_of c.args.tally.now) served c.in-Check.code
     (subst (λ (attempt : Attempt). WasAttempted attempt (activity_of c.args.self.now) c.args.seat (activity_of c.execute.new.self)) c.in-Check.is c.execute.ensures.went))
 
-pub returns-in-Fault-clause-fewer : goal.returns-in-Fault-clause-fewer
-returns-in-Fault-clause-fewer c =
+pub returns-in-Fault-clause-parts : goal.returns-in-Fault-clause-parts
+returns-in-Fault-clause-parts c =
     let same : activity_of c.execute.new.self ≡ activity_of c.args.self.now = elim c.in-Fault.is [
       | inl (fault, access, is) ↦ (subst (λ (attempt : Attempt). WasAttempted attempt (activity_of c.args.self.now) c.args.seat (activity_of c.execute.new.self)) is c.execute.ensures.went).0
       | inr is ↦ (subst (λ (attempt : Attempt). WasAttempted attempt (activity_of c.args.self.now) c.args.seat (activity_of c.execute.new.self)) is c.execute.ensures.went).0
     ] in
-    fewer-checked (activity_of c.args.self.now) (activity_of c.execute.new.self) (activity_of c.check-in-Fault.new.self) c.args.seat _ c.requires.taken same c.check-in-Fault.ensures.shape
+    keeps-checked (activity_of c.args.self.now) (activity_of c.execute.new.self) (activity_of c.check-in-Fault.new.self) c.args.seat _ same c.check-in-Fault.ensures.shape
 
 pub returns-in-Fault-clause-went : goal.returns-in-Fault-clause-went
 returns-in-Fault-clause-went c begins committed order served = elim c.in-Fault.is [

@@ -2,23 +2,26 @@ use Rattle.std.proofs.Common.{◌≡◌, ◌+◌, Ok, Err, ap, arith, sym, ◌�
 use Rattle.std.proofs.lemmas.Result.{err_from_is_err_and}
 use Rattle.desk.specs.declared.answers.TurnEnd.{TurnEnd}
 use Rattle.romp_cpu.specs.declared.cpu.Attempt.{Attempt}
-use Rattle.flat_machine.specs.Row.{Commit, Check}
+use Rattle.flat_machine.specs.Row.{Check, row}
 use Rattle.seats.specs.Seating.{Seating}
-use Rattle.activations.specs.Activity.{Activity}
-use Rattle.activations.specs.Attempted.{WasAttempted, CameTo}
-use Rattle.activations.specs.Follows.{IsSound}
+use Rattle.activations.specs.Activity.{Activity, program_in}
+use Rattle.activations.specs.Attempted.{IsSelected, WasAttempted, plain_in}
+use Rattle.activations.specs.Follows.{IsSound, Follows}
 use Rattle.activations.specs.Kept.{KeepsParts}
 use Rattle.activations.specs.Serving.{Goes, instruction_in}
 use Rattle.activations.specs.Turning.{HasEnded, counts_of}
 use Rattle.activations.specs.View.{activity_of}
-use Rattle.activations.proofs.GoOnLemmas.{keeps-counted, still-taken, took-either, fewer-checked}
-use Rattle.activations.proofs.InstructLemmas.{row-goes, at-commit}
-use Rattle.activations.proofs.KeptLemmas.{keeps-took, keeps-on}
+use Rattle.activations.proofs.GoOnLemmas.{keeps-counted, still-taken, took-either}
+use Rattle.activations.proofs.InstructLemmas.{row-goes, at-commit, stepped}
+use Rattle.activations.proofs.KeptLemmas.{keeps-took, keeps-on, keeps-checked}
 use Rattle.activations.proofs.StrideLemmas.{sound-counted}
 use Rattle.activations.proofs.activations.Activations.instruct.Goals as goal
 
 pub returns-in_err-serve-clause-step : goal.returns-in_err-serve-clause-step
-returns-in_err-serve-clause-step g c committed order store follows = ?
+returns-in_err-serve-clause-step g c committed order store follows =
+    let told = err_from_is_err_and c.from_residual.result c.from_residual.ensures.1 in
+    stepped c.from_residual.result c.in_err-serve.field-0.0 (told.1 ∙ ap (λ (end : TurnEnd). Err end) told.2) (instruction_in (activity_of c.args.self.now) c.args.seat committed order (counts_of c.args.tally.now))
+    (activity_of c.serve.new.self) c.args.seat committed order (counts_of c.serve.new.tally) (c.in_err-serve.ensures.served committed order store follows)
 
 pub returns-in-Went-clause-sound : goal.returns-in-Went-clause-sound
 returns-in-Went-clause-sound g c =
@@ -43,7 +46,10 @@ returns-in-Went-clause-step g c committed order store follows =
     (row-goes (activity_of c.args.self.now) c.args.seat committed order (counts_of c.args.tally.now) c.requires.sound c.requires.taken c.requires.selected follows a took)
 
 pub returns-in_ok-serve-in-Fault-clause-step : goal.returns-in_ok-serve-in-Fault-clause-step
-returns-in_ok-serve-in-Fault-clause-step g c committed order store follows = ?
+returns-in_ok-serve-in-Fault-clause-step g c committed order store follows =
+    let came = subst (λ (attempt : Attempt). WasAttempted attempt (activity_of c.args.self.now) c.args.seat (activity_of c.execute.new.self)) c.in-Fault.is c.execute.ensures.went in
+    subst (λ (a : Activity). Goes (instruction_in a c.args.seat committed order (counts_of c.args.tally.now)) (activity_of c.serve-in-Fault.new.self) committed order (counts_of c.serve-in-Fault.new.tally)) came.0
+    (c.in_ok-serve-in-Fault.ensures.served committed order store (subst (λ (a : Activity). Follows a committed) (sym came.0) follows))
 
 pub returns-in-Commit-clause-step : goal.returns-in-Commit-clause-step
 returns-in-Commit-clause-step g c committed order store follows =
@@ -53,10 +59,18 @@ returns-in-Commit-clause-step g c committed order store follows =
 pub returns-in-Check-clause-cycles : goal.returns-in-Check-clause-cycles
 returns-in-Check-clause-cycles g c =
     let came = subst (λ (attempt : Attempt). WasAttempted attempt (activity_of c.args.self.now) c.args.seat (activity_of c.execute.new.self)) c.in-Check.is c.execute.ensures.went in
-    let fewer = fewer-checked (activity_of c.args.self.now) (activity_of c.execute.new.self) (activity_of c.check.new.self) c.args.seat _ c.requires.taken came.0 c.check.ensures.shape in
+    let fewer = (keeps-checked (activity_of c.args.self.now) (activity_of c.execute.new.self) (activity_of c.check.new.self) c.args.seat _ came.0 c.check.ensures.shape).fewer in
     omega (arith, fewer, c.requires.cycles)
+
+pub returns-in-Check-clause-parts : goal.returns-in-Check-clause-parts
+returns-in-Check-clause-parts g c =
+    keeps-checked (activity_of c.args.self.now) (activity_of c.execute.new.self) (activity_of c.check.new.self) c.args.seat _
+    (subst (λ (attempt : Attempt). WasAttempted attempt (activity_of c.args.self.now) c.args.seat (activity_of c.execute.new.self)) c.in-Check.is c.execute.ensures.went).0 c.check.ensures.shape
 
 pub returns-in-Check-clause-step : goal.returns-in-Check-clause-step
 returns-in-Check-clause-step g c committed order store follows =
     let came = subst (λ (attempt : Attempt). WasAttempted attempt (activity_of c.args.self.now) c.args.seat (activity_of c.execute.new.self)) c.in-Check.is c.execute.ensures.went in
-    ?
+    subst (λ (a : Activity). HasEnded c.check.result (instruction_in a c.args.seat committed order (counts_of c.args.tally.now)) (activity_of c.check.new.self) committed order (counts_of c.args.tally.now)) came.0
+    (c.check.ensures.checked committed order (counts_of c.args.tally.now) (subst (λ (a : Activity). IsSelected a c.args.seat) (sym came.0) c.requires.selected)
+    (subst (λ (a : Activity). Follows a committed) (sym came.0) follows)
+    (subst (λ (a : Activity). row (program_in a c.args.seat) a.reach.directory (plain_in a c.args.seat committed) ≡ Check c.in-Check.code) (sym came.0) (came.1 committed follows.kept.long)))

@@ -7,17 +7,16 @@ use Rattle.activations.specs.Fetching.{HasBrokenOff}
 use Rattle.activations.specs.Instructed.{IsPrepared}
 use Rattle.activations.specs.Serves.{IsFetched}
 use Rattle.activations.specs.Serving.{instruction_in}
-use Rattle.activations.specs.Steps.{with_pool}
 use Rattle.activations.specs.Touched.{wants_of, pages_wanted}
 use Rattle.activations.specs.Turning.{HasEnded, HasBroken, counts_of}
 use Rattle.activations.specs.View.{activity_of}
-use Rattle.activations.proofs.GoOnLemmas.{fewer-rolled}
+use Rattle.activations.proofs.KeptLemmas.{keeps-left, keeps-broke}
 use Rattle.activations.proofs.PrepareLemmas.{is-to-serve, prepare-broke, prepared-so, ends-so}
 use Rattle.activations.proofs.activations.Activations.prepare.Goals as goal
 
-pub returns-in_err-keep_limit-clause-fewer : goal.returns-in_err-keep_limit-clause-fewer
-returns-in_err-keep_limit-clause-fewer g c =
-    fewer-rolled (activity_of c.args.self.now) (activity_of c.keep_limit.new.self) c.args.seat _ c.requires.taken c.in_err-keep_limit.ensures.rolled
+pub returns-in_err-keep_limit-clause-parts : goal.returns-in_err-keep_limit-clause-parts
+returns-in_err-keep_limit-clause-parts g c =
+    keeps-left (activity_of c.args.self.now) (activity_of c.keep_limit.new.self) c.args.seat _ c.in_err-keep_limit.ensures.rolled
 
 pub returns-in_err-keep_limit-clause-prepared : goal.returns-in_err-keep_limit-clause-prepared
 returns-in_err-keep_limit-clause-prepared g c committed order is follows =
@@ -27,15 +26,15 @@ returns-in_err-keep_limit-clause-prepared g c committed order is follows =
     ends-so c.from_residual.result c.in_err-keep_limit.field-0.0 c.from_residual.ensures.1 (instruction_in (activity_of c.args.self.now) c.args.seat committed order counts)
     (activity_of c.keep_limit.new.self) c.args.seat committed order counts (c.in_err-keep_limit.ensures.over committed order counts to.0 to.1)
 
-pub returns-in_err-bring-clause-fewer : goal.returns-in_err-bring-clause-fewer
-returns-in_err-bring-clause-fewer g c =
+pub returns-in_err-bring-clause-parts : goal.returns-in_err-bring-clause-parts
+returns-in_err-bring-clause-parts g c =
     let broke : HasBrokenOff g.W.Outside c.args.store.now c.args.outside.now (activity_of c.args.self.now) c.args.seat (pages_wanted (wants_of c.touch_of-touch.result)) c.args.tally.now.pages
     (activity_of c.bring.new.self) c.bring.new.tally.pages =
     subst
     (λ (a : Activity). HasBrokenOff g.W.Outside c.args.store.now c.args.outside.now a c.args.seat (pages_wanted (wants_of c.touch_of-touch.result)) c.args.tally.now.pages
     (activity_of c.bring.new.self) c.bring.new.tally.pages)
     c.in_ok-keep_limit.ensures.kept.0 c.in_err-bring.ensures.broke in
-    fewer-rolled (with_pool (activity_of c.args.self.now) broke.pool) (activity_of c.bring.new.self) c.args.seat _ c.requires.taken broke.shape
+    keeps-broke (activity_of c.args.self.now) (activity_of c.bring.new.self) c.args.seat broke.pool _ broke.shape
 
 pub returns-in_err-bring-clause-prepared : goal.returns-in_err-bring-clause-prepared
 returns-in_err-bring-clause-prepared g c committed order is follows =
