@@ -13,7 +13,7 @@ use Rattle.seats.proofs.Kept.{taken-below}
 use Rattle.activations.specs.Activity.{Activity, live_in, program_in}
 use Rattle.activations.specs.Attempted.{TookEffect, WasAttempted, CameTo, IsShut, plain_in}
 use Rattle.activations.specs.Follows.{IsSound}
-use Rattle.activations.specs.Instructed.{IsServed}
+use Rattle.activations.specs.Instructed.{GoesUncounted, IsServed}
 use Rattle.activations.specs.Kept.{AreRowsWithin, KeepsParts}
 use Rattle.activations.specs.Serving.{Goes}
 use Rattle.activations.specs.Steps.{counted, rolled}
@@ -50,9 +50,9 @@ keeps-counted a seat rows sound taken = record {
 -- a row that took effect
 module _ (begins : Word → Turning) (a after : Activity) (seat : ℕ) (committed : List ℕ) (order : List (ℕ × ℕ)) (counts : Counts)
     (served : IsServed begins a seat committed order counts) where
-  pub took-served : TookEffect a seat after → Goes begins (counted after seat 1) committed order (record counts { ran = counts.ran + 1 })
+  pub took-served : TookEffect a seat after → GoesUncounted begins after seat committed order counts
   took-served took =
-      subst (λ (x : Activity). Goes begins (counted x seat 1) committed order (record counts { ran = counts.ran + 1 })) (sym took.shape)
+      subst (λ (x : Activity). GoesUncounted begins x seat committed order counts) (sym took.shape)
       (served.goes (live_in after seat) after.reach.pool.bytes after.reach.pool.marked (took.went committed served.long served.clean))
 
   -- it comes to nothing else

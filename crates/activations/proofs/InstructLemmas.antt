@@ -12,7 +12,8 @@ use Rattle.storage_unit.specs.Rows.{plain_over}
 use Rattle.activations.specs.Activity.{Activity, live_in, program_in, entry_in, store_over, state_in, shown}
 use Rattle.activations.specs.Attempted.{IsSelected, TookEffect, CameTo, plain_in}
 use Rattle.activations.specs.Follows.{IsSound, Follows}
-use Rattle.activations.specs.Serving.{Goes, instruction_in}
+use Rattle.activations.specs.Instructed.{GoesUncounted}
+use Rattle.activations.specs.Serving.{instruction_in}
 use Rattle.activations.specs.Steps.{counted, executed, GoesOn}
 use Rattle.activations.specs.declared.instructions.Went.{Went}
 use Rattle.activations.specs.Turning.{HasEnded}
@@ -23,9 +24,9 @@ use Rattle.activations.proofs.RowLemmas.{goes-on}
 module _ (a : Activity) (seat : ℕ) (committed : List ℕ) (order : List (ℕ × ℕ)) (counts : Counts)
     (sound : IsSound a) (taken : has a.seating.taken seat ≡ true) (selected : IsSelected a seat) (follows : Follows a committed) where
   -- a row that takes effect
-  pub row-goes : (after : Activity) → TookEffect a seat after → Goes (instruction_in a seat committed order counts) (counted after seat 1) committed order (record counts { ran = counts.ran + 1 })
+  pub row-goes : (after : Activity) → TookEffect a seat after → GoesUncounted (instruction_in a seat committed order counts) after seat committed order counts
   row-goes after took =
-      subst (λ (x : Activity). Goes (instruction_in a seat committed order counts) (counted x seat 1) committed order (record counts { ran = counts.ran + 1 })) (sym took.shape)
+      subst (λ (x : Activity). GoesUncounted (instruction_in a seat committed order counts) x seat committed order counts) (sym took.shape)
       (record { comes = λ word reads. goes.is_instruction word order counts; follows = goes.follows })
     where
       goes : GoesOn a seat (live_in after seat) after.reach.pool.bytes after.reach.pool.marked committed

@@ -108,17 +108,6 @@ keeps-broke a after seat between pool shape =
     let keeps = keeps-left (with_pool a between) after seat pool shape in
     record { programs = keeps.programs; most_lines = keeps.most_lines; next = keeps.next; directory = keeps.directory; fewer = keeps.fewer; rows = keeps.rows }
 
--- fewer rows than so many more
-pub keeps-less : (a b : Activity) (few more : ℕ) → few ≤ more → KeepsParts a b few → KeepsParts a b more
-keeps-less a b few more less keeps = record {
-  programs = keeps.programs;
-  most_lines = keeps.most_lines;
-  next = keeps.next;
-  directory = keeps.directory;
-  fewer = keeps.fewer;
-  rows = λ rows within seat below. let here = keeps.rows rows within seat below in omega (arith, here, less);
-}
-
 -- or by a check, where nothing else had changed
-pub keeps-checked : (a same after : Activity) (seat : ℕ) (pool : Pool) → same ≡ a → after ≡ rolled same seat pool → KeepsParts a after 1
-keeps-checked a same after seat pool is shape = keeps-less a after 0 1 (omega arith) (keeps-left a after seat pool (shape ∙ ap (λ (x : Activity). rolled x seat pool) is))
+pub keeps-checked : (a same after : Activity) (seat : ℕ) (pool : Pool) → same ≡ a → after ≡ rolled same seat pool → KeepsParts a after 0
+keeps-checked a same after seat pool is shape = keeps-left a after seat pool (shape ∙ ap (λ (x : Activity). rolled x seat pool) is)

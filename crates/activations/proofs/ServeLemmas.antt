@@ -10,9 +10,9 @@ use Rattle.activations.specs.Turning.{HasEnded}
 use Rattle.activations.proofs.KeptLemmas.{keeps-on}
 
 -- an end that is handed on
-pub handed : {U : Type 0} (result : Result U TurnEnd) (end : TurnEnd) → result ≡ Err end → (begins : Word → Turning) (a : Activity) (committed : List ℕ) (order : List (ℕ × ℕ)) (counts : Counts)
-    → HasEnded end begins a committed order counts → IsInstruction result begins a committed order counts
-handed {U} result end is begins a committed order counts ended = subst (λ (r : Result U TurnEnd). IsInstruction r begins a committed order counts) (sym is) ended
+pub handed : {U : Type 0} (result : Result U TurnEnd) (end : TurnEnd) → result ≡ Err end → (begins : Word → Turning) (a : Activity) (seat : ℕ) (committed : List ℕ) (order : List (ℕ × ℕ)) (counts : Counts)
+    → HasEnded end begins a committed order counts → IsInstruction result begins a seat committed order counts
+handed {U} result end is begins a seat committed order counts ended = subst (λ (r : Result U TurnEnd). IsInstruction r begins a seat committed order counts) (sym is) ended
 
 -- rows that stay within a bound
 pub still-within : (a b : Activity) (rows : ℕ) → KeepsParts a b 0 → AreRowsWithin a rows → AreRowsWithin b rows

@@ -25,9 +25,9 @@ use Rattle.activations.specs.Steps.{counted, executed, HasExecuted}
 use Rattle.activations.specs.Touched.{wants_of, pages_picked, with_whole_page}
 use Rattle.activations.specs.Turning.{HasEnded}
 
--- one row more was counted at most, with four pages, two before and two after its grants, and two refused ones
+-- at most four pages more were counted, two before grants and two after them, and two refused ones
 pub record TalliesMore (old new : Tally) : Type 0 where
-  pub ran : new.ran ≤ old.ran + 1
+  pub ran : new.ran ≡ old.ran
   pub pages : new.pages ≤ old.pages + 4
   pub locks : new.locks ≤ old.locks + 2
 
@@ -45,10 +45,14 @@ abbrev pub IsCheck : TurnEnd → Type 0
 IsCheck (end.Checked code address) = Unit {0}
 IsCheck _ = ⊥
 
--- an instruction took effect, or its turn came to this end
-abbrev pub IsInstruction : {U : Type 0} → Result U TurnEnd → (begins : Word → Turning) → Activity → (committed : List ℕ) → (order : List (ℕ × ℕ)) → Counts → Type 0
-IsInstruction (Ok nothing) begins a committed order counts = Goes begins a committed order counts
-IsInstruction (Err end) begins a committed order counts = HasEnded end begins a committed order counts
+-- wherever an instruction began, the row of who sits in a seat took effect, and is still to be counted
+abbrev pub GoesUncounted : (begins : Word → Turning) → Activity → (seat : ℕ) → (committed : List ℕ) → (order : List (ℕ × ℕ)) → Counts → Type 0
+GoesUncounted begins a seat committed order counts = Goes begins (counted a seat 1) committed order (record counts { ran = counts.ran + 1 })
+
+-- that, or its turn came to this end
+abbrev pub IsInstruction : {U : Type 0} → Result U TurnEnd → (begins : Word → Turning) → Activity → (seat : ℕ) → (committed : List ℕ) → (order : List (ℕ × ℕ)) → Counts → Type 0
+IsInstruction (Ok nothing) begins a seat committed order counts = GoesUncounted begins a seat committed order counts
+IsInstruction (Err end) begins a seat committed order counts = HasEnded end begins a committed order counts
 
 -- what is asked for in a seat is free where nobody holds it, and else contested
 pub record IsAsked (begins : Word → Turning) (attempt : Attempt) (refused : List ℕ) (a : Activity) (seat : ℕ) (wants : List Want) (committed : List ℕ) (order : List (ℕ × ℕ)) (counts : Counts) : Type 0 where
@@ -73,7 +77,7 @@ Prepares (Err end) begins a seat committed order counts = HasEnded end begins a 
 -- What it asked for was got: it can't be refused any more, and once it has taken effect that is the desk's instruction.
 pub record IsServed (begins : Word → Turning) (a : Activity) (seat : ℕ) (committed : List ℕ) (order : List (ℕ × ℕ)) (counts : Counts) : Type 0 where
   pub goes : (live : Live) (bytes : List ℕ) (marked : List (List ℕ)) → HasExecuted a seat live bytes marked committed
-      → Goes begins (counted (executed a seat live bytes marked) seat 1) committed order (record counts { ran = counts.ran + 1 })
+      → GoesUncounted begins (executed a seat live bytes marked) seat committed order counts
   pub long : length committed ≡ byte_count a.reach.directory
   pub clean : IsClean a.reach.directory a.reach.pool committed
   pub row_goes : (next : Plain) × (row (program_in a seat) a.reach.directory (plain_in a seat committed) ≡ On next)

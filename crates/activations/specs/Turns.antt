@@ -16,7 +16,7 @@ use Rattle.activations.specs.declared.instructions.Went.TheVariants as went
 use Rattle.activations.specs.Activity.{Activity, program_in, entry_in, store_over, desk_over, shown}
 use Rattle.activations.specs.Attempted.{IsShut}
 use Rattle.activations.specs.Follows.{Follows}
-use Rattle.activations.specs.Serving.{Goes}
+use Rattle.activations.specs.Instructed.{GoesUncounted}
 use Rattle.activations.specs.Turning.{HasEnded}
 
 -- the commit call of who sits in a seat, at a state
@@ -34,7 +34,7 @@ pub record IsAtCommit (begins : Word → Turning) (a : Activity) (seat : ℕ) (c
 
 -- an instruction took effect, is the commit call, or ended its turn
 abbrev pub IsStep : Result Went TurnEnd → (begins : Word → Turning) → Activity → (seat : ℕ) → (committed : List ℕ) → (order : List (ℕ × ℕ)) → Counts → Type 0
-IsStep (Ok went.On) begins a seat committed order counts = Goes begins a committed order counts
+IsStep (Ok went.On) begins a seat committed order counts = GoesUncounted begins a seat committed order counts
 IsStep (Ok went.AtCommit) begins a seat committed order counts = IsAtCommit begins a seat committed order counts
 IsStep (Err end) begins a seat committed order counts = HasEnded end begins a committed order counts
 

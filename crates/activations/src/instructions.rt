@@ -38,7 +38,7 @@ impl Activations {
     ghost use Rattle.activations.specs.Fetching.{IsStoreOf, HasBrokenOff};
     ghost use Rattle.activations.specs.Follows.{IsSound, Follows};
     ghost use Rattle.activations.specs.Instructed.{TalliesMore, IsEndOfRows, IsCheck, IsInstruction, IsAsked, IsServed, Prepares, Serves};
-    ghost use Rattle.activations.specs.Kept.{KeepsParts, AreRowsWithin, StaysSeated};
+    ghost use Rattle.activations.specs.Kept.{KeepsParts, StaysSeated};
     ghost use Rattle.activations.specs.Serves.{IsFetched};
     ghost use Rattle.activations.specs.Serving.{IsFree, instruction_in};
     ghost use Rattle.activations.specs.Steps.{rolled, with_pool};
@@ -47,7 +47,8 @@ impl Activations {
     ghost use Rattle.activations.specs.View.{activity_of};
     ghost use Rattle.seats.specs.Seating.{number_in};
 
-    /// The next instruction of who sits in a seat, which is selected. Its access may be known already not to be permitted.
+    /// The next instruction of who sits in a seat, which is selected. Its access may be known already not to be permitted. A
+    /// row that takes effect isn't counted yet.
     ///
     /// # Errors
     ///
@@ -64,14 +65,13 @@ impl Activations {
         requires taken { has (activity_of self.old).seating.taken seat ≡ true }
         requires selected { IsSelected (activity_of self.old) seat }
         requires shut { MayBeShut (activity_of self.old) seat shut }
-        requires rows { AreRowsWithin (activity_of self.old) (2 ^ 63) }
         requires store { store.now.header.directory ≡ (activity_of self.old).reach.directory }
         requires room { HoldsAtLeast W.Outside (total store.now.header) outside.old }
         requires cycles { array_vec_len tally.old.cycles + length (activity_of self.old).seating.taken ≤ 16 }
-        requires tally { (tally.old.ran < 1000000) × (tally.old.pages < 4000000) × (tally.old.locks < 2000000) }
+        requires tally { (tally.old.pages < 4000000) × (tally.old.locks < 2000000) }
         ensures sound { IsSound (activity_of self.new) }
         ensures asks { OnlyAsks W.Outside outside.old outside.new }
-        ensures parts { KeepsParts (activity_of self.old) (activity_of self.new) 1 }
+        ensures parts { KeepsParts (activity_of self.old) (activity_of self.new) 0 }
         ensures cycles { array_vec_len tally.new.cycles + length (activity_of self.new).seating.taken ≤ 16 }
         ensures tally { TalliesMore tally.old tally.new }
         ensures stays { OnOk result (StaysSeated (activity_of self.old) (activity_of self.new) seat) }
@@ -84,11 +84,7 @@ impl Activations {
             return Ok(Went::On);
         }
         match self.execute(seat) {
-            Attempt::Went | Attempt::Print(_) => {
-                self.seats.go_on(seat, 1);
-                tally.ran += 1;
-                Ok(Went::On)
-            }
+            Attempt::Went | Attempt::Print(_) => Ok(Went::On),
             Attempt::Fault(_, access) => {
                 self.serve(store, outside, seat, access, tally)?;
                 Ok(Went::On)
@@ -98,7 +94,8 @@ impl Activations {
         }
     }
 
-    /// Who sits in a seat, which is selected, gets what the access of his next row asks for, and the row takes effect.
+    /// Who sits in a seat, which is selected, gets what the access of his next row asks for, and the row takes effect. It isn't
+    /// counted yet.
     ///
     /// # Errors
     ///
@@ -108,25 +105,24 @@ impl Activations {
         requires taken { has (activity_of self.old).seating.taken seat ≡ true }
         requires selected { IsSelected (activity_of self.old) seat }
         requires shut { IsShut (activity_of self.old) seat access }
-        requires rows { AreRowsWithin (activity_of self.old) (2 ^ 63) }
         requires store { store.now.header.directory ≡ (activity_of self.old).reach.directory }
         requires room { HoldsAtLeast W.Outside (total store.now.header) outside.old }
         requires cycles { array_vec_len tally.old.cycles + length (activity_of self.old).seating.taken ≤ 16 }
-        requires tally { (tally.old.ran < 1000000) × (tally.old.pages < 4000000) × (tally.old.locks < 2000000) }
+        requires tally { (tally.old.pages < 4000000) × (tally.old.locks < 2000000) }
         ensures sound { IsSound (activity_of self.new) }
         ensures asks { OnlyAsks W.Outside outside.old outside.new }
-        ensures parts { KeepsParts (activity_of self.old) (activity_of self.new) 1 }
+        ensures parts { KeepsParts (activity_of self.old) (activity_of self.new) 0 }
         ensures cycles { array_vec_len tally.new.cycles + length (activity_of self.new).seating.taken ≤ 16 }
         ensures tally { TalliesMore tally.old tally.new }
         ensures stays { OnOk result (StaysSeated (activity_of self.old) (activity_of self.new) seat) }
         ensures calm { OnOk result (W.disk_faults outside.new ≡ W.disk_faults outside.old) }
         ensures ends { IfErr result (IsEndOfRows W.Outside outside.old outside.new) }
-        ensures served { (committed : List ℕ) (order : List (ℕ × ℕ)) → IsStoreOf W.Outside store.now outside.old committed → Follows (activity_of self.old) committed → IsInstruction result (instruction_in (activity_of self.old) seat committed order (counts_of tally.old)) (activity_of self.new) committed order (counts_of tally.new) }
+        ensures served { (committed : List ℕ) (order : List (ℕ × ℕ)) → IsStoreOf W.Outside store.now outside.old committed → Follows (activity_of self.old) committed → IsInstruction result (instruction_in (activity_of self.old) seat committed order (counts_of tally.old)) (activity_of self.new) seat committed order (counts_of tally.new) }
     {
         let (touch, refused) = self.prepare(store, outside, seat, access, tally)?;
         self.ask(seat, &touch, tally)?;
         self.get(store, outside, seat, &touch, refused, tally)?;
-        self.go_on(seat, tally)
+        self.go_on(seat)
     }
 
     /// The lines of an access, whose pages come in and are counted where their entries refuse one of them.
@@ -248,27 +244,19 @@ impl Activations {
         self.bring(store, outside, seat, touch, tally)
     }
 
-    /// The row of who sits in a seat, whose access was served, takes effect and is counted.
-    fn go_on(&mut self, seat: u8, tally: &mut Tally) -> Result<(), TurnEnd>
+    /// The row of who sits in a seat, whose access was served, takes effect. It isn't counted yet.
+    fn go_on(&mut self, seat: u8) -> Result<(), TurnEnd>
         requires sound { IsSound (activity_of self.old) }
         requires taken { has (activity_of self.old).seating.taken seat ≡ true }
         requires selected { IsSelected (activity_of self.old) seat }
-        requires rows { AreRowsWithin (activity_of self.old) (2 ^ 63) }
-        requires few { tally.old.ran + 1 < 2 ^ 32 }
         ensures sound { IsSound (activity_of self.new) }
-        ensures parts { KeepsParts (activity_of self.old) (activity_of self.new) 1 }
-        ensures tally { tally.new ≡ record tally.old { ran = tally.new.ran } }
-        ensures few { tally.new.ran ≤ tally.old.ran + 1 }
+        ensures parts { KeepsParts (activity_of self.old) (activity_of self.new) 0 }
         ensures stays { OnOk result (StaysSeated (activity_of self.old) (activity_of self.new) seat) }
         ensures ends { IfErr result IsCheck }
-        ensures went { (begins : Word → Turning) (committed : List ℕ) (order : List (ℕ × ℕ)) → IsServed begins (activity_of self.old) seat committed order (counts_of tally.old) → IsInstruction result begins (activity_of self.new) committed order (counts_of tally.new) }
+        ensures went { (begins : Word → Turning) (committed : List ℕ) (order : List (ℕ × ℕ)) (counts : Counts) → IsServed begins (activity_of self.old) seat committed order counts → IsInstruction result begins (activity_of self.new) seat committed order counts }
     {
         match self.execute(seat) {
-            Attempt::Went | Attempt::Print(_) => {
-                self.seats.go_on(seat, 1);
-                tally.ran += 1;
-                Ok(())
-            }
+            Attempt::Went | Attempt::Print(_) => Ok(()),
             Attempt::Check(code) => Err(self.check(seat, code)),
             Attempt::Fault(..) | Attempt::Commit => Err(self.check(seat, 0)),
         }

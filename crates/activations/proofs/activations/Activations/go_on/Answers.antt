@@ -13,24 +13,16 @@ use Rattle.activations.proofs.KeptLemmas.{keeps-took, keeps-on, keeps-checked}
 use Rattle.activations.proofs.StrideLemmas.{sound-counted}
 use Rattle.activations.proofs.activations.Activations.go_on.Goals as goal
 
-pub returns-in-Went-clause-sound : goal.returns-in-Went-clause-sound
-returns-in-Went-clause-sound c =
-    let a = activity_of c.execute.new.self in
-    subst (λ (s : Seating). IsSound (record a { seating = s })) (sym c.go_on.ensures)
-    (sound-counted a c.args.seat 1 c.execute.ensures.sound (still-taken (activity_of c.args.self.now) a c.args.seat c.requires.taken (took-either c.execute.result (activity_of c.args.self.now) (activity_of c.execute.new.self) c.args.seat c.in-Went.is c.execute.ensures.went)))
-
 pub returns-in-Went-clause-parts : goal.returns-in-Went-clause-parts
 returns-in-Went-clause-parts c =
-    let a = activity_of c.execute.new.self in
-    subst (λ (s : Seating). KeepsParts (activity_of c.args.self.now) (record a { seating = s }) 1) (sym c.go_on.ensures)
-    (keeps-on (activity_of c.args.self.now) a (record a { seating = _ }) 0 1 (keeps-took (activity_of c.args.self.now) a c.args.seat (took-either c.execute.result (activity_of c.args.self.now) (activity_of c.execute.new.self) c.args.seat c.in-Went.is c.execute.ensures.went))
-    (keeps-counted a c.args.seat 1 c.execute.ensures.sound (still-taken (activity_of c.args.self.now) a c.args.seat c.requires.taken (took-either c.execute.result (activity_of c.args.self.now) (activity_of c.execute.new.self) c.args.seat c.in-Went.is c.execute.ensures.went))))
+    let a = activity_of c.args.self.now in
+    keeps-took a (activity_of c.execute.new.self) c.args.seat (took-either c.execute.result a (activity_of c.execute.new.self) c.args.seat c.in-Went.is c.execute.ensures.went)
 
 pub returns-in-Went-clause-went : goal.returns-in-Went-clause-went
-returns-in-Went-clause-went c begins committed order served =
-    let a = activity_of c.execute.new.self in
-    subst (λ (s : Seating). Goes begins (record a { seating = s }) committed order (record (counts_of c.args.tally.now) { ran = c.args.tally.now.ran + 1 })) (sym c.go_on.ensures)
-    (took-served begins (activity_of c.args.self.now) a c.args.seat committed order (counts_of c.args.tally.now) served (took-either c.execute.result (activity_of c.args.self.now) (activity_of c.execute.new.self) c.args.seat c.in-Went.is c.execute.ensures.went))
+returns-in-Went-clause-went c begins committed order counts served =
+    let a = activity_of c.args.self.now in
+    took-served begins a (activity_of c.execute.new.self) c.args.seat committed order counts served
+    (took-either c.execute.result a (activity_of c.execute.new.self) c.args.seat c.in-Went.is c.execute.ensures.went)
 
 pub returns-in-Check-clause-parts : goal.returns-in-Check-clause-parts
 returns-in-Check-clause-parts c =
@@ -38,8 +30,8 @@ returns-in-Check-clause-parts c =
     (subst (λ (attempt : Attempt). WasAttempted attempt (activity_of c.args.self.now) c.args.seat (activity_of c.execute.new.self)) c.in-Check.is c.execute.ensures.went).0 c.check.ensures.shape
 
 pub returns-in-Check-clause-went : goal.returns-in-Check-clause-went
-returns-in-Check-clause-went c begins committed order served =
-    absurd (not-check begins (activity_of c.args.self.now) (activity_of c.execute.new.self) c.args.seat committed order (counts_of c.args.tally.now) served c.in-Check.code
+returns-in-Check-clause-went c begins committed order counts served =
+    absurd (not-check begins (activity_of c.args.self.now) (activity_of c.execute.new.self) c.args.seat committed order counts served c.in-Check.code
     (subst (λ (attempt : Attempt). WasAttempted attempt (activity_of c.args.self.now) c.args.seat (activity_of c.execute.new.self)) c.in-Check.is c.execute.ensures.went))
 
 pub returns-in-Fault-clause-parts : goal.returns-in-Fault-clause-parts
@@ -51,11 +43,11 @@ returns-in-Fault-clause-parts c =
     keeps-checked (activity_of c.args.self.now) (activity_of c.execute.new.self) (activity_of c.check-in-Fault.new.self) c.args.seat _ same c.check-in-Fault.ensures.shape
 
 pub returns-in-Fault-clause-went : goal.returns-in-Fault-clause-went
-returns-in-Fault-clause-went c begins committed order served = elim c.in-Fault.is [
+returns-in-Fault-clause-went c begins committed order counts served = elim c.in-Fault.is [
   | inl (fault, access, is) ↦
       absurd (served.is_open access
       (subst (λ (attempt : Attempt). WasAttempted attempt (activity_of c.args.self.now) c.args.seat (activity_of c.execute.new.self)) is c.execute.ensures.went).1)
   | inr is ↦
-      absurd (not-commit begins (activity_of c.args.self.now) (activity_of c.execute.new.self) c.args.seat committed order (counts_of c.args.tally.now) served
+      absurd (not-commit begins (activity_of c.args.self.now) (activity_of c.execute.new.self) c.args.seat committed order counts served
       (subst (λ (attempt : Attempt). WasAttempted attempt (activity_of c.args.self.now) c.args.seat (activity_of c.execute.new.self)) is c.execute.ensures.went))
 ]

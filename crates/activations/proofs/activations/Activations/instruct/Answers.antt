@@ -8,7 +8,8 @@ use Rattle.activations.specs.Activity.{Activity, program_in}
 use Rattle.activations.specs.Attempted.{IsSelected, WasAttempted, plain_in}
 use Rattle.activations.specs.Follows.{IsSound, Follows}
 use Rattle.activations.specs.Kept.{KeepsParts}
-use Rattle.activations.specs.Serving.{Goes, instruction_in}
+use Rattle.activations.specs.Instructed.{GoesUncounted}
+use Rattle.activations.specs.Serving.{instruction_in}
 use Rattle.activations.specs.Turning.{HasEnded, counts_of}
 use Rattle.activations.specs.View.{activity_of}
 use Rattle.activations.proofs.GoOnLemmas.{keeps-counted, still-taken, took-either}
@@ -23,32 +24,21 @@ returns-in_err-serve-clause-step g c committed order store follows =
     stepped c.from_residual.result c.in_err-serve.field-0.0 (told.1 ∙ ap (λ (end : TurnEnd). Err end) told.2) (instruction_in (activity_of c.args.self.now) c.args.seat committed order (counts_of c.args.tally.now))
     (activity_of c.serve.new.self) c.args.seat committed order (counts_of c.serve.new.tally) (c.in_err-serve.ensures.served committed order store follows)
 
-pub returns-in-Went-clause-sound : goal.returns-in-Went-clause-sound
-returns-in-Went-clause-sound g c =
-    let a = activity_of c.execute.new.self in
-    let took = took-either c.execute.result (activity_of c.args.self.now) a c.args.seat c.in-Went.is c.execute.ensures.went in
-    subst (λ (s : Seating). IsSound (record a { seating = s })) (sym c.go_on.ensures)
-    (sound-counted a c.args.seat 1 c.execute.ensures.sound (still-taken (activity_of c.args.self.now) a c.args.seat c.requires.taken took))
-
 pub returns-in-Went-clause-parts : goal.returns-in-Went-clause-parts
 returns-in-Went-clause-parts g c =
-    let a = activity_of c.execute.new.self in
-    let took = took-either c.execute.result (activity_of c.args.self.now) a c.args.seat c.in-Went.is c.execute.ensures.went in
-    subst (λ (s : Seating). KeepsParts (activity_of c.args.self.now) (record a { seating = s }) 1) (sym c.go_on.ensures)
-    (keeps-on (activity_of c.args.self.now) a (record a { seating = _ }) 0 1 (keeps-took (activity_of c.args.self.now) a c.args.seat took)
-    (keeps-counted a c.args.seat 1 c.execute.ensures.sound (still-taken (activity_of c.args.self.now) a c.args.seat c.requires.taken took)))
+    let a = activity_of c.args.self.now in
+    keeps-took a (activity_of c.execute.new.self) c.args.seat (took-either c.execute.result a (activity_of c.execute.new.self) c.args.seat c.in-Went.is c.execute.ensures.went)
 
 pub returns-in-Went-clause-step : goal.returns-in-Went-clause-step
 returns-in-Went-clause-step g c committed order store follows =
-    let a = activity_of c.execute.new.self in
-    let took = took-either c.execute.result (activity_of c.args.self.now) a c.args.seat c.in-Went.is c.execute.ensures.went in
-    subst (λ (s : Seating). Goes (instruction_in (activity_of c.args.self.now) c.args.seat committed order (counts_of c.args.tally.now)) (record a { seating = s }) committed order (record (counts_of c.args.tally.now) { ran = c.args.tally.now.ran + 1 })) (sym c.go_on.ensures)
-    (row-goes (activity_of c.args.self.now) c.args.seat committed order (counts_of c.args.tally.now) c.requires.sound c.requires.taken c.requires.selected follows a took)
+    let a = activity_of c.args.self.now in
+    row-goes a c.args.seat committed order (counts_of c.args.tally.now) c.requires.sound c.requires.taken c.requires.selected follows (activity_of c.execute.new.self)
+    (took-either c.execute.result a (activity_of c.execute.new.self) c.args.seat c.in-Went.is c.execute.ensures.went)
 
 pub returns-in_ok-serve-in-Fault-clause-step : goal.returns-in_ok-serve-in-Fault-clause-step
 returns-in_ok-serve-in-Fault-clause-step g c committed order store follows =
     let came = subst (λ (attempt : Attempt). WasAttempted attempt (activity_of c.args.self.now) c.args.seat (activity_of c.execute.new.self)) c.in-Fault.is c.execute.ensures.went in
-    subst (λ (a : Activity). Goes (instruction_in a c.args.seat committed order (counts_of c.args.tally.now)) (activity_of c.serve-in-Fault.new.self) committed order (counts_of c.serve-in-Fault.new.tally)) came.0
+    subst (λ (a : Activity). GoesUncounted (instruction_in a c.args.seat committed order (counts_of c.args.tally.now)) (activity_of c.serve-in-Fault.new.self) c.args.seat committed order (counts_of c.serve-in-Fault.new.tally)) came.0
     (c.in_ok-serve-in-Fault.ensures.served committed order store (subst (λ (a : Activity). Follows a committed) (sym came.0) follows))
 
 pub returns-in-Commit-clause-step : goal.returns-in-Commit-clause-step

@@ -7,6 +7,7 @@ use Rattle.activations.specs.Fetching.{HasBrokenOff}
 use Rattle.activations.specs.Instructed.{IsPrepared}
 use Rattle.activations.specs.Serves.{IsFetched}
 use Rattle.activations.specs.Serving.{instruction_in}
+use Rattle.activations.specs.Steps.{with_pool}
 use Rattle.activations.specs.Touched.{wants_of, pages_wanted}
 use Rattle.activations.specs.Turning.{HasEnded, HasBroken, counts_of}
 use Rattle.activations.specs.View.{activity_of}

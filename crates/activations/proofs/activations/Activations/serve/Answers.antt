@@ -7,22 +7,20 @@ use Rattle.activations.specs.Serving.{instruction_in}
 use Rattle.activations.specs.Turning.{counts_of}
 use Rattle.activations.specs.View.{activity_of}
 use Rattle.activations.proofs.BringLemmas.{store-on}
-use Rattle.activations.proofs.KeptLemmas.{keeps-on, keeps-less}
-use Rattle.activations.proofs.ServeLemmas.{handed, keeps-two, still-within}
+use Rattle.activations.proofs.ServeLemmas.{handed, keeps-two}
 use Rattle.activations.proofs.activations.Activations.serve.Goals as goal
 
 pub returns-in_err-touch-clause-parts : goal.returns-in_err-touch-clause-parts
-returns-in_err-touch-clause-parts g c = keeps-less (activity_of c.args.self.now) (activity_of c.prepare.new.self) 0 1 (omega arith) c.prepare.ensures.parts
+returns-in_err-touch-clause-parts g c = c.prepare.ensures.parts
 
 pub returns-in_err-touch-clause-served : goal.returns-in_err-touch-clause-served
 returns-in_err-touch-clause-served g c committed order store follows =
     let told = err_from_is_err_and c.from_residual.result c.from_residual.ensures.1 in
     handed c.from_residual.result c.in_err-touch.field-0.0 (told.1 ∙ ap (λ (end : TurnEnd). Err end) told.2) (instruction_in (activity_of c.args.self.now) c.args.seat committed order (counts_of c.args.tally.now))
-    (activity_of c.prepare.new.self) committed order (counts_of c.prepare.new.tally) (c.in_err-touch.ensures.prepared committed order store follows)
+    (activity_of c.prepare.new.self) c.args.seat committed order (counts_of c.prepare.new.tally) (c.in_err-touch.ensures.prepared committed order store follows)
 
 pub returns-in_err-ask-clause-parts : goal.returns-in_err-ask-clause-parts
 returns-in_err-ask-clause-parts g c =
-    keeps-less (activity_of c.args.self.now) (activity_of c.ask.new.self) 0 1 (omega arith)
     (keeps-two (activity_of c.args.self.now) (activity_of c.prepare.new.self) (activity_of c.ask.new.self) c.prepare.ensures.parts c.ask.ensures.parts)
 
 pub returns-in_err-ask-clause-served : goal.returns-in_err-ask-clause-served
@@ -31,14 +29,13 @@ returns-in_err-ask-clause-served g c committed order store follows =
     let told = err_from_is_err_and c.from_residual-in_err-ask.result c.from_residual-in_err-ask.ensures.1 in
     let prepared = c.in_ok-touch.ensures.prepared committed order store follows in
     handed c.from_residual-in_err-ask.result c.in_err-ask.field-0.0 (told.1 ∙ ap (λ (end : TurnEnd). Err end) told.2) begins
-    (activity_of c.ask.new.self) committed order (counts_of c.ask.new.tally) (c.in_err-ask.ensures.settled begins prepared.attempt _ committed order prepared.asked)
+    (activity_of c.ask.new.self) c.args.seat committed order (counts_of c.ask.new.tally) (c.in_err-ask.ensures.settled begins prepared.attempt _ committed order prepared.asked)
 
 pub returns-in_err-get-clause-asks : goal.returns-in_err-get-clause-asks
 returns-in_err-get-clause-asks g c = asks_on g.W.Outside g.met.W.Outside.fewer_later c.args.outside.now c.prepare.new.outside c.get.new.outside c.prepare.ensures.asks c.get.ensures.asks
 
 pub returns-in_err-get-clause-parts : goal.returns-in_err-get-clause-parts
 returns-in_err-get-clause-parts g c =
-    keeps-less (activity_of c.args.self.now) (activity_of c.get.new.self) 0 1 (omega arith)
     (keeps-two (activity_of c.args.self.now) (activity_of c.ask.new.self) (activity_of c.get.new.self)
     (keeps-two (activity_of c.args.self.now) (activity_of c.prepare.new.self) (activity_of c.ask.new.self) c.prepare.ensures.parts c.ask.ensures.parts) c.get.ensures.parts)
 
@@ -48,22 +45,16 @@ returns-in_err-get-clause-served g c committed order store follows =
     let told = err_from_is_err_and c.from_residual-in_err-get.result c.from_residual-in_err-get.ensures.1 in
     let prepared = c.in_ok-touch.ensures.prepared committed order store follows in
     handed c.from_residual-in_err-get.result c.in_err-get.field-0.0 (told.1 ∙ ap (λ (end : TurnEnd). Err end) told.2) begins
-    (activity_of c.get.new.self) committed order (counts_of c.get.new.tally)
+    (activity_of c.get.new.self) c.args.seat committed order (counts_of c.get.new.tally)
     (c.in_err-get.ensures.served begins prepared.attempt prepared.next committed order (store-on g.W.Outside g.met.W.Outside.fewer_later c.args.store.now c.args.outside.now c.prepare.new.outside committed c.prepare.ensures.asks store)
     (prepared.asked.number ∙ sym c.in_ok-ask.ensures.stays.number) prepared.goes prepared.lines (c.in_ok-ask.ensures.settled begins prepared.attempt _ committed order prepared.asked))
-
-pub go_on-requires-clause-rows : goal.go_on-requires-clause-rows
-go_on-requires-clause-rows g c =
-    still-within (activity_of c.args.self.now) (activity_of c.get.new.self) (2 ^ 63)
-    (keeps-two (activity_of c.args.self.now) (activity_of c.ask.new.self) (activity_of c.get.new.self)
-    (keeps-two (activity_of c.args.self.now) (activity_of c.prepare.new.self) (activity_of c.ask.new.self) c.prepare.ensures.parts c.ask.ensures.parts) c.get.ensures.parts) c.requires.rows
 
 pub returns-clause-asks : goal.returns-clause-asks
 returns-clause-asks g c = asks_on g.W.Outside g.met.W.Outside.fewer_later c.args.outside.now c.prepare.new.outside c.get.new.outside c.prepare.ensures.asks c.get.ensures.asks
 
 pub returns-clause-parts : goal.returns-clause-parts
 returns-clause-parts g c =
-    keeps-on (activity_of c.args.self.now) (activity_of c.get.new.self) (activity_of c.go_on.new.self) 0 1
+    keeps-two (activity_of c.args.self.now) (activity_of c.get.new.self) (activity_of c.go_on.new.self)
     (keeps-two (activity_of c.args.self.now) (activity_of c.ask.new.self) (activity_of c.get.new.self)
     (keeps-two (activity_of c.args.self.now) (activity_of c.prepare.new.self) (activity_of c.ask.new.self) c.prepare.ensures.parts c.ask.ensures.parts) c.get.ensures.parts)
     c.go_on.ensures.parts
@@ -72,6 +63,6 @@ pub returns-clause-served : goal.returns-clause-served
 returns-clause-served g c committed order store follows =
     let begins = instruction_in (activity_of c.args.self.now) c.args.seat committed order (counts_of c.args.tally.now) in
     let prepared = c.in_ok-touch.ensures.prepared committed order store follows in
-    c.go_on.ensures.went begins committed order
+    c.go_on.ensures.went begins committed order (counts_of c.get.new.tally)
     (c.in_ok-get.ensures.served begins prepared.attempt prepared.next committed order (store-on g.W.Outside g.met.W.Outside.fewer_later c.args.store.now c.args.outside.now c.prepare.new.outside committed c.prepare.ensures.asks store)
     (prepared.asked.number ∙ sym c.in_ok-ask.ensures.stays.number) prepared.goes prepared.lines (c.in_ok-ask.ensures.settled begins prepared.attempt _ committed order prepared.asked))
