@@ -1,0 +1,109 @@
+// The rows of a turn, one after another.
+ghost use Rattle.std.specs.Prelude.{◌≡◌, ◌+◌, ◌<◌, ◌≤◌, ◌^◌, ℕ, List, true, length, IfErr, OnOk};
+ghost use Rattle.arrayvec.specs.ArrayVec.{array_vec_len};
+ghost use Rattle.lock_rules.specs.Sets.{has};
+ghost use Rattle.outside.specs.Runs.{OnlyAsks};
+ghost use Rattle.redo_journal.specs.Held.{HoldsAtLeast};
+ghost use Rattle.store_format.specs.Header.{total};
+
+use super::activations::Activations;
+use super::instructions::Went;
+use super::tally::Tally;
+use desk::TurnEnd;
+use outside::Outside;
+use restart::Durable;
+use romp_cpu::Access;
+
+impl Activations {
+    ghost use Rattle.activations.specs.Attempted.{IsSelected, Strode};
+    ghost use Rattle.activations.specs.Fetching.{IsStoreOf};
+    ghost use Rattle.activations.specs.Follows.{IsSound, Follows};
+    ghost use Rattle.activations.specs.Instructed.{IsEndOfRows};
+    ghost use Rattle.activations.specs.Kept.{KeepsParts, AreRowsWithin, StaysSeated};
+    ghost use Rattle.activations.specs.Steps.{counted, selected};
+    ghost use Rattle.activations.specs.Turning.{counts_of};
+    ghost use Rattle.activations.specs.Turns.{AreTurns, MayBeShut, turn_in};
+    ghost use Rattle.activations.specs.View.{activity_of};
+
+    /// The rows of a turn of who sits in a seat, at most so many, up to his commit call. Nothing was counted before.
+    ///
+    /// # Errors
+    ///
+    /// How the turn ended before a commit call.
+    pub fn run<W: Outside>(
+        &mut self,
+        store: &Durable,
+        outside: &mut W,
+        seat: u8,
+        limit: u32,
+        tally: &mut Tally,
+    ) -> Result<(), TurnEnd>
+        requires sound { IsSound (activity_of self.old) }
+        requires taken { has (activity_of self.old).seating.taken seat ≡ true }
+        requires limit { limit ≤ 1000000 }
+        requires rows { AreRowsWithin (activity_of self.old) (2 ^ 63) }
+        requires store { store.now.header.directory ≡ (activity_of self.old).reach.directory }
+        requires room { HoldsAtLeast W.Outside (total store.now.header) outside.old }
+        requires cycles { array_vec_len tally.old.cycles + length (activity_of self.old).seating.taken ≤ 16 }
+        requires tally { tally.old.ran + tally.old.pages + tally.old.locks ≡ 0 }
+        ensures sound { IsSound (activity_of self.new) }
+        ensures asks { OnlyAsks W.Outside outside.old outside.new }
+        ensures parts { KeepsParts (activity_of self.old) (activity_of self.new) limit }
+        ensures ran { tally.new.ran ≤ limit }
+        ensures stays { OnOk result (StaysSeated (activity_of self.old) (activity_of self.new) seat) }
+        ensures calm { OnOk result (W.disk_faults outside.new ≡ W.disk_faults outside.old) }
+        ensures ends { IfErr result (IsEndOfRows W.Outside outside.old outside.new) }
+        ensures turned { (committed : List ℕ) (order : List (ℕ × ℕ)) → IsStoreOf W.Outside store.now outside.old committed → Follows (activity_of self.old) committed → AreTurns result (turn_in (activity_of self.old) seat limit committed order (counts_of tally.old)) (activity_of self.new) seat committed order (counts_of tally.new) }
+    {
+        self.select(seat);
+        let mut left = limit;
+        let mut shut = None;
+        while left > 0 {
+            match self.instruct(store, outside, seat, shut, tally)? {
+                Went::AtCommit => return Ok(()),
+                Went::On => {
+                    let (ran, access) = self.go_far(seat, left - 1, tally);
+                    left -= ran;
+                    shut = access;
+                }
+            }
+        }
+        Err(TurnEnd::Limit)
+    }
+
+    /// After a row that took effect and isn't counted yet, the next ones, at most so many, up to one that doesn't go on by
+    /// itself. All are counted then: how many, and the access of the last one where it isn't permitted.
+    fn go_far(&mut self, seat: u8, limit: u32, tally: &mut Tally) -> (u32, Option<Access>)
+        requires sound { IsSound (activity_of self.old) }
+        requires taken { has (activity_of self.old).seating.taken seat ≡ true }
+        requires selected { IsSelected (activity_of self.old) seat }
+        requires limit { limit < 1000000 }
+        requires rows { AreRowsWithin (activity_of self.old) (2 ^ 63 + 1000000) }
+        requires tally { tally.old.ran < 2000000 }
+        ensures sound { IsSound (activity_of self.new) }
+        ensures some { 1 ≤ result.0 }
+        ensures few { result.0 ≤ limit + 1 }
+        ensures tally { tally.new ≡ record tally.old { ran = tally.old.ran + result.0 } }
+        ensures parts { KeepsParts (activity_of self.old) (activity_of self.new) result.0 }
+        ensures stays { StaysSeated (activity_of self.old) (activity_of self.new) seat }
+        ensures taken { (activity_of self.new).seating.taken ≡ (activity_of self.old).seating.taken }
+        ensures shut { MayBeShut (activity_of self.new) seat result.1 }
+        ensures gone { (begins : Word → Turning) (committed : List ℕ) (order : List (ℕ × ℕ)) (left : ℕ) (counts : Counts) → Follows (counted (activity_of self.old) seat 1) committed → IsTurningOn begins (counted (activity_of self.old) seat 1) seat (limit + left) committed order counts → IsTurningOn … }
+    {
+        let (ran, access) = self.stride(seat, limit);
+        self.seats.go_on(seat, 1 + ran);
+        tally.ran += 1 + ran;
+        (1 + ran, access)
+    }
+
+    /// The unit is what a seat reaches from now on.
+    fn select(&mut self, seat: u8)
+        requires sound { IsSound (activity_of self.old) }
+        requires taken { has (activity_of self.old).seating.taken seat ≡ true }
+        ensures sound { IsSound (activity_of self.new) }
+        ensures selected { IsSelected (activity_of self.new) seat }
+        ensures shape { activity_of self.new ≡ selected (activity_of self.old) seat }
+    {
+        self.unit.select(seat, &self.live[usize::from(seat)].registers);
+    }
+}
