@@ -160,6 +160,7 @@ module _ (a : Activity) (seat : ℕ) (pool : Pool) (committed : List ℕ) (sound
     clean = were.clean;
   }
 
+-- Who sits in a seat is rolled back: the pages into which he wrote have gone out, with the lines that he wrote.
 module _ (a : Activity) (seat : ℕ) (pool : Pool) (pages : List ℕ) (committed : List ℕ)
     (sound : IsSound a) (taken : has a.seating.taken seat ≡ true)
     (consistent : AreConsistent (store_over a committed) a.most_lines a.next (entries a)) (kept : IsKept a committed)
@@ -174,7 +175,7 @@ module _ (a : Activity) (seat : ℕ) (pool : Pool) (pages : List ℕ) (committed
   of-is : (line : ℕ) → is_of pages (wrote a seat) line ≡ has due line
   of-is = of-written a seat pages committed sound (kept.held seat taken) written
 
-  -- and so are their pages
+  -- they are the pages of the lines that are due
   pages-are : (page : ℕ) → has pages page ≡ has (written_pages (store_over a committed) (entry_in a seat)) page
   pages-are page = both-imply (has pages page) (has (written_pages (store_over a committed) (entry_in a seat)) page) there back
     where
