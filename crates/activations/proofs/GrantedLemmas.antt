@@ -68,7 +68,7 @@ refused-below owned tid pages (want ∷ wants) within page inside =
     by_test false there rest = rest there
 
 -- the numbers under identifiers are those of who sits there, whatever is held
-under-locked : (a : Activity) (seat : ℕ) (wants : List Want) (owned : List Authority) → number_under (locked a seat wants owned) ≡ number_under a
+pub under-locked : (a : Activity) (seat : ℕ) (wants : List Want) (owned : List Authority) → number_under (locked a seat wants owned) ≡ number_under a
 under-locked a seat wants owned i tid = at tid i
   where
     at : (tid : ℕ) → number_under (locked a seat wants owned) tid ≡ number_under a tid

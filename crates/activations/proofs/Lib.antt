@@ -7,6 +7,7 @@ pub mod ContestLemmas
 pub mod EndLemmas
 pub mod EndingLemmas
 pub mod ExecuteLemmas
+pub mod GetLemmas
 pub mod GoOnLemmas
 pub mod GrantLemmas
 pub mod GrantedLemmas

@@ -1,9 +1,9 @@
 -- A rollback.
 use Rattle.std.specs.Prelude.{◌≡◌, refl, ℕ, ◌+◌, ◌*◌, ◌/◌, ◌%◌, ◌<◌, ◌==◌, ◌&&◌, not, if◌then◌else◌, Bool, true, false, List, length, slice_index}
 use Rattle.std.proofs.Common.{arith, ap, sym, ◌∙◌, subst}
-use Rattle.std.proofs.lemmas.Bool.{eqb-true, eq-eqb}
+use Rattle.std.proofs.lemmas.Bool.{both_ways, eqb-true, eq-eqb}
 use Rattle.std.proofs.lemmas.List.FromFn.{length-map-range_with_len}
-use Rattle.line_geometry.specs.Directory.{byte_count}
+use Rattle.line_geometry.specs.Directory.{Layout, byte_count}
 use Rattle.line_geometry.specs.FlatStore.{FlatStore}
 use Rattle.line_geometry.specs.Lines.{line_of}
 use Rattle.line_geometry.proofs.Within.{line-bytes-pos}
@@ -24,7 +24,9 @@ use Rattle.desk_law.proofs.LaidPlaces.{laid-places}
 use Rattle.desk_law.proofs.MarkedLines.{marked-end}
 use Rattle.desk_law.proofs.Seats.{seat-told}
 use Rattle.seats.proofs.Kept.{other-with}
-use Rattle.storage_unit.specs.Bytes.{is_line_marked, byte_over}
+use Rattle.storage_unit.specs.Bytes.{IsClean, is_line_marked, byte_over, bytes_over}
+use Rattle.storage_unit.proofs.ByteLemmas.{byte-of-all}
+use Rattle.storage_unit.proofs.LeaveLemmas.{clean-shows}
 use Rattle.activations.specs.Activity.{Activity, entry_in, entries, store_over, desk_over, lines_held, locks_in, state_for, live_in, shown}
 use Rattle.activations.specs.Follows.{IsSound, IsKept}
 use Rattle.activations.specs.Steps.{wrote, is_of, WereUndone, AreAsCommitted, AreWritten, rolled, RollsBack}
@@ -33,18 +35,22 @@ use Rattle.activations.proofs.TableLemmas.{stands-for}
 use Rattle.activations.proofs.UndoLemmas.{filter-alike}
 use Rattle.activations.proofs.VacateLemmas.{left-taken, entries-left, authority-left}
 
--- a line that a seat holds to write is in the due writes of its entry
-pub wrote-due : (a : Activity) (seat : ℕ) (committed : List ℕ) → IsSound a → AreAlike (locks_in a seat) (due_to (store_over a committed) (entry_in a seat))
-    → (line : ℕ) → has (wrote a seat (page_of_line line)) (line % 16) ≡ has (due_to (store_over a committed) (entry_in a seat)).writes line
-wrote-due a seat committed sound alike line =
+-- a line that a seat holds to write is one of the lines that it holds
+pub wrote-held : (a : Activity) (seat : ℕ) (lines : Lines) → IsSound a → AreAlike (locks_in a seat) lines → (line : ℕ) → has (wrote a seat (page_of_line line)) (line % 16) ≡ has lines.writes line
+wrote-held a seat lines sound alike line =
     let whole : line / 16 * 16 + line % 16 ≡ line = omega arith in
     (held-flat (of_seat a.seating.holding seat) (sound.lines seat)).writes (line / 16) (line % 16) (omega arith)
     ∙ ap (has (locks_in a seat).writes) whole ∙ alike.writes line
 
--- the lines of the pages into which he wrote are those that he wrote
-pub of-written : (a : Activity) (seat : ℕ) (pages : List ℕ) (committed : List ℕ) → IsSound a → AreAlike (locks_in a seat) (due_to (store_over a committed) (entry_in a seat))
-    → AreWritten a seat pages → (line : ℕ) → is_of pages (wrote a seat) line ≡ has (due_to (store_over a committed) (entry_in a seat)).writes line
-of-written a seat pages committed sound alike written line = by_test (has (wrote a seat (page_of_line line)) (line % 16)) refl ∙ wrote-due a seat committed sound alike line
+-- which are those that are due to its entry
+pub wrote-due : (a : Activity) (seat : ℕ) (committed : List ℕ) → IsSound a → AreAlike (locks_in a seat) (due_to (store_over a committed) (entry_in a seat))
+    → (line : ℕ) → has (wrote a seat (page_of_line line)) (line % 16) ≡ has (due_to (store_over a committed) (entry_in a seat)).writes line
+wrote-due a seat committed = wrote-held a seat (due_to (store_over a committed) (entry_in a seat))
+
+-- the lines of the pages into which he wrote are those that he holds to write
+pub of-held : (a : Activity) (seat : ℕ) (pages : List ℕ) (lines : Lines) → IsSound a → AreAlike (locks_in a seat) lines
+    → AreWritten a seat pages → (line : ℕ) → is_of pages (wrote a seat) line ≡ has lines.writes line
+of-held a seat pages lines sound alike written line = by_test (has (wrote a seat (page_of_line line)) (line % 16)) refl ∙ wrote-held a seat lines sound alike line
   where
     by_test : (wrote_it : Bool) → has (wrote a seat (page_of_line line)) (line % 16) ≡ wrote_it → (has pages (page_of_line line) && has (wrote a seat (page_of_line line)) (line % 16)) ≡ has (wrote a seat (page_of_line line)) (line % 16)
     by_test true e = ap (λ (b : Bool). b && has (wrote a seat (page_of_line line)) (line % 16)) (written.all (page_of_line line) (line % 16) e)
@@ -54,15 +60,67 @@ of-written a seat pages committed sound alike written line = by_test (has (wrote
         and_no true = refl
         and_no false = refl
 
+pub of-written : (a : Activity) (seat : ℕ) (pages : List ℕ) (committed : List ℕ) → IsSound a → AreAlike (locks_in a seat) (due_to (store_over a committed) (entry_in a seat))
+    → AreWritten a seat pages → (line : ℕ) → is_of pages (wrote a seat) line ≡ has (due_to (store_over a committed) (entry_in a seat)).writes line
+of-written a seat pages committed = of-held a seat pages (due_to (store_over a committed) (entry_in a seat))
+
+-- Once these lines were forgotten a pool marks them no more and shows them as committed; the others it marks and shows as before.
+pub record WereForgotten (directory : Layout) (lines : List ℕ) (old new : Pool) (committed : List ℕ) : Type 0 where
+  pub marks : (line : ℕ) → is_line_marked new line ≡ (is_line_marked old line && not (has lines line))
+  pub bytes : new.bytes ≡ old.bytes
+  pub places : (place : ℕ) → place < byte_count directory
+      → slice_index (bytes_over directory new committed) place
+      ≡ (if has lines (line_of directory place) then slice_index committed place else slice_index (bytes_over directory old committed) place)
+  pub clean : IsClean directory new committed
+
+pub were-forgotten : (directory : Layout) (lines : ℕ → List ℕ) (pages flat : List ℕ) (old new : Pool) (committed : List ℕ) → ((line : ℕ) → is_of pages lines line ≡ has flat line)
+    → WereUndone lines pages old new → AreAsCommitted directory lines pages old new committed → WereForgotten directory flat old new committed
+were-forgotten directory lines pages flat old new committed same were are = record {
+  marks = λ line. were.marks line ∙ ap (λ (b : Bool). is_line_marked old line && not b) (same line);
+  bytes = were.bytes;
+  places = λ place within.
+      are.bytes place within
+      ∙ ap (λ (b : Bool). if b then slice_index committed place else slice_index (bytes_over directory old committed) place) (same (line_of directory place));
+  clean = are.clean;
+}
+
+-- That fewer lines were forgotten comes to the same, where the others weren't marked.
+module _ (directory : Layout) (more fewer : List ℕ) (old new : Pool) (committed : List ℕ) (clean : IsClean directory old committed)
+    (part : (line : ℕ) → has fewer line ≡ true → has more line ≡ true)
+    (rest : (line : ℕ) → has more line ≡ true → has fewer line ≡ false → is_line_marked old line ≡ false) where
+  marks-same : (line : ℕ) (m f : Bool) → has more line ≡ m → has fewer line ≡ f → (is_line_marked old line && not m) ≡ (is_line_marked old line && not f)
+  marks-same line true true e g = refl
+  marks-same line false false e g = refl
+  marks-same line false true e g = absurd (both_ways (has more line) e (part line g))
+  marks-same line true false e g =
+      let none = rest line e g in
+      ap (λ (b : Bool). b && false) none ∙ sym (ap (λ (b : Bool). b && true) none)
+
+  places-same : (place : ℕ) → place < byte_count directory → (m f : Bool) → has more (line_of directory place) ≡ m → has fewer (line_of directory place) ≡ f
+      → (if m then slice_index committed place else slice_index (bytes_over directory old committed) place)
+      ≡ (if f then slice_index committed place else slice_index (bytes_over directory old committed) place)
+  places-same place within true true e g = refl
+  places-same place within false false e g = refl
+  places-same place within false true e g = absurd (both_ways (has more (line_of directory place)) e (part (line_of directory place) g))
+  places-same place within true false e g =
+      sym (byte-of-all directory old committed place within ∙ clean-shows directory old committed place clean within (rest (line_of directory place) e g))
+
+  pub forgotten-fewer : WereForgotten directory more old new committed → WereForgotten directory fewer old new committed
+  forgotten-fewer were = record {
+    marks = λ line. were.marks line ∙ marks-same line (has more line) (has fewer line) refl refl;
+    bytes = were.bytes;
+    places = λ place within. were.places place within ∙ places-same place within (has more (line_of directory place)) (has fewer (line_of directory place)) refl refl;
+    clean = were.clean;
+  }
+
 -- the others hold what they held
 pub locks-left : (a : Activity) (seat : ℕ) (pool : Pool) → IsSound a → (at : ℕ) → (at == seat) ≡ false → locks_in (rolled a seat pool) at ≡ locks_in a at
 locks-left a seat pool sound at differs = ap lines_held (other-with a.seating.holding seat (no_lines_of a.seating.holding.pages) sound.seating.whole at differs)
 
-module _ (a : Activity) (seat : ℕ) (pool : Pool) (pages : List ℕ) (committed : List ℕ)
-    (sound : IsSound a) (taken : has a.seating.taken seat ≡ true)
+-- Who sits in a seat is gone, and the lines that he wrote were forgotten: what is left is kept beside the others.
+module _ (a : Activity) (seat : ℕ) (pool : Pool) (committed : List ℕ) (sound : IsSound a) (taken : has a.seating.taken seat ≡ true)
     (consistent : AreConsistent (store_over a committed) a.most_lines a.next (entries a)) (kept : IsKept a committed)
-    (written : AreWritten a seat pages) (were : WereUndone (wrote a seat) pages a.reach.pool pool)
-    (are : AreAsCommitted a.reach.directory (wrote a seat) pages a.reach.pool pool committed) where
+    (were : WereForgotten a.reach.directory (due_to (store_over a committed) (entry_in a seat)).writes a.reach.pool pool committed) where
   abbrev store : FlatStore
   store = store_over a committed
 
@@ -75,71 +133,83 @@ module _ (a : Activity) (seat : ℕ) (pool : Pool) (pages : List ℕ) (committed
   here : IsAmong (entries a) gone
   here = seat-told a.seating.taken (entry_in a) seat taken
 
-  wrote-is : (line : ℕ) → has (wrote a seat (page_of_line line)) (line % 16) ≡ has (due_to store gone).writes line
+  pub laid-left : IsLaid store (due_to store gone).writes committed (shown a committed) (shown after committed)
+  laid-left =
+      laid-places store (due_to store gone).writes committed (shown a committed) (shown after committed) (line-bytes-pos a.reach.directory)
+      (length-map-range_with_len (byte_over a.reach.directory pool committed) 0 (byte_count a.reach.directory) ∙ sym shown-long)
+      (kept.long ∙ sym shown-long)
+      (λ place within. were.places place (subst (λ (n : ℕ). place < n) shown-long within))
+    where
+      shown-long : length (shown a committed) ≡ byte_count a.reach.directory
+      shown-long = length-map-range_with_len (byte_over a.reach.directory a.reach.pool committed) 0 (byte_count a.reach.directory)
+
+  pub kept-left : IsKept after committed
+  kept-left = record {
+    long = kept.long;
+    held = λ at inside. let (there, differs) = left-taken a seat sound taken at inside in subst (λ (l : Lines). AreAlike l (due_to store (entry_in a at))) (sym (locks-left a seat pool sound at differs)) (kept.held at there);
+    asked = λ at inside waits. kept.asked at (left-taken a seat sound taken at inside).0 waits;
+    stand = λ at inside.
+        subst (IsState store (entry_in a at)) (ap (λ (bytes : List ℕ). state_for (record a.reach.pool { bytes = bytes }) at (live_in a at)) (sym were.bytes))
+        (kept.stand at (left-taken a seat sound taken at inside).0);
+    is_current =
+        subst (λ (these : List Entry). IsCurrent store these (shown after committed)) (sym (entries-left a seat sound taken))
+        (current-rolled store a.most_lines a.next (entries a) consistent (shown a committed) gone (shown after committed) here kept.is_current laid-left);
+    marked =
+        subst (λ (these : List Entry). AreMarked store these (is_line_marked pool)) (sym (entries-left a seat sound taken))
+        (marked-end store a.most_lines a.next (entries a) consistent (is_line_marked a.reach.pool) kept.marked gone (is_line_marked pool) here were.marks);
+    clean = were.clean;
+  }
+
+-- Who sits in a seat is rolled back: the pages into which he wrote have gone out, with the lines that he wrote.
+module _ (a : Activity) (seat : ℕ) (pool : Pool) (pages : List ℕ) (committed : List ℕ)
+    (sound : IsSound a) (taken : has a.seating.taken seat ≡ true)
+    (consistent : AreConsistent (store_over a committed) a.most_lines a.next (entries a)) (kept : IsKept a committed)
+    (written : AreWritten a seat pages) (were : WereUndone (wrote a seat) pages a.reach.pool pool)
+    (are : AreAsCommitted a.reach.directory (wrote a seat) pages a.reach.pool pool committed) where
+  abbrev due : List ℕ
+  due = (due_to (store_over a committed) (entry_in a seat)).writes
+
+  wrote-is : (line : ℕ) → has (wrote a seat (page_of_line line)) (line % 16) ≡ has due line
   wrote-is = wrote-due a seat committed sound (kept.held seat taken)
 
-  of-is : (line : ℕ) → is_of pages (wrote a seat) line ≡ has (due_to store gone).writes line
+  of-is : (line : ℕ) → is_of pages (wrote a seat) line ≡ has due line
   of-is = of-written a seat pages committed sound (kept.held seat taken) written
 
-  -- and so are their pages
-  pages-are : (page : ℕ) → has pages page ≡ has (written_pages store gone) page
-  pages-are page = both-imply (has pages page) (has (written_pages store gone) page) there back
+  -- they are the pages of the lines that are due
+  pages-are : (page : ℕ) → has pages page ≡ has (written_pages (store_over a committed) (entry_in a seat)) page
+  pages-are page = both-imply (has pages page) (has (written_pages (store_over a committed) (entry_in a seat)) page) there back
     where
-      there : has pages page ≡ true → has (written_pages store gone) page ≡ true
+      there : has pages page ≡ true → has (written_pages (store_over a committed) (entry_in a seat)) page ≡ true
       there inside =
           let (line, wrote_it) = written.only page inside in
           let small : line < 16 = of_page-below (wrote a seat page) ((sound.lines seat).writes page) line wrote_it in
           let at : (page * 16 + line) / 16 ≡ page = omega (arith, small) in
           let in_page : (page * 16 + line) % 16 ≡ line = omega (arith, small) in
-          has-pages_of (due_to store gone).writes page
-          ∙ any-at (λ line. page_of_line line == page) (due_to store gone).writes (page * 16 + line)
+          has-pages_of due page
+          ∙ any-at (λ line. page_of_line line == page) due (page * 16 + line)
           (sym (wrote-is (page * 16 + line)) ∙ (λ i. has (wrote a seat (at i)) (in_page i)) ∙ wrote_it)
           (eq-eqb (page_of_line (page * 16 + line)) page at)
 
-      back : has (written_pages store gone) page ≡ true → has pages page ≡ true
+      back : has (written_pages (store_over a committed) (entry_in a seat)) page ≡ true → has pages page ≡ true
       back inside =
-          let (line, wrote_it, at) = any-some (λ line. page_of_line line == page) (due_to store gone).writes (sym (has-pages_of (due_to store gone).writes page) ∙ inside) in
+          let (line, wrote_it, at) = any-some (λ line. page_of_line line == page) due (sym (has-pages_of due page) ∙ inside) in
           let same : page_of_line line ≡ page = eqb-true (page_of_line line) page at in
           sym (ap (has pages) same) ∙ written.all (page_of_line line) (line % 16) (wrote-is line ∙ wrote_it)
 
-  desk-is : (order : List (ℕ × ℕ)) → desk_over after committed order ≡ rolled_back (desk_over a committed order) gone
+  desk-is : (order : List (ℕ × ℕ)) → desk_over (rolled a seat pool) committed order ≡ rolled_back (desk_over a committed order) (entry_in a seat)
   desk-is order i = record (desk_over a committed order) {
     frames = were.frames i;
     active = entries-left a seat sound taken i;
     authority = authority-left a seat sound taken (stands-for a sound committed consistent.ascend seat taken) i;
-    resident = (were.resident ∙ filter-alike (λ page. not (has pages page)) (λ page. not (has (written_pages store gone) page)) a.reach.pool.resident (λ page inside. ap not (pages-are page))) i;
+    resident = (were.resident ∙ filter-alike (λ page. not (has pages page)) (λ page. not (has (written_pages (store_over a committed) (entry_in a seat)) page)) a.reach.pool.resident (λ page inside. ap not (pages-are page))) i;
   }
 
-  laid : IsLaid store (due_to store gone).writes committed (shown a committed) (shown after committed)
-  laid =
-      laid-places store (due_to store gone).writes committed (shown a committed) (shown after committed) (line-bytes-pos a.reach.directory)
-      (length-map-range_with_len (byte_over a.reach.directory pool committed) 0 (byte_count a.reach.directory) ∙ sym shown-long)
-      (kept.long ∙ sym shown-long)
-      (λ place within.
-      are.bytes place (subst (λ (n : ℕ). place < n) shown-long within)
-      ∙ ap (λ (b : Bool). if b then slice_index committed place else slice_index (shown a committed) place) (of-is (line_of a.reach.directory place)))
-    where
-      shown-long : length (shown a committed) ≡ byte_count a.reach.directory
-      shown-long = length-map-range_with_len (byte_over a.reach.directory a.reach.pool committed) 0 (byte_count a.reach.directory)
+  forgotten : WereForgotten a.reach.directory due a.reach.pool pool committed
+  forgotten = were-forgotten a.reach.directory (wrote a seat) pages due a.reach.pool pool committed of-is were are
 
   pub rolls-back : RollsBack a seat pool committed
   rolls-back = record {
     desk = desk-is;
-    kept = record {
-      long = kept.long;
-      held = λ at inside. let (there, differs) = left-taken a seat sound taken at inside in subst (λ (l : Lines). AreAlike l (due_to store (entry_in a at))) (sym (locks-left a seat pool sound at differs)) (kept.held at there);
-      asked = λ at inside waits. kept.asked at (left-taken a seat sound taken at inside).0 waits;
-      stand = λ at inside.
-          subst (IsState store (entry_in a at)) (ap (λ (bytes : List ℕ). state_for (record a.reach.pool { bytes = bytes }) at (live_in a at)) (sym were.bytes))
-          (kept.stand at (left-taken a seat sound taken at inside).0);
-      is_current =
-          subst (λ (these : List Entry). IsCurrent store these (shown after committed)) (sym (entries-left a seat sound taken))
-          (current-rolled store a.most_lines a.next (entries a) consistent (shown a committed) gone (shown after committed) here kept.is_current laid);
-      marked =
-          subst (λ (these : List Entry). AreMarked store these (is_line_marked pool)) (sym (entries-left a seat sound taken))
-          (marked-end store a.most_lines a.next (entries a) consistent (is_line_marked a.reach.pool) kept.marked gone (is_line_marked pool) here
-          (λ line. were.marks line ∙ ap (λ (b : Bool). is_line_marked a.reach.pool line && not b) (of-is line)));
-      clean = are.clean;
-    };
-    laid = laid;
+    kept = kept-left a seat pool committed sound taken consistent kept forgotten;
+    laid = laid-left a seat pool committed sound taken consistent kept forgotten;
   }

@@ -1,0 +1,307 @@
+-- What is asked for is got: the pages come in once more, and the row is served; or one can't be read.
+use Rattle.std.specs.Prelude.{◌≡◌, refl, ℕ, ◌+◌, ◌<◌, ◌≤◌, ◌%◌, ◌==◌, if◌then◌else◌, not, Bool, true, false, List, [], ◌∷◌, ◌++◌, filter, length, map, slice_index_or, Result, Ok, Err, OnOk, IfErr}
+use Rattle.std.specs.List.{list_any}
+use Rattle.std.proofs.Common.{arith, ap, sym, ◌∙◌, subst, inl, inr, set-set}
+use Rattle.std.proofs.lemmas.Bool.{both_ways, eqb-true, ne_eqb, or_cases, or_left}
+use Rattle.std.proofs.lemmas.Bool.Decides.{nat_tests}
+use Rattle.std.proofs.lemmas.List.Elements.{All-head, All-tail}
+use Rattle.line_geometry.specs.FlatStore.{FlatStore}
+use Rattle.lock_rules.specs.Sets.{has}
+use Rattle.lock_rules.specs.Lines.{Lines, both, page_of_line, pages_of, with_whole_pages}
+use Rattle.lock_rules.specs.Resident.{taken_out}
+use Rattle.lock_rules.proofs.Sets.{has-append, has_right}
+use Rattle.line_locks.specs.declared.request.Want.{Want}
+use Rattle.line_locks.specs.Flat.{lines_wanted}
+use Rattle.line_locks.specs.Held.{AreWithin, with_wants}
+use Rattle.line_locks.specs.Holding.{no_lines_of, of_seat}
+use Rattle.lockbit_rules.specs.declared.Authority.{Authority}
+use Rattle.flat_machine.specs.declared.machine.Plain.{Plain}
+use Rattle.flat_machine.specs.Row.{On}
+use Rattle.flat_machine.specs.Agreement.{all_of}
+use Rattle.frame_pool.specs.declared.model.Pool.{Pool}
+use Rattle.outside.specs.declared.world.Outside.{Ghosts}
+use Rattle.restart.specs.Kept.{KeptStore}
+use Rattle.desk.specs.declared.answers.TurnEnd.{TurnEnd}
+use Rattle.desk.specs.declared.answers.TurnEnd.TheVariants as end
+use Rattle.desk.specs.Desk.{Desk, Entry, rolled_back}
+use Rattle.desk.specs.Desk as desk
+use Rattle.desk.specs.Holdings.{wanted}
+use Rattle.desk.specs.Instruction.{Word, ReadFailed, Fine, Counts, Attempt, Turning, Over, Disk, Fetched, Broken, fetches, goes_on, locks_with, touched_pages, with_grants}
+use Rattle.desk_law.specs.Beside.{AreAlike, owners_told}
+use Rattle.desk_law.specs.Changes.{gone_on}
+use Rattle.desk_law.specs.Consistent.{IsAmong, AreConsistent, due_to}
+use Rattle.desk_law.specs.Orderly.{IsOrderly}
+use Rattle.desk_law.proofs.Endings.{granted-rolled}
+use Rattle.desk_law.proofs.Entries.{new-among, one-entry, replaced, replaced-among}
+use Rattle.desk_law.proofs.GoesOn.{due-more, grants-held, row-goes-on}
+use Rattle.desk_law.proofs.Others.{touched_of}
+use Rattle.desk_law.proofs.Seats.{seat-told}
+use Rattle.desk_law.proofs.TurnsStay.{resident-consistent}
+use Rattle.desk_law.proofs.Waiting.{any-among}
+use Rattle.seats.specs.Seating.{Seating, sitter, left}
+use Rattle.storage_unit.specs.Bytes.{IsClean, is_line_marked}
+use Rattle.activations.specs.declared.touch.Touch.{Touch}
+use Rattle.activations.specs.Activity.{Activity, entry_in, entries, store_over, desk_over, authority_told, number_under, authority_under, locks_in}
+use Rattle.activations.specs.Ends.{HasUndone}
+use Rattle.activations.specs.Fetching.{IsBrokenOff, IsStoreOf, HasBrokenOff}
+use Rattle.activations.specs.Follows.{IsSound, IsKept}
+use Rattle.activations.specs.Instructed.{IsServed, Serves}
+use Rattle.activations.specs.Serves.{IsFetched}
+use Rattle.activations.specs.Serving.{AreGranted, IsFree, locked, with_entries}
+use Rattle.activations.specs.Steps.{rolled, with_pool, wrote}
+use Rattle.activations.specs.Touched.{AreWanted, page_if, pages_picked, pages_wanted, wants_of, with_whole_page}
+use Rattle.activations.specs.Turning.{HasBroken, HasEnded}
+use Rattle.activations.proofs.ContestLemmas.{orderly-other}
+use Rattle.activations.proofs.EndLemmas.{sound-pool}
+use Rattle.activations.proofs.GoOnLemmas.{fewer-rolled}
+use Rattle.activations.proofs.GrantedLemmas.{granted-free, goes-shown, refused-not, under-locked}
+use Rattle.activations.proofs.PoolLemmas.{moved-kept}
+use Rattle.activations.proofs.RollbackLemmas.{WereForgotten, were-forgotten, forgotten-fewer, of-held, kept-left}
+use Rattle.activations.proofs.ServedLemmas.{served}
+use Rattle.activations.proofs.TableLemmas.{stands-for}
+use Rattle.activations.proofs.VacateLemmas.{entries-left, authority-left}
+
+-- a page that is picked is one of those of its touch
+if-below : (picked : Bool) (at pages page : ℕ) → at < pages → has (page_if picked at) page ≡ true → page < pages
+if-below true at pages page below inside = elim (or_cases (at == page) false inside) [
+  | inl here ↦ subst (λ (p : ℕ). p < pages) (eqb-true at page here) below
+  | inr none ↦ absurd (cc)
+]
+if-below false at pages page below inside = absurd (cc)
+
+pub picked-below : (pages : ℕ) (touch : Touch) (picked : Bool × Bool) → AreWithin pages (wants_of touch) → (page : ℕ) → has (pages_picked touch picked) page ≡ true → page < pages
+picked-below pages Touch.Nothing picked within page inside = absurd (cc)
+picked-below pages (Touch.One want) picked within page inside = if-below picked.0 want.page pages page (All-head (λ (w : Want). w.page < pages) want [] within) inside
+picked-below pages (Touch.Two first second) picked within page inside =
+    elim (or_cases (has (page_if picked.0 first.page) page) (has (page_if picked.1 second.page) page) (sym (has-append (page_if picked.0 first.page) (page_if picked.1 second.page) page) ∙ inside)) [
+      | inl here ↦ if-below picked.0 first.page pages page (All-head (λ (w : Want). w.page < pages) first (second ∷ []) within) here
+      | inr later ↦
+          if-below picked.1 second.page pages page
+          (All-head (λ (w : Want). w.page < pages) second [] (All-tail (λ (w : Want). w.page < pages) first (second ∷ []) within)) later
+    ]
+
+-- whether two numbers are the same, either way round
+eqb-turned : (one other : ℕ) → (other == one) ≡ (one == other)
+eqb-turned one other = grind (arith, nat_tests)
+
+-- what is kept is so whatever the entries of pages are
+kept-entries : (a : Activity) (owned : List Authority) (committed : List ℕ) → IsKept a committed → IsKept (with_entries a owned) committed
+kept-entries a owned committed kept = record {
+  long = kept.long;
+  held = kept.held;
+  asked = kept.asked;
+  stand = kept.stand;
+  is_current = kept.is_current;
+  marked = kept.marked;
+  clean = kept.clean;
+}
+
+-- who leaves a seat leaves the same, whatever he took before
+left-locked : (a : Activity) (seat : ℕ) (wants : List Want) (owned : List Authority) → left (locked a seat wants owned).seating seat ≡ left a.seating seat
+left-locked a seat wants owned i =
+    record (left a.seating seat) {
+      holding = record a.seating.holding {
+        seats = set-set a.seating.holding.seats seat (with_wants (of_seat a.seating.holding seat) (map with_whole_page wants)) (no_lines_of a.seating.holding.pages) i;
+      };
+    }
+
+module _ (begins : Word → Turning) (attempt : Attempt) (refused : List ℕ) (a : Activity) (seat : ℕ) (committed : List ℕ) (order : List (ℕ × ℕ)) (counts : Counts)
+    (wants : List Want) (owned : List Authority)
+    (sound : IsSound a) (taken : has a.seating.taken seat ≡ true) (later : IsSound (locked a seat wants owned)) (wanted_here : AreWanted a.reach.directory wants)
+    (number : attempt.entry.number ≡ (sitter a.seating seat).number) (free : IsFree begins attempt refused a committed order counts) (lines : attempt.lines ≡ lines_wanted wants)
+    (below_pages : (page : ℕ) → has refused page ≡ true → page < length a.reach.entries)
+    (grants : AreGranted (locked a seat wants owned) seat refused a.reach.entries owned)
+    (next : Plain) (goes : attempt.outcome ≡ On next) where
+  abbrev store : FlatStore
+  store = store_over a committed
+
+  abbrev old : Desk
+  old = desk_over a committed order
+
+  touched-are : touched_pages attempt ≡ pages_wanted wants
+  touched-are = ap (λ (l : Lines). pages_of (l.reads ++ l.writes)) lines ∙ sym wanted_here.pages
+
+  got-free : AreAlike (locks_in (locked a seat wants owned) seat) (locks_with attempt old)
+      × (owners_told (number_under a) (authority_under owned) ≡ (with_grants attempt refused old).authority)
+  got-free = granted-free begins attempt refused a seat committed order counts wants owned sound taken later wanted_here number free lines below_pages grants
+
+  -- The pages came in: it is served.
+  module _ (pool : Pool) (counted : ℕ) (runner : a.reach.runner ≡ seat + 1)
+      (resident : (page : ℕ) → has (pages_wanted wants) page ≡ true → has pool.resident page ≡ true)
+      (came : IsFetched (locked a seat wants owned) committed order (pages_wanted wants) counts.pages pool counted) where
+    fetched-here : IsFetched a committed order (touched_pages attempt) counts.pages pool counted
+    fetched-here = record {
+      moved = came.moved;
+      keeps = came.keeps;
+      fetched = subst (λ (pages : List ℕ). fetches Fine a.reach.pool.frames pages pages a.reach.pool.resident counts.pages ≡ Fetched pool.resident counted) (sym touched-are) came.fetched;
+    }
+
+    pub got-served : IsServed begins (with_pool (locked a seat wants owned) pool) seat committed order (record counts { pages = counted })
+    got-served = record {
+      goes = λ live bytes marked went.
+          served begins attempt refused a seat committed order counts wants owned pool live bytes marked counted next sound taken runner number free goes
+          fetched-here.moved fetched-here.keeps fetched-here.fetched got-free.0 got-free.1 went;
+      row_goes =
+          goes-shown begins attempt refused a seat committed order counts wants owned sound taken later wanted_here number free lines below_pages grants
+          pool runner resident next counted fetched-here goes;
+      is_open =
+          refused-not begins attempt refused a seat committed order counts wants owned sound taken later wanted_here number free lines below_pages grants
+          pool runner resident next counted fetched-here goes;
+    }
+
+  -- One couldn't be read, and it was rolled back: the turn is over.
+  module _ (off pool : Pool) (counted : ℕ) (broken : IsBrokenOff (locked a seat wants owned) committed order (pages_wanted wants) counts.pages off counted)
+      (undone : HasUndone (locked a seat wants owned).seating.holding seat (with_pool (locked a seat wants owned) off).reach (record (locked a seat wants owned).reach { pool = pool })) where
+    abbrev after : Activity
+    after = rolled (with_pool (locked a seat wants owned) off) seat pool
+
+    -- the entry of the attempt is the seat's, but for its mark
+    same : entry_in a seat ≡ record attempt.entry { waiting = free.ready.mark }
+    same =
+        one-entry 0 a.next (entries a) (entry_in a seat) (record attempt.entry { waiting = free.ready.mark }) free.follows.orderly.active.ascend
+        (seat-told a.seating.taken (entry_in a) seat taken) free.ready.here (sym number)
+
+    -- what the seat holds now is due once the row has gone on
+    due-next : due_to store (gone_on attempt.entry) ≡ locks_with attempt old
+    due-next = due-more store attempt.entry ∙ ap (λ (l : Lines). with_whole_pages (both (touched_of store attempt.entry) l)) (sym free.ready.lines)
+
+    holds : AreAlike (locks_in (locked a seat wants owned) seat) (due_to store (gone_on attempt.entry))
+    holds = subst (AreAlike (locks_in (locked a seat wants owned) seat)) (sym due-next) got-free.0
+
+    abbrev more : List ℕ
+    more = (due_to store (gone_on attempt.entry)).writes
+
+    abbrev written : List ℕ
+    written = (due_to store (entry_in a seat)).writes
+
+    written-more : (line : ℕ) → has written line ≡ true → has more line ≡ true
+    written-more line inside =
+        ap (λ (l : Lines). has l.writes line) (due-more store attempt.entry)
+        ∙ has-append (touched_of store attempt.entry).writes (wanted old attempt.entry).writes line
+        ∙ or_left (has (touched_of store attempt.entry).writes line) (has (wanted old attempt.entry).writes line) (sym (ap (λ (e : Entry). has (due_to store e).writes line) same) ∙ inside)
+
+    -- those of them that it hasn't written yet nobody has
+    apart : AreConsistent store a.most_lines a.next (replaced (gone_on attempt.entry) (entries a))
+    apart = (row-goes-on (with_grants attempt refused old) attempt next (grants-held old attempt refused free.ready free.free) goes).active
+
+    by-nobody : (line : ℕ) → has more line ≡ true → has written line ≡ false → is_line_marked off line ≡ false
+    by-nobody line inside out =
+        ap (λ (marked : List (List ℕ)). has (slice_index_or marked (page_of_line line) []) (line % 16)) broken.moved.marked
+        ∙ free.follows.kept.marked.is line
+        ∙ by_test (list_any (λ (entry : Entry). has (due_to store entry).writes line) (entries a)) refl
+      where
+        by_number : (entry : Entry) → IsAmong (entries a) entry → has (due_to store entry).writes line ≡ true → (mine : Bool) → (entry.number == attempt.entry.number) ≡ mine → ⊥
+        by_number entry among wrote_it true e =
+            let mine : entry_in a seat ≡ entry =
+            one-entry 0 a.next (entries a) (entry_in a seat) entry free.follows.orderly.active.ascend (seat-told a.seating.taken (entry_in a) seat taken) among
+            (sym number ∙ sym (eqb-true entry.number attempt.entry.number e)) in
+            both_ways (has written line) out (ap (λ (x : Entry). has (due_to store x).writes line) mine ∙ wrote_it)
+        by_number entry among wrote_it false e =
+            both_ways (has (all_of (due_to store entry)) line)
+            ((apart.apart (gone_on attempt.entry) entry
+            (new-among (gone_on attempt.entry) (entries a) (record attempt.entry { waiting = free.ready.mark }) free.ready.here refl)
+            (replaced-among (gone_on attempt.entry) (entries a) entry among e)
+            (eqb-turned entry.number attempt.entry.number ∙ e)).first_writes line inside)
+            (has_right (due_to store entry).reads (due_to store entry).writes line wrote_it)
+
+        by_test : (some : Bool) → list_any (λ (entry : Entry). has (due_to store entry).writes line) (entries a) ≡ some → some ≡ false
+        by_test true e =
+            let (entry, among, wrote_it) = any-among (λ (entry : Entry). has (due_to store entry).writes line) (entries a) e in
+            absurd (by_number entry among wrote_it (entry.number == attempt.entry.number) refl)
+        by_test false e = refl
+
+    -- so the lines that it has written were forgotten
+    forgotten : WereForgotten a.reach.directory written off pool committed
+    forgotten =
+        forgotten-fewer a.reach.directory more written off pool committed broken.keeps.clean written-more by-nobody
+        (were-forgotten a.reach.directory (wrote (locked a seat wants owned) seat) undone.pages more off pool committed
+        (of-held (locked a seat wants owned) seat undone.pages (due_to store (gone_on attempt.entry)) later holds (record { all = undone.all; only = undone.only }))
+        undone.were (undone.are committed free.follows.kept.long broken.keeps.clean))
+
+    kept-after : IsKept after committed
+    kept-after =
+        subst (λ (s : Seating). IsKept (record after { seating = s }) committed) (sym (left-locked a seat wants owned))
+        (kept-entries (rolled (with_pool a off) seat pool) after.reach.entries committed
+        (kept-left (with_pool a off) seat pool committed (sound-pool a off sound) taken free.follows.orderly.active
+        (moved-kept a off committed sound broken.moved broken.keeps free.follows.kept) forgotten))
+
+    desk-after : desk_over after committed order ≡ record (rolled_back (with_grants attempt refused old) attempt.entry) { resident = [] }
+    desk-after i =
+        record old {
+          frames = (undone.were.frames ∙ broken.moved.frames) i;
+          active = (entries-left a seat sound taken ∙ ap (λ (n : ℕ). filter (λ (other : Entry). not (other.number == n)) (entries a)) (sym number)) i;
+          authority = authority-after i;
+          resident = (undone.were.resident ∙ ap (taken_out undone.pages) broken.none) i;
+        }
+      where
+        cleared : ℕ → List desk.Authority → List desk.Authority
+        cleared n authority = map (λ (one : desk.Authority). if one.owner == n then desk.nobody else one) authority
+
+        authority-after : authority_told after ≡ cleared attempt.entry.number (with_grants attempt refused old).authority
+        authority-after =
+            authority-left (locked a seat wants owned) seat later taken (stands-for (locked a seat wants owned) later committed free.follows.orderly.active.ascend seat taken)
+            ∙ ap (λ (n : ℕ). cleared n (authority_told (locked a seat wants owned))) (sym number)
+            ∙ ap (cleared attempt.entry.number)
+            (ap (λ (numbers : ℕ → ℕ). owners_told numbers (authority_under owned)) (under-locked a seat wants owned) ∙ got-free.1)
+
+    pub got-broken : HasBroken begins after committed order (record counts { pages = counted })
+    got-broken = record {
+      comes =
+          free.comes (ReadFailed counted) (λ page within. ne_eqb counted page (λ e. absurd (let few = broken.counted in omega (arith, e, few, within))))
+          ∙ ap (goes_on (ReadFailed counted) attempt (with_grants attempt refused old) counts) fetches-is
+          ∙ ap (λ (d : Desk). Over d (record counts { pages = counted }) Disk) (sym desk-after);
+      follows = record {
+        orderly = orderly-other after committed order
+            (subst IsOrderly (sym desk-after)
+            (resident-consistent (rolled_back (with_grants attempt refused old) attempt.entry) []
+            (granted-rolled (with_grants attempt refused old) attempt (grants-held old attempt refused free.ready free.free))));
+        kept = kept-after;
+      };
+    }
+      where
+        fetches-is : fetches (ReadFailed counted) a.reach.pool.frames (touched_pages attempt) (touched_pages attempt) a.reach.pool.resident counts.pages ≡ Broken counted
+        fetches-is = subst (λ (pages : List ℕ). fetches (ReadFailed counted) a.reach.pool.frames pages pages a.reach.pool.resident counts.pages ≡ Broken counted) (sym touched-are) broken.broken
+
+  -- Either, from what took the locks.
+  module _ {W : Type 0} (G : Ghosts W) (kept_store : KeptStore) (outside : W) (mid new : Activity) (counted : ℕ) (is : mid ≡ locked a seat wants owned) (is_store : IsStoreOf G kept_store outside committed) where
+    clean-mid : IsClean mid.reach.directory mid.reach.pool committed
+    clean-mid = subst (λ (x : Activity). IsClean x.reach.directory x.reach.pool committed) (sym is) free.follows.kept.clean
+
+    pub served-so : a.reach.runner ≡ seat + 1 → new ≡ with_pool mid new.reach.pool
+        → ((page : ℕ) → has (pages_wanted wants) page ≡ true → has new.reach.pool.resident page ≡ true)
+        → ((committed : List ℕ) (order : List (ℕ × ℕ)) → IsStoreOf G kept_store outside committed → IsClean mid.reach.directory mid.reach.pool committed
+        → IsFetched mid committed order (pages_wanted wants) counts.pages new.reach.pool counted)
+        → IsServed begins new seat committed order (record counts { pages = counted })
+    served-so runner shape resident came =
+        subst (λ (x : Activity). IsServed begins x seat committed order (record counts { pages = counted })) (sym (shape ∙ ap (λ (x : Activity). with_pool x new.reach.pool) is))
+        (got-served new.reach.pool counted runner resident
+        (subst (λ (x : Activity). IsFetched x committed order (pages_wanted wants) counts.pages new.reach.pool counted) is (came committed order is_store clean-mid)))
+
+    pub broken-so : HasBrokenOff G kept_store outside mid seat (pages_wanted wants) counts.pages new counted → HasBroken begins new committed order (record counts { pages = counted })
+    broken-so off =
+        let here : HasBrokenOff G kept_store outside (locked a seat wants owned) seat (pages_wanted wants) counts.pages new counted =
+        subst (λ (x : Activity). HasBrokenOff G kept_store outside x seat (pages_wanted wants) counts.pages new counted) is off in
+        subst (λ (x : Activity). HasBroken begins x committed order (record counts { pages = counted })) (sym here.shape)
+        (got-broken here.pool new.reach.pool counted (here.off committed order is_store free.follows.kept.clean) here.undone)
+
+-- by what the answer is
+pub serves-by : {U : Type 0} (P Q R S T : Type 0) (result : Result U TurnEnd) (begins : Word → Turning) (a : Activity) (seat : ℕ) (committed : List ℕ) (order : List (ℕ × ℕ)) (counts : Counts)
+    → OnOk result P → OnOk result Q → OnOk result R → (P → Q → R → IsServed begins a seat committed order counts)
+    → IfErr result (λ over. (over ≡ end.Disk) × S) → IfErr result (λ over. T) → (T → HasBroken begins a committed order counts)
+    → Serves result begins a seat committed order counts
+serves-by P Q R S T (Ok nothing) begins a seat committed order counts shape resident came leads ends off breaks = leads shape resident came
+serves-by P Q R S T (Err over) begins a seat committed order counts shape resident came leads ends off breaks =
+    subst (λ (how : TurnEnd). HasEnded how begins a committed order counts) (sym ends.0) (breaks off)
+
+-- no more sit than did
+pub fewer-by : {U W : Type 0} (result : Result U TurnEnd) (G : Ghosts W) (kept_store : KeptStore) (outside : W) (a mid new : Activity) (seat : ℕ) (wants : List Want) (pages : List ℕ) (before counted : ℕ)
+    → has a.seating.taken seat ≡ true → mid ≡ locked a seat wants mid.reach.entries
+    → OnOk result (new ≡ with_pool mid new.reach.pool) → IfErr result (λ over. HasBrokenOff G kept_store outside mid seat pages before new counted)
+    → length new.seating.taken ≤ length a.seating.taken
+fewer-by (Ok nothing) G kept_store outside a mid new seat wants pages before counted taken is shape off =
+    let same : length new.seating.taken ≡ length a.seating.taken = ap (λ (x : Activity). length x.seating.taken) shape ∙ ap (λ (x : Activity). length x.seating.taken) is in
+    omega (arith, same)
+fewer-by (Err over) G kept_store outside a mid new seat wants pages before counted taken is shape off =
+    let same : length mid.seating.taken ≡ length a.seating.taken = ap (λ (x : Activity). length x.seating.taken) is in
+    let less = fewer-rolled mid new seat new.reach.pool (ap (λ (x : Activity). has x.seating.taken seat) is ∙ taken) off.shape in
+    omega (arith, same, less)

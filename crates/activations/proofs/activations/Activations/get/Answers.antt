@@ -1,0 +1,43 @@
+use Rattle.std.proofs.Common.{◌≡◌, ◌<◌, ℕ, true, length, sym, ap, subst}
+use Rattle.lock_rules.specs.Sets.{has}
+use Rattle.line_geometry.specs.Directory.{page_count}
+use Rattle.desk.specs.Instruction.{Counts}
+use Rattle.activations.specs.Activity.{Activity}
+use Rattle.activations.specs.Follows.{IsSound}
+use Rattle.activations.specs.Instructed.{Serves}
+use Rattle.activations.specs.Serving.{locked}
+use Rattle.activations.specs.Touched.{pages_picked, pages_wanted, wants_of}
+use Rattle.activations.specs.Turning.{counts_of}
+use Rattle.activations.specs.View.{activity_of}
+use Rattle.activations.proofs.GetLemmas.{picked-below, served-so, broken-so, serves-by, fewer-by}
+use Rattle.activations.proofs.GrantingLemmas.{granted-same}
+use Rattle.activations.proofs.activations.Activations.get.Goals as goal
+
+pub returns-clause-fewer : goal.returns-clause-fewer
+returns-clause-fewer g c =
+    fewer-by c.bring.result g.W.Outside c.args.store.now c.args.outside.now (activity_of c.args.self.now) (activity_of c.take.new.self) (activity_of c.bring.new.self) c.args.seat
+    (wants_of c.args.touch.now) (pages_wanted (wants_of c.args.touch.now)) c.args.tally.now.pages c.bring.new.tally.pages c.requires.taken c.take.ensures.shape c.bring.ensures.shape c.bring.ensures.broke
+
+pub returns-clause-served : goal.returns-clause-served
+returns-clause-served g c begins attempt next committed order is_store number goes lines free =
+    let a = activity_of c.args.self.now in
+    let mid = activity_of c.take.new.self in
+    let new = activity_of c.bring.new.self in
+    let seat = c.args.seat in
+    let wants = wants_of c.args.touch.now in
+    let refused = pages_picked c.args.touch.now c.args.refused in
+    let owned = mid.reach.entries in
+    let before = counts_of c.args.tally.now in
+    let counted = c.bring.new.tally.pages in
+    let sound = c.requires.sound in
+    let later = subst IsSound c.take.ensures.shape c.take.ensures.sound in
+    let below : (page : ℕ) → has refused page ≡ true → page < length a.reach.entries =
+    λ page inside. subst (λ (n : ℕ). page < n) (sym sound.entries) (picked-below (page_count a.reach.directory) c.args.touch.now c.args.refused c.requires.wanted.within page inside) in
+    let grants = granted-same mid (locked a seat wants owned) seat refused a.reach.entries owned (ap (λ (x : Activity). x.seating) c.take.ensures.shape) c.take.ensures.granted in
+    subst (λ (counts : Counts). Serves c.bring.result begins new seat committed order counts) (sym (ap counts_of c.bring.ensures.tally))
+    (serves-by _ _ _ _ _ c.bring.result begins new seat committed order (record before { pages = counted }) c.bring.ensures.shape c.bring.ensures.resident c.bring.ensures.fetched
+    (served-so begins attempt refused a seat committed order before wants owned sound c.requires.taken later c.requires.wanted number free lines below grants next goes
+    g.W.Outside c.args.store.now c.args.outside.now mid new counted c.take.ensures.shape is_store c.requires.selected.runner)
+    c.bring.ensures.ends c.bring.ensures.broke
+    (broken-so begins attempt refused a seat committed order before wants owned sound c.requires.taken later c.requires.wanted number free lines below grants next goes
+    g.W.Outside c.args.store.now c.args.outside.now mid new counted c.take.ensures.shape is_store))
