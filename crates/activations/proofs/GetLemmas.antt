@@ -48,12 +48,13 @@ use Rattle.activations.specs.Follows.{IsSound, IsKept}
 use Rattle.activations.specs.Instructed.{IsServed, Serves}
 use Rattle.activations.specs.Serves.{IsFetched}
 use Rattle.activations.specs.Serving.{AreGranted, IsFree, locked, with_entries}
+use Rattle.activations.specs.Kept.{KeepsParts}
 use Rattle.activations.specs.Steps.{rolled, with_pool, wrote}
 use Rattle.activations.specs.Touched.{AreWanted, page_if, pages_picked, pages_wanted, wants_of, with_whole_page}
 use Rattle.activations.specs.Turning.{HasBroken, HasEnded}
 use Rattle.activations.proofs.ContestLemmas.{orderly-other}
 use Rattle.activations.proofs.EndLemmas.{sound-pool}
-use Rattle.activations.proofs.GoOnLemmas.{fewer-rolled}
+use Rattle.activations.proofs.KeptLemmas.{keeps-locked, keeps-rolled}
 use Rattle.activations.proofs.GrantedLemmas.{granted-free, goes-shown, refused-not, under-locked}
 use Rattle.activations.proofs.PoolLemmas.{moved-kept}
 use Rattle.activations.proofs.RollbackLemmas.{WereForgotten, were-forgotten, forgotten-fewer, of-held, kept-left}
@@ -138,6 +139,8 @@ module _ (begins : Word → Turning) (attempt : Attempt) (refused : List ℕ) (a
 
     pub got-served : IsServed begins (with_pool (locked a seat wants owned) pool) seat committed order (record counts { pages = counted })
     got-served = record {
+      long = free.follows.kept.long;
+      clean = came.keeps.clean;
       goes = λ live bytes marked went.
           served begins attempt refused a seat committed order counts wants owned pool live bytes marked counted next sound taken runner number free goes
           fetched-here.moved fetched-here.keeps fetched-here.fetched got-free.0 got-free.1 went;
@@ -293,15 +296,13 @@ serves-by P Q R S T (Ok nothing) begins a seat committed order counts shape resi
 serves-by P Q R S T (Err over) begins a seat committed order counts shape resident came leads ends off breaks =
     subst (λ (how : TurnEnd). HasEnded how begins a committed order counts) (sym ends.0) (breaks off)
 
--- no more sit than did
-pub fewer-by : {U W : Type 0} (result : Result U TurnEnd) (G : Ghosts W) (kept_store : KeptStore) (outside : W) (a mid new : Activity) (seat : ℕ) (wants : List Want) (pages : List ℕ) (before counted : ℕ)
-    → has a.seating.taken seat ≡ true → mid ≡ locked a seat wants mid.reach.entries
+-- and all parts are as they were
+pub parts-by : {U W : Type 0} (result : Result U TurnEnd) (G : Ghosts W) (kept_store : KeptStore) (outside : W) (a mid new : Activity) (seat : ℕ) (wants : List Want) (pages : List ℕ) (before counted : ℕ)
+    → mid ≡ locked a seat wants mid.reach.entries
     → OnOk result (new ≡ with_pool mid new.reach.pool) → IfErr result (λ over. HasBrokenOff G kept_store outside mid seat pages before new counted)
-    → length new.seating.taken ≤ length a.seating.taken
-fewer-by (Ok nothing) G kept_store outside a mid new seat wants pages before counted taken is shape off =
-    let same : length new.seating.taken ≡ length a.seating.taken = ap (λ (x : Activity). length x.seating.taken) shape ∙ ap (λ (x : Activity). length x.seating.taken) is in
-    omega (arith, same)
-fewer-by (Err over) G kept_store outside a mid new seat wants pages before counted taken is shape off =
-    let same : length mid.seating.taken ≡ length a.seating.taken = ap (λ (x : Activity). length x.seating.taken) is in
-    let less = fewer-rolled mid new seat new.reach.pool (ap (λ (x : Activity). has x.seating.taken seat) is ∙ taken) off.shape in
-    omega (arith, same, less)
+    → KeepsParts a new 0
+parts-by (Ok nothing) G kept_store outside a mid new seat wants pages before counted is shape off =
+    subst (λ (x : Activity). KeepsParts a x 0) (sym (shape ∙ ap (λ (x : Activity). with_pool x new.reach.pool) is)) (keeps-locked a seat wants mid.reach.entries new.reach.pool)
+parts-by (Err over) G kept_store outside a mid new seat wants pages before counted is shape off =
+    subst (λ (x : Activity). KeepsParts a x 0) (sym (off.shape ∙ ap (λ (x : Activity). rolled (with_pool x off.pool) seat new.reach.pool) is))
+    (keeps-rolled a (with_pool (locked a seat wants mid.reach.entries) off.pool) seat 0 new.reach.pool (keeps-locked a seat wants mid.reach.entries off.pool))

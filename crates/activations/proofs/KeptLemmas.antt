@@ -12,6 +12,9 @@ use Rattle.activations.specs.Activity.{Activity}
 use Rattle.seats.specs.Seating.{sitter}
 use Rattle.activations.specs.Attempted.{IsSelected, TookEffect}
 use Rattle.activations.specs.Kept.{AreRowsWithin, KeepsParts, StaysSeated}
+use Rattle.line_locks.specs.declared.request.Want.{Want}
+use Rattle.lockbit_rules.specs.declared.Authority.{Authority}
+use Rattle.activations.specs.Serving.{locked}
 use Rattle.activations.specs.Steps.{rolled, with_pool}
 
 -- none more are left of those but one
@@ -111,3 +114,7 @@ keeps-broke a after seat between pool shape =
 -- or by a check, where nothing else had changed
 pub keeps-checked : (a same after : Activity) (seat : ℕ) (pool : Pool) → same ≡ a → after ≡ rolled same seat pool → KeepsParts a after 0
 keeps-checked a same after seat pool is shape = keeps-left a after seat pool (shape ∙ ap (λ (x : Activity). rolled x seat pool) is)
+
+-- locks were taken and entries granted, and other pages came in
+pub keeps-locked : (a : Activity) (seat : ℕ) (wants : List Want) (entries : List Authority) (pool : Pool) → KeepsParts a (with_pool (locked a seat wants entries) pool) 0
+keeps-locked a seat wants entries pool = let same = keeps-itself a in record { programs = refl; most_lines = refl; next = refl; directory = refl; fewer = same.fewer; rows = same.rows }

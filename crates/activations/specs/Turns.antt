@@ -13,7 +13,7 @@ use Rattle.desk_law.specs.Beside.{Reads, over_all}
 use Rattle.seats.specs.Seating.{number_in}
 use Rattle.activations.specs.declared.instructions.Went.{Went}
 use Rattle.activations.specs.declared.instructions.Went.TheVariants as went
-use Rattle.activations.specs.Activity.{Activity, program_in, entry_in, store_over, desk_over, shown}
+use Rattle.activations.specs.Activity.{Activity, live_in, program_in, entry_in, store_over, desk_over, shown}
 use Rattle.activations.specs.Attempted.{IsShut}
 use Rattle.activations.specs.Follows.{Follows}
 use Rattle.activations.specs.Instructed.{GoesUncounted}
@@ -50,3 +50,12 @@ AreTurns (Err end) begins a seat committed order counts = HasEnded end begins a 
 -- it may be known already that the next row's access isn't permitted
 abbrev pub MayBeShut : Activity → (seat : ℕ) → Option Access → Type 0
 MayBeShut a seat shut = (access : Access) → shut ≡ Some access → IsShut a seat access
+
+-- Wherever a turn began, it comes to so many rows more from here, at the most.
+pub record IsTurning (begins : Word → Turning) (a : Activity) (seat left : ℕ) (committed : List ℕ) (order : List (ℕ × ℕ)) (counts : Counts) : Type 0 where
+  pub comes : (word : Word) → Reads word counts.pages → begins word ≡ turn_in a seat left committed order counts word
+  pub follows : Follows a committed
+
+-- a seat is selected
+abbrev pub selected_in : Activity → (seat : ℕ) → Activity
+selected_in a seat = record a { reach = record a.reach { registers = (live_in a seat).registers; runner = seat + 1 } }

@@ -232,7 +232,6 @@ impl Activations {
         ensures sound { IsSound (activity_of self.new) }
         ensures asks { OnlyAsks W.Outside outside.old outside.new }
         ensures parts { KeepsParts (activity_of self.old) (activity_of self.new) 0 }
-        ensures fewer { length (activity_of self.new).seating.taken ≤ length (activity_of self.old).seating.taken }
         ensures tally { tally.new ≡ record tally.old { pages = tally.new.pages } }
         ensures few { tally.new.pages ≤ tally.old.pages + 2 }
         ensures stays { OnOk result (StaysSeated (activity_of self.old) (activity_of self.new) seat) }

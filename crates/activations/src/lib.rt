@@ -15,6 +15,7 @@ mod serving;
 mod tally;
 mod touch;
 mod touching;
+mod turns;
 
 pub use activations::Activations;
 pub use live::Live;

@@ -5,6 +5,7 @@ ghost use Rattle.lock_rules.specs.Sets.{has};
 ghost use Rattle.outside.specs.Runs.{OnlyAsks};
 ghost use Rattle.redo_journal.specs.Held.{HoldsAtLeast};
 ghost use Rattle.store_format.specs.Header.{total};
+ghost use Rattle.desk.specs.Instruction.{Word, Counts, Turning};
 
 use super::activations::Activations;
 use super::instructions::Went;
@@ -15,14 +16,14 @@ use restart::Durable;
 use romp_cpu::Access;
 
 impl Activations {
-    ghost use Rattle.activations.specs.Attempted.{IsSelected, Strode};
+    ghost use Rattle.activations.specs.Attempted.{IsSelected};
     ghost use Rattle.activations.specs.Fetching.{IsStoreOf};
     ghost use Rattle.activations.specs.Follows.{IsSound, Follows};
     ghost use Rattle.activations.specs.Instructed.{IsEndOfRows};
     ghost use Rattle.activations.specs.Kept.{KeepsParts, AreRowsWithin, StaysSeated};
-    ghost use Rattle.activations.specs.Steps.{counted, selected};
+    ghost use Rattle.activations.specs.Steps.{counted};
     ghost use Rattle.activations.specs.Turning.{counts_of};
-    ghost use Rattle.activations.specs.Turns.{AreTurns, MayBeShut, turn_in};
+    ghost use Rattle.activations.specs.Turns.{AreTurns, IsTurning, MayBeShut, turn_in, selected_in};
     ghost use Rattle.activations.specs.View.{activity_of};
 
     /// The rows of a turn of who sits in a seat, at most so many, up to his commit call. Nothing was counted before.
@@ -88,7 +89,7 @@ impl Activations {
         ensures stays { StaysSeated (activity_of self.old) (activity_of self.new) seat }
         ensures taken { (activity_of self.new).seating.taken ≡ (activity_of self.old).seating.taken }
         ensures shut { MayBeShut (activity_of self.new) seat result.1 }
-        ensures gone { (begins : Word → Turning) (committed : List ℕ) (order : List (ℕ × ℕ)) (left : ℕ) (counts : Counts) → Follows (counted (activity_of self.old) seat 1) committed → IsTurningOn begins (counted (activity_of self.old) seat 1) seat (limit + left) committed order counts → IsTurningOn … }
+        ensures gone { (begins : Word → Turning) (committed : List ℕ) (order : List (ℕ × ℕ)) (counts : Counts) (rows left : ℕ) → result.0 ≡ 1 + rows → IsTurning begins (counted (activity_of self.old) seat 1) seat (rows + left) committed order (record counts { ran = counts.ran + 1 }) → IsTurning begins (activity_of self.new) seat left committed order (record counts { ran = counts.ran + result.0 }) }
     {
         let (ran, access) = self.stride(seat, limit);
         self.seats.go_on(seat, 1 + ran);
@@ -102,7 +103,7 @@ impl Activations {
         requires taken { has (activity_of self.old).seating.taken seat ≡ true }
         ensures sound { IsSound (activity_of self.new) }
         ensures selected { IsSelected (activity_of self.new) seat }
-        ensures shape { activity_of self.new ≡ selected (activity_of self.old) seat }
+        ensures shape { activity_of self.new ≡ selected_in (activity_of self.old) seat }
     {
         self.unit.select(seat, &self.live[usize::from(seat)].registers);
     }

@@ -9,14 +9,14 @@ use Rattle.activations.specs.Serving.{locked}
 use Rattle.activations.specs.Touched.{pages_picked, pages_wanted, wants_of}
 use Rattle.activations.specs.Turning.{counts_of}
 use Rattle.activations.specs.View.{activity_of}
-use Rattle.activations.proofs.GetLemmas.{picked-below, served-so, broken-so, serves-by, fewer-by}
+use Rattle.activations.proofs.GetLemmas.{picked-below, served-so, broken-so, serves-by, parts-by}
 use Rattle.activations.proofs.GrantingLemmas.{granted-same}
 use Rattle.activations.proofs.activations.Activations.get.Goals as goal
 
-pub returns-clause-fewer : goal.returns-clause-fewer
-returns-clause-fewer g c =
-    fewer-by c.bring.result g.W.Outside c.args.store.now c.args.outside.now (activity_of c.args.self.now) (activity_of c.take.new.self) (activity_of c.bring.new.self) c.args.seat
-    (wants_of c.args.touch.now) (pages_wanted (wants_of c.args.touch.now)) c.args.tally.now.pages c.bring.new.tally.pages c.requires.taken c.take.ensures.shape c.bring.ensures.shape c.bring.ensures.broke
+pub returns-clause-parts : goal.returns-clause-parts
+returns-clause-parts g c =
+    parts-by c.bring.result g.W.Outside c.args.store.now c.args.outside.now (activity_of c.args.self.now) (activity_of c.take.new.self) (activity_of c.bring.new.self) c.args.seat
+    (wants_of c.args.touch.now) (pages_wanted (wants_of c.args.touch.now)) c.args.tally.now.pages c.bring.new.tally.pages c.take.ensures.shape c.bring.ensures.shape c.bring.ensures.broke
 
 pub returns-clause-served : goal.returns-clause-served
 returns-clause-served g c begins attempt next committed order is_store number goes lines free =
