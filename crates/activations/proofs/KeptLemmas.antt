@@ -118,3 +118,7 @@ keeps-checked a same after seat pool is shape = keeps-left a after seat pool (sh
 -- locks were taken and entries granted, and other pages came in
 pub keeps-locked : (a : Activity) (seat : ℕ) (wants : List Want) (entries : List Authority) (pool : Pool) → KeepsParts a (with_pool (locked a seat wants entries) pool) 0
 keeps-locked a seat wants entries pool = let same = keeps-itself a in record { programs = refl; most_lines = refl; next = refl; directory = refl; fewer = same.fewer; rows = same.rows }
+
+-- and then nothing more
+pub keeps-two : (a b c : Activity) → KeepsParts a b 0 → KeepsParts b c 0 → KeepsParts a c 0
+keeps-two a b c first second = subst (KeepsParts a c) (omega arith) (keeps-on a b c 0 0 first second)

@@ -34,6 +34,7 @@ pub mod TableLemmas
 pub mod TakenLemmas
 pub mod TouchLemmas
 pub mod TouchingLemmas
+pub mod TurnLemmas
 pub mod UndoLemmas
 pub mod VacateLemmas
 pub mod WaitLemmas

@@ -1,5 +1,5 @@
 -- What one instruction of who sits in a seat comes to, stage by stage.
-use Rattle.std.specs.Prelude.{◌≡◌, ℕ, ◌+◌, ◌≤◌, List, [], ◌∷◌, length, map, Bool, Result, Ok, Err}
+use Rattle.std.specs.Prelude.{◌≡◌, ℕ, ◌+◌, ◌<◌, ◌≤◌, List, [], ◌∷◌, length, map, Bool, Result, Ok, Err}
 use Rattle.outside.specs.declared.world.Outside.{Ghosts}
 use Rattle.outside.specs.Causes.{Rose}
 use Rattle.flat_machine.specs.declared.machine.Plain.{Plain}
@@ -31,14 +31,15 @@ pub record TalliesMore (old new : Tally) : Type 0 where
   pub pages : new.pages ≤ old.pages + 4
   pub locks : new.locks ≤ old.locks + 2
 
--- an end of a turn before its commit call: the disk's faults have risen where a page couldn't be read, and nowhere else
-abbrev pub IsEndOfRows : {W : Type 0} → Ghosts W → (before after : W) → TurnEnd → Type 0
-IsEndOfRows G before after end.Disk = Rose (G.disk_faults before) (G.disk_faults after)
-IsEndOfRows G before after end.Idle = ⊥
-IsEndOfRows G before after (end.Committed number steps) = ⊥
-IsEndOfRows G before after (end.Closed doubt number) = ⊥
-IsEndOfRows G before after end.Shut = ⊥
-IsEndOfRows G before after _ = G.disk_faults after ≡ G.disk_faults before
+-- an end of a turn before its commit call: the disk's faults have risen where the page that was counted last couldn't be read,
+-- and nowhere else
+abbrev pub IsEndOfRows : {W : Type 0} → Ghosts W → (before after : W) → (old new : Tally) → TurnEnd → Type 0
+IsEndOfRows G before after old new end.Disk = Rose (G.disk_faults before) (G.disk_faults after) × (old.pages < new.pages)
+IsEndOfRows G before after old new end.Idle = ⊥
+IsEndOfRows G before after old new (end.Committed number steps) = ⊥
+IsEndOfRows G before after old new (end.Closed doubt number) = ⊥
+IsEndOfRows G before after old new end.Shut = ⊥
+IsEndOfRows G before after old new _ = G.disk_faults after ≡ G.disk_faults before
 
 -- a program check
 abbrev pub IsCheck : TurnEnd → Type 0

@@ -7,6 +7,7 @@ use romp_cpu::{Access, Attempt};
 
 impl Activations {
     ghost use Rattle.activations.specs.Follows.{IsSound};
+    ghost use Rattle.activations.specs.Kept.{KeepsParts};
     ghost use Rattle.activations.specs.Attempted.{IsSelected, WasAttempted, Strode, IsShut, IsStopped};
     ghost use Rattle.activations.specs.View.{activity_of};
 
@@ -36,6 +37,7 @@ impl Activations {
         ensures sound { IsSound (activity_of self.new) }
         ensures selected { IsSelected (activity_of self.new) seat }
         ensures few { result.0 ≤ limit }
+        ensures parts { KeepsParts (activity_of self.old) (activity_of self.new) 0 }
         ensures strode { Strode (activity_of self.old) seat result.0 (activity_of self.new) }
         ensures stopped { result.1 ≡ None → result.0 < limit → IsStopped (activity_of self.new) seat }
         ensures shut { (access : Access) → result.1 ≡ Some access → IsShut (activity_of self.new) seat access }

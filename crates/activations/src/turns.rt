@@ -53,7 +53,7 @@ impl Activations {
         ensures ran { tally.new.ran ≤ limit }
         ensures stays { OnOk result (StaysSeated (activity_of self.old) (activity_of self.new) seat) }
         ensures calm { OnOk result (W.disk_faults outside.new ≡ W.disk_faults outside.old) }
-        ensures ends { IfErr result (IsEndOfRows W.Outside outside.old outside.new) }
+        ensures ends { IfErr result (IsEndOfRows W.Outside outside.old outside.new tally.old tally.new) }
         ensures turned { (committed : List ℕ) (order : List (ℕ × ℕ)) → IsStoreOf W.Outside store.now outside.old committed → Follows (activity_of self.old) committed → AreTurns result (turn_in (activity_of self.old) seat limit committed order (counts_of tally.old)) (activity_of self.new) seat committed order (counts_of tally.new) }
     {
         self.select(seat);
@@ -105,6 +105,9 @@ impl Activations {
         ensures selected { IsSelected (activity_of self.new) seat }
         ensures shape { activity_of self.new ≡ selected_in (activity_of self.old) seat }
     {
-        self.unit.select(seat, &self.live[usize::from(seat)].registers);
+        // The segments of a directory are legal: this call says so.
+        let _segments = self.directory.segments();
+        self.unit
+            .select(seat, &self.live[usize::from(seat)].registers);
     }
 }

@@ -7,7 +7,8 @@ use Rattle.activations.specs.Serving.{instruction_in}
 use Rattle.activations.specs.Turning.{counts_of}
 use Rattle.activations.specs.View.{activity_of}
 use Rattle.activations.proofs.BringLemmas.{store-on}
-use Rattle.activations.proofs.ServeLemmas.{handed, keeps-two}
+use Rattle.activations.proofs.KeptLemmas.{keeps-two}
+use Rattle.activations.proofs.ServeLemmas.{handed}
 use Rattle.activations.proofs.activations.Activations.serve.Goals as goal
 
 pub returns-in_err-touch-clause-parts : goal.returns-in_err-touch-clause-parts

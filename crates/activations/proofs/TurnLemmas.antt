@@ -1,0 +1,144 @@
+-- The rows of a turn, instruction by instruction.
+use Rattle.std.specs.Prelude.{◌≡◌, refl, ℕ, suc, ◌+◌, ◌<◌, ◌≤◌, true, List, length}
+use Rattle.std.proofs.Common.{arith, ap, sym, ◌∙◌, subst}
+use Rattle.std.proofs.lemmas.Bool.Decides.{nat_tests}
+use Rattle.lock_rules.specs.Sets.{has}
+use Rattle.outside.specs.declared.world.Outside.{Ghosts}
+use Rattle.desk.specs.Answers.{ending_told}
+use Rattle.desk.specs.Desk.{Desk, Entry}
+use Rattle.desk.specs.Instruction.{Word, ReadFailed, Counts, Turning, Going, Over, Ending, Limit, Disk, commits, turns}
+use Rattle.desk.specs.declared.answers.TurnEnd.{TurnEnd}
+use Rattle.desk.specs.declared.answers.TurnEnd.TheVariants as end
+use Rattle.desk_law.specs.Beside.{Reads}
+use Rattle.desk_law.specs.Consistent.{IsAmong}
+use Rattle.desk_law.specs.Orderly.{IsOrderly}
+use Rattle.desk_law.proofs.Seats.{seat-told}
+use Rattle.desk_law.proofs.TurnLoop as law
+use Rattle.desk_law.proofs.TurnLoop.{turning-goes, turning-ends, turning-commits, turning-limit}
+use Rattle.seats.specs.Seating.{Seating, number_in}
+use Rattle.seats.proofs.Kept.{taken-below}
+use Rattle.activations.specs.declared.tally.Tally.{Tally}
+use Rattle.activations.specs.Activity.{Activity, entry_in, entries, desk_over}
+use Rattle.activations.specs.Attempted.{Strode}
+use Rattle.activations.specs.Follows.{IsSound, Follows}
+use Rattle.activations.specs.Instructed.{GoesUncounted, IsEndOfRows}
+use Rattle.activations.specs.Kept.{StaysSeated}
+use Rattle.activations.specs.Serving.{IsOver, instruction_in}
+use Rattle.activations.specs.Steps.{counted}
+use Rattle.activations.specs.Turning.{HasBroken, HasEnded, counts_of}
+use Rattle.activations.specs.Turns.{IsAtCommit, IsTurning, turn_in, commit_call}
+use Rattle.activations.proofs.RowLemmas.{orderly-order}
+use Rattle.activations.proofs.SittingLemmas.{number-counted}
+
+-- a turn begins
+pub turn-begins : (a : Activity) (seat limit : ℕ) (committed : List ℕ) (order : List (ℕ × ℕ)) (counts : Counts) → Follows a committed
+    → IsTurning (turn_in a seat limit committed order counts) a seat limit committed order counts
+turn-begins a seat limit committed order counts follows = record { comes = λ word reads. refl; follows = follows }
+
+-- rows that were strode over
+pub turn-strides : (begins : Word → Turning) (a after : Activity) (seat rows ran left : ℕ) (committed : List ℕ) (order : List (ℕ × ℕ)) (counts : Counts) → IsSound a → has a.seating.taken seat ≡ true
+    → Strode a seat ran after → 1 + ran ≡ 1 + rows → IsTurning begins (counted a seat 1) seat (rows + left) committed order (record counts { ran = counts.ran + 1 })
+    → IsTurning begins (counted after seat (1 + ran)) seat left committed order (record counts { ran = counts.ran + (1 + ran) })
+turn-strides begins a after seat rows ran left committed order counts sound taken strode same turning = record {
+  comes = λ word reads.
+      turning.comes word reads
+      ∙ (λ i. turns word (number i) (first i + left) (Going (desk_over (counted a seat 1) committed order) (record counts { ran = counts.ran + 1 })))
+      ∙ strode.turns word committed order 1 left (record counts { ran = counts.ran + 1 }) turning.follows
+      ∙ (λ i. turns word (later i) left (Going (desk_over (counted after seat (1 + ran)) committed order) (record counts { ran = sum i })));
+  follows = strode.follows committed 1 turning.follows;
+}
+  where
+    below : seat < 16
+    below = taken-below a.seating sound.seating seat taken
+
+    number : number_in (counted a seat 1).seating seat ≡ number_in a.seating seat
+    number = number-counted a seat 1 sound.seating.sixteen below seat
+
+    first : rows ≡ ran
+    first = omega (arith, same)
+
+    sum : counts.ran + 1 + ran ≡ counts.ran + (1 + ran)
+    sum = omega arith
+
+    later : number_in a.seating seat ≡ number_in (counted after seat (1 + ran)).seating seat
+    later =
+        ap (λ (s : Seating). number_in s seat) (sym strode.seating)
+        ∙ sym (number-counted after seat (1 + ran) (ap (λ (s : Seating). length s.sitters) strode.seating ∙ sound.seating.sixteen) below seat)
+
+-- pages before one that can't be read can be
+unread : (counted page : ℕ) → counted < page → Reads (ReadFailed page) counted
+unread counted page less at few = grind (arith, nat_tests, less, few)
+
+module _ (begins : Word → Turning) (a : Activity) (seat left : ℕ) (committed : List ℕ) (order : List (ℕ × ℕ)) (counts : Counts)
+    (sound : IsSound a) (taken : has a.seating.taken seat ≡ true) (turning : IsTurning begins a seat (suc left) committed order counts) where
+  abbrev desk : Desk
+  desk = desk_over a committed order
+
+  here : IsAmong (entries a) (entry_in a seat)
+  here = seat-told a.seating.taken (entry_in a) seat taken
+
+  is : IsOrderly desk
+  is = orderly-order a committed order turning.follows.orderly
+
+  on : law.IsTurning begins (entry_in a seat).number (suc left) desk counts
+  on = record { comes = turning.comes }
+
+  -- a row took effect
+  pub turn-goes : (after : Activity) (more : Counts) → IsSound after → StaysSeated a after seat → counts.pages ≤ more.pages → GoesUncounted (instruction_in a seat committed order counts) after seat committed order more
+      → IsTurning begins (counted after seat 1) seat left committed order (record more { ran = more.ran + 1 })
+  turn-goes after more later stays grows goes = record {
+    comes = λ word reads.
+        (turning-goes begins left desk counts (entry_in a seat) is here on (desk_over (counted after seat 1) committed order) (record more { ran = more.ran + 1 }) grows goes.comes).comes word reads
+        ∙ ap (λ (n : ℕ). turns word n left (Going (desk_over (counted after seat 1) committed order) (record more { ran = more.ran + 1 }))) number;
+    follows = goes.follows;
+  }
+    where
+      number : number_in a.seating seat ≡ number_in (counted after seat 1).seating seat
+      number = sym (number-counted after seat 1 later.seating.sixteen (taken-below after.seating later.seating seat stays.taken) seat ∙ stays.number)
+
+  -- it is the commit call
+  pub turn-commits : (after : Activity) → (more : Counts) → counts.pages ≤ more.pages → IsAtCommit (instruction_in a seat committed order counts) after seat committed order more
+      → IsAtCommit begins after seat committed order more
+  turn-commits after more grows at = record {
+    now = at.now;
+    at = at.at;
+    goes = at.goes;
+    comes = λ word reads.
+        turning-commits begins left desk counts (entry_in a seat) is here on word (commit_call after seat committed order at.now) (desk_over after committed order) more
+        (λ page few. reads page (omega (arith, few, grows))) (at.comes word reads);
+    follows = at.follows;
+  }
+
+  -- or it ended
+  over : (after : Activity) (more : Counts) (ending : Ending) → counts.pages ≤ more.pages → IsOver (instruction_in a seat committed order counts) after committed order more ending → IsOver begins after committed order more ending
+  over after more ending grows ended = record {
+    comes = λ word reads.
+        turning-ends begins left desk counts (entry_in a seat) is here on word (desk_over after committed order) more ending (λ page few. reads page (omega (arith, few, grows))) (ended.comes word reads);
+    follows = ended.follows;
+  }
+
+  broken : (after : Activity) (more : Counts) → counts.pages < more.pages → HasBroken (instruction_in a seat committed order counts) after committed order more → HasBroken begins after committed order more
+  broken after more grows ended = record {
+    comes = turning-ends begins left desk counts (entry_in a seat) is here on (ReadFailed more.pages) (desk_over after committed order) more Disk (unread counts.pages more.pages grows) ended.comes;
+    follows = ended.follows;
+  }
+
+  pub turn-ends : {W : Type 0} (G : Ghosts W) (start now : W) (old new : Tally) (end : TurnEnd) (after : Activity) → counts.pages ≡ old.pages → old.pages ≤ new.pages
+      → IsEndOfRows G start now old new end → HasEnded end (instruction_in a seat committed order counts) after committed order (counts_of new) → HasEnded end begins after committed order (counts_of new)
+  turn-ends G start now old new end.Disk after same grows rows ended = let less = rows.1 in broken after (counts_of new) (omega (arith, same, less)) ended
+  turn-ends G start now old new end.Idle after same grows rows ended = absurd rows
+  turn-ends G start now old new (end.Committed number steps) after same grows rows ended = absurd rows
+  turn-ends G start now old new (end.Closed doubt number) after same grows rows ended = absurd rows
+  turn-ends G start now old new end.Shut after same grows rows ended = absurd rows
+  turn-ends G start now old new end.Limit after same grows rows ended = λ printed. over after (counts_of new) (ending_told end.Limit printed) (omega (arith, same, grows)) (ended printed)
+  turn-ends G start now old new (end.Checked code address) after same grows rows ended = λ printed. over after (counts_of new) (ending_told (end.Checked code address) printed) (omega (arith, same, grows)) (ended printed)
+  turn-ends G start now old new (end.Waits number holders) after same grows rows ended = λ printed. over after (counts_of new) (ending_told (end.Waits number holders) printed) (omega (arith, same, grows)) (ended printed)
+  turn-ends G start now old new end.Victim after same grows rows ended = λ printed. over after (counts_of new) (ending_told end.Victim printed) (omega (arith, same, grows)) (ended printed)
+  turn-ends G start now old new (end.Journal lines most) after same grows rows ended = λ printed. over after (counts_of new) (ending_told (end.Journal lines most) printed) (omega (arith, same, grows)) (ended printed)
+
+-- no rows are left
+pub turn-limit : (begins : Word → Turning) (a : Activity) (seat : ℕ) (committed : List ℕ) (order : List (ℕ × ℕ)) (counts : Counts) → IsTurning begins a seat 0 committed order counts → IsOver begins a committed order counts Limit
+turn-limit begins a seat committed order counts turning = record {
+  comes = λ word reads. turning-limit begins (number_in a.seating seat) (desk_over a committed order) counts (record { comes = turning.comes }) word reads;
+  follows = turning.follows;
+}
