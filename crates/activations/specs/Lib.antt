@@ -12,3 +12,4 @@ pub mod Ends
 pub mod Fetching
 pub mod Serves
 pub mod Instructed
+pub mod Recorded
