@@ -9,10 +9,11 @@ use Rattle.line_locks.specs.Flat.{lines_wanted}
 use Rattle.line_locks.specs.declared.request.Request.{Request}
 use Rattle.flat_machine.specs.declared.machine.Plain.{Plain}
 use Rattle.frame_pool.specs.declared.model.Pool.{Pool}
-use Rattle.desk.specs.Desk.{Desk, Entry}
+use Rattle.desk.specs.Desk.{Desk, Entry, Authority}
 use Rattle.desk.specs.Instruction.{Word, Counts, Attempt, Turning, Over, Victim, Waits, contest_ends}
 use Rattle.desk_law.specs.Beside.{AreAlike, by_number, kept_conflict, kept_waits}
 use Rattle.desk_law.specs.Orderly.{IsOrderly}
+use Rattle.desk_law.proofs.Contest.{KeepsPages}
 use Rattle.desk_law.proofs.ContestRounds.{with_cycle, contest, IsUnderWay}
 use Rattle.desk_law.proofs.KeptTables.{alike-same}
 use Rattle.desk_law.proofs.Seats.{told-found, at-number}
@@ -21,7 +22,7 @@ use Rattle.seats.specs.Seating.{number_in, seat_of, sitter}
 use Rattle.seats.specs.Waiting.{holders, cycle_of}
 use Rattle.activations.specs.Activity.{Activity, entry_in, entries, desk_over, locks_in, request_in, state_in, shown}
 use Rattle.activations.specs.Follows.{IsSound, Follows}
-use Rattle.activations.specs.Serving.{IsContested, IsOver, IsFree}
+use Rattle.activations.specs.Serving.{IsContested, IsOver, IsFree, WereRefused}
 use Rattle.activations.specs.Steps.{rolled, RollsBack}
 use Rattle.activations.proofs.CommitLemmas.{told-kept}
 use Rattle.activations.proofs.WaitLemmas.{holders-told, cycle-told}
@@ -29,6 +30,14 @@ use Rattle.activations.proofs.WaitLemmas.{holders-told, cycle-told}
 -- a consistent desk is so whatever its order
 pub orderly-other : (a : Activity) (committed : List ℕ) (order : List (ℕ × ℕ)) → IsOrderly (desk_over a committed order) → IsOrderly (desk_over a committed [])
 orderly-other a committed order is = record { whole = is.whole; few = is.few; active = is.active; held = is.held; no_cycle = is.no_cycle }
+
+-- what was refused once was so also where the attempt's own pages are still its own
+pub refused-since : (attempt : Attempt) (refused : List ℕ) (first now : Desk) → WereRefused attempt refused first → KeepsPages attempt.entry.number first.authority now.authority → WereRefused attempt refused now
+refused-since attempt refused first now were keeps = record {
+  once = were.once;
+  are = were.are;
+  keeps = λ page own. keeps page (ap (λ (one : Authority). one.owner == attempt.entry.number) (were.keeps page own) ∙ own) ∙ were.keeps page own;
+}
 
 module _ (begins : Word → Turning) (attempt : Attempt) (refused : List ℕ) (first : Desk) (a : Activity) (seat : ℕ) (committed : List ℕ) (order : List (ℕ × ℕ)) (counts : Counts)
     (sound : IsSound a) (taken : has a.seating.taken seat ≡ true) (number : attempt.entry.number ≡ number_in a.seating seat)
@@ -75,6 +84,7 @@ module _ (begins : Word → Turning) (attempt : Attempt) (refused : List ℕ) (f
           record {
             comes = λ word reads. turn.comes word reads ∙ ap (λ (d : Desk). contest_ends word attempt refused (contest attempt.entry.number d (with_cycle counts cycle))) (sym (rolls.desk order));
             ready = is.ready;
+            were = is.were;
             under_way = subst (λ (d : Desk). IsUnderWay first d (marked attempt)) (sym (rolls.desk order)) turn.under_way;
             kept = rolls.kept;
           }
@@ -125,5 +135,6 @@ module _ (begins : Word → Turning) (attempt : Attempt) (refused : List ℕ) (f
             comes = gets.0;
             free = gets.1;
             ready = contesting-ready begins attempt refused first desk counts locks requests states (shown a committed) told (cycle-is None found);
+            were = refused-since attempt refused first desk is.were is.under_way.keeps;
             follows = follows-here;
           }

@@ -1,10 +1,11 @@
 -- The row whose access was served: it takes effect.
-use Rattle.std.specs.Prelude.{◌≡◌, refl, ℕ, ◌+◌, ◌<◌, ◌≤◌, ◌==◌, not, Bool, true, false, List, filter, length, None}
-use Rattle.std.proofs.Common.{arith, ap, sym, ◌∙◌, subst}
+use Rattle.std.specs.Prelude.{◌≡◌, refl, ℕ, ◌+◌, ◌<◌, ◌≤◌, ◌==◌, ◌⊎◌, not, Bool, true, false, List, filter, length, None}
+use Rattle.std.proofs.Common.{arith, ap, sym, ◌∙◌, subst, inl, inr}
 use Rattle.std.proofs.lemmas.Bool.{eqb-true}
 use Rattle.lock_rules.specs.Sets.{has}
 use Rattle.line_geometry.specs.Directory.{byte_count}
 use Rattle.flat_machine.specs.Row.{Outcome, On, Commit, Check, row}
+use Rattle.romp_cpu.specs.declared.cpu.Attempt.{Attempt}
 use Rattle.frame_pool.specs.declared.model.Pool.{Pool}
 use Rattle.desk.specs.Instruction.{Word, Counts, Turning}
 use Rattle.seats.specs.declared.seat.Seat.{Seat}
@@ -12,7 +13,7 @@ use Rattle.seats.specs.Seating.{sitter, went_on}
 use Rattle.seats.proofs.Kept.{taken-below}
 use Rattle.storage_unit.specs.Bytes.{IsClean}
 use Rattle.activations.specs.Activity.{Activity, live_in, program_in}
-use Rattle.activations.specs.Attempted.{TookEffect, CameTo, IsShut, plain_in}
+use Rattle.activations.specs.Attempted.{TookEffect, WasAttempted, CameTo, IsShut, plain_in}
 use Rattle.activations.specs.Follows.{IsSound}
 use Rattle.activations.specs.Instructed.{IsServed}
 use Rattle.activations.specs.Kept.{AreRowsWithin, KeepsParts}
@@ -69,3 +70,16 @@ module _ (begins : Word → Turning) (a after : Activity) (seat : ℕ) (committe
 
   pub not-commit : CameTo Commit a seat after → ⊥
   not-commit came = let goes = served.row_goes.1 in let commit = came.1 committed long in cc (goes, commit)
+
+-- who sat there sits there still
+pub still-taken : (a after : Activity) (seat : ℕ) → has a.seating.taken seat ≡ true → TookEffect a seat after → has after.seating.taken seat ≡ true
+still-taken a after seat taken took = ap (λ (x : Activity). has x.seating.taken seat) took.shape ∙ taken
+
+-- whether it printed or not
+pub took-either : (attempt : Attempt) (a after : Activity) (seat : ℕ) → (attempt ≡ Attempt.Went) ⊎ ((byte : ℕ) × (attempt ≡ Attempt.Print byte)) → WasAttempted attempt a seat after → TookEffect a seat after
+took-either attempt a after seat (inl is) went = subst (λ (one : Attempt). WasAttempted one a seat after) is went
+took-either attempt a after seat (inr (byte, is)) went = subst (λ (one : Attempt). WasAttempted one a seat after) is went
+
+-- fewer sit after a check
+pub fewer-checked : (a same after : Activity) (seat : ℕ) (pool : Pool) → has a.seating.taken seat ≡ true → same ≡ a → after ≡ rolled same seat pool → length after.seating.taken ≤ length a.seating.taken
+fewer-checked a same after seat pool taken is shape = fewer-rolled a after seat pool taken (shape ∙ ap (λ (x : Activity). rolled x seat pool) is)

@@ -9,6 +9,8 @@ pub mod EndingLemmas
 pub mod ExecuteLemmas
 pub mod GoOnLemmas
 pub mod GrantLemmas
+pub mod GrantedLemmas
+pub mod GrantingLemmas
 pub mod HoldingLemmas
 pub mod IdleLemmas
 pub mod KeptLemmas
@@ -32,3 +34,5 @@ pub mod UndoLemmas
 pub mod VacateLemmas
 pub mod WaitLemmas
 pub mod WrittenLemmas
+pub mod BringLemmas
+pub mod FetchLemmas

@@ -38,7 +38,7 @@ use Rattle.storage_unit.specs.Laws.{Keeps}
 use Rattle.storage_unit.specs.Rows.{plain_over}
 use Rattle.activations.specs.Activity.{Activity, live_in, program_in, entry_for, entry_in, entries, authority_under, number_under, request_for, store_over, desk_over, locks_in, request_in, state_in, shown}
 use Rattle.activations.specs.Follows.{IsSound, IsKept, Follows}
-use Rattle.activations.specs.Serving.{IsOver, IsFree, IsContested, instruction_in, asking}
+use Rattle.activations.specs.Serving.{IsOver, IsFree, IsContested, WereRefused, instruction_in, asking}
 use Rattle.activations.specs.Steps.{with_pool, rolled, IsMoved, RollsBack}
 use Rattle.activations.specs.Touched.{IsApart, pages_refused, pages_wanted, with_whole_page}
 use Rattle.activations.proofs.CommitLemmas.{told-kept}
@@ -147,6 +147,9 @@ module _ (a : Activity) (seat : ℕ) (committed : List ℕ) (order : List (ℕ �
       desk-there : record desk { resident = pool.resident } ≡ desk_over there committed order
       desk-there = sym (moved-desk a pool committed order moved)
 
+      were-refused : WereRefused attempt refused (desk_over there committed order)
+      were-refused = record { once = desk.authority; are = refused-is; keeps = λ page own. refl }
+
       -- nobody holds what it asks for
       pub free : holders a.seating seat (map with_whole_page wants) ≡ [] → IsFree (instruction_in a seat committed order counts) attempt refused there committed order more
       free none = record {
@@ -159,6 +162,7 @@ module _ (a : Activity) (seat : ℕ) (committed : List ℕ) (order : List (ℕ �
             (free-none desk counts entry now next (shown a committed) orderly here (follows.kept.stand seat taken).at goes within
             (by_number a.seating.taken (entry_in a) (locks_in a) no_lines) (by_number a.seating.taken (entry_in a) (request_in a) no_lines) (by_number a.seating.taken (entry_in a) (state_in a) (state_in a 16))
             (told-kept a committed sound follows.kept) pool.resident counted fetched (sym holders-are ∙ none));
+        were = were-refused;
         ready = subst (IsReady attempt) desk-there (serve-ready desk counts entry now next (shown a committed) orderly here (follows.kept.stand seat taken).at goes within pool.resident);
         follows = moved-follows a pool committed sound moved keeps follows;
       }
@@ -276,6 +280,7 @@ module _ (a : Activity) (seat : ℕ) (committed : List ℕ) (order : List (ℕ �
               begun.comes word reads
               ∙ (λ i. contest_ends word attempt (refused-is i) (contest entry.number (desk-waits i) (record counts { pages = counted; locks = counts.locks + length (refused-is i) })));
           ready = subst (IsReady attempt) desk-there begun.ready;
+          were = were-refused;
           under_way = subst (λ (d : Desk). IsUnderWay d (desk_over waits committed order) marked_entry) desk-there
               (subst (λ (d : Desk). IsUnderWay (record desk { resident = pool.resident }) d marked_entry) desk-waits begun.under_way);
           kept = kept-waits;

@@ -341,7 +341,8 @@ pub over-limit : (a now : Activity) (seat : ℕ) (wants : List Want) (end : Turn
     → nat_lt a.most_lines (lines_with a seat wants) ≡ true → end ≡ TurnEnd.Journal (lines_with a seat wants) a.most_lines
     → (committed : List ℕ) (order : List (ℕ × ℕ)) (counts : Counts) (next : Plain) → IsToServe a seat committed wants next
     → HasEnded end (instruction_in a seat committed order counts) now committed order counts
-over-limit a now seat wants end shape rolls over is committed order counts next to printed =
-    subst (λ (left : Activity). IsOver (instruction_in a seat committed order counts) left committed order counts (ending_told end printed)) (sym shape)
-    (subst (λ (how : TurnEnd). IsOver (instruction_in a seat committed order counts) (rolled a seat now.reach.pool) committed order counts (ending_told how printed)) (sym is)
+over-limit a now seat wants end shape rolls over is committed order counts next to =
+    subst (λ (how : TurnEnd). HasEnded how (instruction_in a seat committed order counts) now committed order counts) (sym is)
+    (λ printed.
+    subst (λ (left : Activity). IsOver (instruction_in a seat committed order counts) left committed order counts (ending_told (TurnEnd.Journal (lines_with a seat wants) a.most_lines) printed)) (sym shape)
     (journal a seat committed order counts wants next to.sound to.taken to.runner to.follows to.goes to.touches now.reach.pool (rolls committed to.follows.orderly.active to.follows.kept) over))

@@ -1,13 +1,15 @@
--- Pages that come in from a store that is open, or can't be read.
-use Rattle.std.specs.Prelude.{◌≡◌, ℕ, ◌<◌, List, []}
+-- Pages of a touch that come in from the store on the disk.
+use Rattle.std.specs.Prelude.{◌≡◌, ℕ, ◌+◌, ◌<◌, if◌then◌else◌, true, false, List, [], Option, Some, option_to_list}
+use Rattle.lock_rules.specs.Resident.{brought}
+use Rattle.lock_rules.specs.Sets.{has}
+use Rattle.frame_pool.specs.declared.model.Pool.{Pool}
 use Rattle.outside.specs.declared.world.Outside.{Ghosts}
 use Rattle.outside.specs.Runs.{held_of}
 use Rattle.store_format.specs.Stands.{Stands, stands}
 use Rattle.restart.specs.Kept.{KeptStore}
 use Rattle.restart.specs.Shows.{Tracks}
-use Rattle.frame_pool.specs.declared.model.Pool.{Pool}
-use Rattle.storage_unit.specs.Laws.{Keeps}
 use Rattle.desk.specs.Instruction.{ReadFailed, Broken, fetches}
+use Rattle.storage_unit.specs.Laws.{Keeps}
 use Rattle.storage_unit.specs.Bytes.{IsClean}
 use Rattle.desk_law.specs.Consistent.{AreConsistent}
 use Rattle.activations.specs.Activity.{Activity, entries, store_over, desk_over}
@@ -21,7 +23,19 @@ pub record IsStoreOf {W : Type 0} (G : Ghosts W) (store : KeptStore) (outside : 
   pub number : ℕ
   pub stood : stands (held_of G outside) ≡ Stands number (record { directory = store.header.directory; bytes = committed })
 
--- The page counted as this one couldn't be read: all pages went out, and of what all see nothing changed.
+-- A page that was resident stays, and one that wasn't is counted and has come in. Another that is to stay has stayed.
+pub record IsIn (old new : Pool) (page : ℕ) (keep : Option ℕ) (before after : ℕ) : Type 0 where
+  pub resident : new.resident ≡ (if has old.resident page then old.resident else brought old.frames (option_to_list keep) old.resident page)
+  pub counted : after ≡ (if has old.resident page then before else before + 1)
+  pub stays : (other : ℕ) → keep ≡ Some other → has old.resident other ≡ true → has new.resident other ≡ true
+
+-- a page that isn't resident was counted and couldn't be read, and all pages went out
+pub record IsUnread (old new : Pool) (page : ℕ) (before after : ℕ) : Type 0 where
+  pub absent : has old.resident page ≡ false
+  pub none : new.resident ≡ []
+  pub counted : after ≡ before + 1
+
+-- The page that was counted last couldn't be read: all pages went out, and of what all see nothing changed.
 pub record IsBrokenOff (a : Activity) (committed : List ℕ) (order : List (ℕ × ℕ)) (pages : List ℕ) (before : ℕ) (pool : Pool) (after : ℕ) : Type 0 where
   pub moved : IsMoved a.reach.pool pool
   pub keeps : Keeps a.reach.directory a.reach.pool pool committed

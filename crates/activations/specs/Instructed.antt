@@ -20,7 +20,7 @@ use Rattle.activations.specs.Activity.{Activity, program_in, desk_over}
 use Rattle.activations.specs.Attempted.{IsShut, plain_in}
 use Rattle.activations.specs.Serving.{IsFree, IsContested, Goes, asking}
 use Rattle.activations.specs.Steps.{counted, executed, HasExecuted}
-use Rattle.activations.specs.Touched.{wants_of, pages_among, with_whole_page}
+use Rattle.activations.specs.Touched.{wants_of, pages_picked, with_whole_page}
 use Rattle.activations.specs.Turning.{HasEnded}
 
 -- one row more was counted at most, with four pages, two before and two after its grants, and two refused ones
@@ -61,7 +61,7 @@ pub record IsPrepared (begins : Word → Turning) (a : Activity) (seat : ℕ) (t
   pub next : Plain
   pub goes : attempt.outcome ≡ On next
   pub lines : attempt.lines ≡ lines_wanted (wants_of touch)
-  pub asked : IsAsked begins attempt (pages_among touch refused) a seat (wants_of touch) committed order counts
+  pub asked : IsAsked begins attempt (pages_picked touch refused) a seat (wants_of touch) committed order counts
 
 -- that, or its turn came to this end
 abbrev pub Prepares : Result (Touch × (Bool × Bool)) TurnEnd → (begins : Word → Turning) → Activity → (seat : ℕ) → (committed : List ℕ) → (order : List (ℕ × ℕ)) → Counts → Type 0

@@ -53,6 +53,16 @@ each_refused owned tid (Touch.Two first second) = (refuses_want owned tid first,
 abbrev pub pages_refused : List Authority → (tid : ℕ) → List Want → List ℕ
 pages_refused owned tid wants = pages_wanted (filter (refuses_want owned tid) wants)
 
+-- a page, where it is picked
+abbrev pub page_if : Bool → (page : ℕ) → List ℕ
+page_if picked page = if picked then page ∷ [] else []
+
+-- the pages of a touch that are picked, the first before the second
+abbrev pub pages_picked : Touch → (picked : Bool × Bool) → List ℕ
+pages_picked Touch.Nothing picked = []
+pages_picked (Touch.One want) picked = page_if picked.0 want.page
+pages_picked (Touch.Two first second) picked = page_if picked.0 first.page ++ page_if picked.1 second.page
+
 -- the lines of a page among these wants are those of this one
 pub record IsApart (wants : List Want) (want : Want) : Type 0 where
   pub reads : (line : ℕ) → line < 16 → has (lines_wanted wants).reads (want.page * 16 + line) ≡ has want.reads line
@@ -65,9 +75,3 @@ pub record AreWanted (directory : Layout) (wants : List Want) : Type 0 where
   pub apart : All (IsApart wants) wants
   pub once : AreDistinct (pages_wanted wants)
   pub pages : pages_wanted wants ≡ pages_of ((lines_wanted wants).reads ++ (lines_wanted wants).writes)
-
--- the first and the second page of a touch, where they are marked
-abbrev pub pages_among : Touch → Bool × Bool → List ℕ
-pages_among Touch.Nothing marks = []
-pages_among (Touch.One want) marks = if marks.0 then want.page ∷ [] else []
-pages_among (Touch.Two first second) marks = (if marks.0 then first.page ∷ [] else []) ++ (if marks.1 then second.page ∷ [] else [])

@@ -1,29 +1,45 @@
-// Pages come in.
-ghost use Rattle.std.specs.Prelude.{◌≡◌, ◌+◌, ◌<◌, ◌≤◌, ◌^◌, ℕ, List, [], true, All, IfErr, OnOk};
+// Pages come in from the store on the disk.
+ghost use Rattle.std.specs.Prelude.{◌≡◌, ◌+◌, ◌<◌, ◌≤◌, ◌^◌, ℕ, true, false, List, [], OnOk, OnErr, option_to_list};
+ghost use Rattle.line_geometry.specs.Directory.{page_count};
+ghost use Rattle.lock_rules.specs.Resident.{brought};
 ghost use Rattle.lock_rules.specs.Sets.{has};
-ghost use Rattle.line_geometry.specs.Directory.{byte_count};
 ghost use Rattle.outside.specs.Causes.{HasCause};
 ghost use Rattle.outside.specs.Runs.{OnlyAsks};
 ghost use Rattle.redo_journal.specs.Held.{HoldsAtLeast};
 ghost use Rattle.store_format.specs.Header.{total};
 ghost use Rattle.storage_unit.specs.Bytes.{IsClean};
-ghost use Rattle.activations.specs.Touched.{wants_of, pages_wanted, AreWanted};
+ghost use Rattle.storage_unit.specs.Laws.{Keeps};
+ghost use Rattle.storage_unit.specs.View.{reach_of};
+ghost use Rattle.activations.specs.Fetching.{IsStoreOf, IsIn, IsUnread, IsBrokenOff};
+ghost use Rattle.activations.specs.Serves.{IsFetched};
+ghost use Rattle.activations.specs.Steps.{IsMoved};
+ghost use Rattle.activations.specs.Touched.{AreWanted, wants_of, pages_wanted};
 
 use super::activations::Activations;
 use super::tally::Tally;
 use super::touch::Touch;
 use outside::{Failed, Outside};
 use restart::Durable;
+use storage_unit::Unit;
 
 impl Activations {
-    ghost use Rattle.activations.specs.Fetching.{IsStoreOf, IsBrokenOff};
     ghost use Rattle.activations.specs.Follows.{IsSound};
-    ghost use Rattle.activations.specs.Serves.{IsFetched};
     ghost use Rattle.activations.specs.Steps.{with_pool};
     ghost use Rattle.activations.specs.View.{activity_of};
 
-    /// Brings in the pages of a touch that aren't resident, and counts each.
-    pub(super) fn fetch<W: Outside>(&mut self, store: &Durable, outside: &mut W, touch: &Touch, tally: &mut Tally) -> Result<(), Failed>
+    /// Brings in the pages of a touch that aren't resident, the first before the second, and counts each. The other page of
+    /// the touch stays.
+    ///
+    /// # Errors
+    ///
+    /// Only where the disk's count rose: the page that was counted last couldn't be read, and no page is resident.
+    pub(super) fn fetch<W: Outside>(
+        &mut self,
+        store: &Durable,
+        outside: &mut W,
+        touch: &Touch,
+        tally: &mut Tally,
+    ) -> Result<(), Failed>
         requires sound { IsSound (activity_of self.old) }
         requires wanted { AreWanted (activity_of self.old).reach.directory (wants_of touch.now) }
         requires store { store.now.header.directory ≡ (activity_of self.old).reach.directory }
@@ -35,9 +51,79 @@ impl Activations {
         ensures tally { tally.new ≡ record tally.old { pages = tally.new.pages } }
         ensures few { tally.new.pages ≤ tally.old.pages + 2 }
         ensures cause { HasCause (W.disk_faults outside.old) (W.disk_faults outside.new) result }
+        ensures counted { OnErr result (tally.old.pages < tally.new.pages) }
+        ensures none { OnErr result ((activity_of self.new).reach.pool.resident ≡ []) }
+        ensures resident { OnOk result ((page : ℕ) → has (pages_wanted (wants_of touch.now)) page ≡ true → has (activity_of self.new).reach.pool.resident page ≡ true) }
         ensures fetched { OnOk result ((committed : List ℕ) (order : List (ℕ × ℕ)) → IsStoreOf W.Outside store.now outside.old committed → IsClean (activity_of self.old).reach.directory (activity_of self.old).reach.pool committed → IsFetched (activity_of self.old) committed order (pages_wanted (wants_of touch.now)) tally.old.pages (activity_of self.new).reach.pool tally.new.pages) }
-        ensures broken { IfErr result (λ failed. (committed : List ℕ) (order : List (ℕ × ℕ)) → IsStoreOf W.Outside store.now outside.old committed → IsClean (activity_of self.old).reach.directory (activity_of self.old).reach.pool committed → IsBrokenOff (activity_of self.old) committed order (pages_wanted (wants_of touch.now)) tally.old.pages (activity_of self.new).reach.pool tally.new.pages) }
+        ensures broken { OnErr result ((committed : List ℕ) (order : List (ℕ × ℕ)) → IsStoreOf W.Outside store.now outside.old committed → IsClean (activity_of self.old).reach.directory (activity_of self.old).reach.pool committed → IsBrokenOff (activity_of self.old) committed order (pages_wanted (wants_of touch.now)) tally.old.pages (activity_of self.new).reach.pool tally.new.pages) }
     {
-        Err(Failed)
+        match touch {
+            Touch::Nothing => Ok(()),
+            Touch::One(only) => self.fetch_page(store, outside, only.page, None, tally),
+            Touch::Two(first, second) => {
+                self.fetch_page(store, outside, first.page, Some(second.page), tally)?;
+                self.fetch_page(store, outside, second.page, Some(first.page), tally)
+            }
+        }
     }
+
+    /// Brings in a page if it isn't resident, and counts it then. Another page, if one is named, stays. If it can't be read,
+    /// all pages go out.
+    fn fetch_page<W: Outside>(
+        &mut self,
+        store: &Durable,
+        outside: &mut W,
+        page: u16,
+        keep: Option<u16>,
+        tally: &mut Tally,
+    ) -> Result<(), Failed>
+        requires page { page < page_count (activity_of self.old).reach.directory }
+        requires store { store.now.header.directory ≡ (activity_of self.old).reach.directory }
+        requires room { HoldsAtLeast W.Outside (total store.now.header) outside.old }
+        requires few { tally.old.pages + 1 < 2 ^ 32 }
+        ensures asks { OnlyAsks W.Outside outside.old outside.new }
+        ensures shape { activity_of self.new ≡ with_pool (activity_of self.old) (activity_of self.new).reach.pool }
+        ensures tally { tally.new ≡ record tally.old { pages = tally.new.pages } }
+        ensures cause { HasCause (W.disk_faults outside.old) (W.disk_faults outside.new) result }
+        ensures moved { IsMoved (activity_of self.old).reach.pool (activity_of self.new).reach.pool }
+        ensures page_in { OnOk result (IsIn (activity_of self.old).reach.pool (activity_of self.new).reach.pool page keep tally.old.pages tally.new.pages) }
+        ensures unread { OnErr result (IsUnread (activity_of self.old).reach.pool (activity_of self.new).reach.pool page tally.old.pages tally.new.pages) }
+        ensures keeps { (committed : List ℕ) → IsStoreOf W.Outside store.now outside.old committed → IsClean (activity_of self.old).reach.directory (activity_of self.old).reach.pool committed → Keeps (activity_of self.old).reach.directory (activity_of self.old).reach.pool (activity_of self.new).reach.pool committed }
+    {
+        if self.unit.pool().frame_of(page).is_some() {
+            return Ok(());
+        }
+        tally.pages += 1;
+        bring_page(&mut self.unit, store, outside, page, keep)
+    }
+}
+
+/// Brings in a page that isn't resident. Another page, if one is named, stays. If it can't be read, all pages go out.
+fn bring_page<W: Outside>(
+    unit: &mut Unit,
+    store: &Durable,
+    outside: &mut W,
+    page: u16,
+    keep: Option<u16>,
+) -> Result<(), Failed>
+    requires page { page < page_count (reach_of unit.old).directory }
+    requires absent { has (reach_of unit.old).pool.resident page ≡ false }
+    requires store { store.now.header.directory ≡ (reach_of unit.old).directory }
+    requires room { HoldsAtLeast W.Outside (total store.now.header) outside.old }
+    ensures asks { OnlyAsks W.Outside outside.old outside.new }
+    ensures rest { reach_of unit.new ≡ record (reach_of unit.old) { pool = (reach_of unit.new).pool } }
+    ensures cause { HasCause (W.disk_faults outside.old) (W.disk_faults outside.new) result }
+    ensures moved { IsMoved (reach_of unit.old).pool (reach_of unit.new).pool }
+    ensures came { OnOk result ((reach_of unit.new).pool.resident ≡ brought (reach_of unit.old).pool.frames (option_to_list keep) (reach_of unit.old).pool.resident page) }
+    ensures none { OnErr result ((reach_of unit.new).pool.resident ≡ []) }
+    ensures keeps { (committed : List ℕ) → IsStoreOf W.Outside store.now outside.old committed → IsClean (reach_of unit.old).directory (reach_of unit.old).pool committed → Keeps (reach_of unit.old).directory (reach_of unit.old).pool (reach_of unit.new).pool committed }
+{
+    let slot = unit.bring(page, keep);
+    let read = store.read_page(outside, page, unit.page_mut(slot.frame));
+    unit.lay_kept(page);
+    if let Err(failed) = read {
+        unit.empty();
+        return Err(failed);
+    }
+    Ok(())
 }

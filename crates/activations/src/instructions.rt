@@ -14,7 +14,7 @@ ghost use Rattle.storage_unit.specs.Bytes.{IsClean};
 ghost use Rattle.flat_machine.specs.Row as row;
 ghost use Rattle.flat_machine.specs.declared.machine.Plain.{Plain};
 ghost use Rattle.line_locks.specs.Flat.{lines_wanted};
-ghost use Rattle.activations.specs.Touched.{wants_of, pages_among, pages_wanted, AreWanted};
+ghost use Rattle.activations.specs.Touched.{wants_of, pages_picked, pages_wanted, AreWanted};
 
 use super::activations::Activations;
 use super::tally::Tally;
@@ -121,8 +121,9 @@ impl Activations {
         ensures calm { OnOk result (W.disk_faults outside.new ≡ W.disk_faults outside.old) }
         ensures shape { OnOk result (activity_of self.new ≡ with_pool (activity_of self.old) (activity_of self.new).reach.pool) }
         ensures fetched { OnOk result ((committed : List ℕ) (order : List (ℕ × ℕ)) → IsStoreOf W.Outside store.now outside.old committed → IsClean (activity_of self.old).reach.directory (activity_of self.old).reach.pool committed → IsFetched (activity_of self.old) committed order (pages_wanted (wants_of touch.now)) tally.old.pages (activity_of self.new).reach.pool tally.new.pages) }
-        ensures ends { IfErr result (λ end. (end ≡ end.Disk) × Rose (W.disk_faults outside.old) (W.disk_faults outside.new)) }
-        ensures broke { IfErr result (λ end. HasBrokenOff W.Outside store.now outside.old (activity_of self.old) seat (pages_wanted (wants_of touch.now)) tally.old.pages (activity_of self.new) tally.new.pages) }
+        ensures resident { OnOk result ((page : ℕ) → has (pages_wanted (wants_of touch.now)) page ≡ true → has (activity_of self.new).reach.pool.resident page ≡ true) }
+        ensures ends { IfErr result (λ over. (over ≡ end.Disk) × Rose (W.disk_faults outside.old) (W.disk_faults outside.new)) }
+        ensures broke { IfErr result (λ over. HasBrokenOff W.Outside store.now outside.old (activity_of self.old) seat (pages_wanted (wants_of touch.now)) tally.old.pages (activity_of self.new) tally.new.pages) }
     {
         match self.fetch(store, outside, touch, tally) {
             Ok(()) => Ok(()),
@@ -181,8 +182,8 @@ impl Activations {
         ensures few { tally.new.pages ≤ tally.old.pages + 2 }
         ensures stays { OnOk result (StaysSeated (activity_of self.old) (activity_of self.new) seat) }
         ensures calm { OnOk result (W.disk_faults outside.new ≡ W.disk_faults outside.old) }
-        ensures ends { IfErr result (λ end. (end ≡ end.Disk) × Rose (W.disk_faults outside.old) (W.disk_faults outside.new)) }
-        ensures served { (begins : Word → Turning) (attempt : desk.Attempt) (next : Plain) (committed : List ℕ) (order : List (ℕ × ℕ)) → IsStoreOf W.Outside store.now outside.old committed → attempt.entry.number ≡ number_in (activity_of self.old).seating seat → attempt.outcome ≡ row.On next → attempt.lines ≡ lines_wanted (wants_of touch.now) → IsFree begins attempt (pages_among touch.now refused) (activity_of self.old) committed order (counts_of tally.old) → Serves result begins (activity_of self.new) seat committed order (counts_of tally.new) }
+        ensures ends { IfErr result (λ over. (over ≡ end.Disk) × Rose (W.disk_faults outside.old) (W.disk_faults outside.new)) }
+        ensures served { (begins : Word → Turning) (attempt : desk.Attempt) (next : Plain) (committed : List ℕ) (order : List (ℕ × ℕ)) → IsStoreOf W.Outside store.now outside.old committed → attempt.entry.number ≡ number_in (activity_of self.old).seating seat → attempt.outcome ≡ row.On next → attempt.lines ≡ lines_wanted (wants_of touch.now) → IsFree begins attempt (pages_picked touch.now refused) (activity_of self.old) committed order (counts_of tally.old) → Serves result begins (activity_of self.new) seat committed order (counts_of tally.new) }
     {
         self.take(seat, touch, refused);
         self.bring(store, outside, seat, touch, tally)

@@ -1,0 +1,296 @@
+-- A page that comes in from the store on the disk: what is read, and what frames have then.
+use Rattle.std.specs.Prelude.{◌≡◌, refl, ℕ, ◌+◌, ◌-◌, ◌*◌, ◌<◌, ◌≤◌, ◌==◌, ◌||◌, ◌++◌, not, nat_lt, if◌then◌else◌, Bool, true, false, List, [], ◌∷◌, length, take, drop, fold, remove, position, unwrap_or, slice_index, slice_range, Option, Some, None, option_to_list, is_some, Result, Ok, Err, OnOk}
+use Rattle.std.specs.Option.{option_map_or}
+use Rattle.std.proofs.Common.{arith, ap, sym, ◌∙◌, subst}
+use Rattle.std.proofs.lemmas.Bool.{both_ways, eq-eqb, or_left, ltb-false}
+use Rattle.std.proofs.lemmas.List.{take-append-le, take-take, length-append, length-take, length-drop}
+use Rattle.std.proofs.lemmas.List.Quantifiers.{position-Some}
+use Rattle.line_geometry.specs.declared.directory.PageSize.{PageSize}
+use Rattle.line_geometry.specs.declared.directory.PageSize.TheVariants.{Two}
+use Rattle.line_geometry.specs.Directory.{Layout, byte_count, page_count}
+use Rattle.line_geometry.specs.Segments.{page_bytes}
+use Rattle.line_geometry.proofs.Within.{byte_count-pages}
+use Rattle.lock_rules.specs.Resident.{brought}
+use Rattle.lock_rules.specs.Sets.{has}
+use Rattle.lock_rules.proofs.Sets.{has_left}
+use Rattle.owned_list.specs.Overlay.{overlaid}
+use Rattle.outside.specs.declared.world.Outside.{Ghosts}
+use Rattle.outside.specs.Runs.{OnlyAsks, FewerLater, held_of}
+use Rattle.store_format.specs.Stands.{Standing, Stands, NotAStore, Damaged, stands}
+use Rattle.store_format.proofs.Fronts.{shorter_front, later_front}
+use Rattle.store_format.proofs.Stores.{stands_is}
+use Rattle.redo_journal.proofs.Newest.{store_agrees}
+use Rattle.restart.specs.Kept.{KeptStore}
+use Rattle.restart.specs.Shows as restart
+use Rattle.restart.specs.Shows.{Shows}
+use Rattle.restart.proofs.ShowLemmas.{sure_on, shown_store}
+use Rattle.frame_pool.specs.declared.model.Pool.{Pool}
+use Rattle.frame_pool.specs.declared.pages.StorePages.{StorePages}
+use Rattle.frame_pool.specs.Places.{index_out}
+use Rattle.frame_pool.specs.PlacesView.{places_of}
+use Rattle.frame_pool.specs.Pool.{Brought, frame_at, frame_bytes, marks_at, with_bytes, emptied, laid, line_laid, line_kept}
+use Rattle.frame_pool.specs.PoolLending.{with_frame_part}
+use Rattle.frame_pool.specs.View.{pool_of}
+use Rattle.frame_pool.specs.Seen.{IsSeen}
+use Rattle.frame_pool.specs.Sizes.{private_frames, frame_count, line_place}
+use Rattle.frame_pool.proofs.ApartLemmas.{has-remove_other, turned}
+use Rattle.frame_pool.proofs.LendLemmas.{lent-part}
+use Rattle.frame_pool.proofs.PlaceLemmas.{none-room}
+use Rattle.frame_pool.proofs.SoundLemmas.{page_part}
+use Rattle.storage_unit.specs.declared.model.Reach.{Reach}
+use Rattle.storage_unit.specs.declared.unit.Unit.{Unit}
+use Rattle.storage_unit.specs.View.{reach_of}
+use Rattle.storage_unit.specs.Bytes.{IsClean, private_bytes}
+use Rattle.storage_unit.specs.Laws.{Fits, Keeps, filled, page_in}
+use Rattle.storage_unit.proofs.BringKeeps.{bring-keeps}
+use Rattle.storage_unit.proofs.FailedBringKeeps.{failed-bring-keeps}
+use Rattle.storage_unit.proofs.UnitLemmas.{unit-sound, sound-fits}
+use Rattle.storage_unit.proofs.LeaveLemmas.{emptied-frame}
+use Rattle.storage_unit.proofs.StateLemmas.{laid-bytes, room-stays, emptied-stays}
+use Rattle.activations.specs.Fetching.{IsStoreOf, IsIn}
+use Rattle.activations.specs.Steps.{IsMoved}
+
+-- a store stays open, with the same bytes, while the disk is only asked
+pub store-on : {W : Type 0} (G : Ghosts W) (fewer_later : FewerLater G) (store : KeptStore) (old new : W) (committed : List ℕ) → OnlyAsks G old new
+    → IsStoreOf G store old committed → IsStoreOf G store new committed
+store-on G fewer_later store old new committed asks is = record {
+  tracks = record {
+    sure = sure_on G fewer_later old new is.tracks.sure asks;
+    shows = subst (λ (those : Option (List ℕ)). Shows (unwrap_or those []) store) (sym asks.held) is.tracks.shows;
+  };
+  number = is.number;
+  stood = ap (λ (those : Option (List ℕ)). stands (unwrap_or those [])) asks.held ∙ is.stood;
+}
+
+-- the bytes of what stands
+abbrev bytes_in : Standing → List ℕ
+bytes_in (Stands number store) = store.bytes
+bytes_in (NotAStore offset) = []
+bytes_in (Damaged offset) = []
+
+-- what is committed in an open store is as long as its directory says
+pub committed-long : {W : Type 0} (G : Ghosts W) (store : KeptStore) (outside : W) (committed : List ℕ) → IsStoreOf G store outside committed
+    → store.header.directory.page ≡ Two → length committed ≡ byte_count store.header.directory
+committed-long G store outside committed is two =
+    let stored = shown_store (held_of G outside) store is.tracks.shows in
+    let agree = store_agrees (held_of G outside) store.header store.bank.which store.bank.base store.bank.gate is.tracks.shows.read.records stored in
+    ap (λ (standing : Standing). length (bytes_in standing))
+    (sym is.stood ∙ stands_is (held_of G outside) store.header store.bank.which store.bank.base store.bank.gate is.tracks.shows.read.records stored)
+    ∙ agree.long
+    ∙ omega (arith, byte_count-pages store.header.directory, ap (λ (s : PageSize). page_count store.header.directory * page_bytes s) two)
+
+-- a page that is read is that part of what is committed
+pub page-read : (standing : Standing) (number : ℕ) (directory : Layout) (committed : List ℕ) (page : ℕ) → standing ≡ Stands number (record { directory = directory; bytes = committed })
+    → directory.page ≡ Two → restart.page_in standing page ≡ page_in directory committed page
+page-read standing number directory committed page stood two =
+    let rest : 2048 ≡ page * 2048 + 2048 - page * 2048 = omega arith in
+    ap (λ (s : Standing). restart.page_in s page) stood
+    ∙ ap (λ (n : ℕ). take n (drop (page * 2048) committed)) rest
+    ∙ sym (ap (λ (s : PageSize). slice_range committed (page * page_bytes s) (page * page_bytes s + page_bytes s)) two)
+
+-- bytes in front of a part that is written over stay
+front-over : (xs : List ℕ) (at : ℕ) (part : List ℕ) (low : ℕ) → low ≤ at → low ≤ length xs → (take low (overlaid xs at part) ≡ take low xs) × (low ≤ length (overlaid xs at part))
+front-over xs at part low before inside =
+    let long : low ≤ length (take at xs) = omega (arith, length-take at xs, inside, before) in (
+      take-append-le low (take at xs ++ part) (drop (at + length part) xs) (omega (arith, long, length-append (take at xs) part))
+          ∙ take-append-le low (take at xs) part long
+          ∙ take-take low at xs before,
+      omega (arith, long, length-append (take at xs) part, length-append (take at xs ++ part) (drop (at + length part) xs)),
+    )
+
+-- kept lines that are laid over a frame leave the bytes in front of it
+front-laid : (page frame low : ℕ) (lines : List ℕ) (pool : Pool) → low ≤ frame * page_bytes pool.page → low ≤ length pool.bytes
+    → take low (fold (line_laid page frame) pool lines).bytes ≡ take low pool.bytes
+front-laid page frame low [] pool before inside = refl
+front-laid page frame low (line ∷ lines) pool before inside =
+    let one = front-over pool.bytes (line_place pool.page frame line) (line_kept pool page line) low (omega (arith, before)) inside in
+    front-laid page frame low lines (line_laid page frame pool line) before one.1 ∙ one.0
+
+-- The pool once a page came into a frame that was filled with these bytes, and its kept lines lie over them.
+module _ (directory : Layout) (two : directory.page ≡ Two) (old new : Pool) (page : ℕ) (keep : Option ℕ) (frame : ℕ) (bytes : List ℕ)
+    (fits : Fits directory old) (also : Fits directory new) (came : Brought old new page keep frame) where
+  abbrev read : Pool
+  read = with_bytes new (frame * page_bytes new.page) bytes
+
+  pub filled-resident : (filled new page frame bytes).resident ≡ brought old.frames (option_to_list keep) old.resident page
+  filled-resident = ap (λ (pool : Pool). pool.resident) (laid-bytes read page) ∙ ap (λ (pool : Pool). pool.resident) came.rest
+
+  size : new.page ≡ Two
+  size = also.size ∙ two
+
+  -- the first bytes are private
+  all-private : 262144 ≤ length new.bytes
+  all-private = omega (arith, also.seen.bytes, ap (λ (s : PageSize). frame_count s new.frames * page_bytes s) size)
+
+  behind : (other : ℕ) → private_frames new.page ≤ other → 262144 ≤ other * page_bytes new.page
+  behind other above = omega (arith, subst (λ (s : PageSize). private_frames s ≤ other) size above, ap (λ (s : PageSize). other * page_bytes s) size)
+
+  front-read : (take 262144 read.bytes ≡ take 262144 new.bytes) × (262144 ≤ length read.bytes)
+  front-read = front-over new.bytes (frame * page_bytes new.page) bytes 262144 (behind frame (subst (λ (s : PageSize). private_frames s ≤ frame) (fits.size ∙ sym also.size) came.above)) all-private
+
+  front-filled : take 262144 (filled new page frame bytes).bytes ≡ take 262144 read.bytes
+  front-filled = by_frame (frame_at new page) refl
+    where
+      by_frame : (o : Option ℕ) → frame_at new page ≡ o
+          → take 262144 (option_map_or (λ f. fold (line_laid page f) read (marks_at new page)) o read).bytes ≡ take 262144 read.bytes
+      by_frame None is = refl
+      by_frame (Some other) is = front-laid page other 262144 (marks_at new page) read (behind other (also.seen.above page other (also.seen.there page other is))) front-read.1
+
+  pub moved-filled : IsMoved old (filled new page frame bytes)
+  moved-filled =
+      let stays = (room-stays old keep fits.seen).1 in
+      let is = laid-bytes read page in
+      record {
+        marked = ap (λ (pool : Pool). pool.marked) is ∙ ap (λ (pool : Pool). pool.marked) came.rest ∙ stays.marked;
+        private = λ seat few.
+            let count : ℕ = seat * 16384 + 16384 - seat * 16384 in
+            later_front (seat * 16384) count (filled new page frame bytes).bytes old.bytes
+            (shorter_front (seat * 16384 + count) 262144 (filled new page frame bytes).bytes old.bytes
+            (front-filled ∙ front-read.0 ∙ ap (λ (pool : Pool). take 262144 pool.bytes) came.rest ∙ ap (λ (these : List ℕ). take 262144 these) stays.bytes) (omega (arith, few)));
+        size = ap (λ (pool : Pool). pool.page) is ∙ ap (λ (pool : Pool). pool.page) came.rest ∙ stays.page;
+        frames = ap (λ (pool : Pool). pool.frames) is ∙ ap (λ (pool : Pool). pool.frames) came.rest ∙ stays.frames;
+      }
+
+-- pages that all go out
+pub moved-emptied : (old pool : Pool) → IsMoved old pool → IsMoved old (emptied pool)
+moved-emptied old pool moved =
+    let stays = emptied-stays pool in
+    record {
+      marked = stays.marked ∙ moved.marked;
+      private = λ seat few. ap (λ (bytes : List ℕ). private_bytes (record pool { bytes = bytes }) seat) stays.bytes ∙ moved.private seat few;
+      size = stays.page ∙ moved.size;
+      frames = stays.frames ∙ moved.frames;
+    }
+
+-- pages that move twice
+pub moved-then : (old mid new : Pool) → IsMoved old mid → IsMoved mid new → IsMoved old new
+moved-then old mid new first second = record {
+  marked = second.marked ∙ first.marked;
+  private = λ seat few. second.private seat few ∙ first.private seat few;
+  size = second.size ∙ first.size;
+  frames = second.frames ∙ first.frames;
+}
+
+pub keeps-then : (directory : Layout) (old mid new : Pool) (committed : List ℕ) → Keeps directory old mid committed → Keeps directory mid new committed → Keeps directory old new committed
+keeps-then directory old mid new committed first second = record { same = second.same ∙ first.same; clean = second.clean }
+
+none-has : (xs : List ℕ) → ((x : ℕ) → has xs x ≡ false) → xs ≡ []
+none-has [] none = refl
+none-has (x ∷ xs) none = absurd (both_ways (has (x ∷ xs) x) (none x) (or_left (x == x) (has xs x) (eq-eqb x x refl)))
+
+pub emptied-resident : (pool : Pool) → IsSeen pool → IsSeen (emptied pool) → (emptied pool).resident ≡ []
+emptied-resident pool seen after = none-has (emptied pool).resident (λ page. after.resident page ∙ ap is_some (emptied-frame pool page seen))
+
+-- a page that is to stay, stays: of at least two frames another can be had
+pub keeps-other : (p : StorePages) (other page : ℕ) → has p.resident.items other ≡ true → has (brought p.frames (other ∷ []) p.resident.items page) other ≡ true
+keeps-other p other page inside = by_room (nat_lt (length p.resident.items) p.frames) refl
+  where
+    by_room : (room : Bool) → nat_lt (length p.resident.items) p.frames ≡ room
+        → has ((if room then p.resident.items else remove p.resident.items (unwrap_or (position (λ x. not (has (other ∷ []) x)) p.resident.items) 0)) ++ page ∷ []) other ≡ true
+    by_room true e = has_left p.resident.items (page ∷ []) other inside
+    by_room false e = by_place (position (λ x. not (has (other ∷ []) x)) p.resident.items) refl
+      where
+        out : index_out (places_of p) (Some other) ≡ position (λ x. not (has (other ∷ []) x)) p.resident.items
+        out = ap (λ (room : Bool). if room then None else position (λ x. not (has (other ∷ []) x)) p.resident.items) e
+
+        by_place : (place : Option ℕ) → position (λ x. not (has (other ∷ []) x)) p.resident.items ≡ place → has (remove p.resident.items (unwrap_or place 0) ++ page ∷ []) other ≡ true
+        by_place None is = absurd (omega (arith, none-room p (Some other) (out ∙ is), ltb-false (length p.resident.items) p.frames e, p.resident.ok.0))
+        by_place (Some at) is =
+            has_left (remove p.resident.items at) (page ∷ []) other
+            (has-remove_other p.resident.items at other (apart (slice_index p.resident.items at) (position-Some (λ x. not (has (other ∷ []) x)) p.resident.items at 0 is).1) ∙ inside)
+          where
+            apart : (x : ℕ) → not (has (other ∷ []) x) ≡ true → (x == other) ≡ false
+            apart x is = turned other x (by_test (other == x) is)
+              where
+                by_test : (b : Bool) → not (b || false) ≡ true → b ≡ false
+                by_test true is = absurd (cc)
+                by_test false is = refl
+
+-- a page that wasn't resident has come in and is counted
+pub came-in : (unit now : Unit) (page : ℕ) (keep : Option ℕ) (counted : ℕ) → has unit.pool.places.resident.items page ≡ false
+    → now.pool.places.resident.items ≡ brought unit.pool.places.frames (option_to_list keep) unit.pool.places.resident.items page → IsIn (pool_of unit.pool) (pool_of now.pool) page keep counted (counted + 1)
+came-in unit now page keep counted absent came =
+    let places = unit.pool.places in
+    record {
+      resident = came ∙ sym (ap (λ (there : Bool). if there then places.resident.items else brought places.frames (option_to_list keep) places.resident.items page) absent);
+      counted = sym (ap (λ (there : Bool). if there then counted else counted + 1) absent);
+      stays = λ other is inside.
+          ap (λ (these : List ℕ). has these other) came
+          ∙ ap (λ (kept : Option ℕ). has (brought places.frames (option_to_list kept) places.resident.items page) other) is
+          ∙ keeps-other places other page inside;
+    }
+
+pub on-ok : {T E : Type 0} (P Q : Type 0) (result : Result T E) → OnOk result P → (P → Q) → OnOk result Q
+on-ok P Q (Ok value) is leads = leads is
+on-ok P Q (Err fault) is leads = is
+
+-- A unit into which a page comes: its frame is lent and filled, and its kept lines are laid over it.
+module _ (unit brought_in now : Unit) (page : ℕ) (keep : Option ℕ) (frame : ℕ) (lent part : List ℕ)
+    (came : Brought (reach_of unit).pool (reach_of brought_in).pool page keep frame) (rest : reach_of brought_in ≡ record (reach_of unit) { pool = (reach_of brought_in).pool })
+    (lends : lent ≡ frame_bytes (reach_of brought_in).pool frame) (keeps_length : length part ≡ length lent)
+    (lays : reach_of now ≡ record (reach_of brought_in) { pool = laid (pool_of (with_frame_part brought_in.pool (frame * page_bytes brought_in.pool.places.page) part)) page }) where
+  before : Fits unit.directory (reach_of unit).pool
+  before = sound-fits (reach_of unit) (unit-sound unit)
+
+  there : Fits unit.directory (reach_of brought_in).pool
+  there = subst (λ (directory : Layout). Fits directory (reach_of brought_in).pool) (ap (λ (r : Reach). r.directory) rest) (sound-fits (reach_of brought_in) (unit-sound brought_in))
+
+  inside : frame * page_bytes brought_in.pool.places.page + page_bytes brought_in.pool.places.page ≤ length brought_in.pool.bytes.items.items
+  inside =
+      let stays = (room-stays (reach_of unit).pool keep before.seen).1 in
+      let size : brought_in.pool.places.page ≡ unit.pool.places.page = ap (λ (pool : Pool). pool.page) came.rest ∙ stays.page in
+      let frames : brought_in.pool.places.frames ≡ unit.pool.places.frames = ap (λ (pool : Pool). pool.frames) came.rest ∙ stays.frames in
+      let below : frame < frame_count brought_in.pool.places.page brought_in.pool.places.frames =
+      subst (λ (s : PageSize). frame < frame_count s brought_in.pool.places.frames) (sym size) (subst (λ (n : ℕ). frame < frame_count unit.pool.places.page n) (sym frames) came.below) in
+      omega (arith, page_part frame (frame_count brought_in.pool.places.page brought_in.pool.places.frames) (page_bytes brought_in.pool.places.page) below, there.seen.bytes)
+
+  whole : length part ≡ page_bytes brought_in.pool.places.page
+  whole = keeps_length ∙ ap length lends ∙ simp (length-take, length-drop) (omega (arith, inside))
+
+  pub part-long : length part ≡ page_bytes unit.directory.page
+  part-long = whole ∙ ap page_bytes there.size
+
+  -- the pool then
+  pub pool-filled : (reach_of now).pool ≡ filled (reach_of brought_in).pool page frame part
+  pool-filled =
+      ap (λ (r : Reach). r.pool) lays
+      ∙ ap (λ (pool : Pool). laid pool page) (lent-part brought_in.pool (frame * page_bytes brought_in.pool.places.page) part (omega (arith, inside, whole)))
+
+  pub now-moved : IsMoved (reach_of unit).pool (reach_of now).pool
+  now-moved = subst (IsMoved (reach_of unit).pool) (sym pool-filled) (moved-filled unit.directory unit.two (reach_of unit).pool (reach_of brought_in).pool page keep frame part before there came)
+
+  pub now-came : (reach_of now).pool.resident ≡ brought unit.pool.places.frames (option_to_list keep) unit.pool.places.resident.items page
+  now-came = ap (λ (pool : Pool). pool.resident) pool-filled ∙ filled-resident unit.directory unit.two (reach_of unit).pool (reach_of brought_in).pool page keep frame part before there came
+
+  -- it was read
+  pub now-keeps : {W : Type 0} (G : Ghosts W) (store : KeptStore) (outside : W) → store.header.directory ≡ unit.directory → page < page_count unit.directory → has unit.pool.places.resident.items page ≡ false
+      → (restart.Tracks G store outside → part ≡ restart.page_in (stands (held_of G outside)) page)
+      → (committed : List ℕ) → IsStoreOf G store outside committed → IsClean unit.directory (reach_of unit).pool committed → Keeps unit.directory (reach_of unit).pool (reach_of now).pool committed
+  now-keeps G store outside same below absent reads committed is clean =
+      let two : store.header.directory.page ≡ Two = ap (λ (d : Layout). d.page) same ∙ unit.two in
+      let was : part ≡ page_in unit.directory committed page =
+      reads is.tracks ∙ page-read (stands (held_of G outside)) is.number store.header.directory committed page is.stood two ∙ ap (λ (d : Layout). page_in d committed page) same in
+      subst (λ (pool : Pool). Keeps unit.directory (reach_of unit).pool pool committed)
+      (sym (pool-filled ∙ ap (filled (reach_of brought_in).pool page frame) was))
+      (bring-keeps unit.directory (reach_of unit).pool (reach_of brought_in).pool committed page keep frame before there
+      (committed-long G store outside committed is two ∙ ap byte_count same) clean below absent came)
+
+  -- it couldn't be read, and all pages went out
+  module _ (after : Unit) (empties : reach_of after ≡ record (reach_of now) { pool = emptied (reach_of now).pool }) where
+    pool-after : (reach_of after).pool ≡ emptied (reach_of now).pool
+    pool-after = ap (λ (r : Reach). r.pool) empties
+
+    pub out-moved : IsMoved (reach_of unit).pool (reach_of after).pool
+    out-moved = subst (IsMoved (reach_of unit).pool) (sym pool-after) (moved-emptied (reach_of unit).pool (reach_of now).pool now-moved)
+
+    pub out-none : (reach_of after).pool.resident ≡ []
+    out-none =
+        ap (λ (pool : Pool). pool.resident) pool-after
+        ∙ emptied-resident (reach_of now).pool (unit-sound now).seen (subst IsSeen pool-after (unit-sound after).seen)
+
+    pub out-keeps : page < page_count unit.directory → has unit.pool.places.resident.items page ≡ false → (committed : List ℕ) → IsClean unit.directory (reach_of unit).pool committed
+        → Keeps unit.directory (reach_of unit).pool (reach_of after).pool committed
+    out-keeps below absent committed clean =
+        subst (λ (pool : Pool). Keeps unit.directory (reach_of unit).pool pool committed)
+        (sym (pool-after ∙ ap emptied pool-filled))
+        (failed-bring-keeps unit.directory (reach_of unit).pool (reach_of brought_in).pool committed part page keep frame before there clean below absent came part-long)

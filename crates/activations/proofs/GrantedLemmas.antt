@@ -1,0 +1,237 @@
+-- Who took what he asked for is granted it as on the desk: his lines are open then, and his next row isn't refused.
+use Rattle.std.specs.Prelude.{◌≡◌, refl, ℕ, zero, suc, ◌+◌, ◌-◌, ◌<◌, ◌≤◌, ◌==◌, if◌then◌else◌, Bool, true, false, List, [], ◌∷◌, ◌++◌, filter, length, slice_index_or, Some}
+use Rattle.std.proofs.Common.{arith, ap, sym, ◌∙◌, subst, inl, inr}
+use Rattle.std.proofs.lemmas.Bool.{eqb-true, or_cases}
+use Rattle.std.proofs.lemmas.List.Elements.{All-head, All-tail}
+use Rattle.line_geometry.specs.FlatStore.{FlatStore}
+use Rattle.lock_rules.specs.Sets.{has}
+use Rattle.lock_rules.specs.Lines.{Lines, both, page_of_line, pages_of, with_whole_pages}
+use Rattle.line_locks.specs.declared.request.Want.{Want}
+use Rattle.line_locks.specs.Flat.{lines_wanted}
+use Rattle.line_locks.specs.Held.{AreWithin}
+use Rattle.line_locks.specs.Holding.{of_seat}
+use Rattle.lockbit_rules.specs.declared.Authority.{Authority}
+use Rattle.flat_machine.specs.declared.machine.Plain.{Plain}
+use Rattle.flat_machine.specs.Row.{On, Commit, Check, row}
+use Rattle.flat_machine.specs.After.{after}
+use Rattle.flat_machine.specs.Touched.{touched}
+use Rattle.frame_pool.specs.declared.model.Pool.{Pool}
+use Rattle.romp_cpu.specs.declared.storage.Access.{Access}
+use Rattle.desk.specs.Desk.{Desk, Entry, nobody}
+use Rattle.desk.specs.Desk as desk
+use Rattle.desk.specs.Instruction.{Word, Counts, Attempt, Turning, granted, locks_with, touched_pages, with_grants}
+use Rattle.desk_law.specs.Beside.{AreAlike, AreThere, IsThere, IsState, over_all, owners_told}
+use Rattle.desk_law.specs.Changes.{gone_on}
+use Rattle.desk_law.specs.Consistent.{due_to, permitted}
+use Rattle.desk_law.specs.Orderly.{IsOrderly}
+use Rattle.desk_law.proofs.AttemptsOnCurrent.{wanted-is}
+use Rattle.desk_law.proofs.Entries.{one-entry}
+use Rattle.desk_law.proofs.FetchedThere.{fetched-there}
+use Rattle.desk_law.proofs.GoesOn.{grants-held, row-goes-on}
+use Rattle.desk_law.proofs.Others.{touched_of}
+use Rattle.desk_law.proofs.Seats.{seat-told}
+use Rattle.desk_law.proofs.ServedEffect.{got, served-there}
+use Rattle.desk_law.proofs.SharedBytes.{RunsOn, row-on-current}
+use Rattle.desk_law.proofs.TurnsStay.{resident-granted}
+use Rattle.seats.specs.Seating.{sitter}
+use Rattle.seats.proofs.Kept.{taken-below, long-seat}
+use Rattle.storage_unit.specs.Bytes.{private_bytes}
+use Rattle.storage_unit.specs.Rows.{IsOpen, IsOpenLine, IsShutOut}
+use Rattle.activations.specs.Activity.{Activity, live_in, program_in, entry_in, entries, store_over, desk_over, authority_under, number_under, locks_in, state_in, shown}
+use Rattle.activations.specs.Attempted.{plain_in, IsShut, IsStopped}
+use Rattle.activations.specs.Follows.{IsSound}
+use Rattle.activations.specs.Serves.{IsFetched}
+use Rattle.activations.specs.Serving.{AreGranted, IsFree, locked}
+use Rattle.activations.specs.Steps.{with_pool}
+use Rattle.activations.specs.Touched.{AreWanted, pages_refused, pages_wanted, refuses_want}
+use Rattle.activations.proofs.EndLemmas.{sound-pool}
+use Rattle.activations.proofs.GrantLemmas.{opened}
+use Rattle.activations.proofs.GrantingLemmas.{within-whole}
+use Rattle.activations.proofs.TakenLemmas.{taken-alike, granted-all}
+
+-- a page that is refused is one of those that are wanted
+pub refused-below : (owned : List Authority) (tid pages : ℕ) (wants : List Want) → AreWithin pages wants → (page : ℕ) → has (pages_refused owned tid wants) page ≡ true → page < pages
+refused-below owned tid pages [] within page inside = absurd (cc)
+refused-below owned tid pages (want ∷ wants) within page inside =
+    by_test (refuses_want owned tid want) inside (refused-below owned tid pages wants (All-tail (λ (w : Want). w.page < pages) want wants within) page)
+  where
+    first : want.page < pages
+    first = All-head (λ (w : Want). w.page < pages) want wants within
+
+    by_test : (refused : Bool) → has (pages_wanted (if refused then want ∷ filter (refuses_want owned tid) wants else filter (refuses_want owned tid) wants)) page ≡ true
+        → (has (pages_refused owned tid wants) page ≡ true → page < pages) → page < pages
+    by_test true there rest =
+        elim (or_cases (want.page == page) (has (pages_refused owned tid wants) page) there) [
+          | inl here ↦ subst (λ (p : ℕ). p < pages) (eqb-true want.page page here) first
+          | inr later ↦ rest later
+        ]
+    by_test false there rest = rest there
+
+-- the numbers under identifiers are those of who sits there, whatever is held
+under-locked : (a : Activity) (seat : ℕ) (wants : List Want) (owned : List Authority) → number_under (locked a seat wants owned) ≡ number_under a
+under-locked a seat wants owned i tid = at tid i
+  where
+    at : (tid : ℕ) → number_under (locked a seat wants owned) tid ≡ number_under a tid
+    at zero = refl
+    at (suc seat) = refl
+
+module _ (begins : Word → Turning) (attempt : Attempt) (refused : List ℕ) (a : Activity) (seat : ℕ) (committed : List ℕ) (order : List (ℕ × ℕ)) (counts : Counts)
+    (wants : List Want) (owned : List Authority)
+    (sound : IsSound a) (taken : has a.seating.taken seat ≡ true) (later : IsSound (locked a seat wants owned)) (wanted_here : AreWanted a.reach.directory wants)
+    (number : attempt.entry.number ≡ (sitter a.seating seat).number) (free : IsFree begins attempt refused a committed order counts) (lines : attempt.lines ≡ lines_wanted wants)
+    (below_pages : (page : ℕ) → has refused page ≡ true → page < length a.reach.entries)
+    (grants : AreGranted (locked a seat wants owned) seat refused a.reach.entries owned) where
+  abbrev store : FlatStore
+  store = store_over a committed
+
+  abbrev old : Desk
+  old = desk_over a committed order
+
+  below : seat < 16
+  below = taken-below a.seating sound.seating seat taken
+
+  -- the entry of the attempt is the seat's, but for its mark
+  same : entry_in a seat ≡ record attempt.entry { waiting = free.ready.mark }
+  same =
+      one-entry 0 a.next (entries a) (entry_in a seat) (record attempt.entry { waiting = free.ready.mark }) free.follows.orderly.active.ascend
+      (seat-told a.seating.taken (entry_in a) seat taken) free.ready.here (sym number)
+
+  held : AreAlike (locks_in a seat) (with_whole_pages (touched_of store attempt.entry))
+  held = subst (λ (e : Entry). AreAlike (locks_in a seat) (due_to store e)) same (free.follows.kept.held seat taken)
+
+  inside : AreWithin (length (of_seat a.seating.holding seat)) wants
+  inside =
+      subst (λ (n : ℕ). AreWithin n wants) (sym (long-seat a.seating.holding seat (of_seat a.seating.holding seat) sound.seating.whole seat below ∙ sound.pages)) wanted_here.within
+
+  granted-locks : AreAlike (locks_in (locked a seat wants owned) seat) (locks_with attempt (desk_over a committed order))
+  granted-locks =
+      subst (λ (l : Lines). AreAlike (locks_in (locked a seat wants owned) seat) (with_whole_pages (both (touched_of store attempt.entry) l))) (sym lines)
+      (taken-alike a seat wants owned (touched_of store attempt.entry) sound below wanted_here.sets (within-whole (length (of_seat a.seating.holding seat)) wants inside) (later.lines seat) held)
+
+  granted-entries : owners_told (number_under a) (authority_under owned) ≡ granted attempt (locks_with attempt (desk_over a committed order)) refused (desk_over a committed order).authority
+  granted-entries =
+      ap (λ (numbers : ℕ → ℕ). owners_told numbers (authority_under owned)) (sym (under-locked a seat wants owned))
+      ∙ granted-all (locked a seat wants owned) seat attempt (locks_with attempt old) refused a.reach.entries owned later number below_pages granted-locks grants
+      ∙ ap (λ (numbers : ℕ → ℕ). granted attempt (locks_with attempt old) refused (owners_told numbers (authority_under a.reach.entries))) (under-locked a seat wants owned)
+
+  -- It holds the locks that the desk gives it, and its pages are granted as on the desk.
+  pub granted-free : AreAlike (locks_in (locked a seat wants owned) seat) (locks_with attempt (desk_over a committed order))
+      × (owners_told (number_under a) (authority_under owned) ≡ granted attempt (locks_with attempt (desk_over a committed order)) refused (desk_over a committed order).authority)
+  granted-free = (granted-locks, granted-entries)
+
+  module _ (pool : Pool) (runner : a.reach.runner ≡ seat + 1)
+      (resident : (page : ℕ) → has (pages_wanted wants) page ≡ true → has pool.resident page ≡ true) where
+    abbrev there : Activity
+    there = with_pool (locked a seat wants owned) pool
+
+    are : AreThere (got attempt refused pool.resident old) attempt.entry.number attempt.lines
+    are =
+        subst (λ (pages : List ℕ). AreThere (got attempt pages pool.resident old) attempt.entry.number attempt.lines) free.were.are
+        (served-there attempt free.were.once old pool.resident free.ready free.were.keeps
+        (λ page touched. resident page (ap (λ (pages : List ℕ). has pages page) (wanted_here.pages ∙ ap (λ (l : Lines). pages_of (l.reads ++ l.writes)) (sym lines)) ∙ touched)))
+
+    authority-there : (desk_over (with_pool (locked a seat wants owned) pool) committed order).authority ≡ (got attempt refused pool.resident old).authority
+    authority-there = ap (λ (numbers : ℕ → ℕ). owners_told numbers (authority_under owned)) (under-there) ∙ granted-entries
+      where
+        under-there : number_under (with_pool (locked a seat wants owned) pool) ≡ number_under a
+        under-there i tid = at tid i
+          where
+            at : (tid : ℕ) → number_under (with_pool (locked a seat wants owned) pool) tid ≡ number_under a tid
+            at zero = refl
+            at (suc seat) = refl
+
+    open-line : (line : ℕ) (writes : Bool) → IsThere (got attempt refused pool.resident old) attempt.entry.number line writes → IsOpenLine (with_pool (locked a seat wants owned) pool).reach line writes
+    open-line line writes is =
+        opened there (sound-pool (locked a seat wants owned) pool later) committed free.follows.orderly.active.ascend seat order line writes taken runner
+        (record {
+          resident = is.resident;
+          permits =
+              (λ i. permitted (slice_index_or (authority-there i) (page_of_line line) nobody) (sym number i) line writes)
+              ∙ is.permits;
+        })
+
+    -- Once its pages are resident too, the lines that it touches are open to it.
+    pub goes-open : IsOpen (with_pool (locked a seat wants owned) pool).reach attempt.lines
+    goes-open = record {
+      reads = λ line touched. open-line line false (are.reads line touched);
+      writes = λ line touched. open-line line true (are.writes line touched);
+    }
+
+    module _ (next : Plain) (counted : ℕ) (fetch : IsFetched a committed order (touched_pages attempt) counts.pages pool counted) (goes : attempt.outcome ≡ On next) where
+      state : IsState store (entry_in a seat) (state_in a seat)
+      state = free.follows.kept.stand seat taken
+
+      now-is : attempt.now ≡ over_all (state_in a seat) state.bytes
+      now-is = some-same attempt.now (over_all (state_in a seat) state.bytes) (sym free.ready.now ∙ sym (ap (λ (e : Entry). after e.runs.program e.runs.args store e.rows) same) ∙ state.at)
+        where
+          some-same : (one other : Plain) → Some one ≡ Some other → one ≡ other
+          some-same one other is = cc
+
+      -- the state in the seat is the attempt's, with the bytes that all see
+      shows : over_all attempt.now (shown a committed) ≡ plain_in (with_pool (locked a seat wants owned) pool) seat committed
+      shows = ap (λ (s : Plain). over_all s (shown a committed)) now-is ∙ then-same
+        where
+          runs_here : a.reach.runner - 1 ≡ seat
+          runs_here = ap (λ (n : ℕ). n - 1) runner ∙ omega arith
+
+          then-same : over_all (over_all (state_in a seat) state.bytes) (shown a committed) ≡ plain_in (with_pool (locked a seat wants owned) pool) seat committed
+          then-same i = record {
+            regs = (live_in a seat).cpu.regs;
+            cs = (live_in a seat).cpu.cs;
+            iar = (live_in a seat).cpu.iar;
+            private = (sym (fetch.moved.private seat below) ∙ ap (private_bytes pool) (sym runs_here)) i;
+            store = sym fetch.keeps.same i;
+            out = (live_in a seat).out;
+          }
+
+      row-there : row attempt.entry.runs.program a.reach.directory (over_all attempt.now (shown a committed)) ≡ row (program_in a seat) a.reach.directory (plain_in (with_pool (locked a seat wants owned) pool) seat committed)
+      row-there =
+          ap (row attempt.entry.runs.program a.reach.directory) shows
+          ∙ ap (λ (e : Entry). row e.runs.program a.reach.directory (plain_in (with_pool (locked a seat wants owned) pool) seat committed)) (sym same)
+
+      -- Its next row goes on over the bytes that all see,
+      pub goes-shown : (left : Plain) × (row (program_in a seat) a.reach.directory (plain_in (with_pool (locked a seat wants owned) pool) seat committed) ≡ On left)
+      goes-shown = (record next { store = runs.other }, sym row-there ∙ runs.went)
+        where
+          orderly : IsOrderly (desk.with_entry (got attempt refused pool.resident old) (gone_on attempt.entry))
+          orderly =
+              row-goes-on (got attempt refused pool.resident old) attempt next
+              (resident-granted attempt (with_grants attempt refused old) pool.resident (grants-held old attempt refused free.ready free.free)) goes
+
+          runs : RunsOn store (entries a) (record attempt.entry { waiting = free.ready.mark }) attempt.now next (shown a committed)
+          runs =
+              row-on-current old a.most_lines (record attempt.entry { waiting = free.ready.mark }) attempt.now next (shown a committed) free.ready.contending.whole free.ready.contending.active
+              orderly.active free.ready.here free.ready.now (free.ready.went ∙ goes) free.free free.follows.kept.is_current
+
+      -- and isn't refused:
+      pub refused-not : (access : Access) → IsShut (with_pool (locked a seat wants owned) pool) seat access → ⊥
+      refused-not access is = shut.shut (subst (IsOpen (with_pool (locked a seat wants owned) pool).reach) touches goes-open)
+        where
+          shut : IsShutOut (program_in a seat) (with_pool (locked a seat wants owned) pool).reach (plain_in (with_pool (locked a seat wants owned) pool) seat committed) access
+          shut = is.shut committed free.follows.kept.long
+
+          touches : attempt.lines ≡ touched (program_in a seat) a.reach.directory (plain_in (with_pool (locked a seat wants owned) pool) seat committed)
+          touches =
+              free.ready.lines
+              ∙ wanted-is old attempt.entry attempt.now shut.next (shown a committed) free.ready.now (row-there ∙ shut.goes)
+              ∙ ap (touched attempt.entry.runs.program a.reach.directory) shows
+              ∙ ap (λ (e : Entry). touched e.runs.program a.reach.directory (plain_in (with_pool (locked a seat wants owned) pool) seat committed)) (sym same)
+
+      -- neither is it the commit call nor a check.
+      pub stopped-not : IsStopped (with_pool (locked a seat wants owned) pool) seat → ⊥
+      stopped-not is = elim (is committed free.follows.kept.long) [
+        | inl commits ↦ on-commit goes-shown.0 (sym goes-shown.1 ∙ commits)
+        | inr (code, checks) ↦ on-check goes-shown.0 code (sym goes-shown.1 ∙ checks)
+      ]
+        where
+          on-commit : (left : Plain) → On left ≡ Commit → ⊥
+          on-commit left is = cc
+
+          on-check : (left : Plain) (code : ℕ) → On left ≡ Check code → ⊥
+          on-check left code is = cc
+
+-- At most two pages that were fetched are resident, where there are two frames.
+pub fetched-resident : (a : Activity) (committed : List ℕ) (order : List (ℕ × ℕ)) (pages : List ℕ) (before counted : ℕ) (pool : Pool) → 1 < a.reach.pool.frames → length pages ≤ 2
+    → IsFetched a committed order pages before pool counted → (page : ℕ) → has pages page ≡ true → has pool.resident page ≡ true
+fetched-resident a committed order pages before counted pool two few fetch =
+    fetched-there a.reach.pool.frames pages a.reach.pool.resident pool.resident before counted few two fetch.fetched
