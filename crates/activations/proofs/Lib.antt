@@ -18,6 +18,9 @@ pub mod LimitLemmas
 pub mod LineLemmas
 pub mod PoolLemmas
 pub mod PrintedLemmas
+pub mod RecordBytes
+pub mod RecordLemmas
+pub mod RecordPages
 pub mod RefusedLemmas
 pub mod RequestLemmas
 pub mod RollbackLemmas
