@@ -20,7 +20,9 @@ pub mod PoolLemmas
 pub mod PrintedLemmas
 pub mod RecordBytes
 pub mod RecordLemmas
+pub mod RecordLaid
 pub mod RecordPages
+pub mod RecordedLemmas
 pub mod RefusedLemmas
 pub mod RequestLemmas
 pub mod RollbackLemmas

@@ -51,3 +51,37 @@ module _ (pool : Pool) (seen : IsSeen pool) (two : pool.page ≡ Two) (page line
       by_frame : (where_it_is : Option ℕ) → frame_at pool page ≡ where_it_is → length (option_map_or (λ frame. line_in_frame pool frame line) where_it_is (line_kept pool page line)) ≡ 128
       by_frame (Some frame) is = ap (λ (bytes : List ℕ). length bytes) (in-frame frame) ∙ part-long pool.bytes (frame * 2048 + line * 128) 128 (omega (arith, frame-below frame is, few))
       by_frame None is = ap (λ (bytes : List ℕ). length bytes) in-kept ∙ part-long pool.kept (page * 2048 + line * 128) 128 (omega (arith, kept-below, few))
+
+-- a byte of a line that is marked, as all see it
+module _ (d : Layout) (pool : Pool) (committed : List ℕ) (place : ℕ) (same : pool.page ≡ Two) (two : d.page ≡ Two) (marked : is_marked d pool place ≡ true) where
+  abbrev page : ℕ
+  page = place / 128 / 16
+
+  abbrev line : ℕ
+  line = place / 128 % 16
+
+  page-is : page_of d place ≡ page
+  page-is = ap (λ (size : PageSize). place / page_bytes size) two ∙ (let whole : place / 2048 ≡ place / 128 / 16 = omega arith in whole)
+
+  of-frame : (frame : ℕ) → byte_in_frame d pool place frame ≡ slice_index pool.bytes (frame * 2048 + place % 2048)
+  of-frame frame = ap (λ (size : PageSize). slice_index pool.bytes (frame * page_bytes size + place % page_bytes size)) two
+
+  byte-from : (bytes : List ℕ) (whole : ℕ) → slice_index (line_from bytes whole line) (place % 128) ≡ slice_index bytes (whole * 2048 + place % 2048)
+  byte-from bytes whole =
+      let there : whole * 2048 + line * 128 + place % 128 ≡ whole * 2048 + place % 2048 = omega arith in
+      in-range bytes (whole * 2048 + line * 128) 128 (place % 128) (omega arith) ∙ ap (slice_index bytes) there
+
+  pub told-byte : slice_index (line_told pool (place / 128)) (place % 128) ≡ byte_over d pool committed place
+  told-byte = by_frame (frame_at pool page) refl
+    where
+      by_frame : (where_it_is : Option ℕ) → frame_at pool page ≡ where_it_is
+          → slice_index (option_map_or (λ frame. line_in_frame pool frame line) where_it_is (line_kept pool page line)) (place % 128) ≡ byte_over d pool committed place
+      by_frame (Some frame) is =
+          ap (λ (size : PageSize). slice_index (slice_range pool.bytes (line_place size frame line) (line_place size frame line + line_size size)) (place % 128)) same
+          ∙ byte-from pool.bytes frame
+          ∙ sym (over-some d pool committed place frame (ap (frame_at pool) page-is ∙ is) ∙ of-frame frame)
+      by_frame None is =
+          let whole : page * 2048 + place % 2048 ≡ place = omega arith in
+          ap (λ (size : PageSize). slice_index (slice_range pool.kept (line_place size page line) (line_place size page line + line_size size)) (place % 128)) same
+          ∙ byte-from pool.kept page ∙ ap (slice_index pool.kept) whole
+          ∙ sym (over-none d pool committed place (ap (frame_at pool) page-is ∙ is) ∙ ap (λ (b : Bool). if b then slice_index pool.kept place else slice_index committed place) marked)

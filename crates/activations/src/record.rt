@@ -48,10 +48,14 @@ impl Activations {
         ensures unwritten { OnErr result (store.new ≡ store.old) }
         ensures never { (committed : List ℕ) → Follows (activity_of self.old) committed → IsOk result }
     {
-        self.keep_limit(seat, &Touch::Nothing)?;
-        store.record_start();
-        self.record_written(seat, store);
-        Ok(())
+        match self.keep_limit(seat, &Touch::Nothing) {
+            Err(end) => Err(end),
+            Ok(()) => {
+                store.record_start();
+                self.record_written(seat, store);
+                Ok(())
+            }
+        }
     }
 
     /// The lines that a seat holds to write come into the record that is begun, page by page.
