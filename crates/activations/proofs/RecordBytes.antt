@@ -3,7 +3,7 @@ use Rattle.std.specs.Prelude.{◌≡◌, refl, ℕ, ◌+◌, ◌-◌, ◌*◌, �
 use Rattle.std.specs.Option.{option_map_or}
 use Rattle.std.proofs.Common.{arith, ap, sym, ◌∙◌}
 use Rattle.std.proofs.lemmas.List.{length-take-le, length-drop}
-use Rattle.line_geometry.specs.Directory.{Layout, byte_count}
+use Rattle.line_geometry.specs.Directory.{Layout}
 use Rattle.line_geometry.specs.Lines.{page_of}
 use Rattle.line_geometry.specs.Segments.{page_bytes}
 use Rattle.line_geometry.specs.declared.directory.PageSize.{PageSize}
@@ -12,7 +12,7 @@ use Rattle.frame_pool.specs.declared.model.Pool.{Pool}
 use Rattle.frame_pool.specs.Pool.{frame_at, line_shown, line_in_frame, line_kept}
 use Rattle.frame_pool.specs.Seen.{IsSeen}
 use Rattle.frame_pool.specs.Sizes.{frame_count, line_place, line_size}
-use Rattle.storage_unit.specs.Bytes.{byte_over, bytes_over, byte_in_frame, is_marked, is_line_marked}
+use Rattle.storage_unit.specs.Bytes.{byte_over, byte_in_frame, is_marked}
 use Rattle.storage_unit.proofs.ByteLemmas.{in-range, over-none, over-some}
 use Rattle.activations.specs.Recorded.{line_told}
 

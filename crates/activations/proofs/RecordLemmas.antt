@@ -1,6 +1,6 @@
 -- Lines that come into a record one after another.
-use Rattle.std.specs.Prelude.{◌≡◌, refl, ℕ, zero, suc, ◌+◌, ◌-◌, ◌*◌, ◌/◌, ◌%◌, ◌<◌, ◌≤◌, ◌==◌, ◌||◌, if◌then◌else◌, Bool, true, false, List, [], ◌∷◌, ◌++◌, All, filter, length, map, take, slice_index_or, Option, Some, None, IsSome, unwrap_or}
-use Rattle.std.specs.List.{AllPairs, flat_map, list_any, range_with_len}
+use Rattle.std.specs.Prelude.{◌≡◌, refl, ℕ, zero, suc, ◌+◌, ◌*◌, ◌/◌, ◌%◌, ◌<◌, ◌≤◌, ◌==◌, ◌||◌, if◌then◌else◌, Bool, true, false, List, [], ◌∷◌, ◌++◌, All, filter, length, map, slice_index_or, Option, Some, None, IsSome, unwrap_or}
+use Rattle.std.specs.List.{AllPairs, list_any, range_with_len}
 use Rattle.std.proofs.Common.{arith, ap, sym, ◌∙◌, subst, append_assoc, length-append}
 use Rattle.std.proofs.lemmas.Bool.{both_ways, eqb-true}
 use Rattle.std.proofs.lemmas.List.{append-nil}
@@ -12,7 +12,7 @@ use Rattle.frame_pool.specs.declared.model.Pool.{Pool}
 use Rattle.frame_pool.specs.Pool.{line_shown}
 use Rattle.store_format.specs.Bank.{RecordLine, record_bytes}
 use Rattle.store_format.specs.Header.{most_lines}
-use Rattle.redo_journal.specs.Kept.{KeptBank, begun_of, with_line}
+use Rattle.redo_journal.specs.Kept.{begun_of, with_line}
 use Rattle.restart.specs.Kept.{KeptStore}
 use Rattle.activations.specs.Recorded.{line_told, recorded, with_begun, with_lines}
 

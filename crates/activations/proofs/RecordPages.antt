@@ -1,5 +1,5 @@
 -- The pages whose lines come into a record.
-use Rattle.std.specs.Prelude.{◌≡◌, refl, ℕ, zero, suc, ◌+◌, ◌*◌, ◌/◌, ◌%◌, ◌<◌, ◌≤◌, ◌==◌, ◌&&◌, ◌||◌, not, Bool, true, false, List, [], ◌∷◌, ◌++◌, All, length, map, take, slice_index_or}
+use Rattle.std.specs.Prelude.{◌≡◌, refl, ℕ, zero, suc, ◌+◌, ◌*◌, ◌/◌, ◌%◌, ◌<◌, ◌≤◌, ◌==◌, ◌&&◌, ◌||◌, not, Bool, true, false, List, [], ◌∷◌, ◌++◌, All, length, take, slice_index_or}
 use Rattle.std.specs.List.{flat_map}
 use Rattle.std.proofs.Common.{arith, ap, sym, ◌∙◌, subst, append_assoc, length-append}
 use Rattle.std.proofs.lemmas.Bool.{both_ways, eqb-true, or_right}
@@ -14,7 +14,6 @@ use Rattle.line_locks.specs.Counted.{Ascend}
 use Rattle.line_locks.specs.Flat.{flat_lines}
 use Rattle.line_locks.specs.Held.{holds_some}
 use Rattle.line_locks.specs.Holding.{Holding, IsWhole, held_at, of_seat}
-use Rattle.line_locks.proofs.ListedLemmas.{has-at}
 use Rattle.frame_pool.specs.declared.model.Pool.{Pool}
 use Rattle.store_format.specs.Bank.{RecordLine, record_bytes}
 use Rattle.store_format.specs.Header.{most_lines}
@@ -22,10 +21,10 @@ use Rattle.redo_journal.specs.Kept.{begun_of}
 use Rattle.restart.specs.Kept.{KeptStore}
 use Rattle.activations.specs.Activity.{Activity, locks_in}
 use Rattle.activations.specs.Follows.{IsSound}
-use Rattle.activations.specs.Recorded.{line_told, recorded, with_begun, with_lines, written_of, HasWritten}
+use Rattle.activations.specs.Recorded.{line_told, recorded, with_begun, with_lines, written_of}
 use Rattle.activations.specs.Steps.{wrote}
 use Rattle.activations.proofs.HoldingLemmas.{held-flat}
-use Rattle.activations.proofs.RecordLemmas.{Climbs, climbs-bound, climbs-from, climbs-below, climbs-on, climbs-page, climbs-flat, climbs-once, length-recorded, recorded-append, recorded-below}
+use Rattle.activations.proofs.RecordLemmas.{Climbs, climbs-from, climbs-below, climbs-on, climbs-page, climbs-flat, climbs-once, length-recorded, recorded-append, recorded-below}
 use Rattle.activations.proofs.RequestLemmas.{has-flat}
 use Rattle.activations.proofs.WrittenLemmas.{page-held}
 
@@ -33,10 +32,12 @@ use Rattle.activations.proofs.WrittenLemmas.{page-held}
 climbs-pages : (least : ℕ) (pages : List ℕ) (bound : ℕ) → Ascend pages → ((k d : ℕ) → k < length pages → (least ≤ slice_index_or pages k d) × (slice_index_or pages k d < bound)) → least ≤ bound → Climbs least pages bound
 climbs-pages least [] bound ascend within some = some
 climbs-pages least (page ∷ pages) bound ascend within some =
-    let here = within 0 0 (omega arith) in
-    (here.0, climbs-pages (page + 1) pages bound (λ i j d less inside. ascend (suc i) (suc j) d (omega (arith, less)) (omega (arith, inside)))
-        (λ k d inside. let above = ascend 0 (suc k) d (omega arith) (omega (arith, inside)) in (omega (arith, above), (within (suc k) d (omega (arith, inside))).1))
-        (omega (arith, here.1)))
+    let here = within 0 0 (omega arith) in (
+      here.0,
+      climbs-pages (page + 1) pages bound (λ i j d less inside. ascend (suc i) (suc j) d (omega (arith, less)) (omega (arith, inside)))
+          (λ k d inside. let above = ascend 0 (suc k) d (omega arith) (omega (arith, inside)) in (omega (arith, above), (within (suc k) d (omega (arith, inside))).1))
+          (omega (arith, here.1)),
+    )
 
 -- those before one of them lie below it
 climbs-take : (least : ℕ) (pages : List ℕ) (bound i d : ℕ) → Climbs least pages bound → i < length pages → Climbs least (take i pages) (slice_index_or pages i d)
@@ -69,8 +70,11 @@ with_lines-more pool xs ys store now next first second =
     place : store.bank.gate + record_bytes (length (begun_of store.bank ++ recorded (line_told pool) (store.bank.gate + record_bytes (length (begun_of store.bank))) xs))
         ≡ store.bank.gate + record_bytes (length (begun_of store.bank)) + 132 * length xs
     place =
-        omega (arith, length-append (begun_of store.bank) (recorded (line_told pool) (store.bank.gate + record_bytes (length (begun_of store.bank))) xs),
-        length-recorded (line_told pool) (store.bank.gate + record_bytes (length (begun_of store.bank))) xs)
+        omega (
+          arith,
+          length-append (begun_of store.bank) (recorded (line_told pool) (store.bank.gate + record_bytes (length (begun_of store.bank))) xs),
+          length-recorded (line_told pool) (store.bank.gate + record_bytes (length (begun_of store.bank))) xs,
+        )
 
 -- pages of which something is held are those of the store
 pub pages-below : (holding locks : Holding) (seat : ℕ) (pages : List ℕ) → locks ≡ holding → IsWhole holding → seat < 16

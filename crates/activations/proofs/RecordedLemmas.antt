@@ -1,19 +1,14 @@
 -- The record of a commit, from the pages whose lines came into it.
-use Rattle.std.specs.Prelude.{◌≡◌, refl, ℕ, ◌+◌, ◌*◌, ◌<◌, ◌≤◌, nat_lt, Bool, true, false, List, [], ◌++◌, All, length, map, slice_index_or, Some}
+use Rattle.std.specs.Prelude.{◌≡◌, refl, ℕ, ◌+◌, ◌*◌, ◌<◌, ◌≤◌, true, List, [], ◌++◌, All, length, map, slice_index_or}
 use Rattle.std.specs.List.{AllPairs}
 use Rattle.std.proofs.Common.{arith, ap, sym, ◌∙◌, subst}
-use Rattle.std.proofs.lemmas.Bool.Decides.{nat_tests}
 use Rattle.std.proofs.lemmas.List.Elements.{All-nil}
 use Rattle.line_geometry.specs.LineSets.{IsOfPage}
 use Rattle.line_locks.specs.declared.request.Want.{Want}
-use Rattle.lock_rules.specs.Sets.{has, size}
+use Rattle.lock_rules.specs.Sets.{has}
 use Rattle.lock_rules.proofs.Sizes.{size-alike}
 use Rattle.line_locks.specs.Held.{write_count}
 use Rattle.line_locks.specs.Holding.{of_seat}
-use Rattle.flat_machine.specs.declared.machine.Plain.{Plain}
-use Rattle.flat_machine.specs.After.{after}
-use Rattle.flat_machine.specs.Row.{Commit, row}
-use Rattle.desk_law.specs.Beside.{over_all}
 use Rattle.desk_law.specs.Consistent.{due_to}
 use Rattle.desk_law.proofs.Seats.{seat-told}
 use Rattle.redo_journal.specs.Kept.{begun_of}
@@ -23,7 +18,7 @@ use Rattle.seats.proofs.Kept.{taken-below}
 use Rattle.storage_unit.specs.Reached as reached
 use Rattle.store_format.specs.Bank.{RecordLine, record_bytes}
 use Rattle.store_format.specs.Stands.{laid}
-use Rattle.activations.specs.Activity.{Activity, program_in, entry_in, entries, store_over, locks_in, shown}
+use Rattle.activations.specs.Activity.{Activity, entry_in, store_over, locks_in}
 use Rattle.activations.specs.Follows.{IsSound, Follows}
 use Rattle.activations.specs.Recorded.{IsRecordOf, LeavesCommitted, HasWritten, line_told, recorded, written_of}
 use Rattle.activations.specs.Serves.{lines_with}

@@ -1,5 +1,5 @@
 -- The record of a commit: the lines that who sits in a seat holds to write, as all see them.
-use Rattle.std.specs.Prelude.{◌≡◌, ℕ, ◌+◌, ◌*◌, ◌<◌, ◌≤◌, ◌%◌, List, [], ◌∷◌, ◌++◌, All, length, map, Some}
+use Rattle.std.specs.Prelude.{◌≡◌, ℕ, ◌+◌, ◌<◌, ◌%◌, List, [], ◌∷◌, ◌++◌, All, length, map, Some}
 use Rattle.std.specs.List.{AllPairs, flat_map}
 use Rattle.flat_machine.specs.declared.machine.Plain.{Plain}
 use Rattle.flat_machine.specs.After.{after}
@@ -13,7 +13,7 @@ use Rattle.line_locks.specs.Held.{holds_some}
 use Rattle.line_locks.specs.Holding.{held_at}
 use Rattle.lock_rules.specs.Lines.{page_of_line}
 use Rattle.lock_rules.specs.Sets.{has}
-use Rattle.redo_journal.specs.Kept.{KeptBank, begun_of}
+use Rattle.redo_journal.specs.Kept.{begun_of}
 use Rattle.restart.specs.Kept.{KeptStore}
 use Rattle.store_format.specs.Bank.{RecordLine, record_bytes}
 use Rattle.store_format.specs.Stands.{laid}
