@@ -21,6 +21,11 @@ pub mod LineLemmas
 pub mod PoolLemmas
 pub mod PrepareLemmas
 pub mod PrintedLemmas
+pub mod RecordBytes
+pub mod RecordLemmas
+pub mod RecordLaid
+pub mod RecordPages
+pub mod RecordedLemmas
 pub mod RefusedLemmas
 pub mod RequestLemmas
 pub mod RollbackLemmas

@@ -13,3 +13,4 @@ pub mod Fetching
 pub mod Serves
 pub mod Instructed
 pub mod Turns
+pub mod Recorded

@@ -10,6 +10,7 @@ mod granting;
 mod instructions;
 pub mod laws;
 mod live;
+mod record;
 mod rows;
 mod serving;
 mod tally;

@@ -3,3 +3,4 @@ pub mod CountLemmas
 pub mod SeatLemmas
 pub mod FlatLemmas
 pub mod ListedLemmas
+pub mod OrderLemmas

@@ -49,7 +49,7 @@ some-more held want reads writes some =
     ]
 
 -- what stands at a place is there
-has-at : (list : List ℕ) (k d : ℕ) → k < length list → has list (get_or list k d) ≡ true
+pub has-at : (list : List ℕ) (k d : ℕ) → k < length list → has list (get_or list k d) ≡ true
 has-at [] k d within = absurd (omega (arith, within))
 has-at (x ∷ list) zero d within = or_left (x == x) (has list x) (eq-eqb x x refl)
 has-at (x ∷ list) (suc k) d within = or_right (x == get_or list k d) (has list (get_or list k d)) (has-at list k d (omega (arith, within)))

@@ -1,5 +1,6 @@
 -- What is kept of a seat.
 use Rattle.std.specs.Prelude.{◌≡◌, ◌<◌, ◌≤◌, ℕ, List, length, All}
+use Rattle.std.specs.List.{AllPairs}
 use Rattle.lock_rules.specs.Sets.{has, size}
 use Rattle.line_locks.specs.Held.{of_page, holds_some, write_count}
 
@@ -13,3 +14,7 @@ pub record IsCounted (pages : List (List ℕ × List ℕ)) (written : ℕ) : Typ
 pub record AreListed (pages : List (List ℕ × List ℕ)) (list : List ℕ) : Type 0 where
   pub each : (page : ℕ) → has list page ≡ holds_some (of_page pages page)
   pub once : size list ≡ length list
+
+-- each number is less than those behind it
+abbrev pub Ascend : List ℕ → Type 0
+Ascend list = AllPairs (λ first second. first < second) list

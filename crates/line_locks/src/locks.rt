@@ -1,5 +1,6 @@
 ghost use Rattle.std.specs.Prelude.{◌≡◌, ◌<◌, ℕ, length, IfOk};
 ghost use Rattle.lock_rules.specs.Sets.{has, size};
+ghost use Rattle.line_locks.specs.Counted.{Ascend};
 ghost use Rattle.line_locks.specs.Held.{holds_some, write_count, AreWithin};
 ghost use Rattle.line_locks.specs.Holding.{IsWhole, of_seat, nothing_held, held_at, is_in_conflict, in_conflict, bits_of_seats, taken, released};
 
@@ -59,11 +60,12 @@ impl Locks {
         self.seats[usize::from(seat)].held(page)
     }
 
-    /// The pages of which a seat holds something, each once.
+    /// The pages of which a seat holds something, ascending.
     pub fn held_pages(&self, seat: u8) -> &[u16]
         requires { seat < 16 }
         ensures each { (page : ℕ) → has result.now page ≡ holds_some (held_at self.now seat page) }
         ensures once { size result.now ≡ length result.now }
+        ensures ascending { Ascend result.now }
     {
         self.seats[usize::from(seat)].held_pages()
     }

@@ -1,10 +1,11 @@
 // What one seat holds.
-ghost use Rattle.std.specs.Prelude.{◌≡◌, ◌<◌, ◌≤◌, ◌∷◌, ◌++◌, if◌then◌else◌, [], ℕ, true, false, All, length, replicate, sum_by, vec_len, IfOk};
+ghost use Rattle.std.specs.Prelude.{slice_index_or, ◌≡◌, ◌<◌, ◌≤◌, ◌∷◌, ◌++◌, if◌then◌else◌, [], ℕ, true, false, All, length, replicate, sum_by, vec_len, IfOk};
 ghost use Rattle.std.specs.Vec.{vec_capacity};
 ghost use Rattle.std.specs.List.{list_any};
+ghost use Rattle.std.specs.List.Sorted.{IsPermutation};
 ghost use Rattle.line_geometry.specs.LineSets.{IsOfPage};
 ghost use Rattle.lock_rules.specs.Sets.{has, meets};
-ghost use Rattle.line_locks.specs.Counted.{AreListed};
+ghost use Rattle.line_locks.specs.Counted.{AreListed, Ascend};
 ghost use Rattle.line_locks.specs.Held.{nothing, of_page, holds_some, with_want, with_wants, conflicts_in, conflicts_with, write_count, AreWithin};
 
 use super::request::{Request, Want};
@@ -24,13 +25,13 @@ impl Model for SeatLines {
     ghost use Rattle.std.specs.Prelude.{ℕ, List};
     ghost use Rattle.std.specs.Prelude.{◌≤◌, length};
     ghost use Rattle.std.specs.Vec.{vec_capacity};
-    ghost use Rattle.line_locks.specs.Counted.{IsCounted, AreListed};
+    ghost use Rattle.line_locks.specs.Counted.{IsCounted, AreListed, Ascend};
 
     ghost Value = { List (List ℕ × List ℕ) };
 
     ghost view = { λ seat. seat.pages.items };
 
-    ghost invariant = { λ seat. IsCounted seat.pages.items seat.written × AreListed seat.pages.items seat.held.items × (length seat.pages.items ≤ vec_capacity seat.held) };
+    ghost invariant = { λ seat. IsCounted seat.pages.items seat.written × AreListed seat.pages.items seat.held.items × (length seat.pages.items ≤ vec_capacity seat.held) × Ascend seat.held.items };
 }
 
 impl SeatLines {
@@ -53,9 +54,10 @@ impl SeatLines {
         self.pages[usize::from(page)]
     }
 
-    /// The pages of which it holds something, each once.
+    /// The pages of which it holds something, ascending.
     pub fn held_pages(&self) -> &[u16]
-        ensures { AreListed self.now result.now }
+        ensures listed { AreListed self.now result.now }
+        ensures ascending { Ascend result.now }
     {
         let _pages = &self.pages;
         &self.held
@@ -118,14 +120,31 @@ impl SeatLines {
     }
 }
 
-/// Lists a page where it is the first time that something is held of it.
+/// Lists a page among those that ascend, where it is the first time that something is held of it.
 fn list_if(is_first: bool, list: &mut Vec<u16>, page: u16)
-    requires { is_first ≡ true → vec_len list.old < vec_capacity list.old }
-    ensures items { list.new.items ≡ (if is_first then list.old.items ++ page ∷ [] else list.old.items) }
+    requires room { is_first ≡ true → vec_len list.old < vec_capacity list.old }
+    requires absent { is_first ≡ true → has list.old.items page ≡ false }
+    requires ascending { Ascend list.old.items }
+    ensures listed { IsPermutation (if is_first then list.old.items ++ page ∷ [] else list.old.items) list.new.items }
+    ensures ascending { Ascend list.new.items }
     ensures capacity { vec_capacity list.old ≤ vec_capacity list.new }
 {
     if is_first {
-        let _room = list.push(page);
+        let at = place_of(list, page);
+        let _room = list.insert(at, page);
+    }
+}
+
+/// Where a page belongs among those that ascend.
+fn place_of(list: &[u16], page: u16) -> usize
+    requires { Ascend list.now }
+    ensures within { result ≤ length list.now }
+    ensures before { (k d : ℕ) → k < result → slice_index_or list.now k d < page }
+    ensures behind { (k d : ℕ) → result ≤ k → k < length list.now → page ≤ slice_index_or list.now k d }
+{
+    match list.binary_search(&page) {
+        Ok(at) => at,
+        Err(at) => at,
     }
 }
 

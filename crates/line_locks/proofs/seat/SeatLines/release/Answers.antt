@@ -2,7 +2,7 @@ use Rattle.std.proofs.Common.{◌≡◌, ℕ, List, length, replicate, get_or, a
 use Rattle.std.proofs.lemmas.Bool.{cases_Bool}
 use Rattle.lock_rules.specs.Sets.{has}
 use Rattle.line_locks.specs.Held.{nothing, of_page}
-use Rattle.line_locks.specs.Counted.{IsCounted, AreListed}
+use Rattle.line_locks.specs.Counted.{IsCounted, AreListed, Ascend}
 use Rattle.line_locks.proofs.ListedLemmas.{none-held, all-none, listed-none, listed-at}
 use Rattle.line_locks.proofs.CountLemmas.{none-counted}
 use Rattle.line_locks.proofs.seat.SeatLines.release.Goals as goal
@@ -30,6 +30,7 @@ invariant_of-self c = (
   subst (λ (pages : List (List ℕ × List ℕ)). AreListed pages c.clear-2.new.self.items) (sym (none c))
       (subst (AreListed (replicate (length c.self.inside.pages.items) nothing)) (sym c.clear-2.ensures.items) (listed-none (length c.self.inside.pages.items))),
   omega (arith, c.clear.ensures.long, c.clear.new.pages.ok, c.self.inside.pages.ok, c.self.invariant.2, c.clear-2.ensures.capacity),
+  subst Ascend (sym c.clear-2.ensures.items) (λ i j d less within. absurd (omega (arith, within))),
 )
 
 pub returns : goal.returns

@@ -1,0 +1,189 @@
+-- The pages whose lines come into a record.
+use Rattle.std.specs.Prelude.{◌≡◌, refl, ℕ, zero, suc, ◌+◌, ◌*◌, ◌/◌, ◌%◌, ◌<◌, ◌≤◌, ◌==◌, ◌&&◌, ◌||◌, not, Bool, true, false, List, [], ◌∷◌, ◌++◌, All, length, take, slice_index_or}
+use Rattle.std.specs.List.{flat_map}
+use Rattle.std.proofs.Common.{arith, ap, sym, ◌∙◌, subst, append_assoc, length-append}
+use Rattle.std.proofs.lemmas.Bool.{both_ways, eqb-true, or_right}
+use Rattle.std.proofs.lemmas.Bool.Decides.{nat_tests}
+use Rattle.std.proofs.lemmas.List.{append-nil, length-map, take_more, take_all, get_or_default}
+use Rattle.std.proofs.lemmas.List.Concat.{flat_map-append}
+use Rattle.lock_rules.specs.Lines.{page_of_line}
+use Rattle.lock_rules.specs.Sets.{has, size}
+use Rattle.lock_rules.proofs.Sets.{has-append}
+use Rattle.lock_rules.proofs.Sizes.{size-alike}
+use Rattle.line_locks.specs.Counted.{Ascend}
+use Rattle.line_locks.specs.Flat.{flat_lines}
+use Rattle.line_locks.specs.Held.{holds_some}
+use Rattle.line_locks.specs.Holding.{Holding, IsWhole, held_at, of_seat}
+use Rattle.frame_pool.specs.declared.model.Pool.{Pool}
+use Rattle.store_format.specs.Bank.{RecordLine, record_bytes}
+use Rattle.store_format.specs.Header.{most_lines}
+use Rattle.redo_journal.specs.Kept.{begun_of}
+use Rattle.restart.specs.Kept.{KeptStore}
+use Rattle.activations.specs.Activity.{Activity, locks_in}
+use Rattle.activations.specs.Follows.{IsSound}
+use Rattle.activations.specs.Recorded.{line_told, recorded, with_begun, with_lines, written_of}
+use Rattle.activations.specs.Steps.{wrote}
+use Rattle.activations.proofs.HoldingLemmas.{held-flat}
+use Rattle.activations.proofs.RecordLemmas.{Climbs, climbs-from, climbs-below, climbs-on, climbs-page, climbs-flat, climbs-once, length-recorded, recorded-append, recorded-below}
+use Rattle.activations.proofs.RequestLemmas.{has-flat}
+use Rattle.activations.proofs.WrittenLemmas.{page-held}
+
+-- pages that ascend, within bounds
+climbs-pages : (least : ℕ) (pages : List ℕ) (bound : ℕ) → Ascend pages → ((k d : ℕ) → k < length pages → (least ≤ slice_index_or pages k d) × (slice_index_or pages k d < bound)) → least ≤ bound → Climbs least pages bound
+climbs-pages least [] bound ascend within some = some
+climbs-pages least (page ∷ pages) bound ascend within some =
+    let here = within 0 0 (omega arith) in (
+      here.0,
+      climbs-pages (page + 1) pages bound (λ i j d less inside. ascend (suc i) (suc j) d (omega (arith, less)) (omega (arith, inside)))
+          (λ k d inside. let above = ascend 0 (suc k) d (omega arith) (omega (arith, inside)) in (omega (arith, above), (within (suc k) d (omega (arith, inside))).1))
+          (omega (arith, here.1)),
+    )
+
+-- those before one of them lie below it
+climbs-take : (least : ℕ) (pages : List ℕ) (bound i d : ℕ) → Climbs least pages bound → i < length pages → Climbs least (take i pages) (slice_index_or pages i d)
+climbs-take least [] bound i d climbs inside = absurd (omega (arith, inside))
+climbs-take least (page ∷ pages) bound zero d climbs inside = climbs.0
+climbs-take least (page ∷ pages) bound (suc i) d climbs inside = (climbs.0, climbs-take (page + 1) pages bound i d climbs.1 (omega (arith, inside)))
+
+length-flat-take : (f : ℕ → List ℕ) (pages : List ℕ) (i : ℕ) → length (flat_map f (take i pages)) ≤ length (flat_map f pages)
+length-flat-take f [] i = omega (arith, ap (λ (these : List ℕ). length (flat_map f these)) (take_all i [] (omega arith)))
+length-flat-take f (page ∷ pages) zero = omega arith
+length-flat-take f (page ∷ pages) (suc i) =
+    let rest = length-flat-take f pages i in
+    omega (arith, rest, length-append (f page) (flat_map f (take i pages)), length-append (f page) (flat_map f pages))
+
+-- lines and then others come behind those that are begun
+pub with_lines-more : (pool : Pool) (xs ys : List ℕ) (store now next : KeptStore) → now ≡ with_lines pool xs store → next ≡ with_lines pool ys now → next ≡ with_lines pool (xs ++ ys) store
+with_lines-more pool xs ys store now next first second =
+    second ∙ ap (with_lines pool ys) first
+    ∙ ap (with_begun store)
+    (append_assoc before new (recorded (line_told pool) (store.bank.gate + record_bytes (length (before ++ new))) ys)
+    ∙ ap (λ (at : ℕ). before ++ (new ++ recorded (line_told pool) at ys)) place
+    ∙ ap (λ (rest : List RecordLine). before ++ rest) (sym (recorded-append (line_told pool) (store.bank.gate + record_bytes (length before)) xs ys)))
+  where
+    before : List RecordLine
+    before = begun_of store.bank
+
+    new : List RecordLine
+    new = recorded (line_told pool) (store.bank.gate + record_bytes (length (begun_of store.bank))) xs
+
+    place : store.bank.gate + record_bytes (length (begun_of store.bank ++ recorded (line_told pool) (store.bank.gate + record_bytes (length (begun_of store.bank))) xs))
+        ≡ store.bank.gate + record_bytes (length (begun_of store.bank)) + 132 * length xs
+    place =
+        omega (
+          arith,
+          length-append (begun_of store.bank) (recorded (line_told pool) (store.bank.gate + record_bytes (length (begun_of store.bank))) xs),
+          length-recorded (line_told pool) (store.bank.gate + record_bytes (length (begun_of store.bank))) xs,
+        )
+
+-- pages of which something is held are those of the store
+pub pages-below : (holding locks : Holding) (seat : ℕ) (pages : List ℕ) → locks ≡ holding → IsWhole holding → seat < 16
+    → ((page : ℕ) → has pages page ≡ holds_some (held_at locks seat page)) → (k d : ℕ) → k < length pages → slice_index_or pages k d < holding.pages
+pages-below holding locks seat pages is whole below each k d inside =
+    let held = page-held holding locks seat pages k is whole below inside each in
+    omega (arith, held, get_or_default pages k d 0 inside)
+
+-- The lines that a seat holds to write of pages that ascend.
+module _ (a : Activity) (seat : ℕ) (sound : IsSound a) where
+  written-climbs : (least : ℕ) (pages : List ℕ) (bound : ℕ) → Climbs least pages bound → Climbs (least * 16) (written_of a seat pages) (bound * 16)
+  written-climbs least [] bound climbs = omega (arith, climbs)
+  written-climbs least (page ∷ pages) bound climbs =
+      let rest = written-climbs (page + 1) pages bound climbs.1 in
+      let first : page * 16 + 0 ≡ page * 16 = omega arith in
+      let last : page * 16 + 16 ≡ (page + 1) * 16 = omega arith in
+      climbs-from (least * 16) (page * 16) (written_of a seat (page ∷ pages)) (bound * 16) (omega (arith, climbs.0))
+      (climbs-on (page * 16) (flat_lines page (wrote a seat page)) ((page + 1) * 16) (written_of a seat pages) (bound * 16)
+      (subst (λ (n : ℕ). Climbs n (flat_lines page (wrote a seat page)) ((page + 1) * 16)) first
+      (subst (Climbs (page * 16 + 0) (flat_lines page (wrote a seat page))) last (climbs-flat page 0 (wrote a seat page) 16 (climbs-page (wrote a seat page) ((sound.lines seat).writes page)))))
+      rest)
+
+  -- a line is one of them where its page is and it is held to write
+  has-written : (pages : List ℕ) (line : ℕ) → has (written_of a seat pages) line ≡ (has pages (page_of_line line) && has (wrote a seat (page_of_line line)) (line % 16))
+  has-written [] line = refl
+  has-written (page ∷ pages) line =
+      has-append (flat_lines page (wrote a seat page)) (written_of a seat pages) line
+      ∙ (λ i. has-flat page (wrote a seat page) line ((sound.lines seat).writes page) i || has-written pages line i)
+      ∙ by_test (page == page_of_line line) refl
+    where
+      either : (b c : Bool) → (b || (c && b)) ≡ b
+      either true c = refl
+      either false true = refl
+      either false false = refl
+
+      by_test : (here : Bool) → (page == page_of_line line) ≡ here
+          → ((here && has (wrote a seat page) (line % 16)) || (has pages (page_of_line line) && has (wrote a seat (page_of_line line)) (line % 16)))
+          ≡ ((here || has pages (page_of_line line)) && has (wrote a seat (page_of_line line)) (line % 16))
+      by_test true e =
+          ap (λ (p : ℕ). has (wrote a seat p) (line % 16) || (has pages (page_of_line line) && has (wrote a seat (page_of_line line)) (line % 16))) (eqb-true page (page_of_line line) e)
+          ∙ either (has (wrote a seat (page_of_line line)) (line % 16)) (has pages (page_of_line line))
+      by_test false e = refl
+
+  pub wrote-locks : (line : ℕ) → has (wrote a seat (page_of_line line)) (line % 16) ≡ has (locks_in a seat).writes line
+  wrote-locks line =
+      let whole : line / 16 * 16 + line % 16 ≡ line = omega arith in
+      (held-flat (of_seat a.seating.holding seat) (sound.lines seat)).writes (line / 16) (line % 16) (omega arith) ∙ ap (has (locks_in a seat).writes) whole
+
+  -- all pages of which it holds something
+  module _ (pages : List ℕ) (ascend : Ascend pages) (each : (page : ℕ) → has pages page ≡ holds_some (held_at a.seating.holding seat page)) where
+    pub written-all : (line : ℕ) → has (written_of a seat pages) line ≡ has (locks_in a seat).writes line
+    written-all line = has-written pages line ∙ by_test (has (wrote a seat (page_of_line line)) (line % 16)) refl ∙ wrote-locks line
+      where
+        some : (lines : List ℕ) (x : ℕ) → has lines x ≡ true → not (length lines == 0) ≡ true
+        some [] x inside = absurd (both_ways false refl inside)
+        some (y ∷ lines) x inside = let more : (suc (length lines) == 0) ≡ false = grind (arith, nat_tests) in ap not more
+
+        no : (b : Bool) → (b && false) ≡ false
+        no true = refl
+        no false = refl
+
+        by_test : (held : Bool) → has (wrote a seat (page_of_line line)) (line % 16) ≡ held
+            → (has pages (page_of_line line) && has (wrote a seat (page_of_line line)) (line % 16)) ≡ has (wrote a seat (page_of_line line)) (line % 16)
+        by_test true e =
+            ap (λ (b : Bool). b && has (wrote a seat (page_of_line line)) (line % 16))
+            (each (page_of_line line)
+            ∙ or_right (not (length (held_at a.seating.holding seat (page_of_line line)).0 == 0)) (not (length (wrote a seat (page_of_line line)) == 0)) (some (wrote a seat (page_of_line line)) (line % 16) e))
+        by_test false e = ap (λ (b : Bool). has pages (page_of_line line) && b) e ∙ no (has pages (page_of_line line)) ∙ sym e
+
+    module _ (bound : ℕ) (below : (k d : ℕ) → k < length pages → slice_index_or pages k d < bound) where
+      pages-climb : Climbs 0 pages bound
+      pages-climb = climbs-pages 0 pages bound ascend (λ k d inside. (omega arith, below k d inside)) (omega arith)
+
+      pub lines-climb : Climbs 0 (written_of a seat pages) (bound * 16)
+      lines-climb = written-climbs 0 pages bound pages-climb
+
+      pub as-many : length (written_of a seat pages) ≡ size (locks_in a seat).writes
+      as-many =
+          sym (climbs-once 0 (written_of a seat pages) (bound * 16) lines-climb)
+          ∙ size-alike (written_of a seat pages) (locks_in a seat).writes (record { among = λ line inside. sym (written-all line) ∙ inside }) (record { among = λ line inside. written-all line ∙ inside })
+
+      -- up to one of them
+      module _ (pool : Pool) (first now : KeptStore) (at : ℕ) (inside : at < length pages) (so : now ≡ with_lines pool (written_of a seat (take at pages)) first) (none : begun_of first.bank ≡ []) where
+        abbrev page : ℕ
+        page = slice_index_or pages at 0
+
+        begun : begun_of now.bank ≡ recorded (line_told pool) (first.bank.gate + record_bytes (length (begun_of first.bank))) (written_of a seat (take at pages))
+        begun = ap (λ (store : KeptStore). begun_of store.bank) so ∙ ap (λ (these : List RecordLine). these ++ recorded (line_told pool) (first.bank.gate + record_bytes (length (begun_of first.bank))) (written_of a seat (take at pages))) none
+
+        pub before-page : All (λ one. one.line < page * 16) (begun_of now.bank)
+        before-page =
+            subst (λ (these : List RecordLine). All (λ (one : RecordLine). one.line < page * 16) these) (sym begun)
+            (recorded-below (line_told pool) (page * 16) (first.bank.gate + record_bytes (length (begun_of first.bank))) (written_of a seat (take at pages))
+            (climbs-below 0 (written_of a seat (take at pages)) (page * 16) (written-climbs 0 (take at pages) page (climbs-take 0 pages bound at 0 pages-climb inside))))
+
+        one-more : written_of a seat (take (at + 1) pages) ≡ written_of a seat (take at pages) ++ flat_lines page (wrote a seat page)
+        one-more =
+            ap (written_of a seat) (take_more pages at 0 inside)
+            ∙ flat_map-append (λ (p : ℕ). flat_lines p (wrote a seat p)) (take at pages) (page ∷ [])
+            ∙ ap (λ (these : List ℕ). written_of a seat (take at pages) ++ these) (append-nil (flat_lines page (wrote a seat page)))
+
+        pub room-left : size (locks_in a seat).writes ≤ most_lines first.header → length (begun_of now.bank) + length (wrote a seat page) ≤ most_lines first.header
+        room-left few =
+            let long = ap (λ (these : List RecordLine). length these) begun ∙ length-recorded (line_told pool) (first.bank.gate + record_bytes (length (begun_of first.bank))) (written_of a seat (take at pages)) in
+            let fewer = length-flat-take (λ (p : ℕ). flat_lines p (wrote a seat p)) pages (at + 1) in
+            let more = ap (λ (these : List ℕ). length these) one-more in
+            omega (arith, few, as-many, long, fewer, more, length-append (written_of a seat (take at pages)) (flat_lines page (wrote a seat page)), length-map (wrote a seat page) (λ line. page * 16 + line))
+
+        pub written-more : (next : KeptStore) → next ≡ with_lines pool (flat_lines page (wrote a seat page)) now → next ≡ with_lines pool (written_of a seat (take (at + 1) pages)) first
+        written-more next went =
+            with_lines-more pool (written_of a seat (take at pages)) (flat_lines page (wrote a seat page)) first now next so went
+            ∙ ap (λ (lines : List ℕ). with_lines pool lines first) (sym one-more)

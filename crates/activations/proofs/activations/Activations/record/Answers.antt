@@ -1,0 +1,63 @@
+use Rattle.std.proofs.Common.{◌≡◌, ◌≤◌, ◌∙◌, ℕ, false, ap, subst, arith}
+use Rattle.std.specs.Prelude.{nat_lt}
+use Rattle.std.proofs.lemmas.Bool.Decides.{nat_tests}
+use Rattle.desk.specs.declared.answers.TurnEnd.{TurnEnd}
+use Rattle.redo_journal.specs.Kept.{begun_of}
+use Rattle.restart.specs.Kept.{KeptStore}
+use Rattle.seats.proofs.Kept.{taken-below}
+use Rattle.storage_unit.proofs.UnitLemmas.{unit-sound}
+use Rattle.activations.specs.Activity.{Activity}
+use Rattle.activations.specs.Recorded.{HasWritten}
+use Rattle.activations.specs.View.{activity_of}
+use Rattle.activations.proofs.RecordedLemmas.{with-none, never-more, is-record, record-count, record-leaves}
+use Rattle.activations.proofs.activations.Activations.record.Goals as goal
+
+-- where so many lines aren't over the most, these aren't
+not_over : (most with count lines : ℕ) → nat_lt most with ≡ false → with ≡ count → lines ≡ count → lines ≤ most
+not_over most with count lines over same long = grind (arith, nat_tests)
+
+pub record_written-requires-clause-seat : goal.record_written-requires-clause-seat
+record_written-requires-clause-seat c = taken-below c.args.self.now.seats c.requires.sound.seating c.args.seat c.requires.taken
+
+pub returns-in-Err-clause-journal : goal.returns-in-Err-clause-journal
+returns-in-Err-clause-journal c =
+    let lines = with-none (activity_of c.args.self.now) c.args.seat c.requires.sound c.requires.taken in
+    let over = c.in-Err.ensures.journal.1 in (
+      c.in-Err.ensures.journal.0 ∙ ap (λ (count : ℕ). TurnEnd.Journal count c.args.self.now.most_lines) lines,
+      omega (arith, over, lines),
+    )
+
+pub returns-in-Err-clause-never : goal.returns-in-Err-clause-never
+returns-in-Err-clause-never c =
+    λ committed follows.
+    let lines = with-none (activity_of c.args.self.now) c.args.seat c.requires.sound c.requires.taken in
+    let over = c.in-Err.ensures.journal.1 in
+    let few = never-more (activity_of c.args.self.now) c.args.seat c.requires.sound c.requires.taken committed follows in
+    absurd (omega (arith, over, lines, few))
+
+pub returns-in-Ok-clause-record : goal.returns-in-Ok-clause-record
+returns-in-Ok-clause-record c =
+    is-record (activity_of c.args.self.now) c.args.seat c.requires.sound c.requires.taken c.record_start.new.self c.record_written.new.store
+    (ap (λ (store : KeptStore). begun_of store.bank) c.record_start.ensures)
+    (subst (λ (a : Activity). HasWritten a c.args.seat c.record_start.new.self c.record_written.new.store) c.in-Ok.ensures.kept.0 c.record_written.ensures)
+
+pub returns-in-Ok-clause-count : goal.returns-in-Ok-clause-count
+returns-in-Ok-clause-count c =
+    record-count (activity_of c.args.self.now) c.args.seat c.requires.sound c.requires.taken c.record_start.new.self c.record_written.new.store
+    (ap (λ (store : KeptStore). begun_of store.bank) c.record_start.ensures)
+    (subst (λ (a : Activity). HasWritten a c.args.seat c.record_start.new.self c.record_written.new.store) c.in-Ok.ensures.kept.0 c.record_written.ensures)
+
+pub returns-in-Ok-clause-few : goal.returns-in-Ok-clause-few
+returns-in-Ok-clause-few c =
+    let lines = with-none (activity_of c.args.self.now) c.args.seat c.requires.sound c.requires.taken in
+    let count = record-count (activity_of c.args.self.now) c.args.seat c.requires.sound c.requires.taken c.record_start.new.self c.record_written.new.store
+    (ap (λ (store : KeptStore). begun_of store.bank) c.record_start.ensures)
+    (subst (λ (a : Activity). HasWritten a c.args.seat c.record_start.new.self c.record_written.new.store) c.in-Ok.ensures.kept.0 c.record_written.ensures) in
+    not_over c.args.self.now.most_lines _ _ _ c.in-Ok.ensures.kept.1 lines count
+
+pub returns-in-Ok-clause-laid : goal.returns-in-Ok-clause-laid
+returns-in-Ok-clause-laid c =
+    record-leaves (activity_of c.args.self.now) c.args.seat c.requires.sound c.requires.taken c.record_start.new.self c.record_written.new.store
+    (ap (λ (store : KeptStore). begun_of store.bank) c.record_start.ensures)
+    (subst (λ (a : Activity). HasWritten a c.args.seat c.record_start.new.self c.record_written.new.store) c.in-Ok.ensures.kept.0 c.record_written.ensures)
+    (unit-sound c.args.self.now.unit)

@@ -1,0 +1,8 @@
+use Rattle.std.proofs.Common.{◌≡◌, take}
+use Rattle.activations.specs.Recorded.{with_lines, written_of}
+use Rattle.activations.specs.View.{activity_of}
+use Rattle.activations.proofs.activations.Activations.record_written.Given as goal
+
+-- the record has what is held to write of the pages so far
+abbrev pub invariant-loop-page : goal.invariant-loop-page
+invariant-loop-page l = l.store ≡ with_lines (activity_of l.self).reach.pool (written_of (activity_of l.self) l.seat (take l.page-index l.page-items)) l.fn.store

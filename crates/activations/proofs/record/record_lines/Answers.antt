@@ -1,0 +1,56 @@
+use Rattle.std.proofs.Common.{◌+◌, ◌*◌, ℕ, List, length, refl, sym, ◌∙◌, ap, subst, arith}
+use Rattle.std.specs.Prelude.{IsSome}
+use Rattle.line_geometry.specs.Directory.{page_count}
+use Rattle.line_geometry.specs.declared.line_set.LinesOf.{LinesOf}
+use Rattle.frame_pool.specs.View.{pool_of}
+use Rattle.frame_pool.proofs.SeenLemmas.{pool-seen}
+use Rattle.redo_journal.specs.Kept.{with_line}
+use Rattle.restart.specs.Kept.{KeptStore}
+use Rattle.activations.proofs.RecordLemmas.{Adds, adds-all, adds-none, adds-next, adds-one, next-line, next-above, next-room}
+use Rattle.activations.proofs.RecordBytes.{shown-long}
+use Rattle.activations.proofs.record.record_lines.Goals as goal
+
+pub loop-line-init : goal.loop-line-init
+loop-line-init c =
+    adds-all (pool_of c.args.pool.now) c.args.page c.args.lines c.into_iter-line-iterator.result.left c.args.store.now
+    (ap (λ (lines : LinesOf). lines.left) c.into_iter-line-iterator.ensures.into_iter_gives ∙ c.lines-line-items.ensures.value)
+    c.lines-line-items.ensures.of_page c.requires.begun c.requires.before c.requires.room
+
+pub written_line-requires-clause-line : goal.written_line-requires-clause-line
+written_line-requires-clause-line c = next-line (adds-next c.in-Some.ensures.steps c.loop-line.invariant)
+
+pub record_line-requires-clause-begun : goal.record_line-requires-clause-begun
+record_line-requires-clause-begun c = subst (λ (store : KeptStore). IsSome store.bank.begun) (sym c.loop-line.invariant.shape) refl
+
+pub record_line-requires-clause-whole : goal.record_line-requires-clause-whole
+record_line-requires-clause-whole c =
+    ap (λ (bytes : List ℕ). length bytes) c.written_line.ensures
+    ∙ shown-long (pool_of c.args.pool.now) (pool-seen c.args.pool.now) c.requires.size c.args.page c.in-Some.line c.requires.page (next-line (adds-next c.in-Some.ensures.steps c.loop-line.invariant))
+
+pub record_line-requires-clause-below : goal.record_line-requires-clause-below
+record_line-requires-clause-below c =
+    let same = ap (λ (store : KeptStore). page_count store.header.directory) c.loop-line.invariant.shape in
+    omega (arith, same, c.requires.below, next-line (adds-next c.in-Some.ensures.steps c.loop-line.invariant), c.from.ensures, c.from-in-loop-line.ensures)
+
+pub record_line-requires-clause-ascending : goal.record_line-requires-clause-ascending
+record_line-requires-clause-ascending c =
+    λ k d within.
+    let above = next-above (adds-next c.in-Some.ensures.steps c.loop-line.invariant) k d within in
+    omega (arith, above, c.from.ensures, c.from-in-loop-line.ensures)
+
+pub record_line-requires-clause-room : goal.record_line-requires-clause-room
+record_line-requires-clause-room c =
+    let room = next-room (adds-next c.in-Some.ensures.steps c.loop-line.invariant) in
+    let same = ap (λ (store : KeptStore). store.header.bank_bytes) c.loop-line.invariant.shape in
+    omega (arith, room, same)
+
+pub loop-line-preserved : goal.loop-line-preserved
+loop-line-preserved c =
+    adds-one (adds-next c.in-Some.ensures.steps c.loop-line.invariant) c.record_line.new.self
+    (c.record_line.ensures
+    ∙ (λ i. record c.loop-line.store { bank = with_line c.loop-line.store.bank (c.from.ensures i * 16 + c.from-in-loop-line.ensures i) (c.written_line.ensures i) }))
+
+pub returns : goal.returns
+returns c =
+    adds-none (pool_of c.args.pool.now) c.args.page c.args.lines c.args.store.now c.loop-line.store
+    (subst (λ (left : List ℕ). Adds (pool_of c.args.pool.now) c.args.page c.args.lines c.args.store.now left c.loop-line.store) c.in-None.ensures.steps.0 c.loop-line.invariant)

@@ -1,0 +1,7 @@
+use Rattle.frame_pool.specs.View.{pool_of}
+use Rattle.activations.proofs.RecordLemmas.{Adds}
+use Rattle.activations.proofs.record.record_lines.Given as goal
+
+-- what is left of the page's lines is to be added
+abbrev pub invariant-loop-line : goal.invariant-loop-line
+invariant-loop-line l = Adds (pool_of l.pool) l.page l.fn.lines l.fn.store l.line-iterator.left l.store

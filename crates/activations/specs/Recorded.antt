@@ -1,0 +1,66 @@
+-- The record of a commit: the lines that who sits in a seat holds to write, as all see them.
+use Rattle.std.specs.Prelude.{◌≡◌, ℕ, ◌+◌, ◌<◌, ◌%◌, List, [], ◌∷◌, ◌++◌, All, length, map, Some}
+use Rattle.std.specs.List.{AllPairs, flat_map}
+use Rattle.flat_machine.specs.declared.machine.Plain.{Plain}
+use Rattle.flat_machine.specs.After.{after}
+use Rattle.flat_machine.specs.Row.{Commit, row}
+use Rattle.frame_pool.specs.declared.model.Pool.{Pool}
+use Rattle.frame_pool.specs.Pool.{line_shown}
+use Rattle.desk_law.specs.Beside.{over_all}
+use Rattle.line_locks.specs.Counted.{Ascend}
+use Rattle.line_locks.specs.Flat.{flat_lines}
+use Rattle.line_locks.specs.Held.{holds_some}
+use Rattle.line_locks.specs.Holding.{held_at}
+use Rattle.lock_rules.specs.Lines.{page_of_line}
+use Rattle.lock_rules.specs.Sets.{has}
+use Rattle.redo_journal.specs.Kept.{begun_of}
+use Rattle.restart.specs.Kept.{KeptStore}
+use Rattle.store_format.specs.Bank.{RecordLine, record_bytes}
+use Rattle.store_format.specs.Stands.{laid}
+use Rattle.activations.specs.Activity.{Activity, program_in, entry_in, store_over, locks_in, shown}
+use Rattle.activations.specs.Follows.{Follows}
+use Rattle.activations.specs.Steps.{wrote}
+
+-- the bytes of a flat line in the pool
+abbrev pub line_told : Pool → (line : ℕ) → List ℕ
+line_told pool line = line_shown pool (page_of_line line) (line % 16)
+
+-- Lines of a record of what a seat holds to write: they ascend, those that are held to write are there, and no others, and
+-- each has the bytes that the pool has of it.
+pub record IsRecordOf (a : Activity) (seat : ℕ) (lines : List RecordLine) : Type 0 where
+  pub ascending : AllPairs (λ first second. first.line < second.line) lines
+  pub each : (line : ℕ) → has (map (λ one. one.line) lines) line ≡ has (locks_in a seat).writes line
+  pub bytes : All (λ one. one.bytes ≡ line_told a.reach.pool one.line) lines
+
+-- the store has these lines in the record that is begun, and is as it was else
+abbrev pub with_begun : KeptStore → List RecordLine → KeptStore
+with_begun store lines = record store { bank = record store.bank { begun = Some lines } }
+
+-- laid over what is committed, these lines leave what who sits in a seat commits
+abbrev pub LeavesCommitted : Activity → (seat : ℕ) → List RecordLine → Type 0
+LeavesCommitted a seat lines =
+    (committed : List ℕ) (now : Plain) → Follows a committed
+    → after (program_in a seat) (entry_in a seat).runs.args (store_over a committed) (entry_in a seat).rows ≡ Some now
+    → row (program_in a seat) a.reach.directory (over_all now (shown a committed)) ≡ Commit
+    → laid committed lines ≡ now.store
+
+-- a record's lines at these flat lines, with the bytes that each has, from an offset on
+abbrev pub recorded : (bytes : ℕ → List ℕ) → (at : ℕ) → List ℕ → List RecordLine
+recorded bytes at [] = []
+recorded bytes at (line ∷ lines) = record { line = line; at = at; bytes = bytes line } ∷ recorded bytes (at + 132) lines
+
+-- the flat lines of these pages that a seat holds to write, page by page
+abbrev pub written_of : Activity → (seat : ℕ) → (pages : List ℕ) → List ℕ
+written_of a seat pages = flat_map (λ page. flat_lines page (wrote a seat page)) pages
+
+-- the record that is begun has these lines of the pool behind those that it had
+abbrev pub with_lines : Pool → (lines : List ℕ) → KeptStore → KeptStore
+with_lines pool lines store =
+    with_begun store (begun_of store.bank ++ recorded (line_told pool) (store.bank.gate + record_bytes (length (begun_of store.bank))) lines)
+
+-- The record that is begun has the lines that a seat holds to write of pages that ascend: all those of which it holds some.
+pub record HasWritten (a : Activity) (seat : ℕ) (old new : KeptStore) : Type 0 where
+  pub pages : List ℕ
+  pub ascending : Ascend pages
+  pub all : (page : ℕ) → has pages page ≡ holds_some (held_at a.seating.holding seat page)
+  pub is : new ≡ with_lines a.reach.pool (written_of a seat pages) old

@@ -1,0 +1,94 @@
+// The record of a commit.
+ghost use Rattle.std.specs.Prelude.{◌≡◌, ◌+◌, ◌*◌, ◌<◌, ◌≤◌, ℕ, List, [], All, length, map, true, Some, IsSome, IsOk, OnOk, OnErr, IfErr};
+ghost use Rattle.lock_rules.specs.Sets.{has, size};
+ghost use Rattle.line_geometry.specs.Directory.{page_count};
+ghost use Rattle.line_geometry.specs.declared.directory.PageSize.TheVariants.{Two};
+ghost use Rattle.line_locks.specs.Flat.{flat_lines};
+ghost use Rattle.line_locks.specs.Held.{write_count};
+ghost use Rattle.line_locks.specs.Holding.{of_seat};
+ghost use Rattle.frame_pool.specs.View.{pool_of};
+ghost use Rattle.store_format.specs.Header.{most_lines};
+ghost use Rattle.redo_journal.specs.Kept.{begun_of};
+ghost use Rattle.activations.specs.Recorded.{with_lines};
+
+use super::activations::Activations;
+use super::touch::Touch;
+use desk::TurnEnd;
+use frame_pool::FramePool;
+use line_geometry::LineSet;
+use restart::Durable;
+
+impl Activations {
+    ghost use Rattle.activations.specs.Activity.{locks_in};
+    ghost use Rattle.activations.specs.Follows.{IsSound, Follows};
+    ghost use Rattle.activations.specs.Recorded.{IsRecordOf, LeavesCommitted, HasWritten, with_begun};
+    ghost use Rattle.activations.specs.Steps.{rolled};
+    ghost use Rattle.activations.specs.View.{activity_of};
+
+    /// Begins a record of the lines that who sits in a seat holds to write, ascending, with the bytes that all see there.
+    ///
+    /// # Errors
+    ///
+    /// [`TurnEnd::Journal`] exactly where they are more than a record may have: he is rolled back then, and the store is left
+    /// alone.
+    pub fn record(&mut self, seat: u8, store: &mut Durable) -> Result<(), TurnEnd>
+        requires sound { IsSound (activity_of self.old) }
+        requires taken { has (activity_of self.old).seating.taken seat ≡ true }
+        requires directory { store.old.header.directory ≡ (activity_of self.old).reach.directory }
+        requires most { most_lines store.old.header ≡ (activity_of self.old).most_lines }
+        ensures sound { IsSound (activity_of self.new) }
+        ensures kept { OnOk result (activity_of self.new ≡ activity_of self.old) }
+        ensures begun { OnOk result (store.new ≡ with_begun store.old (begun_of store.new.bank)) }
+        ensures record { OnOk result (IsRecordOf (activity_of self.old) seat (begun_of store.new.bank)) }
+        ensures count { OnOk result (length (begun_of store.new.bank) ≡ write_count (of_seat (activity_of self.old).seating.holding seat)) }
+        ensures few { OnOk result (length (begun_of store.new.bank) ≤ (activity_of self.old).most_lines) }
+        ensures laid { OnOk result (LeavesCommitted (activity_of self.old) seat (begun_of store.new.bank)) }
+        ensures journal { IfErr result (λ end. (end ≡ TurnEnd.Journal (write_count (of_seat (activity_of self.old).seating.holding seat)) (activity_of self.old).most_lines) × ((activity_of self.old).most_lines < write_count (of_seat (activity_of self.old).seating.holding seat))) }
+        ensures rolled { OnErr result (activity_of self.new ≡ rolled (activity_of self.old) seat (activity_of self.new).reach.pool) }
+        ensures unwritten { OnErr result (store.new ≡ store.old) }
+        ensures never { (committed : List ℕ) → Follows (activity_of self.old) committed → IsOk result }
+    {
+        match self.keep_limit(seat, &Touch::Nothing) {
+            Err(end) => Err(end),
+            Ok(()) => {
+                store.record_start();
+                self.record_written(seat, store);
+                Ok(())
+            }
+        }
+    }
+
+    /// The lines that a seat holds to write come into the record that is begun, page by page.
+    fn record_written(&self, seat: u8, store: &mut Durable)
+        requires sound { IsSound (activity_of self.now) }
+        requires seat { seat < 16 }
+        requires directory { store.old.header.directory ≡ (activity_of self.now).reach.directory }
+        requires begun { store.old.bank.begun ≡ Some [] }
+        requires few { size (locks_in (activity_of self.now) seat).writes ≤ most_lines store.old.header }
+        ensures { HasWritten (activity_of self.now) seat store.old store.new }
+    {
+        let locks = self.seats.locks();
+        for page in locks.held_pages(seat) {
+            let (_, writes) = locks.held(seat, *page);
+            record_lines(self.unit.pool(), *page, writes, store);
+        }
+    }
+}
+
+/// These lines of a page come into the record that is begun.
+fn record_lines(pool: &FramePool, page: u16, lines: LineSet, store: &mut Durable)
+    requires page { page < length (pool_of pool.now).frame_of }
+    requires size { (pool_of pool.now).page ≡ Two }
+    requires below { page < page_count store.old.header.directory }
+    requires begun { IsSome store.old.bank.begun }
+    requires before { All (λ one. one.line < page * 16) (begun_of store.old.bank) }
+    requires room { length (begun_of store.old.bank) + length lines ≤ most_lines store.old.header }
+    ensures { store.new ≡ with_lines (pool_of pool.now) (flat_lines page lines) store.old }
+{
+    for line in lines.lines() {
+        store.record_line(
+            u32::from(page) * 16 + u32::from(line),
+            pool.written_line(page, line),
+        );
+    }
+}
