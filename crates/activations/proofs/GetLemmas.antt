@@ -288,12 +288,12 @@ module _ (begins : Word → Turning) (attempt : Attempt) (refused : List ℕ) (a
         (got-broken here.pool new.reach.pool counted (here.off committed order is_store free.follows.kept.clean) here.undone)
 
 -- by what the answer is
-pub serves-by : {U : Type 0} (P Q R S T : Type 0) (result : Result U TurnEnd) (begins : Word → Turning) (a : Activity) (seat : ℕ) (committed : List ℕ) (order : List (ℕ × ℕ)) (counts : Counts)
+pub serves-by : {U : Type 0} (P Q R S T V : Type 0) (result : Result U TurnEnd) (begins : Word → Turning) (a : Activity) (seat : ℕ) (committed : List ℕ) (order : List (ℕ × ℕ)) (counts : Counts)
     → OnOk result P → OnOk result Q → OnOk result R → (P → Q → R → IsServed begins a seat committed order counts)
-    → IfErr result (λ over. (over ≡ end.Disk) × S) → IfErr result (λ over. T) → (T → HasBroken begins a committed order counts)
+    → IfErr result (λ over. (over ≡ end.Disk) × S × V) → IfErr result (λ over. T) → (T → HasBroken begins a committed order counts)
     → Serves result begins a seat committed order counts
-serves-by P Q R S T (Ok nothing) begins a seat committed order counts shape resident came leads ends off breaks = leads shape resident came
-serves-by P Q R S T (Err over) begins a seat committed order counts shape resident came leads ends off breaks =
+serves-by P Q R S T V (Ok nothing) begins a seat committed order counts shape resident came leads ends off breaks = leads shape resident came
+serves-by P Q R S T V (Err over) begins a seat committed order counts shape resident came leads ends off breaks =
     subst (λ (how : TurnEnd). HasEnded how begins a committed order counts) (sym ends.0) (breaks off)
 
 -- and all parts are as they were

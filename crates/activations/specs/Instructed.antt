@@ -28,6 +28,7 @@ use Rattle.activations.specs.Turning.{HasEnded}
 -- at most four pages more were counted, two before grants and two after them, and two refused ones
 pub record TalliesMore (old new : Tally) : Type 0 where
   pub ran : new.ran ≡ old.ran
+  pub pages_before : old.pages ≤ new.pages
   pub pages : new.pages ≤ old.pages + 4
   pub locks : new.locks ≤ old.locks + 2
 

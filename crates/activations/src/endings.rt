@@ -14,14 +14,14 @@ ghost use Rattle.activations.specs.Ends.{HasUndone, HasSettled};
 use super::activations::Activations;
 use arrayvec::ArrayVec;
 use flat_machine::Printed;
-use seats::Seats;
+use seats::{Seat, Seats};
 use std::mem::swap;
 use storage_unit::Unit;
 
 impl Activations {
     ghost use Rattle.activations.specs.Activity.{entries, entry_in, live_in, program_in, store_over, shown};
     ghost use Rattle.activations.specs.Ends.{IsDeserted, IsRestarted, reprinted};
-    ghost use Rattle.seats.specs.Seating.{numbers};
+    ghost use Rattle.seats.specs.Seating.{numbers, seat_of, sitter};
     ghost use Rattle.activations.specs.Follows.{IsSound, IsKept, Follows};
     ghost use Rattle.activations.specs.Steps.{rolled, vacated, RollsBack, Commits};
     ghost use Rattle.activations.specs.View.{activity_of};
@@ -71,6 +71,21 @@ impl Activations {
         ensures { result.items ≡ numbers (activity_of self.now).seating }
     {
         self.seats.numbers()
+    }
+
+    /// The seat in which an activation sits. None exactly where it isn't active.
+    pub fn seat_of(&self, activation: u32) -> Option<u8>
+        ensures { result ≡ seat_of (activity_of self.now).seating activation }
+    {
+        self.seats.seat_of(activation)
+    }
+
+    /// Who sits in a seat.
+    pub fn sitter(&self, seat: u8) -> &Seat
+        requires { seat < 16 }
+        ensures { result.now ≡ sitter (activity_of self.now).seating seat }
+    {
+        self.seats.sitter(seat)
     }
 
     /// Hands out what was printed in a seat in which nobody sits any more, for other bytes that stand there then.

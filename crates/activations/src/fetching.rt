@@ -49,7 +49,7 @@ impl Activations {
         ensures asks { OnlyAsks W.Outside outside.old outside.new }
         ensures shape { activity_of self.new ≡ with_pool (activity_of self.old) (activity_of self.new).reach.pool }
         ensures tally { tally.new ≡ record tally.old { pages = tally.new.pages } }
-        ensures few { tally.new.pages ≤ tally.old.pages + 2 }
+        ensures few { (tally.old.pages ≤ tally.new.pages) × (tally.new.pages ≤ tally.old.pages + 2) }
         ensures cause { HasCause (W.disk_faults outside.old) (W.disk_faults outside.new) result }
         ensures counted { OnErr result (tally.old.pages < tally.new.pages) }
         ensures none { OnErr result ((activity_of self.new).reach.pool.resident ≡ []) }

@@ -143,7 +143,7 @@ impl Activations {
         ensures asks { OnlyAsks W.Outside outside.old outside.new }
         ensures parts { KeepsParts (activity_of self.old) (activity_of self.new) 0 }
         ensures tally { tally.new ≡ record tally.old { pages = tally.new.pages; locks = tally.new.locks } }
-        ensures few { (tally.new.pages ≤ tally.old.pages + 2) × (tally.new.locks ≤ tally.old.locks + 2) }
+        ensures few { (tally.old.pages ≤ tally.new.pages) × (tally.new.pages ≤ tally.old.pages + 2) × (tally.new.locks ≤ tally.old.locks + 2) }
         ensures stays { OnOk result (StaysSeated (activity_of self.old) (activity_of self.new) seat) }
         ensures calm { OnOk result (W.disk_faults outside.new ≡ W.disk_faults outside.old) }
         ensures ends { IfErr result (IsEndOfRows W.Outside outside.old outside.new tally.old tally.new) }
@@ -172,7 +172,7 @@ impl Activations {
         ensures sound { IsSound (activity_of self.new) }
         ensures asks { OnlyAsks W.Outside outside.old outside.new }
         ensures tally { tally.new ≡ record tally.old { pages = tally.new.pages } }
-        ensures few { tally.new.pages ≤ tally.old.pages + 2 }
+        ensures few { (tally.old.pages ≤ tally.new.pages) × (tally.new.pages ≤ tally.old.pages + 2) }
         ensures calm { OnOk result (W.disk_faults outside.new ≡ W.disk_faults outside.old) }
         ensures shape { OnOk result (activity_of self.new ≡ with_pool (activity_of self.old) (activity_of self.new).reach.pool) }
         ensures fetched { OnOk result ((committed : List ℕ) (order : List (ℕ × ℕ)) → IsStoreOf W.Outside store.now outside.old committed → IsClean (activity_of self.old).reach.directory (activity_of self.old).reach.pool committed → IsFetched (activity_of self.old) committed order (pages_wanted (wants_of touch.now)) tally.old.pages (activity_of self.new).reach.pool tally.new.pages) }
@@ -233,7 +233,7 @@ impl Activations {
         ensures asks { OnlyAsks W.Outside outside.old outside.new }
         ensures parts { KeepsParts (activity_of self.old) (activity_of self.new) 0 }
         ensures tally { tally.new ≡ record tally.old { pages = tally.new.pages } }
-        ensures few { tally.new.pages ≤ tally.old.pages + 2 }
+        ensures few { (tally.old.pages ≤ tally.new.pages) × (tally.new.pages ≤ tally.old.pages + 2) }
         ensures stays { OnOk result (StaysSeated (activity_of self.old) (activity_of self.new) seat) }
         ensures calm { OnOk result (W.disk_faults outside.new ≡ W.disk_faults outside.old) }
         ensures ends { IfErr result (λ over. (over ≡ end.Disk) × Rose (W.disk_faults outside.old) (W.disk_faults outside.new) × (tally.old.pages < tally.new.pages)) }

@@ -1,14 +1,16 @@
-use Rattle.std.proofs.Common.{◌≡◌, ◌^◌, Err, ap, arith, sym, ◌∙◌}
+use Rattle.std.proofs.Common.{◌≡◌, ◌<◌, ℕ, Err, ap, arith, sym, ◌∙◌, subst}
 use Rattle.std.proofs.lemmas.Result.{err_from_is_err_and}
 use Rattle.outside.proofs.Runs.{asks_on}
 use Rattle.desk.specs.declared.answers.TurnEnd.{TurnEnd}
 use Rattle.activations.specs.Kept.{KeepsParts}
+use Rattle.outside.specs.Causes.{Rose}
+use Rattle.activations.specs.declared.tally.Tally.{Tally}
 use Rattle.activations.specs.Serving.{instruction_in}
 use Rattle.activations.specs.Turning.{counts_of}
 use Rattle.activations.specs.View.{activity_of}
 use Rattle.activations.proofs.BringLemmas.{store-on}
 use Rattle.activations.proofs.KeptLemmas.{keeps-two}
-use Rattle.activations.proofs.ServeLemmas.{handed}
+use Rattle.activations.proofs.ServeLemmas.{handed, ended-by-disk}
 use Rattle.activations.proofs.activations.Activations.serve.Goals as goal
 
 pub returns-in_err-touch-clause-parts : goal.returns-in_err-touch-clause-parts
@@ -39,6 +41,17 @@ pub returns-in_err-get-clause-parts : goal.returns-in_err-get-clause-parts
 returns-in_err-get-clause-parts g c =
     (keeps-two (activity_of c.args.self.now) (activity_of c.ask.new.self) (activity_of c.get.new.self)
     (keeps-two (activity_of c.args.self.now) (activity_of c.prepare.new.self) (activity_of c.ask.new.self) c.prepare.ensures.parts c.ask.ensures.parts) c.get.ensures.parts)
+
+pub returns-in_err-get-clause-ends : goal.returns-in_err-get-clause-ends
+returns-in_err-get-clause-ends g c =
+    let told = err_from_is_err_and c.from_residual-in_err-get.result c.from_residual-in_err-get.ensures.1 in
+    let ends = c.in_err-get.ensures.ends in
+    let asked = ap (λ (tally : Tally). tally.pages) c.ask.ensures.tally in
+    let few = c.prepare.ensures.few.0 in
+    let less = ends.2 in
+    let more : c.args.tally.now.pages < c.get.new.tally.pages = omega (arith, asked, few, less) in
+    ended-by-disk g.W.Outside c.args.outside.now c.get.new.outside c.args.tally.now c.get.new.tally c.from_residual-in_err-get.result c.in_err-get.field-0.0 (told.1 ∙ ap (λ (end : TurnEnd). Err end) told.2) ends.0
+    (subst (λ (n : ℕ). Rose n (g.W.Outside.disk_faults c.get.new.outside)) c.in_ok-touch.ensures.calm ends.1) more
 
 pub returns-in_err-get-clause-served : goal.returns-in_err-get-clause-served
 returns-in_err-get-clause-served g c committed order store follows =

@@ -1,0 +1,5 @@
+pub mod Session
+pub mod Shown
+pub mod ShownLaws
+pub mod Opened
+pub mod Went

@@ -1,0 +1,36 @@
+-- A session that has just opened on the store of a disk.
+use Rattle.std.specs.Prelude.{◌≡◌, ℕ, List, [], false, take}
+use Rattle.line_geometry.specs.FlatStore.{FlatStore}
+use Rattle.flat_machine.specs.declared.machine.Program.{Program}
+use Rattle.outside.specs.declared.world.Outside.{Ghosts}
+use Rattle.outside.specs.Durable.{IsSure}
+use Rattle.outside.specs.Runs.{held_of}
+use Rattle.store_format.specs.Header.{Header, header_of, most_lines}
+use Rattle.store_format.specs.Stands.{Stands, stands}
+use Rattle.desk.specs.Desk.{opened}
+use Rattle.supervisor.specs.declared.session.Session.{Session}
+use Rattle.supervisor.specs.Session.{IsSound, activity, header_of_session}
+use Rattle.supervisor.specs.Shown.{Shown}
+
+-- it is sound and open, for so many begins of these programs, and no number was given
+pub record IsNew (programs : List Program) (begins : ℕ) (s : Session) : Type 0 where
+  pub sound : IsSound s
+  pub programs_are : (activity s).programs ≡ programs
+  pub begins_are : s.begins ≡ begins
+  pub none_given : (activity s).next ≡ 1
+  pub no_turns : s.turns ≡ 0
+  pub nothing_printed : s.printed ≡ []
+  pub still_open : s.closed ≡ false
+
+-- the bytes begin with this header, and stand for a number and a store
+abbrev pub HasStood : Header → List ℕ → Type 0
+HasStood header held = (header_of (take 128 held) ≡ header) × ((number : ℕ) × (store : FlatStore) × (stands held ≡ Stands number store))
+
+-- The bytes told are sure, and stand for the number that it opened with and a store; over them it is the desk that opens on that
+-- store.
+pub record IsOpened {W : Type 0} (G : Ghosts W) (frames : ℕ) (old new : W) (s : Session) : Type 0 where
+  pub sure : IsSure G new
+  pub store : FlatStore
+  pub stood : stands (held_of G old) ≡ Stands s.opened store
+  pub header : header_of (take 128 (held_of G old)) ≡ header_of_session s
+  pub shows : Shown s (held_of G new) (opened frames 16 (most_lines (header_of_session s)) store)

@@ -1,0 +1,52 @@
+-- A session, the desk that it is over committed bytes, and what holds of it at every moment.
+use Rattle.std.specs.Prelude.{◌≡◌, ℕ, ◌+◌, ◌*◌, ◌<◌, ◌≤◌, ◌^◌, List, length, vec_len, vec_capacity}
+use Rattle.store_format.specs.Header.{Header, HasRanges, most_lines}
+use Rattle.desk.specs.Answers.{order_told}
+use Rattle.desk.specs.Desk.{Desk}
+use Rattle.activations.specs.Activity.{Activity, desk_over}
+use Rattle.activations.specs.Follows as running
+use Rattle.activations.specs.Kept.{AreRowsWithin}
+use Rattle.activations.specs.View.{activity_of}
+use Rattle.supervisor.specs.declared.session.Session.{Session}
+
+-- what runs in it
+abbrev pub activity : Session → Activity
+activity s = activity_of s.activations
+
+-- its commits
+abbrev pub order_of : Session → List (ℕ × ℕ)
+order_of s = order_told s.order.items
+
+-- the header of its store
+abbrev pub header_of_session : Session → Header
+header_of_session s = s.store.header
+
+-- the desk that it is over committed bytes
+abbrev pub desk_of : Session → (committed : List ℕ) → Desk
+desk_of s committed = record (desk_over (activity s) committed (order_of s)) { closed = s.closed }
+
+-- the numbers of begins, turns and commits fit
+pub record HaveRoom (s : Session) : Type 0 where
+  pub begun : (activity s).next ≤ s.begins + 1
+  pub begin_numbers : s.begins + 1 < 2 ^ 32
+  pub turned : s.turns ≤ 2 ^ 32
+  pub rows : AreRowsWithin (activity s) (s.turns * 1000000)
+  pub places : vec_len s.order + length (activity s).seating.taken + 1 ≤ (activity s).next
+  pub order : s.begins ≤ vec_capacity s.order
+
+-- what holds of a session at every moment
+pub record IsSound (s : Session) : Type 0 where
+  pub ranges : HasRanges s.store.header
+  pub running : running.IsSound (activity s)
+  pub directory : s.store.header.directory ≡ (activity s).reach.directory
+  pub most : most_lines s.store.header ≡ (activity s).most_lines
+  pub room : HaveRoom s
+
+-- the parts that only an opening or a begin sets are as before
+pub record KeepsParts (old new : Session) : Type 0 where
+  pub header : new.store.header ≡ old.store.header
+  pub programs : (activity new).programs ≡ (activity old).programs
+  pub opened : new.opened ≡ old.opened
+  pub begins : new.begins ≡ old.begins
+  pub turns : new.turns ≡ old.turns
+  pub next : (activity new).next ≡ (activity old).next

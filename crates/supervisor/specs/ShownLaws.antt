@@ -1,0 +1,18 @@
+-- What holds of the desk that a session shows.
+use Rattle.std.proofs.Common.{◌≡◌, ℕ, List, sym, ◌∙◌, ap}
+use Rattle.std.specs.Prelude.{false}
+use Rattle.store_format.specs.Stands.{Standing, Stands, stands}
+use Rattle.desk.specs.Crash.{standing_of}
+use Rattle.desk.specs.Desk.{Desk}
+use Rattle.supervisor.specs.declared.session.Session.{Session}
+use Rattle.supervisor.specs.Session.{IsSound, desk_of, order_of}
+use Rattle.supervisor.specs.Shown.{Shown}
+
+pub shown-open : (s : Session) (held : List ℕ) (desk : Desk) → Shown s held desk → desk.closed ≡ false
+shown-open s held desk shown = ap (λ (that : Desk). that.closed) shown.is ∙ shown.over.still_open
+
+pub shown-order : (s : Session) (held : List ℕ) (desk : Desk) → Shown s held desk → order_of s ≡ desk.order
+shown-order s held desk shown = ap (λ (that : Desk). that.order) (sym shown.is)
+
+pub shown-closed : (s : Session) (held : List ℕ) (desk : Desk) → Shown s held desk → s.closed ≡ false
+shown-closed s held desk shown = shown.over.still_open

@@ -1,0 +1,58 @@
+-- What a commit of a session did: its step of the desk, and what the disk held at each moment.
+use Rattle.std.specs.Prelude.{◌≡◌, ℕ, ◌⊎◌, true, false, List, slice_set}
+use Rattle.flat_machine.specs.declared.machine.Plain.{Plain}
+use Rattle.outside.specs.declared.world.Outside.{Ghosts}
+use Rattle.outside.specs.Causes.{Rose}
+use Rattle.outside.specs.Durable.{IsSure}
+use Rattle.outside.specs.Runs.{Leaves, held_of}
+use Rattle.store_format.specs.Stands.{stands}
+use Rattle.desk.specs.declared.answers.TurnEnd.{TurnEnd}
+use Rattle.desk.specs.declared.answers.TurnEnd.TheVariants as end
+use Rattle.desk.specs.Answers.{ending_told, HasNumbers}
+use Rattle.desk.specs.Crash.{standing_of}
+use Rattle.desk.specs.Desk.{Desk, ended}
+use Rattle.desk.specs.Instruction.{Word, Fine, Doubt, Counts, Over, commits, ordered}
+use Rattle.desk.specs.Report.{number_after}
+use Rattle.desk_law.specs.Beside.{Reads}
+use Rattle.seats.specs.Seating.{number_in}
+use Rattle.activations.specs.declared.tally.Tally.{Tally}
+use Rattle.activations.specs.Turning.{counts_of}
+use Rattle.activations.specs.Turns.{commit_call}
+use Rattle.supervisor.specs.declared.session.Session.{Session}
+use Rattle.supervisor.specs.Session.{activity, order_of, desk_of}
+use Rattle.supervisor.specs.Shown.{IsOver}
+
+-- how a commit call ends: it is done, too long for a record, or the desk closes
+abbrev pub IsCommitEnd : TurnEnd → Type 0
+IsCommitEnd (end.Committed number steps) = Unit {0}
+IsCommitEnd (end.Journal lines most) = Unit {0}
+IsCommitEnd (end.Closed doubt number) = Unit {0}
+IsCommitEnd _ = ⊥
+
+-- the desk at the commit call of who sits in a seat, at this state, after that went well
+abbrev pub fine_desk : Session → (committed : List ℕ) → (seat : ℕ) → Plain → Desk
+fine_desk s committed seat now =
+    record (ended (ordered (desk_of s committed) (commit_call (activity s) seat committed (order_of s) now)) (number_in (activity s).seating seat)) {
+      committed = record (desk_of s committed).committed { bytes = now.store };
+    }
+
+-- an image stands for what stood before a commit, or, where the order is that of the commit gone well, for what stands then
+abbrev pub IsEitherSide : Session → (committed : List ℕ) → (fine new : Desk) → List ℕ → Type 0
+IsEitherSide old committed fine new image =
+    (stands image ≡ standing_of old.opened (desk_of old committed)) ⊎ (fine.order ≡ new.order) × (stands image ≡ standing_of old.opened fine)
+
+-- A commit was what becomes of the commit call with a word, which isn't fine only where the disk's faults rose. While the session is
+-- open its bytes are sure. A crash in it leaves what stood before or after it; after a doubt there is one place with whose byte
+-- the commit stands.
+pub record HasCommitted {W : Type 0} (G : Ghosts W) (seat : ℕ) (now : Plain) (end : TurnEnd) (old new : Session) (tallied told : Tally) (before after : W) (committed : List ℕ) : Type 0 where
+  pub word : Word
+  pub reads : (counted : ℕ) → Reads word counted
+  pub next : Desk
+  pub step : commits word (commit_call (activity old) seat committed (order_of old) now) (desk_of old committed) (counts_of tallied) ≡ Over next (counts_of told) (ending_told end new.printed)
+  pub closes : next.closed ≡ new.closed
+  pub ordered : next.order ≡ order_of new
+  pub why : (word ≡ Fine) ⊎ Rose (G.disk_faults before) (G.disk_faults after)
+  pub numbers : HasNumbers end (number_in (activity old).seating seat) (number_after old.opened next)
+  pub still : new.closed ≡ false → IsSure G after × ((over : IsOver new (held_of G after)) × (next ≡ desk_of new over.committed))
+  pub crash : Leaves G (λ image seen. IsEitherSide old committed (fine_desk old committed seat now) next image) before after
+  pub doubt : word ≡ Doubt → ((fine_desk old committed seat now).order ≡ next.order) × ((gate : ℕ) × Leaves G (λ image seen. stands (slice_set image gate 165) ≡ standing_of old.opened (fine_desk old committed seat now)) after after)

@@ -1,0 +1,99 @@
+// The commit call of who sits in a seat.
+ghost use Rattle.std.specs.Prelude.{◌≡◌, ◌+◌, ◌<◌, ◌≤◌, ◌++◌, ◌∷◌, [], true, false, vec_len, vec_capacity};
+ghost use Rattle.seats.specs.Seating.{number_in, sitter};
+ghost use Rattle.lock_rules.specs.Sets.{has};
+ghost use Rattle.outside.specs.Causes.{Rose};
+ghost use Rattle.outside.specs.Durable.{IsSure};
+ghost use Rattle.outside.specs.Runs.{held_of};
+ghost use Rattle.redo_journal.specs.Held.{OnlyWrites};
+ghost use Rattle.desk.specs.Kept.{HoldsStore, WritesMore, writes_due, turn_fails};
+ghost use Rattle.desk.specs.Answers.{turn_closes};
+ghost use Rattle.desk.specs.Instruction.{Word, Turning};
+ghost use Rattle.activations.specs.Turning.{counts_of};
+
+use super::session::Session;
+use activations::Tally;
+use desk::{Committed, TurnEnd};
+use outside::Outside;
+use redo_journal::Kept;
+
+impl Session {
+    ghost use Rattle.activations.specs.Turns.{IsAtCommit};
+    ghost use Rattle.supervisor.specs.Session.{IsSound, KeepsParts, activity, order_of};
+    ghost use Rattle.supervisor.specs.Shown.{IsOver};
+    ghost use Rattle.supervisor.specs.Went.{HasCommitted, IsCommitEnd};
+
+    /// The commit call of who sits in a seat: his record, and the end of the turn.
+    pub(super) fn commit<W: Outside>(
+        &mut self,
+        outside: &mut W,
+        seat: u8,
+        tally: &mut Tally,
+    ) -> TurnEnd
+        requires sound { IsSound self.old }
+        requires taken { has (activity self.old).seating.taken seat ≡ true }
+        requires tally { tally.old.ran ≤ 1000000 }
+        requires open { self.old.closed ≡ false }
+        requires bytes { HoldsStore W.Outside self.old.store.header outside.old }
+        ensures sound { IsSound self.new }
+        ensures parts { KeepsParts self.old self.new }
+        ensures only { OnlyWrites W.Outside outside.old outside.new }
+        ensures writes { WritesMore (W.writes outside.old) (W.writes outside.new) (writes_due result) }
+        ensures end { IsCommitEnd result }
+        ensures closed { self.new.closed ≡ turn_closes result }
+        ensures cause { turn_closes result ≡ true → Rose (W.disk_faults outside.old) (W.disk_faults outside.new) }
+        ensures calm { turn_fails result ≡ false → W.disk_faults outside.new ≡ W.disk_faults outside.old }
+        ensures records { turn_fails result ≡ false → self.new.store.bank.count ≤ self.old.store.bank.count + 1 }
+        ensures went { (begins : Word → Turning) → IsSure W.Outside outside.old → (over : IsOver self.old (held_of W.Outside outside.old)) → (at : IsAtCommit begins (activity self.old) seat over.committed (order_of self.old) (counts_of tally.old)) → HasCommitted W.Outside seat at.now result self.old self.new tally.old tally.new outside.old outside.new over.committed }
+    {
+        if let Err(end) = self.activations.record(seat, &mut self.store) {
+            return end;
+        }
+        let number = self.store.number().wrapping_add(1);
+        let committed = self.committed_in(seat);
+        match self.store.commit(outside) {
+            Kept::Done => {
+                self.enter_order(committed);
+                self.activations.commit(seat);
+                self.activations.swap_printed(seat, &mut self.printed);
+                tally.ran += 1;
+                TurnEnd::Committed(number, committed.steps)
+            }
+            Kept::Doubt => {
+                self.enter_order(committed);
+                self.closed = true;
+                let doubt = Some(committed.activation);
+                TurnEnd::Closed { doubt, number }
+            }
+            Kept::Unwritten => {
+                self.closed = true;
+                let doubt = None;
+                TurnEnd::Closed { doubt, number }
+            }
+        }
+    }
+
+    /// Who sits in a seat, and how many rows he has done with his commit call.
+    fn committed_in(&self, seat: u8) -> Committed
+        requires sound { IsSound self.now }
+        requires seat { seat < 16 }
+        ensures activation { result.activation ≡ number_in (activity self.now).seating seat }
+        ensures steps { result.steps ≡ (sitter (activity self.now).seating seat).rows + 1 }
+    {
+        let who = self.activations.sitter(seat);
+        Committed {
+            activation: who.number,
+            steps: who.rows + 1,
+        }
+    }
+
+    /// A commit enters the order, for which there is room.
+    fn enter_order(&mut self, committed: Committed)
+        requires { vec_len self.old.order < vec_capacity self.old.order }
+        ensures others { self.new ≡ record self.old { order = self.new.order } }
+        ensures room { vec_capacity self.old.order ≤ vec_capacity self.new.order }
+        ensures order { self.new.order.items ≡ self.old.order.items ++ committed ∷ [] }
+    {
+        let _ = self.order.push(committed);
+    }
+}

@@ -1,0 +1,10 @@
+//! The supervisor: up to sixteen programs side by side over one store on a disk. It answers each event of a schedule as the desk
+//! does (docs/MODEL.md, "The desk"), commits through the store's journal, and finds the committed bytes again after a crash.
+#![tactic(auto)]
+
+mod commits;
+mod session;
+mod supervisor;
+mod turns;
+
+pub use session::Session;

@@ -1,0 +1,82 @@
+// A session over a store that is open.
+ghost use Rattle.std.specs.Prelude.{◌≡◌, ◌≢◌, ◌≤◌, ◌<◌, ◌^◌, ◌-◌, ◌+◌, IfOk, IfErr, OnOk, IsSome, IsTrue};
+ghost use Rattle.outside.specs.Runs.{OnlyAsks, held_of};
+ghost use Rattle.restart.specs.Faults.{IsOpenFault};
+ghost use Rattle.desk.specs.Kept.{HoldsStore};
+ghost use Rattle.desk.specs.Answers.{order_told};
+
+use activations::Activations;
+use desk::Committed;
+use flat_machine::{Printed, Program};
+use outside::Outside;
+use redo_journal::OpenFault;
+use restart::Durable;
+use std::alloc::Global;
+
+/// What answers the events of a schedule: a store that is open, what runs over it, and the commits so far. All memory is taken
+/// when it is opened.
+#[derive(Drop)]
+pub struct Session {
+    pub(super) store: Durable,
+    pub(super) activations: Activations,
+    pub(super) order: Vec<Committed>,
+    pub(super) printed: Printed,
+    pub(super) opened: u64,
+    pub(super) begins: u32,
+    pub(super) turns: u64,
+    pub(super) closed: bool,
+}
+
+impl Session {
+    ghost use Rattle.supervisor.specs.Session.{order_of, header_of_session};
+    ghost use Rattle.supervisor.specs.Opened.{IsNew, IsOpened, HasStood};
+
+    /// A session over the store that the disk holds, with so many frames for its pages, for so many begins of these programs.
+    /// It only asks the disk, and reads no home line.
+    ///
+    /// # Errors
+    ///
+    /// As [`Durable::open`].
+    pub fn open<W: Outside>(
+        alloc: Global,
+        outside: &mut W,
+        programs: Vec<Program>,
+        frames: u16,
+        begins: u32,
+    ) -> Result<Session, OpenFault>
+        requires frames { 2 ≤ frames }
+        requires few { frames ≤ 1024 }
+        requires begins { begins < 2 ^ 32 - 1 }
+        ensures asks { OnlyAsks W.Outside outside.old outside.new }
+        ensures unfailed { OnOk result (W.disk_faults outside.new ≡ W.disk_faults outside.old) }
+        ensures fault { IfErr result (IsOpenFault W.Outside outside.old outside.new) }
+        ensures calm { IfErr result (λ fault. fault ≢ OpenFault.DiskFault → W.disk_faults outside.new ≡ W.disk_faults outside.old) }
+        ensures new { IfOk result (IsNew programs.items begins) }
+        ensures room { IfOk result (λ session. HoldsStore W.Outside (header_of_session session) outside.new) }
+        ensures opened { IfOk result (λ session. IsTrue (W.is_honest outside.old) → IsSome (W.held outside.old) → IsOpened W.Outside frames outside.old outside.new session) }
+        ensures told { IfOk result (λ session. IsSome (W.held outside.old) → HasStood (header_of_session session) (held_of W.Outside outside.old)) }
+    {
+        let store = Durable::open(alloc, outside)?;
+        let activations = Activations::new(alloc, store.header(), frames, programs)?;
+        let printed = Printed::new(alloc)?;
+        let order = Vec::with_capacity(alloc, begins as usize)?;
+        let opened = store.number();
+        Ok(Session {
+            store,
+            activations,
+            order,
+            printed,
+            opened,
+            begins,
+            turns: 0,
+            closed: false,
+        })
+    }
+
+    /// The commits whose gate write began.
+    pub fn into_order(self) -> Vec<Committed>
+        ensures { order_told result.items ≡ order_of self }
+    {
+        self.order
+    }
+}

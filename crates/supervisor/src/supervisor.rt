@@ -1,0 +1,2 @@
+// The session as a supervisor.
+use super::session::Session;

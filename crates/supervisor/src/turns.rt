@@ -1,0 +1,2 @@
+// A turn.
+use super::session::Session;
