@@ -1,4 +1,6 @@
 // What a turn has counted.
+ghost use Rattle.std.specs.Prelude.{◌≡◌, ◌+◌, []};
+
 use arrayvec::ArrayVec;
 use desk::Cycle;
 
@@ -10,4 +12,19 @@ pub struct Tally {
     pub pages: u32,
     pub locks: u32,
     pub cycles: ArrayVec<Cycle, 16>,
+}
+
+impl Tally {
+    /// Nothing counted.
+    pub const fn new() -> Tally
+        ensures nothing { result.ran + result.pages + result.locks ≡ 0 }
+        ensures cycles { result.cycles.items ≡ [] }
+    {
+        Tally {
+            ran: 0,
+            pages: 0,
+            locks: 0,
+            cycles: ArrayVec::new(),
+        }
+    }
 }

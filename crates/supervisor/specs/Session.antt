@@ -1,5 +1,5 @@
 -- A session, the desk that it is over committed bytes, and what holds of it at every moment.
-use Rattle.std.specs.Prelude.{◌≡◌, ℕ, ◌+◌, ◌*◌, ◌<◌, ◌≤◌, ◌^◌, List, length, vec_len, vec_capacity}
+use Rattle.std.specs.Prelude.{◌≡◌, ℕ, ◌+◌, ◌*◌, ◌<◌, ◌≤◌, ◌^◌, false, List, length, vec_len, vec_capacity}
 use Rattle.store_format.specs.Header.{Header, HasRanges, most_lines}
 use Rattle.desk.specs.Answers.{order_told}
 use Rattle.desk.specs.Desk.{Desk}
@@ -31,7 +31,7 @@ pub record HaveRoom (s : Session) : Type 0 where
   pub begin_numbers : s.begins + 1 < 2 ^ 32
   pub turned : s.turns ≤ 2 ^ 32
   pub rows : AreRowsWithin (activity s) (s.turns * 1000000)
-  pub places : vec_len s.order + length (activity s).seating.taken + 1 ≤ (activity s).next
+  pub places : s.closed ≡ false → vec_len s.order + length (activity s).seating.taken + 1 ≤ (activity s).next
   pub order : s.begins ≤ vec_capacity s.order
 
 -- what holds of a session at every moment
@@ -50,3 +50,7 @@ pub record KeepsParts (old new : Session) : Type 0 where
   pub begins : new.begins ≡ old.begins
   pub turns : new.turns ≡ old.turns
   pub next : (activity new).next ≡ (activity old).next
+
+-- how many records the chosen bank of its store holds
+abbrev pub records_told : Session → ℕ
+records_told s = s.store.bank.count

@@ -16,3 +16,6 @@ shown-order s held desk shown = ap (λ (that : Desk). that.order) (sym shown.is)
 
 pub shown-closed : (s : Session) (held : List ℕ) (desk : Desk) → Shown s held desk → s.closed ≡ false
 shown-closed s held desk shown = shown.over.still_open
+
+pub shown-stands : (s : Session) (held : List ℕ) (desk : Desk) → Shown s held desk → stands held ≡ standing_of s.opened desk
+shown-stands s held desk shown = ?

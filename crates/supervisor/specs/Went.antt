@@ -1,5 +1,5 @@
 -- What a commit of a session did: its step of the desk, and what the disk held at each moment.
-use Rattle.std.specs.Prelude.{◌≡◌, ℕ, ◌⊎◌, true, false, List, slice_set}
+use Rattle.std.specs.Prelude.{◌≡◌, ℕ, ◌+◌, ◌⊎◌, true, false, List, slice_set}
 use Rattle.flat_machine.specs.declared.machine.Plain.{Plain}
 use Rattle.outside.specs.declared.world.Outside.{Ghosts}
 use Rattle.outside.specs.Causes.{Rose}
@@ -9,9 +9,10 @@ use Rattle.store_format.specs.Stands.{stands}
 use Rattle.desk.specs.declared.answers.TurnEnd.{TurnEnd}
 use Rattle.desk.specs.declared.answers.TurnEnd.TheVariants as end
 use Rattle.desk.specs.Answers.{ending_told, HasNumbers}
-use Rattle.desk.specs.Crash.{standing_of}
+use Rattle.desk.specs.declared.event.Event.TheVariants as event
+use Rattle.desk.specs.Crash.{IsEitherOf, fine_step, standing_of}
 use Rattle.desk.specs.Desk.{Desk, ended}
-use Rattle.desk.specs.Instruction.{Word, Fine, Doubt, Counts, Over, commits, ordered}
+use Rattle.desk.specs.Instruction.{Word, Fine, Doubt, Over, commits, turn, ordered}
 use Rattle.desk.specs.Report.{number_after}
 use Rattle.desk_law.specs.Beside.{Reads}
 use Rattle.seats.specs.Seating.{number_in}
@@ -28,6 +29,16 @@ IsCommitEnd (end.Committed number steps) = Unit {0}
 IsCommitEnd (end.Journal lines most) = Unit {0}
 IsCommitEnd (end.Closed doubt number) = Unit {0}
 IsCommitEnd _ = ⊥
+
+-- an end of a turn of an open session
+abbrev pub IsTurned : TurnEnd → Type 0
+IsTurned end.Shut = ⊥
+IsTurned _ = Unit {0}
+
+-- the most records of the chosen bank after a turn that ended so, where it held so many
+abbrev pub most_kept : TurnEnd → ℕ → ℕ
+most_kept (end.Committed number steps) records = records + 1
+most_kept _ records = records
 
 -- the desk at the commit call of who sits in a seat, at this state, after that went well
 abbrev pub fine_desk : Session → (committed : List ℕ) → (seat : ℕ) → Plain → Desk
@@ -56,3 +67,16 @@ pub record HasCommitted {W : Type 0} (G : Ghosts W) (seat : ℕ) (now : Plain) (
   pub still : new.closed ≡ false → IsSure G after × ((over : IsOver new (held_of G after)) × (next ≡ desk_of new over.committed))
   pub crash : Leaves G (λ image seen. IsEitherSide old committed (fine_desk old committed seat now) next image) before after
   pub doubt : word ≡ Doubt → ((fine_desk old committed seat now).order ≡ next.order) × ((gate : ℕ) × Leaves G (λ image seen. stands (slice_set image gate 165) ≡ standing_of old.opened (fine_desk old committed seat now)) after after)
+
+-- A turn was one of the desk, in the same way.
+pub record HasRun {W : Type 0} (G : Ghosts W) (activation limit : ℕ) (end : TurnEnd) (old new : Session) (told : Tally) (before after : W) (committed : List ℕ) : Type 0 where
+  pub word : Word
+  pub next : Desk
+  pub step : turn word activation limit (desk_of old committed) ≡ Over next (counts_of told) (ending_told end new.printed)
+  pub closes : next.closed ≡ new.closed
+  pub ordered : next.order ≡ order_of new
+  pub why : (word ≡ Fine) ⊎ Rose (G.disk_faults before) (G.disk_faults after)
+  pub numbers : HasNumbers end activation (number_after old.opened next)
+  pub still : new.closed ≡ false → IsSure G after × ((over : IsOver new (held_of G after)) × (next ≡ desk_of new over.committed))
+  pub crash : Leaves G (λ image seen. IsEitherOf (activity old).programs old.opened (event.Turn activation limit) (desk_of old committed) next image) before after
+  pub doubt : word ≡ Doubt → new.closed ≡ true → ((fine_step (activity old).programs (event.Turn activation limit) (desk_of old committed)).order ≡ next.order) × ((gate : ℕ) × Leaves G (λ image seen. stands (slice_set image gate 165) ≡ standing_of old.opened (fine_step (activity old).programs (event.Turn activation limit) (desk_of old committed))) after after)

@@ -19,9 +19,9 @@ use redo_journal::Kept;
 
 impl Session {
     ghost use Rattle.activations.specs.Turns.{IsAtCommit};
-    ghost use Rattle.supervisor.specs.Session.{IsSound, KeepsParts, activity, order_of};
+    ghost use Rattle.supervisor.specs.Session.{IsSound, KeepsParts, activity, order_of, records_told};
     ghost use Rattle.supervisor.specs.Shown.{IsOver};
-    ghost use Rattle.supervisor.specs.Went.{HasCommitted, IsCommitEnd};
+    ghost use Rattle.supervisor.specs.Went.{HasCommitted, IsCommitEnd, most_kept};
 
     /// The commit call of who sits in a seat: his record, and the end of the turn.
     pub(super) fn commit<W: Outside>(
@@ -43,7 +43,7 @@ impl Session {
         ensures closed { self.new.closed ≡ turn_closes result }
         ensures cause { turn_closes result ≡ true → Rose (W.disk_faults outside.old) (W.disk_faults outside.new) }
         ensures calm { turn_fails result ≡ false → W.disk_faults outside.new ≡ W.disk_faults outside.old }
-        ensures records { turn_fails result ≡ false → self.new.store.bank.count ≤ self.old.store.bank.count + 1 }
+        ensures records { turn_fails result ≡ false → records_told self.new ≤ most_kept result (records_told self.old) }
         ensures went { (begins : Word → Turning) → IsSure W.Outside outside.old → (over : IsOver self.old (held_of W.Outside outside.old)) → (at : IsAtCommit begins (activity self.old) seat over.committed (order_of self.old) (counts_of tally.old)) → HasCommitted W.Outside seat at.now result self.old self.new tally.old tally.new outside.old outside.new over.committed }
     {
         if let Err(end) = self.activations.record(seat, &mut self.store) {

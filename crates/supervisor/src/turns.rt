@@ -1,2 +1,58 @@
-// A turn.
+// A turn of an activation.
+ghost use Rattle.std.specs.Prelude.{◌≡◌, ◌+◌, ◌*◌, ◌-◌, ◌<◌, ◌≤◌, [], true, false};
+ghost use Rattle.outside.specs.Causes.{Rose};
+ghost use Rattle.outside.specs.Durable.{IsSure};
+ghost use Rattle.outside.specs.Runs.{held_of};
+ghost use Rattle.redo_journal.specs.Held.{OnlyWrites};
+ghost use Rattle.desk.specs.declared.answers.TurnEnd.TheVariants as end;
+ghost use Rattle.desk.specs.Kept.{HoldsStore, WritesMore, writes_due, turn_fails};
+ghost use Rattle.desk.specs.Answers.{turn_closes};
+
 use super::session::Session;
+use activations::Tally;
+use desk::TurnEnd;
+use outside::Outside;
+
+impl Session {
+    ghost use Rattle.activations.specs.Kept.{AreRowsWithin};
+    ghost use Rattle.supervisor.specs.Session.{IsSound, KeepsParts, activity, records_told};
+    ghost use Rattle.supervisor.specs.Shown.{IsOver};
+    ghost use Rattle.supervisor.specs.Went.{HasRun, IsTurned, most_kept};
+
+    /// A turn of an activation, in which nothing is counted yet: how it ended.
+    pub(super) fn end_of_turn<W: Outside>(
+        &mut self,
+        outside: &mut W,
+        activation: u32,
+        limit: u32,
+        tally: &mut Tally,
+    ) -> TurnEnd
+        requires sound { IsSound self.old }
+        requires limit { limit ≤ 1000000 }
+        requires turns { 0 < self.old.turns }
+        requires rows { AreRowsWithin (activity self.old) ((self.old.turns - 1) * 1000000) }
+        requires open { self.old.closed ≡ false }
+        requires bytes { HoldsStore W.Outside self.old.store.header outside.old }
+        requires tally { tally.old.ran + tally.old.pages + tally.old.locks ≡ 0 }
+        requires cycles { tally.old.cycles.items ≡ [] }
+        ensures sound { IsSound self.new }
+        ensures parts { KeepsParts self.old self.new }
+        ensures only { OnlyWrites W.Outside outside.old outside.new }
+        ensures writes { WritesMore (W.writes outside.old) (W.writes outside.new) (writes_due result) }
+        ensures turned { IsTurned result }
+        ensures closed { self.new.closed ≡ turn_closes result }
+        ensures cause { turn_closes result ≡ true → Rose (W.disk_faults outside.old) (W.disk_faults outside.new) }
+        ensures disk { result ≡ end.Disk → Rose (W.disk_faults outside.old) (W.disk_faults outside.new) }
+        ensures calm { turn_fails result ≡ false → W.disk_faults outside.new ≡ W.disk_faults outside.old }
+        ensures records { turn_fails result ≡ false → records_told self.new ≤ most_kept result (records_told self.old) }
+        ensures went { IsSure W.Outside outside.old → (over : IsOver self.old (held_of W.Outside outside.old)) → HasRun W.Outside activation limit result self.old self.new tally.new outside.old outside.new over.committed }
+    {
+        let Some(seat) = self.activations.seat_of(activation) else {
+            return TurnEnd::Idle;
+        };
+        match self.activations.run(&self.store, outside, seat, limit, tally) {
+            Err(end) => end,
+            Ok(()) => self.commit(outside, seat, tally),
+        }
+    }
+}
