@@ -1,5 +1,5 @@
 // The session as a supervisor.
-ghost use Rattle.std.specs.Prelude.{◌≡◌};
+ghost use Rattle.std.specs.Prelude.{◌≡◌, ◌-◌};
 ghost use Rattle.desk.specs.Answers.{counts_told};
 ghost use Rattle.activations.specs.Turning.{counts_of};
 
