@@ -122,3 +122,14 @@ keeps-locked a seat wants entries pool = let same = keeps-itself a in record { p
 -- and then nothing more
 pub keeps-two : (a b c : Activity) → KeepsParts a b 0 → KeepsParts b c 0 → KeepsParts a c 0
 keeps-two a b c first second = subst (KeepsParts a c) (omega arith) (keeps-on a b c 0 0 first second)
+
+-- fewer rows than so many more
+pub keeps-less : (a b : Activity) (few more : ℕ) → few ≤ more → KeepsParts a b few → KeepsParts a b more
+keeps-less a b few more less keeps = record {
+  programs = keeps.programs;
+  most_lines = keeps.most_lines;
+  next = keeps.next;
+  directory = keeps.directory;
+  fewer = keeps.fewer;
+  rows = λ rows within seat below. let here = keeps.rows rows within seat below in omega (arith, here, less);
+}

@@ -1,9 +1,10 @@
 -- The rows of a turn, instruction by instruction.
-use Rattle.std.specs.Prelude.{◌≡◌, refl, ℕ, suc, ◌+◌, ◌<◌, ◌≤◌, true, List, length}
-use Rattle.std.proofs.Common.{arith, ap, sym, ◌∙◌, subst}
+use Rattle.std.specs.Prelude.{◌≡◌, refl, ℕ, suc, ◌+◌, ◌-◌, ◌<◌, ◌≤◌, true, List, length, Result, Err}
+use Rattle.std.proofs.Common.{arith, ap, sym, ◌∙◌, subst, inl}
 use Rattle.std.proofs.lemmas.Bool.Decides.{nat_tests}
 use Rattle.lock_rules.specs.Sets.{has}
 use Rattle.outside.specs.declared.world.Outside.{Ghosts}
+use Rattle.outside.specs.Runs.{OnlyAsks}
 use Rattle.desk.specs.Answers.{ending_told}
 use Rattle.desk.specs.Desk.{Desk, Entry}
 use Rattle.desk.specs.Instruction.{Word, ReadFailed, Counts, Turning, Going, Over, Ending, Limit, Disk, commits, turns}
@@ -22,11 +23,12 @@ use Rattle.activations.specs.Activity.{Activity, entry_in, entries, desk_over}
 use Rattle.activations.specs.Attempted.{Strode}
 use Rattle.activations.specs.Follows.{IsSound, Follows}
 use Rattle.activations.specs.Instructed.{GoesUncounted, IsEndOfRows}
-use Rattle.activations.specs.Kept.{StaysSeated}
+use Rattle.activations.specs.Kept.{KeepsParts, StaysSeated}
 use Rattle.activations.specs.Serving.{IsOver, instruction_in}
 use Rattle.activations.specs.Steps.{counted}
 use Rattle.activations.specs.Turning.{HasBroken, HasEnded, counts_of}
-use Rattle.activations.specs.Turns.{IsAtCommit, IsTurning, turn_in, commit_call}
+use Rattle.activations.specs.Turns.{AreTurns, IsAtCommit, IsTurning, selected_in, turn_in, commit_call}
+use Rattle.activations.proofs.KeptLemmas.{keeps-less, keeps-on}
 use Rattle.activations.proofs.RowLemmas.{orderly-order}
 use Rattle.activations.proofs.SittingLemmas.{number-counted}
 
@@ -70,7 +72,7 @@ unread : (counted page : ℕ) → counted < page → Reads (ReadFailed page) cou
 unread counted page less at few = grind (arith, nat_tests, less, few)
 
 module _ (begins : Word → Turning) (a : Activity) (seat left : ℕ) (committed : List ℕ) (order : List (ℕ × ℕ)) (counts : Counts)
-    (sound : IsSound a) (taken : has a.seating.taken seat ≡ true) (turning : IsTurning begins a seat (suc left) committed order counts) where
+    (sound : IsSound a) (taken : has a.seating.taken seat ≡ true) (some : 0 < left) (turning : IsTurning begins a seat left committed order counts) where
   abbrev desk : Desk
   desk = desk_over a committed order
 
@@ -80,16 +82,16 @@ module _ (begins : Word → Turning) (a : Activity) (seat left : ℕ) (committed
   is : IsOrderly desk
   is = orderly-order a committed order turning.follows.orderly
 
-  on : law.IsTurning begins (entry_in a seat).number (suc left) desk counts
-  on = record { comes = turning.comes }
+  on : law.IsTurning begins (entry_in a seat).number (suc (left - 1)) desk counts
+  on = record { comes = λ word reads. turning.comes word reads ∙ ap (λ (n : ℕ). turns word (number_in a.seating seat) n (Going desk counts)) (omega (arith, some)) }
 
   -- a row took effect
   pub turn-goes : (after : Activity) (more : Counts) → IsSound after → StaysSeated a after seat → counts.pages ≤ more.pages → GoesUncounted (instruction_in a seat committed order counts) after seat committed order more
-      → IsTurning begins (counted after seat 1) seat left committed order (record more { ran = more.ran + 1 })
+      → IsTurning begins (counted after seat 1) seat (left - 1) committed order (record more { ran = more.ran + 1 })
   turn-goes after more later stays grows goes = record {
     comes = λ word reads.
-        (turning-goes begins left desk counts (entry_in a seat) is here on (desk_over (counted after seat 1) committed order) (record more { ran = more.ran + 1 }) grows goes.comes).comes word reads
-        ∙ ap (λ (n : ℕ). turns word n left (Going (desk_over (counted after seat 1) committed order) (record more { ran = more.ran + 1 }))) number;
+        (turning-goes begins (left - 1) desk counts (entry_in a seat) is here on (desk_over (counted after seat 1) committed order) (record more { ran = more.ran + 1 }) grows goes.comes).comes word reads
+        ∙ ap (λ (n : ℕ). turns word n (left - 1) (Going (desk_over (counted after seat 1) committed order) (record more { ran = more.ran + 1 }))) number;
     follows = goes.follows;
   }
     where
@@ -104,7 +106,7 @@ module _ (begins : Word → Turning) (a : Activity) (seat left : ℕ) (committed
     at = at.at;
     goes = at.goes;
     comes = λ word reads.
-        turning-commits begins left desk counts (entry_in a seat) is here on word (commit_call after seat committed order at.now) (desk_over after committed order) more
+        turning-commits begins (left - 1) desk counts (entry_in a seat) is here on word (commit_call after seat committed order at.now) (desk_over after committed order) more
         (λ page few. reads page (omega (arith, few, grows))) (at.comes word reads);
     follows = at.follows;
   }
@@ -113,13 +115,13 @@ module _ (begins : Word → Turning) (a : Activity) (seat left : ℕ) (committed
   over : (after : Activity) (more : Counts) (ending : Ending) → counts.pages ≤ more.pages → IsOver (instruction_in a seat committed order counts) after committed order more ending → IsOver begins after committed order more ending
   over after more ending grows ended = record {
     comes = λ word reads.
-        turning-ends begins left desk counts (entry_in a seat) is here on word (desk_over after committed order) more ending (λ page few. reads page (omega (arith, few, grows))) (ended.comes word reads);
+        turning-ends begins (left - 1) desk counts (entry_in a seat) is here on word (desk_over after committed order) more ending (λ page few. reads page (omega (arith, few, grows))) (ended.comes word reads);
     follows = ended.follows;
   }
 
   broken : (after : Activity) (more : Counts) → counts.pages < more.pages → HasBroken (instruction_in a seat committed order counts) after committed order more → HasBroken begins after committed order more
   broken after more grows ended = record {
-    comes = turning-ends begins left desk counts (entry_in a seat) is here on (ReadFailed more.pages) (desk_over after committed order) more Disk (unread counts.pages more.pages grows) ended.comes;
+    comes = turning-ends begins (left - 1) desk counts (entry_in a seat) is here on (ReadFailed more.pages) (desk_over after committed order) more Disk (unread counts.pages more.pages grows) ended.comes;
     follows = ended.follows;
   }
 
@@ -142,3 +144,49 @@ turn-limit begins a seat committed order counts turning = record {
   comes = λ word reads. turning-limit begins (number_in a.seating seat) (desk_over a committed order) counts (record { comes = turning.comes }) word reads;
   follows = turning.follows;
 }
+
+-- a seat is selected, and nothing else
+pub follows-selected : (a : Activity) (seat : ℕ) (committed : List ℕ) → Follows a committed → Follows (selected_in a seat) committed
+follows-selected a seat committed follows =
+    let kept = follows.kept in
+    record {
+      orderly = follows.orderly;
+      kept = record { long = kept.long; held = kept.held; asked = kept.asked; stand = kept.stand; is_current = kept.is_current; marked = kept.marked; clean = kept.clean };
+    }
+
+pub keeps-selected : (a b : Activity) (seat more : ℕ) → KeepsParts (selected_in a seat) b more → KeepsParts a b more
+keeps-selected a b seat more keeps = record { programs = keeps.programs; most_lines = keeps.most_lines; next = keeps.next; directory = keeps.directory; fewer = keeps.fewer; rows = keeps.rows }
+
+-- before any call
+pub asks-none : {W : Type 0} (G : Ghosts W) (w : W) → OnlyAsks G w w
+asks-none G w = record {
+  calls = record {
+    quiet = record { same = refl; crash = λ image seen left. inl left };
+    honest = refl;
+    time = record {
+      later = record { calls = omega arith; puts = omega arith };
+      nothing_else = λ t image seen before left. inl left;
+      keeps = λ t image seen before left. left;
+    };
+    disk = omega arith;
+    put = refl;
+    puts = refl;
+  };
+  held = refl;
+  writes = refl;
+  crash = λ told image seen left. left;
+}
+
+-- an end that is handed on
+pub handed-turn : {U : Type 0} (result : Result U TurnEnd) (over : TurnEnd) → result ≡ Err over → (begins : Word → Turning) (a : Activity) (seat : ℕ) (committed : List ℕ) (order : List (ℕ × ℕ)) (counts : Counts)
+    → HasEnded over begins a committed order counts → AreTurns result begins a seat committed order counts
+handed-turn {U} result over is begins a seat committed order counts ended = subst (λ (r : Result U TurnEnd). AreTurns r begins a seat committed order counts) (sym is) ended
+
+-- more rows of a turn with a limit were done
+pub keeps-far : (first old mid new : Activity) (limit left rows : ℕ) → rows ≤ left → left ≤ limit → KeepsParts first old (limit - left) → KeepsParts old mid 0 → KeepsParts mid new rows → KeepsParts first new (limit - (left - rows))
+keeps-far first old mid new limit left rows few within so_far step more =
+    subst (KeepsParts first new) (omega (arith, few, within)) (keeps-on first mid new (limit - left + 0) rows (keeps-on first old mid (limit - left) 0 so_far step) more)
+
+pub keeps-within : (a old new : Activity) (seat limit left : ℕ) → KeepsParts (selected_in a seat) old (limit - left) → KeepsParts old new 0 → KeepsParts a new limit
+keeps-within a old new seat limit left so_far step =
+    keeps-selected a new seat limit (keeps-less (selected_in a seat) new (limit - left + 0) limit (omega arith) (keeps-on (selected_in a seat) old new (limit - left) 0 so_far step))

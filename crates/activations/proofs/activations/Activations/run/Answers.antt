@@ -1,16 +1,153 @@
-use Rattle.std.proofs.Common.{◌≡◌, ◌<◌, ◌≤◌, ◌+◌, ◌-◌, ◌*◌, ℕ, Err, refl, ap, arith, sym, ◌∙◌, subst}
+use Rattle.std.proofs.Common.{◌≡◌, ◌<◌, ◌≤◌, ◌+◌, ◌-◌, ◌*◌, ◌^◌, ℕ, List, true, length, Ok, Err, refl, ap, arith, sym, ◌∙◌, subst}
 use Rattle.std.proofs.lemmas.Result.{err_from_is_err_and}
+use Rattle.lock_rules.specs.Sets.{has}
 use Rattle.outside.proofs.Runs.{asks_on}
+use Rattle.outside.specs.Causes.{Rose}
+use Rattle.desk.specs.Instruction.{Counts, Limit}
 use Rattle.desk.specs.declared.answers.TurnEnd.{TurnEnd}
-use Rattle.activations.specs.Kept.{KeepsParts}
+use Rattle.arrayvec.specs.ArrayVec.{array_vec_len}
+use Rattle.activations.specs.declared.tally.Tally.{Tally}
+use Rattle.activations.specs.declared.instructions.Went.{Went}
+use Rattle.activations.specs.Activity.{Activity}
+use Rattle.activations.specs.Follows.{Follows}
+use Rattle.activations.specs.Kept.{KeepsParts, AreRowsWithin}
+use Rattle.activations.specs.Steps.{counted}
+use Rattle.activations.specs.Serving.{IsOver, instruction_in}
 use Rattle.activations.specs.Turning.{counts_of}
+use Rattle.activations.specs.Turns.{IsStep, IsTurning, IsAtCommit, AreTurns, turn_in, selected_in}
 use Rattle.activations.specs.View.{activity_of}
 use Rattle.activations.proofs.BringLemmas.{store-on}
-use Rattle.activations.proofs.KeptLemmas.{keeps-on}
+use Rattle.activations.proofs.KeptLemmas.{keeps-itself, stays-itself, stays-on}
+use Rattle.activations.proofs.TurnLemmas.{asks-none, follows-selected, keeps-far, keeps-within, handed-turn, turn-begins, turn-goes, turn-commits, turn-ends, turn-limit}
 use Rattle.activations.proofs.activations.Activations.run.Goals as goal
 
 pub loop-left-init : goal.loop-left-init
-loop-left-init g c = ?
+loop-left-init g c =
+    let a = activity_of c.select.new.self in
+    let taken : has a.seating.taken c.args.seat ≡ true = ap (λ (x : Activity). has x.seating.taken c.args.seat) c.select.ensures.shape ∙ c.requires.taken in
+    let same : length a.seating.taken ≡ length c.args.self.now.seats.taken = ap (λ (x : Activity). length x.seating.taken) c.select.ensures.shape in (
+      c.select.ensures.sound,
+      stays-itself a c.args.seat taken,
+      c.select.ensures.selected,
+      λ access none. absurd (cc (none)),
+      asks-none g.W.Outside c.args.outside.now,
+      refl,
+      subst (KeepsParts a a) (omega arith) (keeps-itself a),
+      omega (arith, same, c.requires.cycles),
+      omega (arith, c.requires.tally),
+      omega (arith, c.requires.tally),
+      omega (arith, c.requires.tally),
+      λ committed order store follows. turn-begins a c.args.seat c.args.limit committed order (counts_of c.args.tally.now) follows,
+    )
 
 pub loop-left-preserved : goal.loop-left-preserved
-loop-left-preserved g c = ?
+loop-left-preserved g c =
+    let first = activity_of c.select.new.self in
+    let old = activity_of c.loop-left.self in
+    let mid = activity_of c.instruct.new.self in
+    let new = activity_of c.go_far-ran.new.self in
+    let seat = c.args.seat in
+    let inv = c.loop-left.invariant in
+    let stays = c.in_ok-instruct.ensures.stays in
+    let some = c.go_far-ran.ensures.some in
+    let few = c.go_far-ran.ensures.few in
+    let left = c.loop-left-test.true in
+    let total = inv.8 in
+    let ran = c.instruct.ensures.tally.ran in
+    let pages = c.instruct.ensures.tally.pages in
+    let locks = c.instruct.ensures.tally.locks in
+    let told = c.go_far-ran.ensures.tally in
+    let ran_now = ap (λ (tally : Tally). tally.ran) told in
+    let pages_now = ap (λ (tally : Tally). tally.pages) told in
+    let locks_now = ap (λ (tally : Tally). tally.locks) told in (
+      c.go_far-ran.ensures.sound,
+      stays-on first mid new seat (stays-on first old mid seat inv.1 stays) c.go_far-ran.ensures.stays,
+      c.go_far-ran.ensures.stays.selected (stays.selected inv.2),
+      c.go_far-ran.ensures.shut,
+      asks_on g.W.Outside g.met.W.Outside.fewer_later c.args.outside.now c.loop-left.outside c.instruct.new.outside inv.4 c.instruct.ensures.asks,
+      c.in_ok-instruct.ensures.calm ∙ inv.5,
+      keeps-far first old mid new c.args.limit c.loop-left.left c.go_far-ran.result.0 (omega (arith, few, left)) (omega (arith, total)) inv.6 c.instruct.ensures.parts c.go_far-ran.ensures.parts,
+      (let cycles = c.instruct.ensures.cycles in let taken = ap (λ (seats : List ℕ). length seats) c.go_far-ran.ensures.taken in let same = ap (λ (tally : Tally). array_vec_len tally.cycles) told in omega (arith, cycles, taken, same)),
+      omega (arith, total, ran, ran_now, few, left),
+      (let before = inv.9 in omega (arith, before, pages, pages_now, some, few, left)),
+      (let before = inv.10 in omega (arith, before, locks, locks_now, some, few, left)),
+      λ committed order store follows.
+          let begins = turn_in first seat c.args.limit committed order (counts_of c.args.tally.now) in
+          let turning = inv.11 committed order store follows in
+          let here = store-on g.W.Outside g.met.W.Outside.fewer_later c.args.store.now c.args.outside.now c.loop-left.outside committed inv.4 store in
+          let goes = subst (λ (went : Went). IsStep (Ok went) (instruction_in old seat committed order (counts_of c.loop-left.tally)) mid seat committed order (counts_of c.instruct.new.tally)) c.in-On.is (c.in_ok-instruct.ensures.step committed order here turning.follows) in
+          let on = turn-goes begins old seat c.loop-left.left committed order (counts_of c.loop-left.tally) inv.0 inv.1.taken left turning mid (counts_of c.instruct.new.tally) c.instruct.ensures.sound stays c.instruct.ensures.tally.pages_before goes in
+          subst (λ (counts : Counts). IsTurning begins new seat (c.loop-left.left - c.go_far-ran.result.0) committed order counts) (sym (ap counts_of told))
+          (c.go_far-ran.ensures.gone begins committed order (counts_of c.instruct.new.tally) (c.go_far-ran.result.0 - 1) (c.loop-left.left - c.go_far-ran.result.0) (omega (arith, some))
+          (subst (λ (rows : ℕ). IsTurning begins (counted mid seat 1) seat rows committed order (record (counts_of c.instruct.new.tally) { ran = c.instruct.new.tally.ran + 1 })) (omega (arith, some, few, left)) on)),
+    )
+
+pub returns-in_err-instruct-clause-asks : goal.returns-in_err-instruct-clause-asks
+returns-in_err-instruct-clause-asks g c = asks_on g.W.Outside g.met.W.Outside.fewer_later c.args.outside.now c.loop-left.outside c.instruct.new.outside c.loop-left.invariant.4 c.instruct.ensures.asks
+
+pub returns-in_err-instruct-clause-parts : goal.returns-in_err-instruct-clause-parts
+returns-in_err-instruct-clause-parts g c =
+    keeps-within (activity_of c.args.self.now) (activity_of c.loop-left.self) (activity_of c.instruct.new.self) c.args.seat c.args.limit c.loop-left.left
+    (subst (λ (x : Activity). KeepsParts x (activity_of c.loop-left.self) (c.args.limit - c.loop-left.left)) c.select.ensures.shape c.loop-left.invariant.6) c.instruct.ensures.parts
+
+pub returns-in_err-instruct-clause-turned : goal.returns-in_err-instruct-clause-turned
+returns-in_err-instruct-clause-turned g c committed order store follows =
+    let first = activity_of c.select.new.self in
+    let old = activity_of c.loop-left.self in
+    let new = activity_of c.instruct.new.self in
+    let seat = c.args.seat in
+    let inv = c.loop-left.invariant in
+    let begins = turn_in first seat c.args.limit committed order (counts_of c.args.tally.now) in
+    let turning = inv.11 committed order store (subst (λ (x : Activity). Follows x committed) (sym c.select.ensures.shape) (follows-selected (activity_of c.args.self.now) seat committed follows)) in
+    let here = store-on g.W.Outside g.met.W.Outside.fewer_later c.args.store.now c.args.outside.now c.loop-left.outside committed inv.4 store in
+    let told = err_from_is_err_and c.from_residual.result c.from_residual.ensures.1 in
+    subst (λ (x : Activity). AreTurns c.from_residual.result (turn_in x seat c.args.limit committed order (counts_of c.args.tally.now)) new seat committed order (counts_of c.instruct.new.tally)) c.select.ensures.shape
+    (handed-turn c.from_residual.result c.in_err-instruct.field-0.0 (told.1 ∙ ap (λ (end : TurnEnd). Err end) told.2) begins new seat committed order (counts_of c.instruct.new.tally)
+    (turn-ends begins old seat c.loop-left.left committed order (counts_of c.loop-left.tally) inv.0 inv.1.taken c.loop-left-test.true turning g.W.Outside c.loop-left.outside c.instruct.new.outside c.loop-left.tally c.instruct.new.tally
+    c.in_err-instruct.field-0.0 new refl c.instruct.ensures.tally.pages_before c.in_err-instruct.ensures.ends (c.in_err-instruct.ensures.step committed order here turning.follows)))
+
+pub returns-in-AtCommit-clause-asks : goal.returns-in-AtCommit-clause-asks
+returns-in-AtCommit-clause-asks g c = asks_on g.W.Outside g.met.W.Outside.fewer_later c.args.outside.now c.loop-left.outside c.instruct.new.outside c.loop-left.invariant.4 c.instruct.ensures.asks
+
+pub returns-in-AtCommit-clause-parts : goal.returns-in-AtCommit-clause-parts
+returns-in-AtCommit-clause-parts g c =
+    keeps-within (activity_of c.args.self.now) (activity_of c.loop-left.self) (activity_of c.instruct.new.self) c.args.seat c.args.limit c.loop-left.left
+    (subst (λ (x : Activity). KeepsParts x (activity_of c.loop-left.self) (c.args.limit - c.loop-left.left)) c.select.ensures.shape c.loop-left.invariant.6) c.instruct.ensures.parts
+
+pub returns-in-AtCommit-clause-turned : goal.returns-in-AtCommit-clause-turned
+returns-in-AtCommit-clause-turned g c committed order store follows =
+    let first = activity_of c.select.new.self in
+    let old = activity_of c.loop-left.self in
+    let new = activity_of c.instruct.new.self in
+    let seat = c.args.seat in
+    let inv = c.loop-left.invariant in
+    let begins = turn_in first seat c.args.limit committed order (counts_of c.args.tally.now) in
+    let turning = inv.11 committed order store (subst (λ (x : Activity). Follows x committed) (sym c.select.ensures.shape) (follows-selected (activity_of c.args.self.now) seat committed follows)) in
+    let here = store-on g.W.Outside g.met.W.Outside.fewer_later c.args.store.now c.args.outside.now c.loop-left.outside committed inv.4 store in
+    let at = subst (λ (went : Went). IsStep (Ok went) (instruction_in old seat committed order (counts_of c.loop-left.tally)) new seat committed order (counts_of c.instruct.new.tally)) c.in-AtCommit.is (c.in_ok-instruct.ensures.step committed order here turning.follows) in
+    subst (λ (x : Activity). IsAtCommit (turn_in x seat c.args.limit committed order (counts_of c.args.tally.now)) new seat committed order (counts_of c.instruct.new.tally)) c.select.ensures.shape
+    (turn-commits begins old seat c.loop-left.left committed order (counts_of c.loop-left.tally) inv.0 inv.1.taken c.loop-left-test.true turning new (counts_of c.instruct.new.tally) c.instruct.ensures.tally.pages_before at)
+
+pub go_far-ran-requires-clause-rows : goal.go_far-ran-requires-clause-rows
+go_far-ran-requires-clause-rows g c seat below =
+    let parts =
+    keeps-within (activity_of c.args.self.now) (activity_of c.loop-left.self) (activity_of c.instruct.new.self) c.args.seat c.args.limit c.loop-left.left
+    (subst (λ (x : Activity). KeepsParts x (activity_of c.loop-left.self) (c.args.limit - c.loop-left.left)) c.select.ensures.shape c.loop-left.invariant.6) c.instruct.ensures.parts in
+    let here = parts.rows (2 ^ 63) c.requires.rows seat below in
+    omega (arith, here, c.requires.limit)
+
+pub returns-clause-parts : goal.returns-clause-parts
+returns-clause-parts g c =
+    let so_far = subst (λ (x : Activity). KeepsParts x (activity_of c.loop-left.self) (c.args.limit - c.loop-left.left)) c.select.ensures.shape c.loop-left.invariant.6 in
+    keeps-within (activity_of c.args.self.now) (activity_of c.loop-left.self) (activity_of c.loop-left.self) c.args.seat c.args.limit c.loop-left.left so_far (keeps-itself (activity_of c.loop-left.self))
+
+pub returns-clause-turned : goal.returns-clause-turned
+returns-clause-turned g c committed order store follows printed =
+    let old = activity_of c.loop-left.self in
+    let seat = c.args.seat in
+    let inv = c.loop-left.invariant in
+    let begins = turn_in (activity_of c.select.new.self) seat c.args.limit committed order (counts_of c.args.tally.now) in
+    let turning = inv.11 committed order store (subst (λ (x : Activity). Follows x committed) (sym c.select.ensures.shape) (follows-selected (activity_of c.args.self.now) seat committed follows)) in
+    let none : c.loop-left.left ≡ 0 = omega (arith, c.loop-left-test.false) in
+    subst (λ (x : Activity). IsOver (turn_in x seat c.args.limit committed order (counts_of c.args.tally.now)) old committed order (counts_of c.loop-left.tally) Limit) c.select.ensures.shape
+    (turn-limit begins old seat committed order (counts_of c.loop-left.tally) (subst (λ (n : ℕ). IsTurning begins old seat n committed order (counts_of c.loop-left.tally)) none turning))
