@@ -1,5 +1,5 @@
 -- What one instruction of who sits in a seat comes to, stage by stage.
-use Rattle.std.specs.Prelude.{◌≡◌, ℕ, ◌+◌, ◌<◌, ◌≤◌, List, [], ◌∷◌, length, map, Bool, Result, Ok, Err}
+use Rattle.std.specs.Prelude.{◌≡◌, ◌≢◌, ℕ, ◌+◌, ◌<◌, ◌≤◌, List, [], ◌∷◌, length, map, Bool, Result, Ok, Err}
 use Rattle.outside.specs.declared.world.Outside.{Ghosts}
 use Rattle.outside.specs.Causes.{Rose}
 use Rattle.flat_machine.specs.declared.machine.Plain.{Plain}
@@ -41,6 +41,11 @@ IsEndOfRows G before after old new (end.Committed number steps) = ⊥
 IsEndOfRows G before after old new (end.Closed doubt number) = ⊥
 IsEndOfRows G before after old new end.Shut = ⊥
 IsEndOfRows G before after old new _ = G.disk_faults after ≡ G.disk_faults before
+
+-- where an end is a wait, it is told of this activation and of some that hold what it asks for
+abbrev pub IsWaiter : (number : ℕ) → TurnEnd → Type 0
+IsWaiter number (end.Waits waiter holders) = (waiter ≡ number) × (holders.items ≢ [])
+IsWaiter number _ = Unit {0}
 
 -- a program check
 abbrev pub IsCheck : TurnEnd → Type 0

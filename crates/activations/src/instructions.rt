@@ -37,7 +37,7 @@ impl Activations {
     ghost use Rattle.activations.specs.Attempted.{IsSelected, IsShut, plain_in};
     ghost use Rattle.activations.specs.Fetching.{IsStoreOf, HasBrokenOff};
     ghost use Rattle.activations.specs.Follows.{IsSound, Follows};
-    ghost use Rattle.activations.specs.Instructed.{TalliesMore, IsEndOfRows, IsCheck, IsInstruction, IsAsked, IsServed, Prepares, Serves};
+    ghost use Rattle.activations.specs.Instructed.{TalliesMore, IsEndOfRows, IsCheck, IsWaiter, IsInstruction, IsAsked, IsServed, Prepares, Serves};
     ghost use Rattle.activations.specs.Kept.{KeepsParts, StaysSeated};
     ghost use Rattle.activations.specs.Serves.{IsFetched};
     ghost use Rattle.activations.specs.Serving.{IsFree, instruction_in};
@@ -77,6 +77,7 @@ impl Activations {
         ensures stays { OnOk result (StaysSeated (activity_of self.old) (activity_of self.new) seat) }
         ensures calm { OnOk result (W.disk_faults outside.new ≡ W.disk_faults outside.old) }
         ensures ends { IfErr result (IsEndOfRows W.Outside outside.old outside.new tally.old tally.new) }
+        ensures waits { IfErr result (IsWaiter (number_in (activity_of self.old).seating seat)) }
         ensures step { (committed : List ℕ) (order : List (ℕ × ℕ)) → IsStoreOf W.Outside store.now outside.old committed → Follows (activity_of self.old) committed → IsStep result (instruction_in (activity_of self.old) seat committed order (counts_of tally.old)) (activity_of self.new) seat committed order (counts_of tally.new) }
     {
         if let Some(access) = shut {
@@ -117,6 +118,7 @@ impl Activations {
         ensures stays { OnOk result (StaysSeated (activity_of self.old) (activity_of self.new) seat) }
         ensures calm { OnOk result (W.disk_faults outside.new ≡ W.disk_faults outside.old) }
         ensures ends { IfErr result (IsEndOfRows W.Outside outside.old outside.new tally.old tally.new) }
+        ensures waits { IfErr result (IsWaiter (number_in (activity_of self.old).seating seat)) }
         ensures served { (committed : List ℕ) (order : List (ℕ × ℕ)) → IsStoreOf W.Outside store.now outside.old committed → Follows (activity_of self.old) committed → IsInstruction result (instruction_in (activity_of self.old) seat committed order (counts_of tally.old)) (activity_of self.new) seat committed order (counts_of tally.new) }
     {
         let (touch, refused) = self.prepare(store, outside, seat, access, tally)?;
@@ -147,6 +149,7 @@ impl Activations {
         ensures stays { OnOk result (StaysSeated (activity_of self.old) (activity_of self.new) seat) }
         ensures calm { OnOk result (W.disk_faults outside.new ≡ W.disk_faults outside.old) }
         ensures ends { IfErr result (IsEndOfRows W.Outside outside.old outside.new tally.old tally.new) }
+        ensures waits { IfErr result (IsWaiter (number_in (activity_of self.old).seating seat)) }
         ensures prepared { (committed : List ℕ) (order : List (ℕ × ℕ)) → IsStoreOf W.Outside store.now outside.old committed → Follows (activity_of self.old) committed → Prepares result (instruction_in (activity_of self.old) seat committed order (counts_of tally.old)) (activity_of self.new) seat committed order (counts_of tally.new) }
     {
         let touch = self.touch_of(seat, access);

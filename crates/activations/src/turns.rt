@@ -19,12 +19,13 @@ impl Activations {
     ghost use Rattle.activations.specs.Attempted.{IsSelected};
     ghost use Rattle.activations.specs.Fetching.{IsStoreOf};
     ghost use Rattle.activations.specs.Follows.{IsSound, Follows};
-    ghost use Rattle.activations.specs.Instructed.{IsEndOfRows};
+    ghost use Rattle.activations.specs.Instructed.{IsEndOfRows, IsWaiter};
     ghost use Rattle.activations.specs.Kept.{KeepsParts, AreRowsWithin, StaysSeated};
     ghost use Rattle.activations.specs.Steps.{counted};
     ghost use Rattle.activations.specs.Turning.{counts_of};
     ghost use Rattle.activations.specs.Turns.{AreTurns, IsTurning, MayBeShut, turn_in, selected_in};
     ghost use Rattle.activations.specs.View.{activity_of};
+    ghost use Rattle.seats.specs.Seating.{number_in};
 
     /// The rows of a turn of who sits in a seat, at most so many, up to his commit call. Nothing was counted before.
     ///
@@ -54,6 +55,7 @@ impl Activations {
         ensures stays { OnOk result (StaysSeated (activity_of self.old) (activity_of self.new) seat) }
         ensures calm { OnOk result (W.disk_faults outside.new ≡ W.disk_faults outside.old) }
         ensures ends { IfErr result (IsEndOfRows W.Outside outside.old outside.new tally.old tally.new) }
+        ensures waits { IfErr result (IsWaiter (number_in (activity_of self.old).seating seat)) }
         ensures turned { (committed : List ℕ) (order : List (ℕ × ℕ)) → IsStoreOf W.Outside store.now outside.old committed → Follows (activity_of self.old) committed → AreTurns result (turn_in (activity_of self.old) seat limit committed order (counts_of tally.old)) (activity_of self.new) seat committed order (counts_of tally.new) }
     {
         self.select(seat);
