@@ -1,0 +1,229 @@
+-- How a turn of a session ends: over what ran, and then its commit.
+use Rattle.std.specs.Prelude.{◌≡◌, refl, ℕ, ◌+◌, ◌-◌, ◌*◌, ◌%◌, ◌^◌, ◌<◌, ◌≤◌, ◌==◌, ◌⊎◌, Bool, true, false, List, [], find, length, map, slice_set, Option, Some, None, IsSome, unwrap_or}
+use Rattle.std.specs.Option.{option_map}
+use Rattle.std.proofs.Common.{arith, ap, sym, ◌∙◌, subst, inl, inr, ⊎_elim}
+use Rattle.lock_rules.specs.Sets.{has}
+use Rattle.outside.specs.declared.world.Outside.{Ghosts}
+use Rattle.outside.specs.Bytes.{AreTold}
+use Rattle.outside.specs.Causes.{Rose}
+use Rattle.outside.specs.Durable.{IsSure}
+use Rattle.outside.specs.Runs.{FewerLater, Leaves, OnlyAsks, held_of}
+use Rattle.outside.proofs.Runs.{leaves_on}
+use Rattle.flat_machine.specs.declared.machine.Program.{Program}
+use Rattle.store_format.specs.Stands.{Standing, Stands, stands}
+use Rattle.restart.proofs.ShowLemmas.{sure_on}
+use Rattle.restart.specs.Shows.{Shows}
+use Rattle.desk.specs.declared.answers.Cycle.{Cycle}
+use Rattle.desk.specs.declared.answers.TurnEnd.{TurnEnd}
+use Rattle.desk.specs.declared.answers.TurnEnd.TheVariants as end
+use Rattle.desk.specs.declared.event.Event.TheVariants as event
+use Rattle.desk.specs.Answers.{ending_told, HasNumbers}
+use Rattle.redo_journal.specs.Held.{OnlyWrites}
+use Rattle.desk.specs.Crash.{IsEitherOf, fine_step, standing_of}
+use Rattle.desk.specs.Desk.{Desk, Entry}
+use Rattle.desk.specs.Instruction.{Word, Fine, ReadFailed, Doubt, Counts, Turning, Going, Over, Ending, no_counts, commits, turn, turn_of, turns}
+use Rattle.desk.specs.Report.{number_after}
+use Rattle.desk.specs.Run.{Step, turned}
+use Rattle.desk_law.specs.Beside.{Reads}
+use Rattle.desk_law.proofs.Entries.{found-among}
+use Rattle.desk_law.proofs.InstructionStages.{reads-all}
+use Rattle.desk_law.proofs.Seats.{seat-told, told-found}
+use Rattle.run_law.proofs.StepLemmas.{stepped}
+use Rattle.seats.specs.Seating.{number_in, seat_of}
+use Rattle.seats.proofs.Numbers.{seat-found}
+use Rattle.activations.specs.declared.activations.Activations.{Activations}
+use Rattle.activations.specs.declared.tally.Tally.{Tally}
+use Rattle.activations.specs.Activity.{Activity, entries, entry_in, desk_over}
+use Rattle.activations.specs.Fetching.{IsStoreOf}
+use Rattle.activations.specs.Follows.{Follows}
+use Rattle.activations.specs.Follows as running
+use Rattle.activations.specs.Instructed.{IsEndOfRows, IsWaiter}
+use Rattle.activations.specs.Kept as kept
+use Rattle.activations.specs.Serving.{IsOver as IsOverTurn}
+use Rattle.activations.specs.Turning.{HasEnded, HasBroken, counts_of}
+use Rattle.activations.specs.Turns.{IsAtCommit, commit_call, turn_in}
+use Rattle.activations.specs.View.{activity_of}
+use Rattle.supervisor.specs.declared.session.Session.{Session}
+use Rattle.supervisor.specs.Session.{IsSound, activity, order_of, desk_of}
+use Rattle.supervisor.specs.Shown.{IsOver}
+use Rattle.supervisor.specs.Went.{HasCommitted, HasRun, fine_desk}
+
+-- what ran leaves a session sound
+pub sound-ran : (s : Session) (ran : Activations) (limit : ℕ) → IsSound s → limit ≤ 1000000 → 0 < s.turns → kept.AreRowsWithin (activity s) ((s.turns - 1) * 1000000)
+    → running.IsSound (activity_of ran) → kept.KeepsParts (activity s) (activity_of ran) limit → IsSound (record s { activations = ran })
+sound-ran s ran limit sound few turned rows is parts = record {
+  ranges = sound.ranges;
+  running = is;
+  directory = sound.directory ∙ sym parts.directory;
+  most = sound.most ∙ sym parts.most_lines;
+  room = record {
+    begun = let begun = sound.room.begun in let next = parts.next in omega (arith, begun, next);
+    begin_numbers = sound.room.begin_numbers;
+    turned = sound.room.turned;
+    rows = λ seat below. let here = parts.rows ((s.turns - 1) * 1000000) rows seat below in omega (arith, here, few, turned);
+    places = λ still. let places = sound.room.places still in let fewer = parts.fewer in let next = parts.next in omega (arith, places, fewer, next);
+    order = sound.room.order;
+  };
+}
+
+-- the desk of an open session is that over what runs
+pub open-desk : (s : Session) (committed : List ℕ) → s.closed ≡ false → desk_of s committed ≡ desk_over (activity s) committed (order_of s)
+open-desk s committed still i = record (desk_over (activity s) committed (order_of s)) { closed = still i }
+
+-- bytes that are told are those that are held
+pub told-held : (told : Option (List ℕ)) (image : List ℕ) → IsSome told → AreTold told image → image ≡ unwrap_or told []
+told-held None image some is = absurd (cc (some))
+told-held (Some those) image some is = is
+
+module _ {W : Type 0} (G : Ghosts W) (s : Session) (sound : IsSound s) (before : W) (over : IsOver s (held_of G before)) where
+  -- what the session is over stands
+  pub stood-before : stands (held_of G before) ≡ standing_of s.opened (desk_of s over.committed)
+  stood-before =
+      over.stood
+      ∙ (λ i. Stands (over.number i) (record { directory = sound.directory i; bytes = over.committed }))
+
+  -- a store of which activations read
+  pub store-over : IsSure G before → IsStoreOf G s.store before over.committed
+  store-over sure = record { tracks = record { sure = sure; shows = over.shows }; number = _; stood = over.stood }
+
+module _ {W : Type 0} (G : Ghosts W) (fewer_later : FewerLater G) (s : Session) (sound : IsSound s) (activation limit : ℕ) (before mid : W) (sure : IsSure G before)
+    (over : IsOver s (held_of G before)) (asks : OnlyAsks G before mid) where
+  -- while the disk was only asked, a crash left what stood
+  asked : Leaves G (λ image seen. stands image ≡ standing_of s.opened (desk_of s over.committed)) before mid
+  asked image seen left =
+      ap stands (told-held (G.held before) image sure.told (sure.durable image seen (asks.crash sure.told image seen left)))
+      ∙ stood-before G s sound before over
+
+  -- other activities over the same bytes
+  abbrev pub over-ran : (ran : Activations) → Follows (activity_of ran) over.committed → IsOver (record s { activations = ran }) (held_of G mid)
+  over-ran ran follows = record {
+    still_open = over.still_open;
+    committed = over.committed;
+    shows = subst (λ (held : List ℕ). Shows held s.store) (sym (ap (λ (told : Option (List ℕ)). unwrap_or told []) asks.held)) over.shows;
+    stood = ap (λ (told : Option (List ℕ)). stands (unwrap_or told [])) asks.held ∙ over.stood;
+    follows = follows;
+    number = over.number;
+  }
+
+  pub idle : (tally : Tally) → counts_of tally ≡ no_counts → seat_of (activity s).seating activation ≡ None → HasRun G activation limit end.Idle s s tally before mid over.committed
+  idle tally nothing nobody = record {
+    word = Fine;
+    next = desk_of s over.committed;
+    step =
+        ap (λ (one : Option Entry). turn_of one Fine activation limit (desk_of s over.committed))
+        (told-found (activity s).seating.taken (entry_in (activity s)) activation ∙ ap (option_map (entry_in (activity s))) nobody)
+        ∙ ap (λ (counts : Counts). Over (desk_of s over.committed) counts (ending_told end.Idle s.printed)) (sym nothing);
+    closes = refl;
+    ordered = refl;
+    why = inl refl;
+    numbers = tt;
+    still = λ still. (sure_on G fewer_later before mid sure asks, (over-ran s.activations over.follows, refl));
+    crash = λ image seen left. inl (asked image seen left);
+    doubt = λ doubted. absurd (let no : ⊥ = cc in no);
+  }
+
+  module _ (seat : ℕ) (sits : seat_of (activity s).seating activation ≡ Some seat) (ran : Activations) (tally told : Tally) (nothing : counts_of tally ≡ no_counts) where
+    abbrev now : Session
+    now = record s { activations = ran }
+
+    found : (has (activity s).seating.taken seat ≡ true) × (number_in (activity s).seating seat ≡ activation)
+    found = seat-found (activity s).seating sound.running.seating activation seat sits
+
+    -- the turn is that of who sits there
+    turn-is : (word : Word) → turn word activation limit (desk_of s over.committed) ≡ turn_in (activity s) seat limit over.committed (order_of s) (counts_of tally) word
+    turn-is word =
+        ap (λ (n : ℕ). turn word n limit (desk_of s over.committed)) (sym found.1)
+        ∙ ap (λ (one : Option Entry). turn_of one word (number_in (activity s).seating seat) limit (desk_of s over.committed))
+        (found-among (activity s).next (entries (activity s)) (entry_in (activity s) seat) over.follows.orderly.active.ascend (seat-told (activity s).seating.taken (entry_in (activity s)) seat found.0))
+        ∙ (λ i. turns word (number_in (activity s).seating seat) limit (Going (open-desk s over.committed over.still_open i) (sym nothing i)))
+
+    run-by : (word : Word) (how : TurnEnd) → (word ≡ Doubt → ⊥) → (word ≡ Fine) ⊎ Rose (G.disk_faults before) (G.disk_faults mid)
+        → turn_in (activity s) seat limit over.committed (order_of s) (counts_of tally) word ≡ Over (desk_over (activity_of ran) over.committed (order_of s)) (counts_of told) (ending_told how s.printed)
+        → Follows (activity_of ran) over.committed → HasNumbers how activation (number_after s.opened (desk_over (activity_of ran) over.committed (order_of s)))
+        → HasRun G activation limit how s now told before mid over.committed
+    run-by word how sober why comes follows numbers = record {
+      word = word;
+      next = desk_over (activity_of ran) over.committed (order_of s);
+      step = turn-is word ∙ comes;
+      closes = sym over.still_open;
+      ordered = refl;
+      why = why;
+      numbers = numbers;
+      still = λ still. (sure_on G fewer_later before mid sure asks, (over-ran ran follows, sym (open-desk now over.committed over.still_open)));
+      crash = λ image seen left. inl (asked image seen left);
+      doubt = λ doubted. absurd (sober doubted);
+    }
+
+    fine : (how : TurnEnd) → IsOverTurn (turn_in (activity s) seat limit over.committed (order_of s) (counts_of tally)) (activity_of ran) over.committed (order_of s) (counts_of told) (ending_told how s.printed)
+        → HasNumbers how activation (number_after s.opened (desk_over (activity_of ran) over.committed (order_of s))) → HasRun G activation limit how s now told before mid over.committed
+    fine how ended numbers = run-by Fine how (λ doubted. let no : ⊥ = cc in no) (inl refl) (ended.comes Fine (reads-all told.pages)) ended.follows numbers
+
+    -- it ended before its commit call
+    pub ended : (how : TurnEnd) → IsEndOfRows G before mid tally told how → IsWaiter (number_in (activity s).seating seat) how
+        → HasEnded how (turn_in (activity s) seat limit over.committed (order_of s) (counts_of tally)) (activity_of ran) over.committed (order_of s) (counts_of told)
+        → HasRun G activation limit how s now told before mid over.committed
+    ended end.Disk rows waits has = run-by (ReadFailed told.pages) end.Disk (λ doubted. let no : ⊥ = cc in no) (inr rows.0) has.comes has.follows tt
+    ended end.Idle rows waits has = absurd rows
+    ended (end.Committed number steps) rows waits has = absurd rows
+    ended (end.Closed doubt number) rows waits has = absurd rows
+    ended end.Shut rows waits has = absurd rows
+    ended end.Limit rows waits has = fine end.Limit (has s.printed) tt
+    ended (end.Checked code address) rows waits has = fine (end.Checked code address) (has s.printed) tt
+    ended (end.Waits waiter holders) rows waits has = fine (end.Waits waiter holders) (has s.printed) (waits.0 ∙ found.1)
+    ended end.Victim rows waits has = fine end.Victim (has s.printed) tt
+    ended (end.Journal lines most) rows waits has = fine (end.Journal lines most) (has s.printed) tt
+
+    -- it came to its commit call
+    module _ (parts : kept.KeepsParts (activity s) (activity_of ran) limit) (after : W) (new : Session) (how : TurnEnd) (counted : Tally)
+        (at : IsAtCommit (turn_in (activity s) seat limit over.committed (order_of s) (counts_of tally)) (activity_of ran) seat over.committed (order_of s) (counts_of told))
+        (number : number_in (activity_of ran).seating seat ≡ number_in (activity s).seating seat) (calm : G.disk_faults mid ≡ G.disk_faults before) (writes : OnlyWrites G mid after)
+        (went : HasCommitted G seat at.now how now new told counted mid after over.committed) where
+      goes : (word : Word) → ((counted : ℕ) → Reads word counted)
+          → turn word activation limit (desk_of s over.committed) ≡ commits word (commit_call (activity_of ran) seat over.committed (order_of s) at.now) (desk_of now over.committed) (counts_of told)
+      goes word reads =
+          turn-is word ∙ at.comes word (reads told.pages)
+          ∙ ap (λ (desk : Desk). commits word (commit_call (activity_of ran) seat over.committed (order_of s) at.now) desk (counts_of told)) (sym (open-desk now over.committed over.still_open))
+
+      fine-is : fine_step (activity s).programs (event.Turn activation limit) (desk_of s over.committed) ≡ fine_desk now over.committed seat at.now
+      fine-is =
+          ap (λ (left : Step). left.desk)
+          (stepped (activity s).programs (event.Turn activation limit) Fine (desk_of s over.committed) over.still_open
+          ∙ ap (turned activation) (goes Fine reads-all))
+
+      order-fine : (fine_desk now over.committed seat at.now).order ≡ went.next.order → (fine_step (activity s).programs (event.Turn activation limit) (desk_of s over.committed)).order ≡ went.next.order
+      order-fine same = ap (λ (left : Desk). left.order) fine-is ∙ same
+
+      stands-fine : standing_of s.opened (fine_desk now over.committed seat at.now) ≡ standing_of s.opened (fine_step (activity s).programs (event.Turn activation limit) (desk_of s over.committed))
+      stands-fine = ap (standing_of s.opened) (sym fine-is)
+
+      standing-ran : standing_of s.opened (desk_of now over.committed) ≡ standing_of s.opened (desk_of s over.committed)
+      standing-ran i = Stands (number_after s.opened (desk_of s over.committed)) (record { directory = parts.directory i; bytes = over.committed })
+
+      pub committed : HasRun G activation limit how s new counted before after over.committed
+      committed = record {
+        word = went.word;
+        next = went.next;
+        step = goes went.word went.reads ∙ went.step;
+        closes = went.closes;
+        ordered = went.ordered;
+        why = ⊎_elim (λ fine. inl fine) (λ rose. inr (subst (λ (n : ℕ). Rose n (G.disk_faults after)) calm rose)) went.why;
+        numbers = subst (λ (n : ℕ). HasNumbers how n (number_after s.opened went.next)) (number ∙ found.1) went.numbers;
+        still = went.still;
+        crash =
+            leaves_on G fewer_later before mid after asks.calls.time writes.calls.time
+            (λ image seen. IsEitherOf (activity s).programs s.opened (event.Turn activation limit) (desk_of s over.committed) went.next image)
+            (λ image seen left. inl (asked image seen left))
+            (λ image seen left.
+            ⊎_elim (λ stood. inl (stood ∙ standing-ran)) (λ done. inr (order-fine done.0, done.1 ∙ stands-fine)) (went.crash image seen left));
+        doubt = λ doubted shut.
+            let there = went.doubt doubted in
+            (order-fine there.0, (there.1.0, λ image seen left. there.1.1 image seen left ∙ stands-fine));
+      }
+
+-- nothing was counted
+pub nothing-counted : (tally : Tally) → tally.ran + tally.pages + tally.locks ≡ 0 → tally.cycles.items ≡ [] → counts_of tally ≡ no_counts
+nothing-counted tally none empty =
+    let ran : tally.ran ≡ 0 = omega (arith, none) in
+    let pages : tally.pages ≡ 0 = omega (arith, none) in
+    let locks : tally.locks ≡ 0 = omega (arith, none) in
+    λ i. record { ran = ran i; pages = pages i; locks = locks i; cycles = map (λ (cycle : Cycle). cycle.members.items) (empty i) }

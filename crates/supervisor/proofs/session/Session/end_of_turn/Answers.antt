@@ -1,0 +1,57 @@
+use Rattle.std.proofs.Common.{◌≡◌, ◌+◌, ◌≤◌, ℕ, List, Some, None, length, refl, ap, arith, sym, ◌∙◌, subst}
+use Rattle.arrayvec.specs.ArrayVec.{array_vec_len}
+use Rattle.outside.specs.Runs.{held_of}
+use Rattle.redo_journal.proofs.WriteLemmas.{asks_only, writes_on}
+use Rattle.desk.specs.Instruction.{no_counts}
+use Rattle.restart.proofs.ShowLemmas.{sure_on}
+use Rattle.desk.specs.declared.answers.Cycle.{Cycle}
+use Rattle.seats.proofs.Kept.{few-taken}
+use Rattle.seats.proofs.Numbers.{seat-found}
+use Rattle.activations.specs.Turning.{counts_of}
+use Rattle.activations.specs.View.{activity_of}
+use Rattle.supervisor.specs.Session.{activity, order_of}
+use Rattle.supervisor.proofs.TurnLemmas.{idle, ended, committed, nothing-counted, sound-ran, over-ran, store-over}
+use Rattle.activations.proofs.TurnLemmas.{asks-none}
+use Rattle.supervisor.proofs.session.Session.end_of_turn.Goals as goal
+
+pub returns-in_default-clause-went : goal.returns-in_default-clause-went
+returns-in_default-clause-went g c sure over =
+    idle g.W.Outside g.met.W.Outside.fewer_later c.args.self.now c.requires.sound c.args.activation c.args.limit c.args.outside.now c.args.outside.now sure over (asks-none g.W.Outside c.args.outside.now)
+    c.args.tally.now (nothing-counted c.args.tally.now c.requires.tally c.requires.cycles) (sym c.seat_of.ensures ∙ c.in_default.is)
+
+pub run-requires-clause-taken : goal.run-requires-clause-taken
+run-requires-clause-taken g c = (seat-found (activity c.args.self.now).seating c.requires.sound.running.seating c.args.activation c.in-Some.seat (sym c.seat_of.ensures ∙ c.in-Some.is)).0
+
+pub run-requires-clause-cycles : goal.run-requires-clause-cycles
+run-requires-clause-cycles g c =
+    let none = ap (λ (cycles : List Cycle). length cycles) c.requires.cycles in
+    let few = few-taken (activity c.args.self.now).seating c.requires.sound.running.seating in
+    omega (arith, none, few)
+
+pub commit-requires-clause-sound : goal.commit-requires-clause-sound
+commit-requires-clause-sound g c = sound-ran c.args.self.now c.run.new.self c.args.limit c.requires.sound c.requires.limit c.requires.turns c.requires.rows c.run.ensures.sound c.run.ensures.parts
+
+pub returns-in-Err-clause-sound : goal.returns-in-Err-clause-sound
+returns-in-Err-clause-sound g c = sound-ran c.args.self.now c.run.new.self c.args.limit c.requires.sound c.requires.limit c.requires.turns c.requires.rows c.run.ensures.sound c.run.ensures.parts
+
+pub returns-in-Err-clause-went : goal.returns-in-Err-clause-went
+returns-in-Err-clause-went g c sure over =
+    ended g.W.Outside g.met.W.Outside.fewer_later c.args.self.now c.requires.sound c.args.activation c.args.limit c.args.outside.now c.run.new.outside sure over c.run.ensures.asks
+    c.in-Some.seat (sym c.seat_of.ensures ∙ c.in-Some.is) c.run.new.self c.args.tally.now c.run.new.tally (nothing-counted c.args.tally.now c.requires.tally c.requires.cycles)
+    c.in-Err.end c.in-Err.ensures.ends c.in-Err.ensures.waits (c.in-Err.ensures.turned over.committed (order_of c.args.self.now) (store-over g.W.Outside c.args.self.now c.requires.sound c.args.outside.now over sure) over.follows)
+
+pub returns-in-Ok-clause-only : goal.returns-in-Ok-clause-only
+returns-in-Ok-clause-only g c = writes_on g.W.Outside g.met.W.Outside.fewer_later c.args.outside.now c.run.new.outside c.commit.new.outside (asks_only g.W.Outside c.args.outside.now c.run.new.outside c.run.ensures.asks) c.commit.ensures.only
+
+pub returns-in-Ok-clause-went : goal.returns-in-Ok-clause-went
+returns-in-Ok-clause-went g c sure over =
+    let G = g.W.Outside in
+    let s = c.args.self.now in
+    let before = c.args.outside.now in
+    let at = c.in-Ok.ensures.turned over.committed (order_of s) (store-over G s c.requires.sound before over sure) over.follows in
+    let asks = c.run.ensures.asks in
+    committed G g.met.W.Outside.fewer_later s c.requires.sound c.args.activation c.args.limit before c.run.new.outside sure over asks
+    c.in-Some.seat (sym c.seat_of.ensures ∙ c.in-Some.is) c.run.new.self c.args.tally.now c.run.new.tally (nothing-counted c.args.tally.now c.requires.tally c.requires.cycles)
+    c.run.ensures.parts c.commit.new.outside c.commit.new.self c.commit.result c.commit.new.tally at c.in-Ok.ensures.stays.number c.in-Ok.ensures.calm c.commit.ensures.only
+    (c.commit.ensures.went _ (sure_on G g.met.W.Outside.fewer_later before c.run.new.outside sure asks)
+    (over-ran G g.met.W.Outside.fewer_later s c.requires.sound c.args.activation c.args.limit before c.run.new.outside sure over asks c.run.new.self at.follows) at)
