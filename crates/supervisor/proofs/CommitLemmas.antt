@@ -1,0 +1,282 @@
+-- The commit of a session is one of the desk, and what the disk holds in it.
+use Rattle.std.proofs.Common.{◌≡◌, ◌⊎◌, inl, inr, ⊎_elim, ℕ, ◌+◌, ◌*◌, ◌%◌, ◌^◌, ◌<◌, ◌≤◌, List, [], ◌∷◌, ◌++◌, length, refl, sym, ◌∙◌, ap, subst, arith, Option, Some, length-append}
+use Rattle.std.specs.Prelude.{◌==◌, ◌&&◌, not, filter, Bool, None, true, false, vec_len, vec_capacity, slice_set}
+use Rattle.std.proofs.lemmas.List.{map-append}
+use Rattle.line_geometry.specs.FlatStore.{FlatStore}
+use Rattle.std.proofs.lemmas.Bool.{eq-eqb}
+use Rattle.lock_rules.specs.Sets.{has}
+use Rattle.lock_rules.proofs.Sets.{has-filter}
+use Rattle.flat_machine.specs.declared.machine.Plain.{Plain}
+use Rattle.flat_machine.specs.After.{after}
+use Rattle.frame_pool.specs.declared.model.Pool.{Pool}
+use Rattle.outside.specs.declared.world.Outside.{Ghosts}
+use Rattle.outside.specs.Causes.{Rose}
+use Rattle.outside.specs.Durable.{IsSure}
+use Rattle.outside.specs.Runs.{Leaves, held_of}
+use Rattle.store_format.specs.Header.{Header, HasRanges, most_lines}
+use Rattle.store_format.specs.Bank.{RecordLine}
+use Rattle.store_format.specs.Stands.{Standing, Stands, stands, one_more, laid}
+use Rattle.redo_journal.specs.Held.{IsMoreBy}
+use Rattle.redo_journal.specs.Tracks.{IsEither}
+use Rattle.restart.specs.Kept.{KeptStore, number_of}
+use Rattle.restart.specs.Shows.{Shows, Tracks}
+use Rattle.desk.specs.declared.answers.Committed.{Committed}
+use Rattle.desk.specs.declared.answers.TurnEnd.TheVariants as end
+use Rattle.desk.specs.Answers.{order_told}
+use Rattle.desk.specs.Crash.{standing_of}
+use Rattle.desk.specs.Desk.{Desk}
+use Rattle.desk.specs.Instruction.{Fine, Doubt, Unwritten, Over, ordered}
+use Rattle.desk.specs.Instruction as turn
+use Rattle.desk.specs.Kept.{WritesMore}
+use Rattle.desk.specs.Report.{number_after}
+use Rattle.desk_law.specs.Beside.{IsState, over_all}
+use Rattle.desk_law.specs.Changes.{committed_at}
+use Rattle.seats.specs.Seating.{sitter, number_in}
+use Rattle.activations.specs.Activity.{Activity, live_in, program_in, entry_in, store_over, desk_over, state_in}
+use Rattle.activations.specs.declared.live.Live.{Live}
+use Rattle.activations.specs.Follows as running
+use Rattle.activations.specs.Follows.{Follows}
+use Rattle.activations.specs.Kept.{AreRowsWithin}
+use Rattle.activations.specs.Recorded.{with_begun}
+use Rattle.activations.specs.Steps.{rolled}
+use Rattle.activations.specs.Turning.{counts_of}
+use Rattle.activations.specs.Turns.{commit_call}
+use Rattle.activations.specs.declared.tally.Tally.{Tally}
+use Rattle.activations.proofs.ContendLemmas.{fewer}
+use Rattle.supervisor.specs.declared.session.Session.{Session}
+use Rattle.supervisor.specs.Session.{IsSound, activity, order_of, desk_of}
+use Rattle.supervisor.specs.Shown.{IsOver}
+use Rattle.supervisor.specs.Went.{HasCommitted, IsEitherSide, fine_desk}
+
+-- a number that rises where it is told
+pub writes-more : (old new : Option ℕ) (more : ℕ) → IsMoreBy more old new → WritesMore old new more
+writes-more None new more rises = tt
+writes-more (Some count) new more rises = rises count refl
+
+-- one commit more in the order
+pub order-more : (old new : List Committed) (told : Committed) (number steps : ℕ) → new ≡ old ++ told ∷ [] → told.activation ≡ number → told.steps ≡ steps
+    → order_told new ≡ order_told old ++ (number, steps) ∷ []
+order-more old new told number steps is activation rows =
+    ap order_told is
+    ∙ map-append (λ (c : Committed). (c.activation, c.steps)) old (told ∷ [])
+    ∙ (λ i. order_told old ++ (activation i, rows i) ∷ [])
+
+-- and the number after it
+number-more : (opened number : ℕ) (one other : Desk) (commit : ℕ × ℕ) → number ≡ number_after opened one → other.order ≡ one.order ++ commit ∷ [] → (number + 1) % 2 ^ 64 ≡ number_after opened other
+number-more opened number one other commit is more =
+    let long : length other.order ≡ length one.order + 1 = ap length more ∙ length-append one.order (commit ∷ []) in
+    omega arith
+
+-- what a store shows, and its number, don't depend on the record that is begun
+shows-begun : (store : KeptStore) (lines : List RecordLine) (held : List ℕ) → Shows held store → Shows held (with_begun store lines)
+shows-begun store lines held shows = record {
+  header = shows.header;
+  chosen_is = shows.chosen_is;
+  read = record { base = shows.read.base; records = shows.read.records; holds = shows.read.holds; count = shows.read.count; newest = shows.read.newest };
+  fits = record { page = shows.fits.page; bank_bytes = shows.fits.bank_bytes; lines = shows.fits.lines };
+}
+
+-- who has left isn't among those that are left
+pub gone : (taken : List ℕ) (seat : ℕ) → has (filter (λ other. not (other == seat)) taken) seat ≡ false
+gone taken seat =
+    has-filter (λ other. not (other == seat)) taken seat
+    ∙ ap (λ (b : Bool). has taken seat && not b) (eq-eqb seat seat refl)
+    ∙ never (has taken seat)
+  where
+    never : (b : Bool) → (b && false) ≡ false
+    never true = refl
+    never false = refl
+
+-- What became of a session when who sat in a seat left it: parts are as before, there is a place less to keep in the order, and
+-- one commit more in it perhaps.
+pub record HasLeft (old new : Session) (seat : ℕ) (pool : Pool) (commits : ℕ) : Type 0 where
+  pub header : new.store.header ≡ old.store.header
+  pub running : running.IsSound (activity new)
+  pub live : List Live
+  pub is : activity new ≡ record (rolled (activity old) seat pool) { live = live }
+  pub begins : new.begins ≡ old.begins
+  pub turns : new.turns ≡ old.turns
+  pub closed : new.closed ≡ old.closed
+  pub few : commits ≤ 1
+  pub longer : vec_len new.order ≡ vec_len old.order + commits
+  pub room : vec_capacity old.order ≤ vec_capacity new.order
+
+-- a session at the commit call of a taken seat
+module _ (s : Session) (seat : ℕ) (sound : IsSound s) (taken : has (activity s).seating.taken seat ≡ true) where
+  -- the order has a place for the commit
+  pub has_place : s.closed ≡ false → vec_len s.order < vec_capacity s.order
+  has_place still =
+      let places = sound.room.places still in
+      let some = fewer (activity s).seating.taken seat taken in
+      omega (arith, places, some, sound.room.begun, sound.room.order)
+
+  -- he has left, whether with a commit or not
+  pub sound-left : (n : Session) (pool : Pool) (commits : ℕ) → HasLeft s n seat pool commits → IsSound n
+  sound-left n pool commits left = record {
+    ranges = subst HasRanges (sym left.header) sound.ranges;
+    running = left.running;
+    directory = ap (λ (h : Header). h.directory) left.header ∙ sound.directory ∙ sym (ap (λ (a : Activity). a.reach.directory) left.is);
+    most = ap most_lines left.header ∙ sound.most ∙ sym (ap (λ (a : Activity). a.most_lines) left.is);
+    room = record {
+      begun = omega (arith, next, left.begins, sound.room.begun);
+      begin_numbers = omega (arith, left.begins, sound.room.begin_numbers);
+      turned = omega (arith, left.turns, sound.room.turned);
+      rows = subst (λ (turns : ℕ). AreRowsWithin (activity n) (turns * 1000000)) (sym left.turns) (subst (λ (a : Activity). AreRowsWithin a (s.turns * 1000000)) (sym left.is) sound.room.rows);
+      places = λ still.
+          let places = sound.room.places (sym left.closed ∙ still) in
+          let some = fewer (activity s).seating.taken seat taken in
+          let rest = ap (λ (a : Activity). length a.seating.taken) left.is in
+          omega (arith, places, some, rest, next, left.few, left.longer);
+      order = omega (arith, left.begins, left.room, sound.room.order);
+    };
+  }
+    where
+      next : (activity n).next ≡ (activity s).next
+      next = ap (λ (a : Activity). a.next) left.is
+
+  -- it closes, and all else that runs is as before
+  pub sound-closed : (n : Session) → n.store.header ≡ s.store.header → activity n ≡ activity s → n.begins ≡ s.begins → n.turns ≡ s.turns → n.closed ≡ true → vec_capacity s.order ≤ vec_capacity n.order → IsSound n
+  sound-closed n header is begins turns closed room = record {
+    ranges = subst HasRanges (sym header) sound.ranges;
+    running = subst running.IsSound (sym is) sound.running;
+    directory = ap (λ (h : Header). h.directory) header ∙ sound.directory ∙ sym (ap (λ (a : Activity). a.reach.directory) is);
+    most = ap most_lines header ∙ sound.most ∙ sym (ap (λ (a : Activity). a.most_lines) is);
+    room = record {
+      begun = let next = ap (λ (a : Activity). a.next) is in omega (arith, next, begins, sound.room.begun);
+      begin_numbers = omega (arith, begins, sound.room.begin_numbers);
+      turned = omega (arith, turns, sound.room.turned);
+      rows = subst (λ (turns : ℕ). AreRowsWithin (activity n) (turns * 1000000)) (sym turns) (subst (λ (a : Activity). AreRowsWithin a (s.turns * 1000000)) (sym is) sound.room.rows);
+      places = λ still. absurd (let no : true ≡ false = sym closed ∙ still in cc (no));
+      order = omega (arith, begins, room, sound.room.order);
+    };
+  }
+
+-- what was printed in a taken seat is what the state of who sits there says
+pub out-is : (a : Activity) (seat : ℕ) (committed : List ℕ) (now : Plain) → has a.seating.taken seat ≡ true → Follows a committed
+    → after (program_in a seat) (entry_in a seat).runs.args (store_over a committed) (entry_in a seat).rows ≡ Some now → (live_in a seat).out ≡ now.out
+out-is a seat committed now taken follows at =
+    let stand : IsState (store_over a committed) (entry_in a seat) (state_in a seat) = follows.kept.stand seat taken in
+    let both : Some (over_all (state_in a seat) stand.bytes) ≡ Some now = sym stand.at ∙ at in
+    let same : over_all (state_in a seat) stand.bytes ≡ now = cc in
+    ap (λ (p : Plain). p.out) same
+
+-- a commit over committed bytes, at a state, whose record gives what it commits
+module _ {W : Type 0} (G : Ghosts W) (s : Session) (seat : ℕ) (sound : IsSound s) (before after : W) (over : IsOver s (held_of G before)) (now : Plain)
+    (lines : List RecordLine) (gives : laid over.committed lines ≡ now.store) where
+  abbrev fine : Desk
+  fine = fine_desk s over.committed seat now
+
+  -- the store
+  abbrev keeps : List ℕ → FlatStore
+  keeps bytes = record { directory = s.store.header.directory; bytes = bytes }
+
+  keeps-is : (bytes : List ℕ) → keeps bytes ≡ store_over (activity s) bytes
+  keeps-is bytes = λ i. record { directory = sound.directory i; bytes = bytes }
+
+  -- what stands before it
+  stood-before : stands (held_of G before) ≡ standing_of s.opened (desk_of s over.committed)
+  stood-before = over.stood ∙ (λ i. Stands (over.number i) (keeps-is over.committed i))
+
+  -- what stands with the record
+  pub stands-more : one_more lines (stands (held_of G before)) ≡ Stands ((number_of s.store + 1) % 2 ^ 64) (keeps now.store)
+  stands-more =
+      ap (one_more lines) over.stood
+      ∙ ap (λ (bytes : List ℕ). let that : Standing = Stands ((number_of s.store + 1) % 2 ^ 64) (keeps bytes) in that) gives
+
+  number-now : (number : ℕ) (next : Desk) → number ≡ number_of s.store → next.order ≡ order_of s ++ (number_in (activity s).seating seat, (sitter (activity s).seating seat).rows + 1) ∷ []
+      → (number + 1) % 2 ^ 64 ≡ number_after s.opened next
+  number-now number next is order =
+      number-more s.opened number (desk_of s over.committed) next (number_in (activity s).seating seat, (sitter (activity s).seating seat).rows + 1) (is ∙ over.number) order
+
+  -- and that is what the desk has once it went well
+  fine-stands : one_more lines (stands (held_of G before)) ≡ standing_of s.opened fine
+  fine-stands = stands-more ∙ (λ i. Stands (number-now (number_of s.store) fine refl refl i) (keeps-is now.store i))
+
+  -- each image that a crash in it leaves is one of the two
+  either-side : (next : Desk) (image : List ℕ) → fine.order ≡ next.order → (stands image ≡ stands (held_of G before)) ⊎ (stands image ≡ one_more lines (stands (held_of G before)))
+      → IsEitherSide s over.committed fine next image
+  either-side next image same sides = ⊎_elim (λ was. inl (was ∙ stood-before)) (λ is. inr (same, is ∙ fine-stands)) sides
+
+  -- the store with the record begun is tracked
+  pub tracked : IsSure G before → (store : KeptStore) → store ≡ with_begun s.store lines → Tracks G store before
+  tracked sure store is =
+      subst (λ (that : KeptStore). Tracks G that before) (sym is) (record { sure = sure; shows = shows-begun s.store lines (held_of G before) over.shows })
+
+  module _ (number : ℕ) (number_is : number ≡ number_of s.store) (n : Session) (told : Committed) (activation : told.activation ≡ number_in (activity s).seating seat)
+      (steps : told.steps ≡ (sitter (activity s).seating seat).rows + 1) where
+    pub went-done : n.store.header ≡ s.store.header → n.opened ≡ s.opened → n.closed ≡ s.closed → n.order.items ≡ s.order.items ++ told ∷ []
+        → ((order : List (ℕ × ℕ)) → desk_over (activity n) now.store order ≡ committed_at (desk_over (activity s) over.committed order) (entry_in (activity s) seat) now)
+        → Follows (activity n) now.store → n.printed ≡ now.out
+        → number_of n.store ≡ (number_of s.store + 1) % 2 ^ 64 → Tracks G n.store after → stands (held_of G after) ≡ one_more lines (stands (held_of G before))
+        → Leaves G (IsEither lines (held_of G before)) before after
+        → (tally counted : Tally) → counts_of counted ≡ record (counts_of tally) { ran = tally.ran + 1 }
+        → HasCommitted G seat now (end.Committed ((number + 1) % 2 ^ 64) told.steps) s n tally counted before after over.committed
+    went-done header opened closed more desk follows printed next_number tracks stood crash tally counted one_more_ran = record {
+      word = Fine;
+      reads = λ counted page below. refl;
+      next = fine;
+      step = λ i. Over fine (sym one_more_ran i) (turn.Committed (sym steps i) (sym printed i));
+      closes = sym closed;
+      ordered = sym order;
+      why = inl refl;
+      numbers = number-now number fine number_is refl;
+      still = λ still. (tracks.sure, (over_new, is_new));
+      crash = λ image seen left. either-side fine image refl (crash image seen left);
+      doubt = λ doubted. absurd (let no : Fine ≡ Doubt = doubted in cc (no));
+    }
+      where
+        order : order_of n ≡ order_of s ++ (number_in (activity s).seating seat, (sitter (activity s).seating seat).rows + 1) ∷ []
+        order = order-more s.order.items n.order.items told (number_in (activity s).seating seat) ((sitter (activity s).seating seat).rows + 1) more activation steps
+
+        is_new : fine ≡ desk_of n now.store
+        is_new =
+            (λ i. record (committed_at (desk_over (activity s) over.committed (sym order i)) (entry_in (activity s) seat) now) { closed = sym closed i })
+            ∙ ap (λ (d : Desk). record d { closed = n.closed }) (sym (desk (order_of n)))
+
+        over_new : IsOver n (held_of G after)
+        over_new = record {
+          still_open = closed ∙ over.still_open;
+          committed = now.store;
+          shows = tracks.shows;
+          stood = stood ∙ stands-more ∙ (λ i. Stands (sym next_number i) (record { directory = (sym header i).directory; bytes = now.store }));
+          follows = follows;
+          number = next_number ∙ number-now (number_of s.store) (desk_of n now.store) refl order ∙ ap (λ (opened : ℕ). number_after opened (desk_of n now.store)) (sym opened);
+        }
+
+    pub went-doubt : n.closed ≡ true → n.order.items ≡ s.order.items ++ told ∷ [] → (tally : Tally) (gate : ℕ)
+        → Rose (G.disk_faults before) (G.disk_faults after) → Leaves G (IsEither lines (held_of G before)) before after
+        → Leaves G (λ image seen. stands (slice_set image gate 165) ≡ one_more lines (stands (held_of G before))) after after
+        → HasCommitted G seat now (end.Closed (Some told.activation) ((number + 1) % 2 ^ 64)) s n tally tally before after over.committed
+    went-doubt closed more tally gate rose crash there = record {
+      word = Doubt;
+      reads = λ counted page below. refl;
+      next = next;
+      step = refl;
+      closes = sym closed;
+      ordered = sym (order-more s.order.items n.order.items told (number_in (activity s).seating seat) ((sitter (activity s).seating seat).rows + 1) more activation steps);
+      why = inr rose;
+      numbers = (activation, number-now number next number_is refl);
+      still = λ still. absurd (let no : true ≡ false = sym closed ∙ still in cc (no));
+      crash = λ image seen left. either-side next image refl (crash image seen left);
+      doubt = λ doubted. (refl, (gate, λ image seen left. there image seen left ∙ fine-stands));
+    }
+      where
+        next : Desk
+        next = record (ordered (desk_of s over.committed) (commit_call (activity s) seat over.committed (order_of s) now)) { closed = true }
+
+  pub went-unwritten : (number : ℕ) → number ≡ number_of s.store → (n : Session) → n.closed ≡ true → order_of n ≡ order_of s → (tally : Tally)
+      → Rose (G.disk_faults before) (G.disk_faults after) → Leaves G (λ image seen. stands image ≡ stands (held_of G before)) before after
+      → HasCommitted G seat now (end.Closed None ((number + 1) % 2 ^ 64)) s n tally tally before after over.committed
+  went-unwritten number is n closed order tally rose crash = record {
+    word = Unwritten;
+    reads = λ counted page below. refl;
+    next = record (desk_of s over.committed) { closed = true };
+    step = refl;
+    closes = sym closed;
+    ordered = sym order;
+    why = inr rose;
+    numbers = ap (λ (n : ℕ). (n + 1) % 2 ^ 64) (is ∙ over.number);
+    still = λ still. absurd (let no : true ≡ false = sym closed ∙ still in cc (no));
+    crash = λ image seen left. inl (crash image seen left ∙ stood-before);
+    doubt = λ doubted. absurd (let no : Unwritten ≡ Doubt = doubted in cc (no));
+  }

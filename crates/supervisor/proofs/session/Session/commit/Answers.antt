@@ -1,0 +1,166 @@
+use Rattle.std.proofs.Common.{◌≡◌, ◌+◌, ◌%◌, ◌^◌, ◌∙◌, ◌∷◌, [], length, refl, sym, ap, subst, arith, Some, length-append}
+use Rattle.std.specs.Prelude.{true, false}
+use Rattle.lock_rules.specs.Sets.{has}
+use Rattle.flat_machine.specs.After.{after as after_rows}
+use Rattle.flat_machine.specs.Row.{Commit, row}
+use Rattle.redo_journal.specs.Kept.{begun_of}
+use Rattle.redo_journal.specs.declared.keep.Kept.{Kept}
+use Rattle.restart.specs.Kept.{KeptStore, number_of}
+use Rattle.restart.specs.Shows.{Tracks}
+use Rattle.restart.specs.Committed.{roomy, number_after}
+use Rattle.desk_law.specs.Beside.{over_all}
+use Rattle.desk_law.specs.Changes.{committed_at}
+use Rattle.seats.specs.Seating.{sitter, number_in}
+use Rattle.seats.proofs.Kept.{taken-below}
+use Rattle.activations.specs.Activity.{Activity, live_in, program_in, entry_in, store_over, desk_over, shown}
+use Rattle.activations.specs.Follows.{Follows}
+use Rattle.activations.specs.Steps.{rolled}
+use Rattle.activations.specs.Ends.{reprinted}
+use Rattle.activations.specs.View.{activity_of}
+use Rattle.supervisor.specs.declared.session.Session.{Session}
+use Rattle.supervisor.specs.Session.{activity}
+use Rattle.supervisor.proofs.CommitLemmas.{writes-more, gone, has_place, sound-left, sound-closed, out-is, tracked, went-done, went-doubt, went-unwritten}
+use Rattle.supervisor.proofs.session.Session.commit.Goals as goal
+
+pub returns-in-Err-clause-sound : goal.returns-in-Err-clause-sound
+returns-in-Err-clause-sound g c =
+    let s = c.args.self.now in
+    sound-left s c.args.seat c.requires.sound c.requires.taken _ (activity_of c.record.new.self).reach.pool 0
+    (record {
+      header = ap (λ (store : KeptStore). store.header) c.in-Err.ensures.unwritten;
+      running = c.record.ensures.sound;
+      live = (activity s).live;
+      is = c.in-Err.ensures.rolled;
+      begins = refl;
+      turns = refl;
+      closed = refl;
+      few = omega arith;
+      longer = omega arith;
+      room = omega arith;
+    })
+
+pub returns-in-Err-clause-went : goal.returns-in-Err-clause-went
+returns-in-Err-clause-went g c = λ begins sure over at. absurd (let no : false ≡ true = c.in-Err.ensures.never over.committed over.follows in cc (no))
+
+pub committed_in-committed-requires-clause-seat : goal.committed_in-committed-requires-clause-seat
+committed_in-committed-requires-clause-seat g c = taken-below c.args.self.now.activations.seats c.requires.sound.running.seating c.args.seat c.requires.taken
+
+pub enter_order-requires : goal.enter_order-requires
+enter_order-requires g c = has_place c.args.self.now c.args.seat c.requires.sound c.requires.taken c.requires.open
+
+pub swap_printed-requires-clause-free : goal.swap_printed-requires-clause-free
+swap_printed-requires-clause-free g c =
+    let a = activity c.enter_order.new.self in
+    ap (λ (left : Activity). has left.seating.taken c.args.seat) c.commit-in-Done.ensures.shape ∙ gone a.seating.taken c.args.seat
+
+pub enter_order-requires-in-Doubt : goal.enter_order-requires-in-Doubt
+enter_order-requires-in-Doubt g c = has_place c.args.self.now c.args.seat c.requires.sound c.requires.taken c.requires.open
+
+pub returns-in-Done-clause-sound : goal.returns-in-Done-clause-sound
+returns-in-Done-clause-sound g c =
+    let s = c.args.self.now in
+    let seat = c.args.seat in
+    let entered = c.enter_order.new.self in
+    let others = c.enter_order.ensures.others in
+    let there : activity entered ≡ activity s = ap activity others ∙ c.in_default.ensures.kept in
+    let pool = (activity_of c.commit-in-Done.new.self).reach.pool in
+    let order = c.enter_order.ensures.order in
+    sound-left s seat c.requires.sound c.requires.taken _ pool 1
+    (record {
+      header = ap (λ (n : Session). n.store.header) others ∙ c.commit.ensures.header ∙ ap (λ (store : KeptStore). store.header) c.in_default.ensures.begun;
+      running = c.swap_printed.ensures.sound;
+      live = (reprinted (activity_of c.commit-in-Done.new.self) seat entered.printed).live;
+      is = c.swap_printed.ensures.left
+          ∙ ap (λ (a : Activity). record a { live = (reprinted (activity_of c.commit-in-Done.new.self) seat entered.printed).live }) (c.commit-in-Done.ensures.shape ∙ ap (λ (a : Activity). rolled a seat pool) there);
+      begins = ap (λ (n : Session). n.begins) others;
+      turns = ap (λ (n : Session). n.turns) others;
+      closed = ap (λ (n : Session). n.closed) others;
+      few = omega arith;
+      longer = omega (arith, entered.order.ok.0, s.order.ok.0, ap length order ∙ length-append s.order.items (c.committed_in-committed.result ∷ []));
+      room = c.enter_order.ensures.room;
+    })
+
+pub returns-in-Done-clause-writes : goal.returns-in-Done-clause-writes
+returns-in-Done-clause-writes g c = writes-more (g.W.Outside.writes c.args.outside.now) (g.W.Outside.writes c.commit.new.outside) 2 (c.commit.ensures.writes c.in-Done.is)
+
+pub returns-in-Done-clause-went : goal.returns-in-Done-clause-went
+returns-in-Done-clause-went g c = λ begins sure over at.
+    let G = g.W.Outside in
+    let s = c.args.self.now in
+    let seat = c.args.seat in
+    let before = c.args.outside.now in
+    let after = c.commit.new.outside in
+    let entered = c.enter_order.new.self in
+    let others = c.enter_order.ensures.others in
+    let begun = c.in_default.ensures.begun in
+    let lines = begun_of c.record.new.store.bank in
+    let gives = c.in_default.ensures.laid over.committed at.now at.follows at.at at.goes in
+    let tracks = tracked G s seat c.requires.sound before after over at.now lines gives sure c.record.new.store begun in
+    let there : activity entered ≡ activity s = ap activity others ∙ c.in_default.ensures.kept in
+    let done = c.commit.ensures.done c.in-Done.is tracks in
+    let pool = (activity_of c.commit-in-Done.new.self).reach.pool in
+    let shape = c.commit-in-Done.ensures.shape in
+    let follows : Follows (activity entered) over.committed = subst (λ (a : Activity). Follows a over.committed) (sym there) at.follows in
+    let commits = c.commit-in-Done.ensures.commits over.committed at.now follows
+    (subst (λ (a : Activity). after_rows (program_in a seat) (entry_in a seat).runs.args (store_over a over.committed) (entry_in a seat).rows ≡ Some at.now) (sym there) at.at)
+    (subst (λ (a : Activity). row (program_in a seat) a.reach.directory (over_all at.now (shown a over.committed)) ≡ Commit) (sym there) at.goes) in
+    went-done G s seat c.requires.sound before after over at.now lines gives c.number-number.result (c.number-number.ensures ∙ ap number_of begun) _ c.committed_in-committed.result
+    (c.committed_in-committed.ensures.activation ∙ ap (λ (a : Activity). number_in a.seating seat) c.in_default.ensures.kept)
+    (c.committed_in-committed.ensures.steps ∙ ap (λ (a : Activity). (sitter a.seating seat).rows + 1) c.in_default.ensures.kept)
+    (ap (λ (n : Session). n.store.header) others ∙ c.commit.ensures.header ∙ ap (λ (store : KeptStore). store.header) begun)
+    (ap (λ (n : Session). n.opened) others)
+    (ap (λ (n : Session). n.closed) others)
+    c.enter_order.ensures.order
+    (λ order. ap (λ (a : Activity). desk_over a at.now.store order) (c.swap_printed.ensures.left ∙ ap (λ (a : Activity). reprinted a seat entered.printed) shape) ∙ commits.desk order ∙ ap (λ (a : Activity). committed_at (desk_over a over.committed order) (entry_in a seat) at.now) there)
+    (c.swap_printed.ensures.follows at.now.store (subst (λ (a : Activity). Follows a at.now.store) (sym shape) commits.follows))
+    (c.swap_printed.ensures.out ∙ ap (λ (a : Activity). (live_in a seat).out) shape ∙ ap (λ (a : Activity). (live_in a seat).out) there ∙ out-is (activity s) seat over.committed at.now c.requires.taken at.follows at.at)
+    (ap (λ (n : Session). number_of n.store) others ∙ c.commit.ensures.number ∙ ap (λ (kept : Kept). number_after kept (number_of c.record.new.store)) c.in-Done.is ∙ ap (λ (store : KeptStore). (number_of store + 1) % 2 ^ 64) begun)
+    (subst (λ (store : KeptStore). Tracks G store after) (sym (ap (λ (n : Session). n.store) others)) done.tracks)
+    done.stood (c.commit.ensures.crash tracks) c.args.tally.now _ refl
+
+pub returns-in-Doubt-clause-sound : goal.returns-in-Doubt-clause-sound
+returns-in-Doubt-clause-sound g c =
+    let others = c.enter_order-in-Doubt.ensures.others in
+    sound-closed c.args.self.now c.args.seat c.requires.sound c.requires.taken _
+    (ap (λ (n : Session). n.store.header) others ∙ c.commit.ensures.header ∙ ap (λ (store : KeptStore). store.header) c.in_default.ensures.begun)
+    (ap activity others ∙ c.in_default.ensures.kept)
+    (ap (λ (n : Session). n.begins) others)
+    (ap (λ (n : Session). n.turns) others)
+    refl c.enter_order-in-Doubt.ensures.room
+
+pub returns-in-Doubt-clause-went : goal.returns-in-Doubt-clause-went
+returns-in-Doubt-clause-went g c = λ begins sure over at.
+    let G = g.W.Outside in
+    let s = c.args.self.now in
+    let seat = c.args.seat in
+    let before = c.args.outside.now in
+    let after = c.commit.new.outside in
+    let begun = c.in_default.ensures.begun in
+    let lines = begun_of c.record.new.store.bank in
+    let gives = c.in_default.ensures.laid over.committed at.now at.follows at.at at.goes in
+    let tracks = tracked G s seat c.requires.sound before after over at.now lines gives sure c.record.new.store begun in
+    went-doubt G s seat c.requires.sound before after over at.now lines gives c.number-number.result (c.number-number.ensures ∙ ap number_of begun) _ c.committed_in-committed.result
+    (c.committed_in-committed.ensures.activation ∙ ap (λ (a : Activity). number_in a.seating seat) c.in_default.ensures.kept)
+    (c.committed_in-committed.ensures.steps ∙ ap (λ (a : Activity). (sitter a.seating seat).rows + 1) c.in_default.ensures.kept)
+    refl c.enter_order-in-Doubt.ensures.order c.args.tally.now (roomy c.record.new.store.bank).gate
+    (c.commit.ensures.doubt_cause c.in-Doubt.is) (c.commit.ensures.crash tracks) (c.commit.ensures.doubt c.in-Doubt.is tracks)
+
+pub returns-in-Unwritten-clause-sound : goal.returns-in-Unwritten-clause-sound
+returns-in-Unwritten-clause-sound g c =
+    sound-closed c.args.self.now c.args.seat c.requires.sound c.requires.taken _
+    (c.commit.ensures.header ∙ ap (λ (store : KeptStore). store.header) c.in_default.ensures.begun)
+    c.in_default.ensures.kept refl refl refl (omega arith)
+
+pub returns-in-Unwritten-clause-went : goal.returns-in-Unwritten-clause-went
+returns-in-Unwritten-clause-went g c = λ begins sure over at.
+    let G = g.W.Outside in
+    let s = c.args.self.now in
+    let seat = c.args.seat in
+    let before = c.args.outside.now in
+    let after = c.commit.new.outside in
+    let begun = c.in_default.ensures.begun in
+    let lines = begun_of c.record.new.store.bank in
+    let gives = c.in_default.ensures.laid over.committed at.now at.follows at.at at.goes in
+    let tracks = tracked G s seat c.requires.sound before after over at.now lines gives sure c.record.new.store begun in
+    went-unwritten G s seat c.requires.sound before after over at.now lines gives c.number-number.result (c.number-number.ensures ∙ ap number_of begun) _
+    refl refl c.args.tally.now (c.commit.ensures.unwritten_cause c.in-Unwritten.is) (c.commit.ensures.unwritten c.in-Unwritten.is tracks)
