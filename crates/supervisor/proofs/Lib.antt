@@ -1,2 +1,4 @@
+pub mod BeginLemmas
 pub mod CommitLemmas
+pub mod OpeningLemmas
 pub mod TurnLemmas

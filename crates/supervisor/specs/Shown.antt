@@ -19,7 +19,8 @@ pub record IsOver (s : Session) (held : List ℕ) : Type 0 where
   pub follows : Follows (activity s) committed
   pub number : number_of s.store ≡ number_after s.opened (desk_of s committed)
 
--- and this is the desk
+-- and this is the desk, under the directory of the store
 pub record Shown (s : Session) (held : List ℕ) (desk : Desk) : Type 0 where
   pub over : IsOver s held
+  pub directory : s.store.header.directory ≡ (activity s).reach.directory
   pub is : desk ≡ desk_of s over.committed

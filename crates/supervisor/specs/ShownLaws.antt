@@ -1,11 +1,11 @@
 -- What holds of the desk that a session shows.
 use Rattle.std.proofs.Common.{◌≡◌, ℕ, List, sym, ◌∙◌, ap}
 use Rattle.std.specs.Prelude.{false}
-use Rattle.store_format.specs.Stands.{Standing, Stands, stands}
+use Rattle.store_format.specs.Stands.{Stands, stands}
 use Rattle.desk.specs.Crash.{standing_of}
 use Rattle.desk.specs.Desk.{Desk}
 use Rattle.supervisor.specs.declared.session.Session.{Session}
-use Rattle.supervisor.specs.Session.{IsSound, desk_of, order_of}
+use Rattle.supervisor.specs.Session.{order_of}
 use Rattle.supervisor.specs.Shown.{Shown}
 
 pub shown-open : (s : Session) (held : List ℕ) (desk : Desk) → Shown s held desk → desk.closed ≡ false
@@ -18,4 +18,7 @@ pub shown-closed : (s : Session) (held : List ℕ) (desk : Desk) → Shown s hel
 shown-closed s held desk shown = shown.over.still_open
 
 pub shown-stands : (s : Session) (held : List ℕ) (desk : Desk) → Shown s held desk → stands held ≡ standing_of s.opened desk
-shown-stands s held desk shown = ?
+shown-stands s held desk shown =
+    shown.over.stood
+    ∙ (λ i. Stands (shown.over.number i) (record { directory = shown.directory i; bytes = shown.over.committed }))
+    ∙ ap (standing_of s.opened) (sym shown.is)

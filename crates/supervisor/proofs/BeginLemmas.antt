@@ -1,0 +1,117 @@
+-- What a begin leaves of a session.
+use Rattle.std.proofs.Common.{◌≡◌, ℕ, ◌+◌, ◌-◌, ◌*◌, ◌<◌, ◌≤◌, List, [], ◌∷◌, length, refl, sym, ◌∙◌, ap, subst, arith, Option, Some, None, length-append}
+use Rattle.std.specs.Prelude.{Bool, true, false, ◌==◌}
+use Rattle.std.proofs.lemmas.Bool.{eqb-true}
+use Rattle.seats.specs.declared.seat.Seat.{Seat}
+use Rattle.seats.specs.Seating.{sitter, newcomer, next_seat}
+use Rattle.desk.specs.declared.answers.Begun.{Begun}
+use Rattle.desk.specs.declared.event.Event.TheVariants as event
+use Rattle.desk.specs.Answers.{begun_told}
+use Rattle.desk.specs.Desk.{Desk}
+use Rattle.desk.specs.Instruction.{Fine}
+use Rattle.desk.specs.Run.{Step, absent_segment, step}
+use Rattle.activations.specs.declared.activations.Activations.{Activations}
+use Rattle.activations.specs.Activity.{Activity, program_at, desk_over}
+use Rattle.activations.specs.Begins.{IsBegin, begins, begins_by}
+use Rattle.activations.specs.Follows.{Follows}
+use Rattle.activations.specs.Follows as running
+use Rattle.activations.specs.Kept.{AreRowsWithin}
+use Rattle.activations.specs.View.{activity_of}
+use Rattle.activations.proofs.SittingLemmas.{sitter-there, sitter-other}
+use Rattle.supervisor.specs.declared.session.Session.{Session}
+use Rattle.supervisor.specs.Session.{IsSound, activity, desk_of, order_of}
+use Rattle.supervisor.specs.Shown.{Shown}
+
+-- The next number is given, at most one has sat down, no row was done, and what an opening sets is as before.
+pub record HasGiven (old new : Activity) : Type 0 where
+  pub programs : new.programs ≡ old.programs
+  pub most_lines : new.most_lines ≡ old.most_lines
+  pub directory : new.reach.directory ≡ old.reach.directory
+  pub next : new.next ≡ old.next + 1
+  pub more : length new.seating.taken ≤ length old.seating.taken + 1
+  pub rows : (rows : ℕ) → AreRowsWithin old rows → AreRowsWithin new rows
+
+module _ (a : Activity) (program : ℕ) (args : List ℕ) (sixteen : length a.seating.sitters ≡ 16) where
+  rows-begun : (seat rows : ℕ) → AreRowsWithin a rows → AreRowsWithin (begins_by (Some seat) None a program args).1 rows
+  rows-begun seat rows within at below = by_test (at == seat) refl
+    where
+      who : Seat
+      who = newcomer a.next program args
+
+      by_test : (here : Bool) → (at == seat) ≡ here → (sitter (begins_by (Some seat) None a program args).1.seating at).rows ≤ rows
+      by_test true e =
+          let same : at ≡ seat = eqb-true at seat e in
+          let none : (sitter (begins_by (Some seat) None a program args).1.seating at).rows ≡ 0 =
+          ap (λ (one : Seat). one.rows) (ap (λ (n : ℕ). sitter (begins_by (Some seat) None a program args).1.seating n) same ∙ sitter-there a.seating seat who sixteen (omega (arith, same, below))) in
+          omega (arith, none)
+      by_test false e =
+          let stays = ap (λ (one : Seat). one.rows) (sitter-other a.seating seat who at e) in
+          let few = within at below in
+          omega (arith, stays, few)
+
+  given-by : (free absent : Option ℕ) → HasGiven a (begins_by free absent a program args).1
+  given-by None absent = record { programs = refl; most_lines = refl; directory = refl; next = refl; more = omega arith; rows = λ rows within. within }
+  given-by (Some seat) (Some segment) = record { programs = refl; most_lines = refl; directory = refl; next = refl; more = omega arith; rows = λ rows within. within }
+  given-by (Some seat) None = record {
+    programs = refl;
+    most_lines = refl;
+    directory = refl;
+    next = refl;
+    more = let long = length-append a.seating.taken (seat ∷ []) in omega (arith, long);
+    rows = rows-begun seat;
+  }
+
+  -- a begin gives the next number
+  pub begins-given : HasGiven a (begins a program args).1
+  begins-given = given-by (next_seat a.seating) (absent_segment a.reach.directory (program_at a.programs program).windows)
+
+-- a session whose activations are others
+abbrev pub with_activations : Session → Activations → Session
+with_activations s activations = record s { activations = activations }
+
+-- A program began in a session.
+module _ (s : Session) (new : Activations) (program : ℕ) (args : List ℕ) (sound : IsSound s) (left : activity_of new ≡ (begins (activity s) program args).1) where
+  given : HasGiven (activity s) (activity_of new)
+  given = subst (HasGiven (activity s)) (sym left) (begins-given (activity s) program args sound.running.seating.sixteen)
+
+  pub session-begun : (activity s).next - 1 < s.begins → running.IsSound (activity_of new) → IsSound (with_activations s new)
+  session-begun room now = record {
+    ranges = sound.ranges;
+    running = now;
+    directory = sound.directory ∙ sym given.directory;
+    most = sound.most ∙ sym given.most_lines;
+    room = record {
+      begun = let next = given.next in omega (arith, room, next);
+      begin_numbers = sound.room.begin_numbers;
+      turned = sound.room.turned;
+      rows = given.rows (s.turns * 1000000) sound.room.rows;
+      places = λ still. let was = sound.room.places still in let more = given.more in let next = given.next in omega (arith, was, more, next);
+      order = sound.room.order;
+    };
+  }
+
+  pub shown-begun : (answer : Begun) → ((committed : List ℕ) → Follows (activity s) committed → IsBegin (activity s) (activity_of new) program args answer committed)
+      → (held : List ℕ) (desk : Desk) → Shown s held desk
+      → (next : Desk) × (step (activity s).programs (event.Begin program args) Fine desk ≡ record { desk = next; happening = begun_told program answer }) × Shown (with_activations s new) held next
+  shown-begun answer begin held desk shown =
+      let over = shown.over in
+      let goes = begin over.committed over.follows in
+      let open_desk : desk_of s over.committed ≡ desk_over (activity s) over.committed (order_of s) = λ i. record (desk_over (activity s) over.committed (order_of s)) { closed = over.still_open i } in
+      let next_desk : desk_over (activity_of new) over.committed (order_of s) ≡ desk_of (with_activations s new) over.committed = λ i. record (desk_over (activity_of new) over.committed (order_of s)) { closed = sym over.still_open i } in (
+        desk_of (with_activations s new) over.committed,
+        ap (step (activity s).programs (event.Begin program args) Fine) (shown.is ∙ open_desk)
+            ∙ goes.is_step (order_of s)
+            ∙ ap (λ (that : Desk). let comes : Step = record { desk = that; happening = begun_told program answer } in comes) next_desk,
+        record {
+          over = record {
+            still_open = over.still_open;
+            committed = over.committed;
+            shows = over.shows;
+            stood = over.stood;
+            follows = goes.follows;
+            number = over.number;
+          };
+          directory = shown.directory ∙ sym given.directory;
+          is = refl;
+        },
+      )

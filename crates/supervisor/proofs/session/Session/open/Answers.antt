@@ -1,0 +1,52 @@
+use Rattle.std.proofs.Common.{rules, length, false, ◌≡◌, refl, sym, ◌∙◌, ap, subst}
+use Rattle.outside.specs.Runs.{held_of}
+use Rattle.line_geometry.specs.Directory.{byte_count}
+use Rattle.line_geometry.specs.FlatStore.{FlatStore}
+use Rattle.store_format.specs.Header.{Header, HasRanges, most_lines}
+use Rattle.desk.specs.Desk.{opened}
+use Rattle.activations.specs.Begins.{Begins}
+use Rattle.supervisor.specs.Session.{activity}
+use Rattle.supervisor.proofs.OpeningLemmas.{IsMade, idle-directory, made-opened, has-stood}
+use Rattle.supervisor.specs.declared.session.Session.{Session}
+use Rattle.supervisor.proofs.session.Session.open.Given as given
+use Rattle.supervisor.proofs.session.Session.open.Goals as goal
+
+-- the session that is made
+abbrev made_session : (g : given.Over) → goal.After-number-opened g → Session
+made_session g c = record {
+  store = c.in_ok-store.store;
+  activations = c.in_ok-activations.activations;
+  order = c.in_ok-order.order;
+  printed = c.in_ok-printed.printed;
+  opened = c.number-opened.result;
+  begins = c.args.begins;
+  turns = 0;
+  closed = false;
+}
+
+ranges_are : (g : given.Over) (c : goal.After-number-opened g) → HasRanges c.in_ok-store.store.header
+ranges_are g c = search rules
+
+-- it is made anew
+is-made : (g : given.Over) (c : goal.After-number-opened g) → IsMade c.args.frames (made_session g c)
+is-made g c =
+    let header : c.header.result.now ≡ c.in_ok-store.store.header = c.header.ensures in
+    let a = activity (made_session g c) in
+    let directory : a.reach.directory ≡ c.header.result.now.directory =
+    idle-directory a c.args.programs.items (most_lines c.header.result.now) c.args.frames c.header.result.now.directory a.live c.in_ok-activations.ensures.idle in
+    record {
+      still_open = refl;
+      number = c.number-opened.ensures;
+      no_order = c.in_ok-order.ensures.items;
+      ranges = ranges_are g c;
+      directory = sym (directory ∙ ap (λ (those : Header). those.directory) header);
+      first = λ committed. subst
+          (λ (those : Header). length committed ≡ byte_count those.directory → Begins (activity (made_session g c)) (opened c.args.frames 16 (most_lines those) (let flat : FlatStore = record { directory = those.directory; bytes = committed } in flat)) committed)
+          header (c.in_ok-activations.ensures.first committed);
+    }
+
+pub returns-clause-opened : goal.returns-clause-opened
+returns-clause-opened g c = λ honest told. made-opened c.args.frames (made_session g c) (is-made g c) g.W.Outside c.args.outside.now c.open.new.outside c.open.ensures.asks (c.in_ok-store.ensures.tracks honest told)
+
+pub returns-clause-told : goal.returns-clause-told
+returns-clause-told g c = λ told. has-stood (held_of g.W.Outside c.args.outside.now) c.in_ok-store.store (c.in_ok-store.ensures.shows told)
