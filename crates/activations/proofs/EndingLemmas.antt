@@ -90,7 +90,10 @@ module _ (a : Activity) (seat : ℕ) (mid : Reach) (new : Activity) (is : new �
 pub record RolledSo (below : ℕ) (old now : Activity) : Type 0 where
   pub sound : IsSound now
   pub programs : now.programs ≡ old.programs
+  pub most_lines : now.most_lines ≡ old.most_lines
   pub next : now.next ≡ old.next
+  pub directory : now.reach.directory ≡ old.reach.directory
+  pub sitters : now.seating.sitters ≡ old.seating.sitters
   pub gone : (seat : ℕ) → seat < below → has now.seating.taken seat ≡ false
   pub were : (committed : List ℕ) → Follows old committed → WereRolled old now committed
 
@@ -98,7 +101,10 @@ pub rolled-none : (a : Activity) → IsSound a → RolledSo 0 a a
 rolled-none a sound = record {
   sound = sound;
   programs = refl;
+  most_lines = refl;
   next = refl;
+  directory = refl;
+  sitters = refl;
   gone = λ seat below. absurd (omega (arith, below));
   were = λ committed follows. record { restarts = λ order. refl; follows = follows };
 }
@@ -109,7 +115,10 @@ module _ (old now : Activity) (seat : ℕ) (so : RolledSo seat old now) where
   rolled-past none = record {
     sound = so.sound;
     programs = so.programs;
+    most_lines = so.most_lines;
     next = so.next;
+    directory = so.directory;
+    sitters = so.sitters;
     gone = λ at below. by_test at below (at == seat) refl;
     were = so.were;
   }
@@ -125,7 +134,10 @@ module _ (old now : Activity) (seat : ℕ) (so : RolledSo seat old now) where
   rolled-step new taken is sound rolls = record {
     sound = sound;
     programs = ap (λ (n : Activity). n.programs) is ∙ so.programs;
+    most_lines = ap (λ (n : Activity). n.most_lines) is ∙ so.most_lines;
     next = ap (λ (n : Activity). n.next) is ∙ so.next;
+    directory = ap (λ (n : Activity). n.reach.directory) is ∙ so.directory;
+    sitters = ap (λ (n : Activity). n.seating.sitters) is ∙ so.sitters;
     gone = λ at below. ap (λ (n : Activity). has n.seating.taken at) is ∙ by_test at below (at == seat) refl;
     were = λ committed follows.
         let past = so.were committed follows in
@@ -164,7 +176,10 @@ module _ (old now new : Activity) (so : RolledSo 16 old now) (fits : Fits now.re
   deserted = record {
     taken = ap (λ (n : Activity). n.seating.taken) is ∙ nobody;
     programs = ap (λ (n : Activity). n.programs) is ∙ so.programs;
+    most_lines = ap (λ (n : Activity). n.most_lines) is ∙ so.most_lines;
     next = ap (λ (n : Activity). n.next) is ∙ so.next;
+    directory = ap (λ (n : Activity). n.reach.directory) is ∙ so.directory;
+    sitters = ap (λ (n : Activity). n.seating.sitters) is ∙ so.sitters;
   }
 
   pub restarted-left : IsSeen new.reach.pool → (committed : List ℕ) → Follows old committed → IsRestarted old new committed

@@ -23,11 +23,15 @@ pub record IsRestarted (old new : Activity) (committed : List ℕ) : Type 0 wher
   pub desk : (order : List (ℕ × ℕ)) → desk_over new committed order ≡ restarted (desk_over old committed order)
   pub follows : Follows new committed
 
--- nobody sits anywhere, and any of the same programs may begin, with the same next number
+-- nobody sits anywhere, what was told of each seat is still there, and any of the same programs may begin, with the same next
+-- number, over the same store
 pub record IsDeserted (old new : Activity) : Type 0 where
   pub taken : new.seating.taken ≡ []
+  pub sitters : new.seating.sitters ≡ old.seating.sitters
   pub programs : new.programs ≡ old.programs
+  pub most_lines : new.most_lines ≡ old.most_lines
   pub next : new.next ≡ old.next
+  pub directory : new.reach.directory ≡ old.reach.directory
 
 -- Pages of the store have gone out: those in which a seat holds lines to write, and those lines are forgotten, whatever is
 -- committed.

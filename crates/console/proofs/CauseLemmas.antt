@@ -10,9 +10,9 @@ use Rattle.store_format.specs.Stands.{Standing, Stands, NotAStore, Damaged, stan
 use Rattle.redo_journal.specs.declared.fault.OpenFault.{OpenFault}
 use Rattle.redo_journal.specs.declared.fault.OpenFault.TheVariants as fault
 use Rattle.restart.specs.Faults.{IsOpenFault}
-use Rattle.private_desk.specs.Opened.{HasStood}
-use Rattle.private_desk.specs.declared.single.PrivateDesk.{PrivateDesk}
-use Rattle.private_desk.specs.contracts.single.PrivateDeskSupervisor.TheImpl.{ghosts}
+use Rattle.supervisor.specs.Opened.{HasStood}
+use Rattle.supervisor.specs.declared.session.Session.{Session}
+use Rattle.supervisor.specs.contracts.supervisor.SessionSupervisor.TheImpl.{ghosts}
 use Rattle.schedule_replay.specs.declared.events.Replayed.{Replayed}
 use Rattle.schedule_replay.specs.declared.events.Replayed.TheVariants as replayed
 use Rattle.schedule_replay.specs.Replays.{EndsBy}
@@ -47,7 +47,7 @@ opens-fault G before now fault.DiskFault is = record { no_store = λ offset same
 opens-fault G before now fault.Memory is = record { no_store = λ offset same told. absurd cc; store = λ past. absurd past; never = λ honest told standing offset same. absurd cc }
 
 -- a store that was opened, and what was replayed on it
-pub opens-by : {W : Type 0} (G : Ghosts W) (before start now : W) (desk new : PrivateDesk) (result : Replayed) → (IsSome (G.held before) → HasStood desk.store.header (held_of G before))
+pub opens-by : {W : Type 0} (G : Ghosts W) (before start now : W) (desk new : Session) (result : Replayed) → (IsSome (G.held before) → HasStood desk.store.header (held_of G before))
     → EndsBy ghosts G desk new start now result → ((offset : ℕ) → result ≡ Replayed.Damaged offset → IsTrue (G.is_honest before) → IsSome (G.held before) → ⊥) → OpensBy G before now (status_of_replay result)
 opens-by G before start now desk new replayed.Ended stood ends undamaged = record { no_store = λ offset same told. absurd cc; store = λ past told. (stood told).1; never = λ honest told standing offset same. absurd cc }
 opens-by G before start now desk new replayed.Closed stood ends undamaged = record { no_store = λ offset same told. absurd cc; store = λ past. absurd past; never = λ honest told standing offset same. absurd cc }
@@ -62,20 +62,20 @@ opens-by G before start now desk new (replayed.Damaged at) stood ends undamaged 
 opens-by G before start now desk new replayed.PutFault stood ends undamaged = record { no_store = λ offset same told. absurd cc; store = λ past told. (stood told).1; never = λ honest told standing offset same. absurd cc }
 
 -- puts that all went well
-pub put-same : {W : Type 0} (G : Ghosts W) (start now : W) (desk new : PrivateDesk) (result : Replayed) → EndsBy ghosts G desk new start now result → status_of_replay result ≡ Status.Done → G.put_faults now ≡ G.put_faults start
+pub put-same : {W : Type 0} (G : Ghosts W) (start now : W) (desk new : Session) (result : Replayed) → EndsBy ghosts G desk new start now result → status_of_replay result ≡ Status.Done → G.put_faults now ≡ G.put_faults start
 put-same G start now desk new replayed.Ended ends is = ends.1
 put-same G start now desk new replayed.Closed ends is = absurd cc
 put-same G start now desk new (replayed.Damaged at) ends is = absurd cc
 put-same G start now desk new replayed.PutFault ends is = absurd cc
 
 -- a put that failed, and a disk that did
-pub put-rose : {W : Type 0} (G : Ghosts W) (start now : W) (desk new : PrivateDesk) (result : Replayed) → EndsBy ghosts G desk new start now result → status_of_replay result ≡ Status.PutFault → Rose (G.put_faults start) (G.put_faults now)
+pub put-rose : {W : Type 0} (G : Ghosts W) (start now : W) (desk new : Session) (result : Replayed) → EndsBy ghosts G desk new start now result → status_of_replay result ≡ Status.PutFault → Rose (G.put_faults start) (G.put_faults now)
 put-rose G start now desk new replayed.Ended ends is = absurd cc
 put-rose G start now desk new replayed.Closed ends is = absurd cc
 put-rose G start now desk new (replayed.Damaged at) ends is = absurd cc
 put-rose G start now desk new replayed.PutFault ends is = ends
 
-pub disk-rose : {W : Type 0} (G : Ghosts W) (start now : W) (desk new : PrivateDesk) (result : Replayed) → desk.closed ≡ false → EndsBy ghosts G desk new start now result → status_of_replay result ≡ Status.DiskFault → Rose (G.disk_faults start) (G.disk_faults now)
+pub disk-rose : {W : Type 0} (G : Ghosts W) (start now : W) (desk new : Session) (result : Replayed) → desk.closed ≡ false → EndsBy ghosts G desk new start now result → status_of_replay result ≡ Status.DiskFault → Rose (G.disk_faults start) (G.disk_faults now)
 disk-rose G start now desk new replayed.Ended still ends is = absurd cc
 disk-rose G start now desk new replayed.Closed still ends is = ends.1 still
 disk-rose G start now desk new (replayed.Damaged at) still ends is = absurd cc

@@ -30,12 +30,11 @@ use Rattle.desk.proofs.SerialLaw.{run-serial}
 use Rattle.run_law.specs.Headline.{IsPrefix}
 use Rattle.run_law.specs.Left.{IsLeft}
 use Rattle.run_law.proofs.HeadlineLemmas.{left_is_prefix, doubt_is_whole}
-use Rattle.private_desk.specs.Follows.{store_of}
-use Rattle.private_desk.specs.Opened.{IsOpened}
-use Rattle.private_desk.specs.PrivateDesk.{desk_of}
-use Rattle.private_desk.specs.ShownLaws.{shown-stands}
-use Rattle.private_desk.specs.declared.single.PrivateDesk.{PrivateDesk}
-use Rattle.private_desk.specs.contracts.single.PrivateDeskSupervisor.TheImpl.{ghosts}
+use Rattle.supervisor.specs.Opened.{IsOpened}
+use Rattle.supervisor.specs.Session.{activity, desk_of}
+use Rattle.supervisor.specs.ShownLaws.{shown-stands}
+use Rattle.supervisor.specs.declared.session.Session.{Session}
+use Rattle.supervisor.specs.contracts.supervisor.SessionSupervisor.TheImpl.{ghosts}
 use Rattle.schedule_replay.specs.declared.events.Replayed.{Replayed}
 use Rattle.schedule_replay.specs.declared.events.Replayed.TheVariants as replayed
 use Rattle.schedule_replay.specs.Puts.{PutsTimes, shown_of}
@@ -65,16 +64,16 @@ told-is None bytes some is = absurd (cc)
 told-is (Some those) bytes some is = is
 
 -- a desk opened on the bytes of a disk
-module _ {W : Type 0} (G : Ghosts W) (frames : ℕ) (before start : W) (desk : PrivateDesk) (opens : IsOpened G frames before start desk) (asks : OnlyAsks G before start) where
+module _ {W : Type 0} (G : Ghosts W) (frames : ℕ) (before start : W) (desk : Session) (opens : IsOpened G frames before start desk) (asks : OnlyAsks G before start) where
   abbrev pub first_desk : Desk
-  first_desk = opened frames 1 (most_lines desk.store.header) opens.store
+  first_desk = opened frames 16 (most_lines desk.store.header) opens.store
 
   pub number-fits : (desk.opened + 0) % 2 ^ 64 ≡ desk.opened
   number-fits =
       let over = opens.shows.over in
       let same : held_of G start ≡ held_of G before = ap (λ (held : Option (List ℕ)). unwrap_or held []) asks.held in
-      let number : number_of desk.store ≡ desk.opened = same-number (number_of desk.store) desk.opened (store_of desk) opens.store (sym over.stood ∙ ap (λ (held : List ℕ). stands held) same ∙ opens.stood) in
-      let after : number_of desk.store ≡ number_after desk.opened (desk_of desk) = over.follows.number over.still_open in
+      let number : number_of desk.store ≡ desk.opened = same-number (number_of desk.store) desk.opened (record { directory = desk.store.header.directory; bytes = over.committed }) opens.store (sym over.stood ∙ ap (λ (held : List ℕ). stands held) same ∙ opens.stood) in
+      let after : number_of desk.store ≡ number_after desk.opened (desk_of desk over.committed) = over.number in
       ap (λ (d : Desk). number_after desk.opened d) opens.shows.is ∙ sym after ∙ number
 
   pub has-opened : HasOpened ghosts G desk start first_desk
@@ -86,8 +85,8 @@ record Facts : Type 0 where
   start : Desk
   number : ℕ
 
-module _ {W : Type 0} (G : Ghosts W) (fewer_later : FewerLater G) (printed_now : PrintedNow G) (job : Job) (before start after : W) (desk new : PrivateDesk) (number : ℕ) (store : FlatStore)
-    (standing : StandsAt G before number store) (opens : IsOpened G job.frames before start desk) (asks : OnlyAsks G before start) (programs_are : desk.programs.items ≡ job.programs.items) (same_opened : new.opened ≡ desk.opened)
+module _ {W : Type 0} (G : Ghosts W) (fewer_later : FewerLater G) (printed_now : PrintedNow G) (job : Job) (before start after : W) (desk new : Session) (number : ℕ) (store : FlatStore)
+    (standing : StandsAt G before number store) (opens : IsOpened G job.frames before start desk) (asks : OnlyAsks G before start) (programs_are : (activity desk).programs ≡ job.programs.items) (same_opened : new.opened ≡ desk.opened)
     (same_honest : G.is_honest after ≡ G.is_honest start) (time : Elapses G.moment G.left_since start after) (asks-calm : G.disk_faults start ≡ G.disk_faults before) where
   abbrev begins_with : Desk
   begins_with = job_desk job (held_of G before) store
@@ -97,7 +96,7 @@ module _ {W : Type 0} (G : Ghosts W) (fewer_later : FewerLater G) (printed_now :
 
   -- the programs, the desk and the number of the run are the job's
   abbrev given : Facts
-  given = record { programs = desk.programs.items; start = first_desk G job.frames before start desk opens asks; number = desk.opened }
+  given = record { programs = (activity desk).programs; start = first_desk G job.frames before start desk opens asks; number = desk.opened }
 
   abbrev wanted : Facts
   wanted = record { programs = job.programs.items; start = begins_with; number = number }
@@ -105,7 +104,7 @@ module _ {W : Type 0} (G : Ghosts W) (fewer_later : FewerLater G) (printed_now :
   these : given ≡ wanted
   these = λ i. record {
     programs = programs_are i;
-    start = opened job.frames 1 (most_lines (sym opens.header i)) (same-store desk.opened number opens.store store (sym opens.stood ∙ standing.stood) i);
+    start = opened job.frames 16 (most_lines (sym opens.header i)) (same-store desk.opened number opens.store store (sym opens.stood ∙ standing.stood) i);
     number = number-is i;
   }
 
@@ -130,7 +129,7 @@ module _ {W : Type 0} (G : Ghosts W) (fewer_later : FewerLater G) (printed_now :
         stood = standing.images image seen earlier ∙ ap (λ (n : ℕ). let that : Standing = Stands n store in that) (sym number-small);
       }
 
-  module _ (result : Result Bool Failed) (put : Result ℕ Failed) (now : Status) (reports : Reports ghosts G (names_of job) desk.programs.items desk.opened job.events.items (first_desk G job.frames before start desk opens asks) new start after (λ closed. closed) result) where
+  module _ (result : Result Bool Failed) (put : Result ℕ Failed) (now : Status) (reports : Reports ghosts G (names_of job) (activity desk).programs desk.opened job.events.items (first_desk G job.frames before start desk opens asks) new start after (λ closed. closed) result) where
     is_run : IsRunOf job.programs.items job.events.items begins_with reports.taken reports.rest
     is_run = subst (λ (f : Facts). IsRunOf f.programs job.events.items f.start reports.taken reports.rest) these reports.is_run
 
@@ -150,7 +149,7 @@ module _ {W : Type 0} (G : Ghosts W) (fewer_later : FewerLater G) (printed_now :
     serial_run =
         subst (λ (order : List (ℕ × ℕ)). IsSerial commits number store order (event_lines (names_of job) job.programs.items number reports.taken begins_with) ends.committed ends.closed)
         (sym ordered)
-        (run-serial (names_of job) job.programs.items number job.frames 1 (most_lines (header_of (take 128 (held_of G before)))) store job.events.items reports.taken reports.rest is_run)
+        (run-serial (names_of job) job.programs.items number job.frames 16 (most_lines (header_of (take 128 (held_of G before)))) store job.events.items reports.taken reports.rest is_run)
 
     rose : RoseBy (faulted reports.taken) (G.disk_faults before) (G.disk_faults after)
     rose = omega (arith, asks.calls.disk, reports.faults)
@@ -188,7 +187,7 @@ module _ {W : Type 0} (G : Ghosts W) (fewer_later : FewerLater G) (printed_now :
         (λ image seen left.
         subst (λ (order : List (ℕ × ℕ)). IsPrefix commits number store order (shown_of G before) image seen) (sym ordered)
         (subst (λ (printed : List ℕ). IsPrefix commits number store ends.order printed image seen) shown-same
-        (left_is_prefix job.programs.items number job.frames 1 (most_lines (header_of (take 128 (held_of G before)))) store job.events.items reports.taken reports.rest
+        (left_is_prefix job.programs.items number job.frames 16 (most_lines (header_of (take 128 (held_of G before)))) store job.events.items reports.taken reports.rest
         (report (names_of job) job.programs.items number reports.taken reports.rest begins_with) (shown_of G start) image seen is_run
         (subst (λ (f : Facts). IsLeft f.programs f.number f.start reports.taken (report (names_of job) f.programs f.number reports.taken reports.rest f.start) (shown_of G start) image seen) these (reports.left still image seen left)))))
 
@@ -197,7 +196,7 @@ module _ {W : Type 0} (G : Ghosts W) (fewer_later : FewerLater G) (printed_now :
     doubt-leaves shut front event is =
         let doubted = subst (λ (f : Facts). (run f.programs reports.taken f.start).closed ≡ true → (front : List (Event × Word)) (event : Event) → reports.taken ≡ front ++ (event, Doubt) ∷ [] → InDoubt G f.programs f.number f.start front event after) these reports.doubt shut front event is in
         let ran = subst (λ (taken : List (Event × Word)). IsRunOf job.programs.items job.events.items begins_with taken reports.rest) is is_run in
-        let whole = doubt_is_whole job.programs.items number job.frames 1 (most_lines (header_of (take 128 (held_of G before)))) store job.events.items front event reports.rest ran doubted.0 in
+        let whole = doubt_is_whole job.programs.items number job.frames 16 (most_lines (header_of (take 128 (held_of G before)))) store job.events.items front event reports.rest ran doubted.0 in
         let order : (run job.programs.items (front ++ (event, Doubt) ∷ []) begins_with).order ≡ (desk_of new).order = ap (λ (taken : List (Event × Word)). (run job.programs.items taken begins_with).order) (sym is) ∙ sym ordered in (
           doubted.1.0,
           whole.0,
@@ -248,26 +247,26 @@ module _ {W : Type 0} (G : Ghosts W) (fewer_later : FewerLater G) (printed_now :
     }
 
 -- what was replayed on a desk that was opened, by how that ended
-module _ {W : Type 0} (G : Ghosts W) (fewer_later : FewerLater G) (printed_now : PrintedNow G) (job : Job) (before start after : W) (desk new : PrivateDesk)
-    (opens : IsTrue (G.is_honest before) → IsSome (G.held before) → IsOpened G job.frames before start desk) (asks : OnlyAsks G before start) (programs_are : desk.programs.items ≡ job.programs.items) (same_opened : new.opened ≡ desk.opened)
+module _ {W : Type 0} (G : Ghosts W) (fewer_later : FewerLater G) (printed_now : PrintedNow G) (job : Job) (before start after : W) (desk new : Session)
+    (opens : IsTrue (G.is_honest before) → IsSome (G.held before) → IsOpened G job.frames before start desk) (asks : OnlyAsks G before start) (programs_are : (activity desk).programs ≡ job.programs.items) (same_opened : new.opened ≡ desk.opened)
     (same_honest : G.is_honest after ≡ G.is_honest start) (time : Elapses G.moment G.left_since start after) (asks-calm : G.disk_faults start ≡ G.disk_faults before)
-    (result : Replayed) (replays : (first : Desk) → HasOpened ghosts G desk start first → Replays ghosts G (names_of job) desk.programs.items desk.opened job.events.items first new start after result) where
-  abbrev replayed-from : (number : ℕ) (store : FlatStore) (standing : StandsAt G before number store) → Replays ghosts G (names_of job) desk.programs.items desk.opened job.events.items (first_desk G job.frames before start desk (opens standing.honest standing.told) asks) new start after result
+    (result : Replayed) (replays : (first : Desk) → HasOpened ghosts G desk start first → Replays ghosts G (names_of job) (activity desk).programs desk.opened job.events.items first new start after result) where
+  abbrev replayed-from : (number : ℕ) (store : FlatStore) (standing : StandsAt G before number store) → Replays ghosts G (names_of job) (activity desk).programs desk.opened job.events.items (first_desk G job.frames before start desk (opens standing.honest standing.told) asks) new start after result
   replayed-from number store standing = replays (first_desk G job.frames before start desk (opens standing.honest standing.told) asks) (has-opened G job.frames before start desk (opens standing.honest standing.told) asks)
 
   pub happened-by : (that : Replayed) → result ≡ that → HappenedTo G job before after (desk_of new).order (status_of_replay that)
   happened-by replayed.Ended is = λ number store standing.
-      let reports = subst (λ (those : Replayed). Replays ghosts G (names_of job) desk.programs.items desk.opened job.events.items (first_desk G job.frames before start desk (opens standing.honest standing.told) asks) new start after those) is (replayed-from number store standing) in
+      let reports = subst (λ (those : Replayed). Replays ghosts G (names_of job) (activity desk).programs desk.opened job.events.items (first_desk G job.frames before start desk (opens standing.honest standing.told) asks) new start after those) is (replayed-from number store standing) in
       has_run G fewer_later printed_now job before start after desk new number store standing (opens standing.honest standing.told) asks programs_are same_opened same_honest time asks-calm
       (Ok false) (Ok 0) status.Done reports refl (λ one two bytes prints. prints_well one two bytes false 0 prints) (λ is. is) (λ is. (reports.closed, reports.all refl)) (λ is. absurd (cc))
   happened-by replayed.Closed is = inl (λ number store standing.
-      let reports = subst (λ (those : Replayed). Replays ghosts G (names_of job) desk.programs.items desk.opened job.events.items (first_desk G job.frames before start desk (opens standing.honest standing.told) asks) new start after those) is (replayed-from number store standing) in
+      let reports = subst (λ (those : Replayed). Replays ghosts G (names_of job) (activity desk).programs desk.opened job.events.items (first_desk G job.frames before start desk (opens standing.honest standing.told) asks) new start after those) is (replayed-from number store standing) in
       has_run G fewer_later printed_now job before start after desk new number store standing (opens standing.honest standing.told) asks programs_are same_opened same_honest time asks-calm
       (Ok true) (Ok 0) status.DiskFault reports refl (λ one two bytes prints. prints_well one two bytes true 0 prints) (λ is. is) (λ is. absurd (cc)) (λ is. reports.closed))
   happened-by (replayed.Damaged offset) is = inr (λ number store standing.
-      subst (λ (those : Replayed). Replays ghosts G (names_of job) desk.programs.items desk.opened job.events.items (first_desk G job.frames before start desk (opens standing.honest standing.told) asks) new start after those) is (replayed-from number store standing))
+      subst (λ (those : Replayed). Replays ghosts G (names_of job) (activity desk).programs desk.opened job.events.items (first_desk G job.frames before start desk (opens standing.honest standing.told) asks) new start after those) is (replayed-from number store standing))
   happened-by replayed.PutFault is = λ number store standing.
-      let (failed, reports) = subst (λ (those : Replayed). Replays ghosts G (names_of job) desk.programs.items desk.opened job.events.items (first_desk G job.frames before start desk (opens standing.honest standing.told) asks) new start after those) is (replayed-from number store standing) in
+      let (failed, reports) = subst (λ (those : Replayed). Replays ghosts G (names_of job) (activity desk).programs desk.opened job.events.items (first_desk G job.frames before start desk (opens standing.honest standing.told) asks) new start after those) is (replayed-from number store standing) in
       has_run G fewer_later printed_now job before start after desk new number store standing (opens standing.honest standing.told) asks programs_are same_opened same_honest time asks-calm
       (Err failed) (Err failed) status.PutFault reports (failed, refl) (λ one two bytes prints. prints_broken {T = Bool} {U = ℕ} (Err failed) (Err failed) refl refl one two bytes prints) (λ is. is) (λ is. absurd (cc)) (λ is. absurd (cc))
 

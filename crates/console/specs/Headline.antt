@@ -36,7 +36,7 @@ names_of job = map (λ name. name.items) job.names.items
 -- The desk that opens for a job on the bytes of a disk, which stand for this store: one activation may be active, and a record may have
 -- the lines that the bytes' header has room for.
 abbrev pub job_desk : Job → List ℕ → FlatStore → Desk
-job_desk job held store = opened job.frames 1 (most_lines (header_of (take 128 held))) store
+job_desk job held store = opened job.frames 16 (most_lines (header_of (take 128 held))) store
 
 -- how the report was put, by the status
 abbrev pub put_by : Status → Result ℕ Failed → Type 0

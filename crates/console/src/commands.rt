@@ -22,9 +22,9 @@ use super::words::{Command, command_of};
 use desk::{Committed, Event};
 use job_text::{Job, read_job};
 use outside::{Outside, Source};
-use private_desk::PrivateDesk;
 use schedule_replay::replay;
 use std::alloc::Global;
+use supervisor::Session;
 
 /// All that the program does: it takes the words of the command line, without the program's name, and the source, disk
 /// and screen that are handed in, and answers how it ended (docs/FORMATS.md, "Words" and "Statuses").
@@ -95,14 +95,14 @@ fn try_job<W: Outside>(alloc: Global, job: Job, outside: &mut W) -> Ended
     ensures never { (result.status ≢ Status.Exists) × (result.status ≢ Status.NoRange) }
 {
     let begins = begins_in(&job.events);
-    let mut desk = match PrivateDesk::open(alloc, outside, job.programs, job.frames, begins) {
-        Ok(desk) => desk,
+    let mut session = match Session::open(alloc, outside, job.programs, job.frames, begins) {
+        Ok(session) => session,
         Err(fault) => return Ended::without_events(alloc, Status::from(fault)),
     };
-    let replayed = replay(&mut desk, &job.names, &job.events, outside);
+    let replayed = replay(&mut session, &job.names, &job.events, outside);
     Ended {
         status: Status::from(replayed),
-        order: desk.into_order(),
+        order: session.into_order(),
     }
 }
 

@@ -10,8 +10,9 @@ use Rattle.desk.specs.Seen.{IsUnbroken}
 use Rattle.desk.specs.declared.event.Event.{Event}
 use Rattle.job_text.specs.Ready.{IsEventAmong}
 use Rattle.job_text.specs.declared.job.Job.{Job}
-use Rattle.private_desk.specs.declared.single.PrivateDesk.{PrivateDesk}
-use Rattle.private_desk.specs.contracts.single.PrivateDeskSupervisor.TheImpl.{ghosts}
+use Rattle.supervisor.specs.Session.{activity}
+use Rattle.supervisor.specs.declared.session.Session.{Session}
+use Rattle.supervisor.specs.contracts.supervisor.SessionSupervisor.TheImpl.{ghosts}
 use Rattle.schedule_replay.specs.Asked.{is_turn, begins_in, turns_in}
 use Rattle.schedule_replay.specs.Ran.{HasOpened}
 use Rattle.schedule_replay.specs.Replays.{Replays}
@@ -33,10 +34,10 @@ replay-replayed-requires-clause-ready g c =
     let begins : begins_in c.deref-3.result.now ≡ c.begins_in-begins.result = ap (λ (these : List Event). begins_in these) (events ∙ sym c.deref.ensures.value) ∙ sym c.begins_in-begins.ensures in
     let turns : turns_in c.deref-3.result.now ≤ length c.deref-3.result.now = count_by-le-length is_turn c.deref-3.result.now in
     let few : length c.deref-3.result.now ≡ length c.args.job.events.items = ap (λ (these : List Event). length these) events in
-    let programs : length c.args.job.programs.items ≡ length c.in-Ok.desk.programs.items = sym (ap (λ (these : List Program). length these) made.programs_are) in
+    let programs : length c.args.job.programs.items ≡ length (activity c.in-Ok.session).programs = sym (ap (λ (these : List Program). length these) made.programs_are) in
     record {
       sound = made.sound;
-      asked = λ k d within. asked-among (length c.in-Ok.desk.programs.items) (get_or c.deref-3.result.now k d)
+      asked = λ k d within. asked-among (length (activity c.in-Ok.session).programs) (get_or c.deref-3.result.now k d)
           (subst (λ (n : ℕ). IsEventAmong n (get_or c.deref-3.result.now k d)) programs
           (subst (λ (these : List Event). All (IsEventAmong (length c.args.job.programs.items)) these) (sym events) ready.events k d within));
       begins = omega (arith, made.none_given, begins, made.begins_are);
@@ -50,13 +51,13 @@ replay-replayed-requires-clause-unbroken g c =
     (λ k d within. name-unbroken (get_or c.args.job.names.items k d).items (c.requires.names k d within))
 
 -- what was replayed, in the job's words
-replays : {W : Type 0} (G : Ghosts W) (names : List (List ℕ)) (events : List Event) (job : Job) (desk new : PrivateDesk) (start after : W) (result : Replayed)
+replays : {W : Type 0} (G : Ghosts W) (names : List (List ℕ)) (events : List Event) (job : Job) (desk new : Session) (start after : W) (result : Replayed)
     → names ≡ names_of job → events ≡ job.events.items
-    → ((first : Desk) → HasOpened ghosts G desk start first → Replays ghosts G names desk.programs.items desk.opened events first new start after result)
-    → (first : Desk) → HasOpened ghosts G desk start first → Replays ghosts G (names_of job) desk.programs.items desk.opened job.events.items first new start after result
+    → ((first : Desk) → HasOpened ghosts G desk start first → Replays ghosts G names (activity desk).programs desk.opened events first new start after result)
+    → (first : Desk) → HasOpened ghosts G desk start first → Replays ghosts G (names_of job) (activity desk).programs desk.opened job.events.items first new start after result
 replays G names events job desk new start after result same_names same_events did =
-    subst (λ (those : List (List ℕ)). (first : Desk) → HasOpened ghosts G desk start first → Replays ghosts G those desk.programs.items desk.opened job.events.items first new start after result) same_names
-    (subst (λ (those : List Event). (first : Desk) → HasOpened ghosts G desk start first → Replays ghosts G names desk.programs.items desk.opened those first new start after result) same_events did)
+    subst (λ (those : List (List ℕ)). (first : Desk) → HasOpened ghosts G desk start first → Replays ghosts G those (activity desk).programs desk.opened job.events.items first new start after result) same_names
+    (subst (λ (those : List Event). (first : Desk) → HasOpened ghosts G desk start first → Replays ghosts G names (activity desk).programs desk.opened those first new start after result) same_events did)
 
 pub returns-clause-opened : goal.returns-clause-opened
 returns-clause-opened g c =
@@ -66,27 +67,27 @@ returns-clause-opened g c =
     let after = c.replay-replayed.new.outside in
     let result = c.replay-replayed.result in
     subst (λ (now : Status). OpensBy G before after now) (sym c.from-2.ensures)
-    (opens-by G before start after c.in-Ok.desk c.replay-replayed.new.desk result c.in-Ok.ensures.told c.replay-replayed.ensures.ends
+    (opens-by G before start after c.in-Ok.session c.replay-replayed.new.session result c.in-Ok.ensures.told c.replay-replayed.ensures.ends
     (λ offset is honest told.
     let opens = c.in-Ok.ensures.opened honest told in
-    subst (λ (those : Replayed). Replays ghosts G (map (λ name. name.items) c.deref-2.result.now) c.in-Ok.desk.programs.items c.in-Ok.desk.opened c.deref-3.result.now (first_desk G c.args.job.frames before start c.in-Ok.desk opens c.in-Ok.ensures.asks) c.replay-replayed.new.desk start after those) is
-    (c.replay-replayed.ensures.replays (first_desk G c.args.job.frames before start c.in-Ok.desk opens c.in-Ok.ensures.asks) (has-opened G c.args.job.frames before start c.in-Ok.desk opens c.in-Ok.ensures.asks))))
+    subst (λ (those : Replayed). Replays ghosts G (map (λ name. name.items) c.deref-2.result.now) (activity c.in-Ok.session).programs c.in-Ok.session.opened c.deref-3.result.now (first_desk G c.args.job.frames before start c.in-Ok.session opens c.in-Ok.ensures.asks) c.replay-replayed.new.session start after those) is
+    (c.replay-replayed.ensures.replays (first_desk G c.args.job.frames before start c.in-Ok.session opens c.in-Ok.ensures.asks) (has-opened G c.args.job.frames before start c.in-Ok.session opens c.in-Ok.ensures.asks))))
 
 pub returns-clause-put : goal.returns-clause-put
 returns-clause-put g c = λ is.
-    let rose = put-rose g.W.Outside c.open.new.outside c.replay-replayed.new.outside c.in-Ok.desk c.replay-replayed.new.desk c.replay-replayed.result c.replay-replayed.ensures.ends (sym c.from-2.ensures ∙ is) in
+    let rose = put-rose g.W.Outside c.open.new.outside c.replay-replayed.new.outside c.in-Ok.session c.replay-replayed.new.session c.replay-replayed.result c.replay-replayed.ensures.ends (sym c.from-2.ensures ∙ is) in
     omega (arith, rose, c.in-Ok.ensures.asks.calls.put)
 
 pub returns-clause-unfailed : goal.returns-clause-unfailed
 returns-clause-unfailed g c = λ is.
-    put-same g.W.Outside c.open.new.outside c.replay-replayed.new.outside c.in-Ok.desk c.replay-replayed.new.desk c.replay-replayed.result c.replay-replayed.ensures.ends (sym c.from-2.ensures ∙ is) ∙ c.in-Ok.ensures.asks.calls.put
+    put-same g.W.Outside c.open.new.outside c.replay-replayed.new.outside c.in-Ok.session c.replay-replayed.new.session c.replay-replayed.result c.replay-replayed.ensures.ends (sym c.from-2.ensures ∙ is) ∙ c.in-Ok.ensures.asks.calls.put
 
 pub returns-clause-happened : goal.returns-clause-happened
 returns-clause-happened g c =
     let G = g.W.Outside in
     let job = c.args.job in
-    let desk = c.in-Ok.desk in
-    let new = c.replay-replayed.new.desk in
+    let desk = c.in-Ok.session in
+    let new = c.replay-replayed.new.session in
     let before = c.args.outside.now in
     let start = c.open.new.outside in
     let after = c.replay-replayed.new.outside in
@@ -99,5 +100,5 @@ returns-clause-happened g c =
 
 pub returns-clause-disk : goal.returns-clause-disk
 returns-clause-disk g c = λ is.
-    let rose = disk-rose g.W.Outside c.open.new.outside c.replay-replayed.new.outside c.in-Ok.desk c.replay-replayed.new.desk c.replay-replayed.result c.in-Ok.ensures.new.still_open c.replay-replayed.ensures.ends (sym c.from-2.ensures ∙ is) in
+    let rose = disk-rose g.W.Outside c.open.new.outside c.replay-replayed.new.outside c.in-Ok.session c.replay-replayed.new.session c.replay-replayed.result c.in-Ok.ensures.new.still_open c.replay-replayed.ensures.ends (sym c.from-2.ensures ∙ is) in
     omega (arith, rose, c.in-Ok.ensures.asks.calls.disk)
