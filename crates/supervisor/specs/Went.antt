@@ -8,6 +8,7 @@ use Rattle.outside.specs.Runs.{Leaves, held_of}
 use Rattle.store_format.specs.Stands.{stands}
 use Rattle.desk.specs.declared.answers.TurnEnd.{TurnEnd}
 use Rattle.desk.specs.declared.answers.TurnEnd.TheVariants as end
+use Rattle.desk.specs.declared.answers.TurnEnd.TheVariants.{Disk}
 use Rattle.desk.specs.Answers.{ending_told, HasNumbers}
 use Rattle.desk.specs.declared.event.Event.TheVariants as event
 use Rattle.desk.specs.Crash.{IsEitherOf, fine_step, standing_of}
@@ -20,7 +21,7 @@ use Rattle.activations.specs.declared.tally.Tally.{Tally}
 use Rattle.activations.specs.Turning.{counts_of}
 use Rattle.activations.specs.Turns.{commit_call}
 use Rattle.supervisor.specs.declared.session.Session.{Session}
-use Rattle.supervisor.specs.Session.{activity, order_of, desk_of}
+use Rattle.supervisor.specs.Session.{activity, order_of, desk_of, records_told}
 use Rattle.supervisor.specs.Shown.{IsOver}
 
 -- how a commit call ends: it is done, too long for a record, or the desk closes
@@ -68,7 +69,7 @@ pub record HasCommitted {W : Type 0} (G : Ghosts W) (seat : ℕ) (now : Plain) (
   pub crash : Leaves G (λ image seen. IsEitherSide old committed (fine_desk old committed seat now) next image) before after
   pub doubt : word ≡ Doubt → ((fine_desk old committed seat now).order ≡ next.order) × ((gate : ℕ) × Leaves G (λ image seen. stands (slice_set image gate 165) ≡ standing_of old.opened (fine_desk old committed seat now)) after after)
 
--- A turn was one of the desk, in the same way.
+-- A turn was one of the desk, in the same way. One that broke off where a page couldn't be read has added no record.
 pub record HasRun {W : Type 0} (G : Ghosts W) (activation limit : ℕ) (end : TurnEnd) (old new : Session) (told : Tally) (before after : W) (committed : List ℕ) : Type 0 where
   pub word : Word
   pub next : Desk
@@ -77,6 +78,7 @@ pub record HasRun {W : Type 0} (G : Ghosts W) (activation limit : ℕ) (end : Tu
   pub ordered : next.order ≡ order_of new
   pub why : (word ≡ Fine) ⊎ Rose (G.disk_faults before) (G.disk_faults after)
   pub numbers : HasNumbers end activation (number_after old.opened next)
+  pub unread : end ≡ Disk → records_told new ≡ records_told old
   pub still : new.closed ≡ false → IsSure G after × ((over : IsOver new (held_of G after)) × (next ≡ desk_of new over.committed))
   pub crash : Leaves G (λ image seen. IsEitherOf (activity old).programs old.opened (event.Turn activation limit) (desk_of old committed) next image) before after
   pub doubt : word ≡ Doubt → new.closed ≡ true → ((fine_step (activity old).programs (event.Turn activation limit) (desk_of old committed)).order ≡ next.order) × ((gate : ℕ) × Leaves G (λ image seen. stands (slice_set image gate 165) ≡ standing_of old.opened (fine_step (activity old).programs (event.Turn activation limit) (desk_of old committed))) after after)

@@ -1,0 +1,108 @@
+-- What a crash of a session did.
+use Rattle.std.proofs.Common.{◌≡◌, inl, inr, ℕ, ◌+◌, ◌*◌, ◌<◌, ◌≤◌, List, [], length, refl, sym, ◌∙◌, ap, subst, arith, Option}
+use Rattle.std.specs.Prelude.{true, false, unwrap_or}
+use Rattle.outside.specs.declared.world.Outside.{Ghosts}
+use Rattle.outside.specs.Causes.{Rose}
+use Rattle.outside.specs.Durable.{IsSure}
+use Rattle.outside.specs.Runs.{OnlyAsks, held_of}
+use Rattle.outside.proofs.Durable.{leaves_held}
+use Rattle.store_format.specs.Header.{Header}
+use Rattle.store_format.specs.Bank.{Holds, Faulty, bank_of}
+use Rattle.store_format.specs.Stands.{Stands, stands, chosen}
+use Rattle.restart.specs.Kept.{KeptStore, number_of}
+use Rattle.restart.specs.Shows.{Tracks}
+use Rattle.restart.proofs.ShowLemmas.{shown_stands, shown_store}
+use Rattle.desk.specs.declared.event.Event.TheVariants as event
+use Rattle.desk.specs.Kept.{records_in}
+use Rattle.desk.specs.Crash.{Did, standing_of}
+use Rattle.desk.specs.Desk.{Desk}
+use Rattle.desk.specs.Holdings.{numbers}
+use Rattle.desk.specs.Instruction.{Fine, Failed}
+use Rattle.desk.specs.Report.{number_after}
+use Rattle.desk.specs.Run.{Step, Crashed, CrashFailed, shut, restarted}
+use Rattle.run_law.proofs.StepLemmas.{stepped}
+use Rattle.activations.specs.declared.activations.Activations.{Activations}
+use Rattle.activations.specs.Ends.{IsRestarted}
+use Rattle.activations.specs.View.{activity_of}
+use Rattle.supervisor.specs.declared.session.Session.{Session}
+use Rattle.supervisor.specs.Session.{IsSound, activity, desk_of, order_of}
+use Rattle.supervisor.specs.Shown.{IsOver, Shown}
+use Rattle.supervisor.proofs.DidLemmas.{stood-over, fine-sure, failed-sure, open-shut}
+
+-- a crash
+module _ {W : Type 0} (G : Ghosts W) (s : Session) (store : KeptStore) (header : store.header ≡ s.store.header) (left : Activations) (sound : IsSound s) (before after : W) (sure : IsSure G before) (over : IsOver s (held_of G before)) (gone : IsRestarted (activity s) (activity_of left) over.committed) (asks : OnlyAsks G before after) where
+  abbrev forgotten : Session
+  forgotten = record s { store = store; activations = left }
+
+  pub restarted-is : desk_of forgotten over.committed ≡ restarted (desk_of s over.committed)
+  restarted-is = λ i. record (gone.desk (order_of s) i) { closed = s.closed }
+
+  pub same_bytes : held_of G after ≡ held_of G before
+  same_bytes = ap (λ (those : Option (List ℕ)). unwrap_or those []) asks.held
+
+  pub crash-leaves : (image seen : List ℕ) → G.left_since after (G.moment before) image seen → stands image ≡ standing_of s.opened (desk_of s over.committed)
+  crash-leaves image seen there =
+      ap stands (leaves_held G before sure image seen (asks.crash sure.told image seen there)) ∙ stood-over s (held_of G before) sound over
+
+  module _ (tracks : Tracks G store after) where
+    pub number-same : number_of store ≡ number_of s.store
+    number-same =
+        let shown = shown_stands (held_of G after) store tracks.shows in
+        let both : Stands (number_of store) shown.0 ≡ Stands (number_of s.store) (record { directory = s.store.header.directory; bytes = over.committed }) =
+        sym shown.1 ∙ ap stands same_bytes ∙ over.stood in
+        cc
+
+    abbrev pub over-forgotten : IsOver forgotten (held_of G after)
+    over-forgotten = record {
+      still_open = over.still_open;
+      committed = over.committed;
+      shows = tracks.shows;
+      stood =
+          ap stands same_bytes
+          ∙ over.stood
+          ∙ (λ i. Stands (sym number-same i) (record { directory = (sym header i).directory; bytes = over.committed }));
+      follows = gone.follows;
+      number = number-same ∙ over.number;
+    }
+
+    pub number-restarted : number_of store ≡ number_after s.opened (desk_of forgotten over.committed)
+    number-restarted = number-same ∙ over.number
+
+    abbrev pub did-crash : Did G (activity s).programs s.opened event.Crash (Crashed (numbers (desk_of s over.committed))) s.closed (order_of s) (λ held desk. Shown forgotten held desk) (desk_of s over.committed) before after
+    did-crash = record {
+      word = Fine;
+      next = desk_of forgotten over.committed;
+      stepped =
+          stepped (activity s).programs event.Crash Fine (desk_of s over.committed) over.still_open
+          ∙ ap (λ (desk : Desk). let left_so : Step = record { desk = desk; happening = Crashed (numbers (desk_of s over.committed)) } in left_so) (sym restarted-is);
+      why = inl refl;
+      closes = refl;
+      ordered = refl;
+      still = λ still. (tracks.sure, record { over = over-forgotten; is = refl });
+      records = λ still. let same = ap records_in same_bytes in omega (arith, same);
+      crash = λ image seen there. inl (crash-leaves image seen there);
+      doubt = λ doubted. absurd (fine-sure doubted);
+    }
+
+  abbrev pub did-fail-crash : Rose (G.disk_faults before) (G.disk_faults after)
+      → Did G (activity s).programs s.opened event.Crash (CrashFailed (numbers (desk_of s over.committed))) true (order_of s) (λ held desk. Shown (record forgotten { closed = true }) held desk) (desk_of s over.committed) before after
+  did-fail-crash rose = record {
+    word = Failed;
+    next = shut (restarted (desk_of s over.committed));
+    stepped = stepped (activity s).programs event.Crash Failed (desk_of s over.committed) over.still_open;
+    why = inr rose;
+    closes = refl;
+    ordered = refl;
+    still = λ still. absurd (open-shut still);
+    records = λ still. absurd (open-shut still);
+    crash = λ image seen there. inl (crash-leaves image seen there);
+    doubt = λ doubted. absurd (failed-sure doubted);
+  }
+
+-- bytes that were its store's have no fault
+pub undamaged : (s : Session) (held : List ℕ) → IsOver s held → (offset : ℕ) → bank_of held s.store.header (chosen held) ≡ Faulty offset → ⊥
+undamaged s held over offset faulty =
+    let holds : bank_of held s.store.header (chosen held) ≡ Holds s.store.bank.gate over.shows.read.records =
+    ap (bank_of held s.store.header) over.shows.chosen_is ∙ (shown_store held s.store over.shows).holds in
+    let both = sym holds ∙ faulty in
+    cc

@@ -1,0 +1,174 @@
+-- What the turns and the checkpoints of a session did.
+use Rattle.std.proofs.Common.{◌≡◌, inl, inr, ℕ, ◌+◌, ◌≤◌, List, refl, sym, ◌∙◌, ap, subst, arith, Some, None}
+use Rattle.std.specs.Prelude.{true, false}
+use Rattle.outside.specs.declared.world.Outside.{Ghosts}
+use Rattle.outside.specs.Causes.{Rose}
+use Rattle.outside.specs.Durable.{IsSure}
+use Rattle.outside.specs.Runs.{Leaves, held_of}
+use Rattle.store_format.specs.Header.{Header}
+use Rattle.store_format.specs.declared.header.Which.{Which}
+use Rattle.store_format.specs.Bank.{bank_of}
+use Rattle.store_format.specs.Stands.{Stands, stands, chosen}
+use Rattle.restart.specs.Kept.{KeptStore, number_of}
+use Rattle.restart.specs.Shows.{Shows}
+use Rattle.restart.proofs.ShowLemmas.{shown_store}
+use Rattle.desk.specs.declared.answers.Turn.{Turn}
+use Rattle.desk.specs.declared.answers.TurnEnd.{TurnEnd}
+use Rattle.desk.specs.declared.answers.TurnEnd.TheVariants as end
+use Rattle.desk.specs.declared.event.Event.TheVariants as event
+use Rattle.desk.specs.Answers.{counts_told, ending_told, turn_told, turn_closes}
+use Rattle.desk.specs.Kept.{record_count, records_in, records_after, turn_fails}
+use Rattle.desk.specs.Crash.{Did, IsEitherOf, standing_of}
+use Rattle.desk.specs.Desk.{Desk}
+use Rattle.desk.specs.Instruction.{Fine, Failed, Doubt, Counts}
+use Rattle.desk.specs.Run.{Happening, Step, Turned, CheckpointMade, CheckpointFailed, turned, shut}
+use Rattle.run_law.proofs.StepLemmas.{stepped}
+use Rattle.activations.specs.declared.tally.Tally.{Tally}
+use Rattle.activations.specs.Turning.{counts_of}
+use Rattle.supervisor.specs.declared.session.Session.{Session}
+use Rattle.supervisor.specs.Session.{IsSound, activity, desk_of, order_of, records_told}
+use Rattle.supervisor.specs.Shown.{IsOver, Shown}
+use Rattle.supervisor.specs.Went.{HasRun, IsTurned, most_kept}
+
+-- no word but that of a commit in doubt is one, and nothing is open and closed
+pub fine-sure : Fine ≡ Doubt → ⊥
+fine-sure same = cc
+
+pub failed-sure : Failed ≡ Doubt → ⊥
+failed-sure same = cc
+
+pub open-shut : true ≡ false → ⊥
+open-shut same = cc
+
+-- bytes that a session is over stand for its desk
+pub stood-over : (s : Session) (held : List ℕ) → IsSound s → (over : IsOver s held) → stands held ≡ standing_of s.opened (desk_of s over.committed)
+stood-over s held sound over = over.stood ∙ (λ i. Stands (over.number i) (record { directory = sound.directory i; bytes = over.committed }))
+
+-- bytes that a store shows hold as many records as it counts
+pub records-shown : (held : List ℕ) (store : KeptStore) → Shows held store → records_in held ≡ store.bank.count
+records-shown held store shows =
+    let whole = shown_store held store shows in
+    ap (λ (header : Header). record_count (bank_of held header (chosen held))) whole.said
+    ∙ ap (λ (which : Which). record_count (bank_of held store.header which)) whole.chooses
+    ∙ ap record_count whole.holds
+    ∙ shows.read.count
+
+-- what an answer to a turn of an open session tells
+pub told-by : (end : TurnEnd) (activation : ℕ) (answer : Turn) (printed : List ℕ) → IsTurned end
+    → Turned activation (counts_told answer) (ending_told end printed) ≡ turn_told activation (record answer { end = end }) printed
+told-by end.Idle activation answer printed is = refl
+told-by end.Limit activation answer printed is = refl
+told-by (end.Committed number steps) activation answer printed is = refl
+told-by (end.Checked code address) activation answer printed is = refl
+told-by (end.Waits waiting holders) activation answer printed is = refl
+told-by end.Victim activation answer printed is = refl
+told-by (end.Journal lines limit) activation answer printed is = refl
+told-by end.Disk activation answer printed is = refl
+told-by (end.Closed doubt number) activation answer printed is = refl
+told-by end.Shut activation answer printed is = absurd is
+
+-- the most records by the end of a turn are those by what is told of it
+pub most-told : (end : TurnEnd) (activation : ℕ) (counts : Counts) (printed : List ℕ) (records : ℕ) → most_kept end records ≡ records_after (Turned activation counts (ending_told end printed)) records
+most-told end.Idle activation counts printed records = refl
+most-told end.Limit activation counts printed records = refl
+most-told (end.Committed number steps) activation counts printed records = refl
+most-told (end.Checked code address) activation counts printed records = refl
+most-told (end.Waits waiting holders) activation counts printed records = refl
+most-told end.Victim activation counts printed records = refl
+most-told (end.Journal lines limit) activation counts printed records = refl
+most-told end.Disk activation counts printed records = refl
+most-told (end.Closed None number) activation counts printed records = refl
+most-told (end.Closed (Some doubt) number) activation counts printed records = refl
+most-told end.Shut activation counts printed records = refl
+
+-- a turn that left an open session has no more records than its end says: it didn't fail, or broke off where a page couldn't be read
+pub few-records : (ending : TurnEnd) (before after : ℕ) → IsTurned ending → turn_closes ending ≡ false → (ending ≡ end.Disk → after ≡ before) → (turn_fails ending ≡ false → after ≤ most_kept ending before) → after ≤ most_kept ending before
+few-records end.Idle before after is still broken calm = calm refl
+few-records end.Limit before after is still broken calm = calm refl
+few-records (end.Committed number steps) before after is still broken calm = calm refl
+few-records (end.Checked code address) before after is still broken calm = calm refl
+few-records (end.Waits waiting holders) before after is still broken calm = calm refl
+few-records end.Victim before after is still broken calm = calm refl
+few-records (end.Journal lines limit) before after is still broken calm = calm refl
+few-records end.Disk before after is still broken calm = let same = broken refl in omega (arith, same)
+few-records (end.Closed doubt number) before after is still broken calm = absurd (let no : ⊥ = cc in no)
+few-records end.Shut before after is still broken calm = absurd is
+
+-- a turn of an open session
+module _ {W : Type 0} (G : Ghosts W) (s new : Session) (activation limit : ℕ) (result : TurnEnd) (tally : Tally) (answer : Turn) (before after : W) (over : IsOver s (held_of G before)) where
+  abbrev pub did-turn : IsTurned result → counts_told answer ≡ counts_of tally → answer.end ≡ result → (new.closed ≡ false → records_told new ≤ most_kept result (records_told s)) → HasRun G activation limit result s new tally before after over.committed
+      → Did G (activity s).programs s.opened (event.Turn activation limit) (turn_told activation answer new.printed) new.closed (order_of new) (λ held desk. Shown new held desk) (desk_of s over.committed) before after
+  did-turn is counts ends records ran =
+      let told : Turned activation (counts_of tally) (ending_told result new.printed) ≡ turn_told activation answer new.printed =
+      ap (λ (counted : Counts). Turned activation counted (ending_told result new.printed)) (sym counts)
+      ∙ told-by result activation answer new.printed is
+      ∙ ap (λ (e : TurnEnd). turn_told activation (record answer { end = e }) new.printed) (sym ends) in
+      record {
+        word = ran.word;
+        next = ran.next;
+        stepped =
+            stepped (activity s).programs (event.Turn activation limit) ran.word (desk_of s over.committed) over.still_open
+            ∙ ap (turned activation) ran.step
+            ∙ ap (λ (happening : Happening). let left : Step = record { desk = ran.next; happening = happening } in left) told;
+        why = ran.why;
+        closes = sym ran.closes;
+        ordered = sym ran.ordered;
+        still = λ open_now. let now = ran.still (sym ran.closes ∙ open_now) in (now.0, record { over = now.1.0; is = now.1.1 });
+        records = λ open_now.
+            let now = ran.still (sym ran.closes ∙ open_now) in
+            let few = records (sym ran.closes ∙ open_now) in
+            let now_held = records-shown (held_of G after) new.store now.1.0.shows in
+            let then_held = records-shown (held_of G before) s.store over.shows in
+            let most = most-told result activation (counts_of tally) new.printed (records_told s) in
+            let some : records_in (held_of G after) ≤ records_after (Turned activation (counts_of tally) (ending_told result new.printed)) (records_told s) = omega (arith, few, now_held, most) in
+            subst (λ (happening : Happening). records_in (held_of G after) ≤ records_after happening (records_in (held_of G before))) told
+            (subst (λ (n : ℕ). records_in (held_of G after) ≤ records_after (Turned activation (counts_of tally) (ending_told result new.printed)) n) (sym then_held) some);
+        crash = ran.crash;
+        doubt = λ doubted shut_now. ran.doubt doubted (sym ran.closes ∙ shut_now);
+      }
+
+-- a session over another store with the same header and number, whose bytes stand for the same
+abbrev pub over-stored : (s : Session) (store : KeptStore) (held after : List ℕ) → store.header ≡ s.store.header → IsOver s held → number_of store ≡ number_of s.store → Shows after store → stands after ≡ stands held → IsOver (record s { store = store }) after
+over-stored s store held after header over number shows stood = record {
+  still_open = over.still_open;
+  committed = over.committed;
+  shows = shows;
+  stood = stood ∙ over.stood ∙ (λ i. Stands (sym number i) (record { directory = (sym header i).directory; bytes = over.committed }));
+  follows = over.follows;
+  number = number ∙ over.number;
+}
+
+-- a checkpoint
+module _ {W : Type 0} (G : Ghosts W) (s : Session) (store : KeptStore) (sound : IsSound s) (before after : W) (over : IsOver s (held_of G before)) (crash : Leaves G (λ image seen. stands image ≡ stands (held_of G before)) before after) where
+  pub either : (image seen : List ℕ) (next : Desk) → G.left_since after (G.moment before) image seen → IsEitherOf (activity s).programs s.opened event.Checkpoint (desk_of s over.committed) next image
+  either image seen next left = inl (crash image seen left ∙ stood-over s (held_of G before) sound over)
+
+  abbrev pub did-checkpoint : store.header ≡ s.store.header → number_of store ≡ number_of s.store → IsSure G after → Shows (held_of G after) store → stands (held_of G after) ≡ stands (held_of G before) → store.bank.count ≡ 0
+      → Did G (activity s).programs s.opened event.Checkpoint CheckpointMade s.closed (order_of s) (λ held desk. Shown (record s { store = store }) held desk) (desk_of s over.committed) before after
+  did-checkpoint header number sure shows stood none = record {
+    word = Fine;
+    next = desk_of s over.committed;
+    stepped = stepped (activity s).programs event.Checkpoint Fine (desk_of s over.committed) over.still_open;
+    why = inl refl;
+    closes = refl;
+    ordered = refl;
+    still = λ still. (sure, record { over = over-stored s store (held_of G before) (held_of G after) header over number shows stood; is = refl });
+    records = λ still. let now_held = records-shown (held_of G after) store shows in omega (arith, now_held, none);
+    crash = λ image seen left. either image seen (desk_of s over.committed) left;
+    doubt = λ doubted. absurd (fine-sure doubted);
+  }
+
+  abbrev pub did-fail-checkpoint : Rose (G.disk_faults before) (G.disk_faults after)
+      → Did G (activity s).programs s.opened event.Checkpoint CheckpointFailed true (order_of s) (λ held desk. Shown (record s { store = store; closed = true }) held desk) (desk_of s over.committed) before after
+  did-fail-checkpoint rose = record {
+    word = Failed;
+    next = shut (desk_of s over.committed);
+    stepped = stepped (activity s).programs event.Checkpoint Failed (desk_of s over.committed) over.still_open;
+    why = inr rose;
+    closes = refl;
+    ordered = refl;
+    still = λ still. absurd (open-shut still);
+    records = λ still. absurd (open-shut still);
+    crash = λ image seen left. either image seen (shut (desk_of s over.committed)) left;
+    doubt = λ doubted. absurd (failed-sure doubted);
+  }

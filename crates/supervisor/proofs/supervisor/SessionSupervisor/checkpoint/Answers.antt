@@ -1,0 +1,56 @@
+use Rattle.std.proofs.Common.{◌≡◌, sym, ◌∙◌, subst}
+use Rattle.std.specs.Prelude.{true}
+use Rattle.outside.specs.Runs.{Leaves, held_of}
+use Rattle.restart.specs.Shows.{Tracks}
+use Rattle.store_format.specs.Header.{Header, total}
+use Rattle.store_format.specs.Stands.{stands}
+use Rattle.desk.specs.declared.event.Event.TheVariants as event
+use Rattle.desk.specs.Crash.{Did}
+use Rattle.desk.specs.Desk.{Desk}
+use Rattle.desk.specs.Kept.{HoldsStore}
+use Rattle.desk.specs.Report.{number_after}
+use Rattle.desk.specs.Run.{CheckpointMade, CheckpointFailed}
+use Rattle.supervisor.specs.Session.{activity, desk_of, order_of}
+use Rattle.supervisor.specs.Shown.{Shown}
+use Rattle.supervisor.proofs.DidLemmas.{did-checkpoint, did-fail-checkpoint}
+use Rattle.supervisor.proofs.supervisor.SessionSupervisor.checkpoint.Goals as goal
+
+pub returns-in-Ok-clause-did : goal.returns-in-Ok-clause-did
+returns-in-Ok-clause-did g c = λ desk sure shown.
+    let G = g.W.Outside in
+    let s = c.args.self.now in
+    let store = c.checkpoint.new.self in
+    let before = c.args.outside.now in
+    let after = c.checkpoint.new.outside in
+    let over = shown.over in
+    let tracks : Tracks G s.store before = record { sure = sure; shows = over.shows } in
+    let done = c.in-Ok.ensures.done tracks in
+    let crash : Leaves G (λ image seen. stands image ≡ stands (held_of G before)) before after = λ image seen left. (c.in-Ok.ensures.crash tracks image seen left).stood in
+    let did = did-checkpoint G s store c.requires.sound before after over crash c.in-Ok.ensures.header c.in-Ok.ensures.number done.tracks.sure done.tracks.shows done.stood c.in-Ok.ensures.count in
+    let number : c.number.result ≡ number_after s.opened (desk_of s over.committed) = c.number.ensures ∙ c.in-Ok.ensures.number ∙ over.number in
+    subst
+    (λ (that : Desk). (x : Did G (activity s).programs s.opened event.Checkpoint CheckpointMade s.closed (order_of s) (λ held shown. Shown (record s { store = store }) held shown) that before after) × (c.number.result ≡ number_after s.opened x.next))
+    (sym shown.is)
+    (did, number)
+
+pub returns-in-Ok-clause-bytes : goal.returns-in-Ok-clause-bytes
+returns-in-Ok-clause-bytes g c = subst (λ (header : Header). HoldsStore g.W.Outside header c.checkpoint.new.outside) (sym c.in-Ok.ensures.header) (c.in-Ok.ensures.only.longer (total c.args.self.now.store.header) c.requires.bytes)
+
+pub returns-in-Err-clause-did : goal.returns-in-Err-clause-did
+returns-in-Err-clause-did g c = λ desk sure shown.
+    let G = g.W.Outside in
+    let s = c.args.self.now in
+    let store = c.checkpoint.new.self in
+    let before = c.args.outside.now in
+    let after = c.checkpoint.new.outside in
+    let over = shown.over in
+    let tracks : Tracks G s.store before = record { sure = sure; shows = over.shows } in
+    let crash : Leaves G (λ image seen. stands image ≡ stands (held_of G before)) before after = λ image seen left. (c.in-Err.ensures.crash tracks image seen left).stood in
+    let did = did-fail-checkpoint G s store c.requires.sound before after over crash c.in-Err.ensures.cause.failed in
+    subst
+    (λ (that : Desk). (x : Did G (activity s).programs s.opened event.Checkpoint CheckpointFailed true (order_of s) (λ held shown. Shown (record s { store = store; closed = true }) held shown) that before after) × Unit {0})
+    (sym shown.is)
+    (did, tt)
+
+pub returns-in-Err-clause-bytes : goal.returns-in-Err-clause-bytes
+returns-in-Err-clause-bytes g c = subst (λ (header : Header). HoldsStore g.W.Outside header c.checkpoint.new.outside) (sym c.in-Err.ensures.header) (c.in-Err.ensures.only.longer (total c.args.self.now.store.header) c.requires.bytes)

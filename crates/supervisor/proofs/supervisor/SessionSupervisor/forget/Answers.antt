@@ -1,0 +1,64 @@
+use Rattle.std.proofs.Common.{◌≡◌, sym, ◌∙◌, subst}
+use Rattle.std.specs.Prelude.{true}
+use Rattle.outside.specs.Runs.{held_of}
+use Rattle.redo_journal.specs.declared.fault.ReopenFault.{ReopenFault}
+use Rattle.restart.specs.Faults.{IsReopenFault}
+use Rattle.restart.proofs.ShowLemmas.{reopened_holds}
+use Rattle.desk.specs.declared.event.Event.TheVariants as event
+use Rattle.desk.specs.Crash.{Did}
+use Rattle.desk.specs.Desk.{Desk}
+use Rattle.desk.specs.Holdings.{numbers}
+use Rattle.desk.specs.Report.{number_after}
+use Rattle.desk.specs.Run.{Crashed, CrashFailed}
+use Rattle.supervisor.specs.Session.{activity, desk_of, order_of}
+use Rattle.supervisor.specs.Shown.{Shown}
+use Rattle.supervisor.proofs.CrashLemmas.{did-crash, did-fail-crash, number-restarted, undamaged}
+use Rattle.supervisor.proofs.supervisor.SessionSupervisor.forget.Goals as goal
+
+pub returns-in-Ok-clause-did : goal.returns-in-Ok-clause-did
+returns-in-Ok-clause-did g c = λ desk sure shown.
+    let G = g.W.Outside in
+    let s = c.args.self.now in
+    let store = c.reopen.new.self in
+    let left = c.forget.new.self in
+    let before = c.args.outside.now in
+    let after = c.reopen.new.outside in
+    let over = shown.over in
+    let gone = c.forget.ensures.restarts over.committed over.follows in
+    let tracks = c.in-Ok.ensures.tracks over.shows.header sure.honest sure.told in
+    let did = did-crash G s store c.in-Ok.ensures.header left c.requires.sound before after sure over gone c.in-Ok.ensures.asks tracks in
+    let number : c.number.result ≡ number_after s.opened did.next =
+    c.number.ensures ∙ number-restarted G s store c.in-Ok.ensures.header left c.requires.sound before after sure over gone c.in-Ok.ensures.asks tracks in
+    subst
+    (λ (that : Desk). (x : Did G (activity s).programs s.opened event.Crash (Crashed (numbers that)) s.closed (order_of s) (λ held shown. Shown (record s { store = store; activations = left }) held shown) that before after) × (c.number.result ≡ number_after s.opened x.next))
+    (sym shown.is)
+    (did, number)
+
+pub returns-in-Ok-clause-damage : goal.returns-in-Ok-clause-damage
+returns-in-Ok-clause-damage g c = λ told.
+    let holds = reopened_holds (held_of g.W.Outside c.args.outside.now) c.args.self.now.store.header c.reopen.new.self c.in-Ok.ensures.header (c.in-Ok.ensures.read told) in
+    (holds.0, holds.1, holds.2, c.number.ensures ∙ holds.3)
+
+pub returns-in-Err-Damaged-clause-did : goal.returns-in-Err-Damaged-clause-did
+returns-in-Err-Damaged-clause-did g c = λ desk sure shown.
+    let G = g.W.Outside in
+    let s = c.args.self.now in
+    let fault = subst (λ (fault : ReopenFault). IsReopenFault G c.args.outside.now c.reopen.new.outside s.store.header fault) c.in-Err-Damaged.field-0-is c.in-Err-Damaged.ensures.fault in
+    absurd (undamaged s (held_of G c.args.outside.now) shown.over c.in-Err-Damaged.offset (fault sure.told))
+
+pub returns-in-Err-DiskFault-clause-did : goal.returns-in-Err-DiskFault-clause-did
+returns-in-Err-DiskFault-clause-did g c = λ desk sure shown.
+    let G = g.W.Outside in
+    let s = c.args.self.now in
+    let store = c.reopen.new.self in
+    let left = c.forget.new.self in
+    let before = c.args.outside.now in
+    let after = c.reopen.new.outside in
+    let over = shown.over in
+    let gone = c.forget.ensures.restarts over.committed over.follows in
+    let fault = subst (λ (fault : ReopenFault). IsReopenFault G before after s.store.header fault) c.in-Err-DiskFault.field-0-is c.in-Err-DiskFault.ensures.fault in
+    let did = did-fail-crash G s store c.in-Err-DiskFault.ensures.header left c.requires.sound before after sure over gone c.in-Err-DiskFault.ensures.asks fault in
+    subst
+    (λ (that : Desk). (x : Did G (activity s).programs s.opened event.Crash (CrashFailed (numbers that)) true (order_of s) (λ held shown. Shown (record s { store = store; activations = left; closed = true }) held shown) that before after) × Unit {0})
+    (sym shown.is)
+    (did, tt)

@@ -1,0 +1,38 @@
+use Rattle.std.proofs.Common.{◌≡◌, ◌+◌, ℕ, sym, ◌∙◌, subst}
+use Rattle.outside.specs.Runs.{held_of}
+use Rattle.desk.specs.declared.answers.TurnEnd.{TurnEnd}
+use Rattle.desk.specs.declared.event.Event.TheVariants as event
+use Rattle.desk.specs.Answers.{turn_told, HasNumbers}
+use Rattle.desk.specs.Crash.{Did}
+use Rattle.desk.specs.Desk.{Desk}
+use Rattle.desk.specs.Report.{number_after}
+use Rattle.supervisor.specs.Session.{activity, desk_of, order_of, records_told}
+use Rattle.supervisor.specs.Shown.{IsOver, Shown}
+use Rattle.supervisor.proofs.DidLemmas.{did-turn, few-records}
+use Rattle.supervisor.proofs.supervisor.SessionSupervisor.turn.Goals as goal
+
+pub returns-clause-did : goal.returns-clause-did
+returns-clause-did g c = λ desk sure shown.
+    let G = g.W.Outside in
+    let s = c.args.self.now in
+    let new = c.end_of_turn-end.new.self in
+    let end = c.end_of_turn-end.result in
+    let kept = c.end_of_turn-end.ensures in
+    let answer = c.told-2.result in
+    let over = shown.over in
+    let begun : IsOver (record s { turns = s.turns + 1 }) (held_of G c.args.outside.now) = record {
+      still_open = over.still_open;
+      committed = over.committed;
+      shows = over.shows;
+      stood = over.stood;
+      follows = over.follows;
+      number = over.number;
+    } in
+    let ran = kept.went sure begun in
+    let did = did-turn G (record s { turns = s.turns + 1 }) new c.args.activation c.args.limit end c.end_of_turn-end.new.tally answer c.args.outside.now c.end_of_turn-end.new.outside begun kept.turned c.told-2.ensures.counts c.told-2.ensures.end (λ still. few-records end (records_told s) (records_told new) kept.turned (sym kept.closed ∙ still) ran.unread kept.records) ran in
+    let numbers : HasNumbers answer.end c.args.activation (number_after s.opened ran.next) =
+    subst (λ (e : TurnEnd). HasNumbers e c.args.activation (number_after s.opened ran.next)) (sym c.told-2.ensures.end) ran.numbers in
+    subst
+    (λ (that : Desk). (x : Did G (activity s).programs s.opened (event.Turn c.args.activation c.args.limit) (turn_told c.args.activation answer new.printed) new.closed (order_of new) (λ held shown. Shown new held shown) that c.args.outside.now c.end_of_turn-end.new.outside) × HasNumbers answer.end c.args.activation (number_after s.opened x.next))
+    (sym shown.is)
+    (did, numbers)
