@@ -96,9 +96,9 @@ few-records end.Shut before after is still broken calm = absurd is
 
 -- a turn of an open session
 module _ {W : Type 0} (G : Ghosts W) (s new : Session) (activation limit : ℕ) (result : TurnEnd) (tally : Tally) (answer : Turn) (before after : W) (over : IsOver s (held_of G before)) where
-  abbrev pub did-turn : IsTurned result → counts_told answer ≡ counts_of tally → answer.end ≡ result → (new.closed ≡ false → records_told new ≤ most_kept result (records_told s)) → HasRun G activation limit result s new tally before after over.committed
+  abbrev pub did-turn : IsSound new → IsTurned result → counts_told answer ≡ counts_of tally → answer.end ≡ result → (new.closed ≡ false → records_told new ≤ most_kept result (records_told s)) → HasRun G activation limit result s new tally before after over.committed
       → Did G (activity s).programs s.opened (event.Turn activation limit) (turn_told activation answer new.printed) new.closed (order_of new) (λ held desk. Shown new held desk) (desk_of s over.committed) before after
-  did-turn is counts ends records ran =
+  did-turn sound is counts ends records ran =
       let told : Turned activation (counts_of tally) (ending_told result new.printed) ≡ turn_told activation answer new.printed =
       ap (λ (counted : Counts). Turned activation counted (ending_told result new.printed)) (sym counts)
       ∙ told-by result activation answer new.printed is
@@ -113,7 +113,7 @@ module _ {W : Type 0} (G : Ghosts W) (s new : Session) (activation limit : ℕ) 
         why = ran.why;
         closes = sym ran.closes;
         ordered = sym ran.ordered;
-        still = λ open_now. let now = ran.still (sym ran.closes ∙ open_now) in (now.0, record { over = now.1.0; is = now.1.1 });
+        still = λ open_now. let now = ran.still (sym ran.closes ∙ open_now) in (now.0, record { over = now.1.0; directory = sound.directory; is = now.1.1 });
         records = λ open_now.
             let now = ran.still (sym ran.closes ∙ open_now) in
             let few = records (sym ran.closes ∙ open_now) in
@@ -152,7 +152,7 @@ module _ {W : Type 0} (G : Ghosts W) (s : Session) (store : KeptStore) (sound : 
     why = inl refl;
     closes = refl;
     ordered = refl;
-    still = λ still. (sure, record { over = over-stored s store (held_of G before) (held_of G after) header over number shows stood; is = refl });
+    still = λ still. (sure, record { over = over-stored s store (held_of G before) (held_of G after) header over number shows stood; directory = ap (λ (said : Header). said.directory) header ∙ sound.directory; is = refl });
     records = λ still. let now_held = records-shown (held_of G after) store shows in omega (arith, now_held, none);
     crash = λ image seen left. either image seen (desk_of s over.committed) left;
     doubt = λ doubted. absurd (fine-sure doubted);

@@ -29,7 +29,7 @@ returns-clause-did g c = λ desk sure shown.
       number = over.number;
     } in
     let ran = kept.went sure begun in
-    let did = did-turn G (record s { turns = s.turns + 1 }) new c.args.activation c.args.limit end c.end_of_turn-end.new.tally answer c.args.outside.now c.end_of_turn-end.new.outside begun kept.turned c.told-2.ensures.counts c.told-2.ensures.end (λ still. few-records end (records_told s) (records_told new) kept.turned (sym kept.closed ∙ still) ran.unread kept.records) ran in
+    let did = did-turn G (record s { turns = s.turns + 1 }) new c.args.activation c.args.limit end c.end_of_turn-end.new.tally answer c.args.outside.now c.end_of_turn-end.new.outside begun kept.sound kept.turned c.told-2.ensures.counts c.told-2.ensures.end (λ still. few-records end (records_told s) (records_told new) kept.turned (sym kept.closed ∙ still) ran.unread kept.records) ran in
     let numbers : HasNumbers answer.end c.args.activation (number_after s.opened ran.next) =
     subst (λ (e : TurnEnd). HasNumbers e c.args.activation (number_after s.opened ran.next)) (sym c.told-2.ensures.end) ran.numbers in
     subst
