@@ -46,7 +46,7 @@ use Rattle.activations.specs.View.{activity_of}
 use Rattle.supervisor.specs.declared.session.Session.{Session}
 use Rattle.supervisor.specs.Session.{IsSound, activity, order_of, desk_of}
 use Rattle.supervisor.specs.Shown.{IsOver}
-use Rattle.supervisor.specs.Went.{HasCommitted, HasRun, fine_desk}
+use Rattle.supervisor.specs.Went.{HasCommitted, HasRun, IsCommitEnd, fine_desk}
 
 -- what ran leaves a session sound
 pub sound-ran : (s : Session) (ran : Activations) (limit : ℕ) → IsSound s → limit ≤ 1000000 → 0 < s.turns → kept.AreRowsWithin (activity s) ((s.turns - 1) * 1000000)
@@ -117,6 +117,7 @@ module _ {W : Type 0} (G : Ghosts W) (fewer_later : FewerLater G) (s : Session) 
     ordered = refl;
     why = inl refl;
     numbers = tt;
+    unread = λ disk. refl;
     still = λ still. (sure_on G fewer_later before mid sure asks, (over-ran s.activations over.follows, refl));
     crash = λ image seen left. inl (asked image seen left);
     doubt = λ doubted. absurd (let no : ⊥ = cc in no);
@@ -149,6 +150,7 @@ module _ {W : Type 0} (G : Ghosts W) (fewer_later : FewerLater G) (s : Session) 
       ordered = refl;
       why = why;
       numbers = numbers;
+      unread = λ disk. refl;
       still = λ still. (sure_on G fewer_later before mid sure asks, (over-ran ran follows, sym (open-desk now over.committed over.still_open)));
       crash = λ image seen left. inl (asked image seen left);
       doubt = λ doubted. absurd (sober doubted);
@@ -176,7 +178,7 @@ module _ {W : Type 0} (G : Ghosts W) (fewer_later : FewerLater G) (s : Session) 
     -- it came to its commit call
     module _ (parts : kept.KeepsParts (activity s) (activity_of ran) limit) (after : W) (new : Session) (how : TurnEnd) (counted : Tally)
         (at : IsAtCommit (turn_in (activity s) seat limit over.committed (order_of s) (counts_of tally)) (activity_of ran) seat over.committed (order_of s) (counts_of told))
-        (number : number_in (activity_of ran).seating seat ≡ number_in (activity s).seating seat) (calm : G.disk_faults mid ≡ G.disk_faults before) (writes : OnlyWrites G mid after)
+        (number : number_in (activity_of ran).seating seat ≡ number_in (activity s).seating seat) (calm : G.disk_faults mid ≡ G.disk_faults before) (writes : OnlyWrites G mid after) (is_end : IsCommitEnd how)
         (went : HasCommitted G seat at.now how now new told counted mid after over.committed) where
       goes : (word : Word) → ((counted : ℕ) → Reads word counted)
           → turn word activation limit (desk_of s over.committed) ≡ commits word (commit_call (activity_of ran) seat over.committed (order_of s) at.now) (desk_of now over.committed) (counts_of told)
@@ -208,6 +210,7 @@ module _ {W : Type 0} (G : Ghosts W) (fewer_later : FewerLater G) (s : Session) 
         ordered = went.ordered;
         why = ⊎_elim (λ fine. inl fine) (λ rose. inr (subst (λ (n : ℕ). Rose n (G.disk_faults after)) calm rose)) went.why;
         numbers = subst (λ (n : ℕ). HasNumbers how n (number_after s.opened went.next)) (number ∙ found.1) went.numbers;
+        unread = λ disk. absurd (subst IsCommitEnd disk is_end);
         still = went.still;
         crash =
             leaves_on G fewer_later before mid after asks.calls.time writes.calls.time

@@ -52,6 +52,6 @@ returns-in-Ok-clause-went g c sure over =
     let asks = c.run.ensures.asks in
     committed G g.met.W.Outside.fewer_later s c.requires.sound c.args.activation c.args.limit before c.run.new.outside sure over asks
     c.in-Some.seat (sym c.seat_of.ensures ∙ c.in-Some.is) c.run.new.self c.args.tally.now c.run.new.tally (nothing-counted c.args.tally.now c.requires.tally c.requires.cycles)
-    c.run.ensures.parts c.commit.new.outside c.commit.new.self c.commit.result c.commit.new.tally at c.in-Ok.ensures.stays.number c.in-Ok.ensures.calm c.commit.ensures.only
+    c.run.ensures.parts c.commit.new.outside c.commit.new.self c.commit.result c.commit.new.tally at c.in-Ok.ensures.stays.number c.in-Ok.ensures.calm c.commit.ensures.only c.commit.ensures.end
     (c.commit.ensures.went _ (sure_on G g.met.W.Outside.fewer_later before c.run.new.outside sure asks)
     (over-ran G g.met.W.Outside.fewer_later s c.requires.sound c.args.activation c.args.limit before c.run.new.outside sure over asks c.run.new.self at.follows) at)
