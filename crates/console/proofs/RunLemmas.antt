@@ -31,7 +31,7 @@ use Rattle.run_law.specs.Headline.{IsPrefix}
 use Rattle.run_law.specs.Left.{IsLeft}
 use Rattle.run_law.proofs.HeadlineLemmas.{left_is_prefix, doubt_is_whole}
 use Rattle.supervisor.specs.Opened.{IsOpened}
-use Rattle.supervisor.specs.Session.{activity, desk_of}
+use Rattle.supervisor.specs.Session.{activity, desk_of, order_of}
 use Rattle.supervisor.specs.ShownLaws.{shown-stands}
 use Rattle.supervisor.specs.declared.session.Session.{Session}
 use Rattle.supervisor.specs.contracts.supervisor.SessionSupervisor.TheImpl.{ghosts}
@@ -139,13 +139,13 @@ module _ {W : Type 0} (G : Ghosts W) (fewer_later : FewerLater G) (printed_now :
     closes : new.closed ≡ ends.closed
     closes = subst (λ (f : Facts). new.closed ≡ (run f.programs reports.taken f.start).closed) these reports.closes
 
-    ordered : (desk_of new).order ≡ ends.order
-    ordered = subst (λ (f : Facts). (desk_of new).order ≡ (run f.programs reports.taken f.start).order) these reports.ordered
+    ordered : (order_of new) ≡ ends.order
+    ordered = subst (λ (f : Facts). (order_of new) ≡ (run f.programs reports.taken f.start).order) these reports.ordered
 
     abbrev commits : List Activation
     commits = begun job.programs.items job.events.items
 
-    serial_run : IsSerial commits number store (desk_of new).order (event_lines (names_of job) job.programs.items number reports.taken begins_with) ends.committed ends.closed
+    serial_run : IsSerial commits number store (order_of new) (event_lines (names_of job) job.programs.items number reports.taken begins_with) ends.committed ends.closed
     serial_run =
         subst (λ (order : List (ℕ × ℕ)). IsSerial commits number store order (event_lines (names_of job) job.programs.items number reports.taken begins_with) ends.committed ends.closed)
         (sym ordered)
@@ -162,11 +162,11 @@ module _ {W : Type 0} (G : Ghosts W) (fewer_later : FewerLater G) (printed_now :
         ]
 
     -- while the desk is open
-    leaves-now : ends.closed ≡ false → IsSure G after × ((left : FlatStore) × (serial commits (desk_of new).order store ≡ Some left) × (stands (held_of G after) ≡ Stands ((number + length (desk_of new).order) % 2 ^ 64) left))
+    leaves-now : ends.closed ≡ false → IsSure G after × ((left : FlatStore) × (serial commits (order_of new) store ≡ Some left) × (stands (held_of G after) ≡ Stands ((number + length (order_of new)) % 2 ^ 64) left))
     leaves-now still =
         let shown = subst (λ (f : Facts). (run f.programs reports.taken f.start).closed ≡ false → IsSure G after × ghosts.shows new (held_of G after) (run f.programs reports.taken f.start)) these reports.still still in
         let none : serial_run.doubt ≡ [] = serial_run.none_open still in
-        let all : (desk_of new).order ≡ serial_run.done = serial_run.order_is ∙ ap (λ (behind : List (ℕ × ℕ)). serial_run.done ++ behind) none ∙ append-nil serial_run.done in
+        let all : (order_of new) ≡ serial_run.done = serial_run.order_is ∙ ap (λ (behind : List (ℕ × ℕ)). serial_run.done ++ behind) none ∙ append-nil serial_run.done in
         let stood : stands (held_of G after) ≡ standing_of new.opened ends = shown-stands new (held_of G after) ends shown.1 in (
           shown.0,
           (
@@ -179,11 +179,11 @@ module _ {W : Type 0} (G : Ghosts W) (fewer_later : FewerLater G) (printed_now :
         )
 
     -- a crash
-    crash-leaves : IsSome (G.printed before) → Leaves G (IsPrefix commits number store (desk_of new).order (shown_of G before)) before after
+    crash-leaves : IsSome (G.printed before) → Leaves G (IsPrefix commits number store (order_of new) (shown_of G before)) before after
     crash-leaves told =
-        let P = IsPrefix commits number store (desk_of new).order (shown_of G before) in
+        let P = IsPrefix commits number store (order_of new) (shown_of G before) in
         let still : IsSome (G.printed start) = subst (λ (those : Option (List ℕ)). IsSome those) (sym asks.calls.quiet.same) told in
-        leaves_on G fewer_later before start after asks.calls.time time P (opening-left (desk_of new).order told)
+        leaves_on G fewer_later before start after asks.calls.time time P (opening-left (order_of new) told)
         (λ image seen left.
         subst (λ (order : List (ℕ × ℕ)). IsPrefix commits number store order (shown_of G before) image seen) (sym ordered)
         (subst (λ (printed : List ℕ). IsPrefix commits number store ends.order printed image seen) shown-same
@@ -192,12 +192,12 @@ module _ {W : Type 0} (G : Ghosts W) (fewer_later : FewerLater G) (printed_now :
         (subst (λ (f : Facts). IsLeft f.programs f.number f.start reports.taken (report (names_of job) f.programs f.number reports.taken reports.rest f.start) (shown_of G start) image seen) these (reports.left still image seen left)))))
 
     -- a doubt
-    doubt-leaves : ends.closed ≡ true → (front : List (Event × Word)) (event : Event) → reports.taken ≡ front ++ (event, Doubt) ∷ [] → DoubtStands G job number store (desk_of new).order after
+    doubt-leaves : ends.closed ≡ true → (front : List (Event × Word)) (event : Event) → reports.taken ≡ front ++ (event, Doubt) ∷ [] → DoubtStands G job number store (order_of new) after
     doubt-leaves shut front event is =
         let doubted = subst (λ (f : Facts). (run f.programs reports.taken f.start).closed ≡ true → (front : List (Event × Word)) (event : Event) → reports.taken ≡ front ++ (event, Doubt) ∷ [] → InDoubt G f.programs f.number f.start front event after) these reports.doubt shut front event is in
         let ran = subst (λ (taken : List (Event × Word)). IsRunOf job.programs.items job.events.items begins_with taken reports.rest) is is_run in
         let whole = doubt_is_whole job.programs.items number job.frames 16 (most_lines (header_of (take 128 (held_of G before)))) store job.events.items front event reports.rest ran doubted.0 in
-        let order : (run job.programs.items (front ++ (event, Doubt) ∷ []) begins_with).order ≡ (desk_of new).order = ap (λ (taken : List (Event × Word)). (run job.programs.items taken begins_with).order) (sym is) ∙ sym ordered in (
+        let order : (run job.programs.items (front ++ (event, Doubt) ∷ []) begins_with).order ≡ (order_of new) = ap (λ (taken : List (Event × Word)). (run job.programs.items taken begins_with).order) (sym is) ∙ sym ordered in (
           doubted.1.0,
           whole.0,
           ap (λ (those : List (ℕ × ℕ)). serial commits those store) (sym order) ∙ whole.1,
@@ -213,7 +213,7 @@ module _ {W : Type 0} (G : Ghosts W) (fewer_later : FewerLater G) (printed_now :
 
     pub has_run : put_by now put → ((one two : Option (List ℕ)) (bytes : List ℕ) → Prints one two bytes result → Prints one two bytes put) → (IsErr result → IsErr put)
         → (now ≡ Status.Done → (new.closed ≡ false) × (reports.rest ≡ [])) → (now ≡ Status.DiskFault → new.closed ≡ true)
-        → HasRun G job number store before after (desk_of new).order now
+        → HasRun G job number store before after (order_of new) now
     has_run put_is turns fails ended shut = record {
       taken = reports.taken;
       rest = reports.rest;
@@ -254,7 +254,7 @@ module _ {W : Type 0} (G : Ghosts W) (fewer_later : FewerLater G) (printed_now :
   abbrev replayed-from : (number : ℕ) (store : FlatStore) (standing : StandsAt G before number store) → Replays ghosts G (names_of job) (activity desk).programs desk.opened job.events.items (first_desk G job.frames before start desk (opens standing.honest standing.told) asks) new start after result
   replayed-from number store standing = replays (first_desk G job.frames before start desk (opens standing.honest standing.told) asks) (has-opened G job.frames before start desk (opens standing.honest standing.told) asks)
 
-  pub happened-by : (that : Replayed) → result ≡ that → HappenedTo G job before after (desk_of new).order (status_of_replay that)
+  pub happened-by : (that : Replayed) → result ≡ that → HappenedTo G job before after (order_of new) (status_of_replay that)
   happened-by replayed.Ended is = λ number store standing.
       let reports = subst (λ (those : Replayed). Replays ghosts G (names_of job) (activity desk).programs desk.opened job.events.items (first_desk G job.frames before start desk (opens standing.honest standing.told) asks) new start after those) is (replayed-from number store standing) in
       has_run G fewer_later printed_now job before start after desk new number store standing (opens standing.honest standing.told) asks programs_are same_opened same_honest time asks-calm

@@ -67,27 +67,27 @@ returns-clause-opened g c =
     let after = c.replay-replayed.new.outside in
     let result = c.replay-replayed.result in
     subst (λ (now : Status). OpensBy G before after now) (sym c.from-2.ensures)
-    (opens-by G before start after c.in-Ok.session c.replay-replayed.new.session result c.in-Ok.ensures.told c.replay-replayed.ensures.ends
+    (opens-by G before start after c.in-Ok.session c.replay-replayed.new.desk result c.in-Ok.ensures.told c.replay-replayed.ensures.ends
     (λ offset is honest told.
     let opens = c.in-Ok.ensures.opened honest told in
-    subst (λ (those : Replayed). Replays ghosts G (map (λ name. name.items) c.deref-2.result.now) (activity c.in-Ok.session).programs c.in-Ok.session.opened c.deref-3.result.now (first_desk G c.args.job.frames before start c.in-Ok.session opens c.in-Ok.ensures.asks) c.replay-replayed.new.session start after those) is
+    subst (λ (those : Replayed). Replays ghosts G (map (λ name. name.items) c.deref-2.result.now) (activity c.in-Ok.session).programs c.in-Ok.session.opened c.deref-3.result.now (first_desk G c.args.job.frames before start c.in-Ok.session opens c.in-Ok.ensures.asks) c.replay-replayed.new.desk start after those) is
     (c.replay-replayed.ensures.replays (first_desk G c.args.job.frames before start c.in-Ok.session opens c.in-Ok.ensures.asks) (has-opened G c.args.job.frames before start c.in-Ok.session opens c.in-Ok.ensures.asks))))
 
 pub returns-clause-put : goal.returns-clause-put
 returns-clause-put g c = λ is.
-    let rose = put-rose g.W.Outside c.open.new.outside c.replay-replayed.new.outside c.in-Ok.session c.replay-replayed.new.session c.replay-replayed.result c.replay-replayed.ensures.ends (sym c.from-2.ensures ∙ is) in
+    let rose = put-rose g.W.Outside c.open.new.outside c.replay-replayed.new.outside c.in-Ok.session c.replay-replayed.new.desk c.replay-replayed.result c.replay-replayed.ensures.ends (sym c.from-2.ensures ∙ is) in
     omega (arith, rose, c.in-Ok.ensures.asks.calls.put)
 
 pub returns-clause-unfailed : goal.returns-clause-unfailed
 returns-clause-unfailed g c = λ is.
-    put-same g.W.Outside c.open.new.outside c.replay-replayed.new.outside c.in-Ok.session c.replay-replayed.new.session c.replay-replayed.result c.replay-replayed.ensures.ends (sym c.from-2.ensures ∙ is) ∙ c.in-Ok.ensures.asks.calls.put
+    put-same g.W.Outside c.open.new.outside c.replay-replayed.new.outside c.in-Ok.session c.replay-replayed.new.desk c.replay-replayed.result c.replay-replayed.ensures.ends (sym c.from-2.ensures ∙ is) ∙ c.in-Ok.ensures.asks.calls.put
 
 pub returns-clause-happened : goal.returns-clause-happened
 returns-clause-happened g c =
     let G = g.W.Outside in
     let job = c.args.job in
     let desk = c.in-Ok.session in
-    let new = c.replay-replayed.new.session in
+    let new = c.replay-replayed.new.desk in
     let before = c.args.outside.now in
     let start = c.open.new.outside in
     let after = c.replay-replayed.new.outside in
@@ -100,5 +100,5 @@ returns-clause-happened g c =
 
 pub returns-clause-disk : goal.returns-clause-disk
 returns-clause-disk g c = λ is.
-    let rose = disk-rose g.W.Outside c.open.new.outside c.replay-replayed.new.outside c.in-Ok.session c.replay-replayed.new.session c.replay-replayed.result c.in-Ok.ensures.new.still_open c.replay-replayed.ensures.ends (sym c.from-2.ensures ∙ is) in
+    let rose = disk-rose g.W.Outside c.open.new.outside c.replay-replayed.new.outside c.in-Ok.session c.replay-replayed.new.desk c.replay-replayed.result c.in-Ok.ensures.new.still_open c.replay-replayed.ensures.ends (sym c.from-2.ensures ∙ is) in
     omega (arith, rose, c.in-Ok.ensures.asks.calls.disk)
