@@ -1,5 +1,5 @@
 -- What the turns and the checkpoints of a session did.
-use Rattle.std.proofs.Common.{◌≡◌, inl, inr, ℕ, ◌+◌, ◌≤◌, List, refl, sym, ◌∙◌, ap, subst, arith, Some, None}
+use Rattle.std.proofs.Common.{◌≡◌, inl, inr, ℕ, ◌≤◌, List, refl, sym, ◌∙◌, ap, subst, arith, Some, None}
 use Rattle.std.specs.Prelude.{true, false}
 use Rattle.outside.specs.declared.world.Outside.{Ghosts}
 use Rattle.outside.specs.Causes.{Rose}
@@ -30,7 +30,7 @@ use Rattle.supervisor.specs.Session.{IsSound, activity, desk_of, order_of, recor
 use Rattle.supervisor.specs.Shown.{IsOver, Shown}
 use Rattle.supervisor.specs.Went.{HasRun, IsTurned, most_kept}
 
--- no word but that of a commit in doubt is one, and nothing is open and closed
+-- these words aren't that of a commit in doubt, and nothing is both closed and open
 pub fine-sure : Fine ≡ Doubt → ⊥
 fine-sure same = cc
 

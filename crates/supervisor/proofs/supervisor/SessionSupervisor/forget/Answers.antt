@@ -10,7 +10,7 @@ use Rattle.desk.specs.Desk.{Desk}
 use Rattle.desk.specs.Holdings.{numbers}
 use Rattle.desk.specs.Report.{number_after}
 use Rattle.desk.specs.Run.{Crashed, CrashFailed}
-use Rattle.supervisor.specs.Session.{activity, desk_of, order_of}
+use Rattle.supervisor.specs.Session.{activity, order_of}
 use Rattle.supervisor.specs.Shown.{Shown}
 use Rattle.supervisor.proofs.CrashLemmas.{did-crash, did-fail-crash, number-restarted, undamaged}
 use Rattle.supervisor.proofs.supervisor.SessionSupervisor.forget.Goals as goal

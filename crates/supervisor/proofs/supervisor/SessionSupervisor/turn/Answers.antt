@@ -1,4 +1,4 @@
-use Rattle.std.proofs.Common.{◌≡◌, ◌+◌, ℕ, sym, ◌∙◌, subst}
+use Rattle.std.proofs.Common.{◌+◌, sym, ◌∙◌, subst}
 use Rattle.outside.specs.Runs.{held_of}
 use Rattle.desk.specs.declared.answers.TurnEnd.{TurnEnd}
 use Rattle.desk.specs.declared.event.Event.TheVariants as event
@@ -6,7 +6,7 @@ use Rattle.desk.specs.Answers.{turn_told, HasNumbers}
 use Rattle.desk.specs.Crash.{Did}
 use Rattle.desk.specs.Desk.{Desk}
 use Rattle.desk.specs.Report.{number_after}
-use Rattle.supervisor.specs.Session.{activity, desk_of, order_of, records_told}
+use Rattle.supervisor.specs.Session.{activity, order_of, records_told}
 use Rattle.supervisor.specs.Shown.{IsOver, Shown}
 use Rattle.supervisor.proofs.DidLemmas.{did-turn, few-records}
 use Rattle.supervisor.proofs.supervisor.SessionSupervisor.turn.Goals as goal
