@@ -1,7 +1,0 @@
-use Rattle.std.proofs.Common.{◌≡◌, drop}
-use Rattle.desk.specs.Run.{absent_segment}
-use Rattle.private_desk.proofs.single.absent_segment.Given as goal
-
--- the windows so far have their segments
-abbrev pub invariant-loop-window : goal.invariant-loop-window
-invariant-loop-window l = absent_segment l.directory l.windows ≡ absent_segment l.directory (drop l.window-index l.windows)
