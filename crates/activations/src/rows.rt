@@ -12,6 +12,7 @@ impl Activations {
     ghost use Rattle.activations.specs.View.{activity_of};
 
     /// The processor in a seat, which is selected, attempts its next instruction; a byte that it prints is kept.
+    #[inline(always)]
     pub fn execute(&mut self, seat: u8) -> Attempt
         requires sound { IsSound (activity_of self.old) }
         requires taken { has (activity_of self.old).seating.taken seat ≡ true }

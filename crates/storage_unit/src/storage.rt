@@ -220,10 +220,18 @@ impl Storage for Unit {
         if address > 16382 {
             return None;
         }
-        match self.registers.locate(address, 2, false) {
-            Ok(first) => Some(self.halfword(first)),
-            Err(_) => Some(0),
+        if self.runner == 0 {
+            return Some(0);
         }
+        let at = address % 2048;
+        if at == 2047 {
+            return match self.registers.locate(address, 2, false) {
+                Ok(first) => Some(self.halfword(first)),
+                Err(_) => Some(0),
+            };
+        }
+        let frame = u16::from(self.runner - 1) * 8 + (address / 2048) as u16;
+        Some(BigEndian::read_u16(self.pool.part(frame, at as usize, 2)))
     }
 
     #[inline(always)]
