@@ -1,5 +1,5 @@
-//! Programs that run side by side over frames and locks: who sits where, what each has, and how it begins, goes on, waits and
-//! ends (docs/MODEL.md, "Activations"). What they commit is on a disk, of which this crate knows nothing.
+//! Programs that run side by side over frames and locks: who sits where, what each has, and how it begins, does its rows, waits,
+//! commits and ends (docs/MODEL.md, "Activations"). Pages come from a store that is open; who calls commits to it.
 #![tactic(auto)]
 
 mod activations;

@@ -33,8 +33,8 @@ use Rattle.console.specs.Opening.{StandsAt}
 abbrev pub names_of : Job → List (List ℕ)
 names_of job = map (λ name. name.items) job.names.items
 
--- The desk that opens for a job on the bytes of a disk, which stand for this store: one activation may be active, and a record may have
--- the lines that the bytes' header has room for.
+-- The desk that opens for a job on the bytes of a disk, which stand for this store: sixteen activations may be active at once, and a
+-- record may have the lines that the bytes' header has room for.
 abbrev pub job_desk : Job → List ℕ → FlatStore → Desk
 job_desk job held store = opened job.frames 16 (most_lines (header_of (take 128 held))) store
 

@@ -12,6 +12,9 @@ ghost use Rattle.storage_unit.specs.Places.{place_of, on};
 ghost use Rattle.storage_unit.specs.Reach.{is_there, is_kept_from, is_in_frame, refuses, is_refused, put_at};
 ghost use Rattle.storage_unit.specs.Rows.{GivesRows, ChangesBytes, StaysClean, LeavesSeats};
 ghost use Rattle.storage_unit.specs.Reached.{Lies, AreThere, bytes_shown, is_absent};
+ghost use Rattle.storage_unit.specs.Held.{table_of};
+ghost use Rattle.inverted_table.specs.Keys.{key_of};
+ghost use Rattle.inverted_table.specs.Placed.{look_up};
 
 use super::model::Reach;
 use super::private::PRIVATE;
@@ -124,6 +127,20 @@ impl Unit {
         !self.table.authority(page).permits(self.runner, line, store)
     }
 
+    /// The frame that holds the page of a byte. The pool is asked, and not the table.
+    #[inline(always)]
+    fn frame_at(&self, first: Virtual) -> Option<u16>
+        requires { Lies (reach_of self.now) first 1 }
+        ensures { result ≡ look_up (table_of (reach_of self.now)).keys (key_of first) }
+    {
+        if first.segment >= PRIVATE {
+            return Some(u16::from(self.runner - 1) * 8 + first.page as u16);
+        }
+        let offset = first.page * 2048 + u32::from(first.byte);
+        let place = self.directory.start_of(first.segment) + offset;
+        self.pool.frame_of(self.directory.page_of(place))
+    }
+
     /// The halfword of two bytes that lie in frames.
     fn halfword(&self, first: Virtual) -> u16
         requires lies { Lies (reach_of self.now) first 2 }
@@ -160,7 +177,7 @@ impl Unit {
         requires there { AreThere (reach_of self.now) first (length into.old) }
         ensures { into.new ≡ bytes_shown (reach_of self.now) (place_of (reach_of self.now).directory first) (length into.old) }
     {
-        if let Some(frame) = self.table.find(first) {
+        if let Some(frame) = self.frame_at(first) {
             into.copy_from_slice(self.pool.part(frame, usize::from(first.byte), into.len()));
         }
     }
@@ -189,7 +206,7 @@ impl Unit {
         requires there { AreThere (reach_of self.old) first (length from.now) }
         ensures { reach_of self.new ≡ put_at (reach_of self.old) (place_of (reach_of self.old).directory first) from.now }
     {
-        if let Some(frame) = self.table.find(first) {
+        if let Some(frame) = self.frame_at(first) {
             self.pool
                 .part_mut(frame, usize::from(first.byte), from.len())
                 .copy_from_slice(from);

@@ -14,14 +14,10 @@ use Rattle.storage_unit.proofs.CopyLemmas.{found-below, part-shown, found-some, 
 use Rattle.storage_unit.proofs.UnitLemmas.{unit-sound}
 use Rattle.storage_unit.proofs.unit.Unit.copy_part.Goals as goal
 
--- what the table found
-found : (unit : Unit) (at : Virtual) (result other : Option ℕ) → result ≡ look_up unit.table.keys (key_of at) → result ≡ other → look_up (table_of (reach_of unit)).keys (key_of at) ≡ other
-found unit at result other is was = ap (λ (keys : List (Option Key)). look_up keys (key_of at)) (sym unit.held) ∙ sym is ∙ was
-
 pub part-requires-clause-frame : goal.part-requires-clause-frame
 part-requires-clause-frame c =
     let unit = c.args.self.now in
-    found-below (reach_of unit) c.args.first c.in-Some.frame (unit-sound unit) (found unit c.args.first c.find.result (Some c.in-Some.frame) c.find.ensures c.in-Some.is)
+    found-below (reach_of unit) c.args.first c.in-Some.frame (unit-sound unit) (sym c.frame_at.ensures ∙ c.in-Some.is)
 
 -- what was copied
 part-is : (unit : Unit) (at : Virtual) (n byte frame : ℕ) (part : List ℕ) → 0 < n → at.byte + n ≤ 2048 → Lies (reach_of unit) at n
@@ -34,7 +30,7 @@ pub copy_from_slice-requires : goal.copy_from_slice-requires
 copy_from_slice-requires c =
     let unit = c.args.self.now in
     let n = length c.args.into.now in
-    let is = found unit c.args.first c.find.result (Some c.in-Some.frame) c.find.ensures c.in-Some.is in
+    let is = sym c.frame_at.ensures ∙ c.in-Some.is in
     let part = part-is unit c.args.first n c.from.result c.in-Some.frame c.part.result.now c.requires.some c.requires.within c.requires.lies is c.from.ensures c.part.ensures in
     sym (ap length part ∙ shown-long (reach_of unit) (place_of unit.directory c.args.first) n)
 
@@ -42,14 +38,14 @@ pub returns-in-Some : goal.returns-in-Some
 returns-in-Some c =
     let unit = c.args.self.now in
     let n = length c.args.into.now in
-    let is = found unit c.args.first c.find.result (Some c.in-Some.frame) c.find.ensures c.in-Some.is in
+    let is = sym c.frame_at.ensures ∙ c.in-Some.is in
     c.copy_from_slice.ensures.after ∙ part-is unit c.args.first n c.from.result c.in-Some.frame c.part.result.now c.requires.some c.requires.within c.requires.lies is c.from.ensures c.part.ensures
 
 pub returns-in_default : goal.returns-in_default
 returns-in_default c =
     let unit = c.args.self.now in
     absurd (found-some (reach_of unit) (unit-sound unit) c.args.first (length c.args.into.now) c.requires.some c.requires.lies c.requires.there
-    (found unit c.args.first c.find.result None c.find.ensures (none-of c.find.result c.in_default.not-Some)))
+    (sym c.frame_at.ensures ∙ (none-of c.frame_at.result c.in_default.not-Some)))
   where
     none-of : (o : Option ℕ) → ((n : ℕ) → o ≡ Some n → ⊥) → o ≡ None
     none-of None some = refl

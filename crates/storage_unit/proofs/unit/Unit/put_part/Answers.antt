@@ -22,10 +22,6 @@ use Rattle.storage_unit.proofs.StoreLemmas.{frame-room, marked-of_pages, put-fou
 use Rattle.storage_unit.proofs.UnitLemmas.{unit-sound}
 use Rattle.storage_unit.proofs.unit.Unit.put_part.Goals as goal
 
--- what the table found
-found : (unit : Unit) (at : Virtual) (result other : Option ℕ) → result ≡ look_up unit.table.keys (key_of at) → result ≡ other → look_up (table_of (reach_of unit)).keys (key_of at) ≡ other
-found unit at result other is was = ap (λ (keys : List (Option Key)). look_up keys (key_of at)) (sym unit.held) ∙ sym is ∙ was
-
 module _ (unit : Unit) (at : Virtual) (frame byte n : ℕ) (is : look_up (table_of (reach_of unit)).keys (key_of at) ≡ Some frame) (same : byte ≡ at.byte) (within : at.byte + n ≤ 2048) where
   room : frame * page_bytes unit.pool.places.page + byte + n ≤ length unit.pool.bytes.items.items
   room =
@@ -73,12 +69,12 @@ marked-keys d begun pool frame lines = by_page (page_at pool frame)
 pub part_mut-requires-clause-frame : goal.part_mut-requires-clause-frame
 part_mut-requires-clause-frame c =
     let unit = c.args.self.now in
-    found-below (reach_of unit) c.args.first c.in-Some.frame (unit-sound unit) (found unit c.args.first c.find.result (Some c.in-Some.frame) c.find.ensures c.in-Some.is)
+    found-below (reach_of unit) c.args.first c.in-Some.frame (unit-sound unit) (sym c.frame_at.ensures ∙ c.in-Some.is)
 
 pub copy_from_slice-requires : goal.copy_from_slice-requires
 copy_from_slice-requires c =
     let unit = c.args.self.now in
-    let is = found unit c.args.first c.find.result (Some c.in-Some.frame) c.find.ensures c.in-Some.is in
+    let is = sym c.frame_at.ensures ∙ c.in-Some.is in
     ap length c.part_mut.ensures.value ∙ part-long unit c.args.first c.in-Some.frame c.from.result (length c.args.from.now) is c.from.ensures c.requires.within
 
 pub invariant_of-self : goal.invariant_of-self
@@ -86,7 +82,7 @@ invariant_of-self c =
     let unit = c.args.self.now in
     let frame = c.in-Some.frame in
     let n = length c.args.from.now in
-    let is = found unit c.args.first c.find.result (Some frame) c.find.ensures c.in-Some.is in
+    let is = sym c.frame_at.ensures ∙ c.in-Some.is in
     let lines : List ℕ = lines_of_part unit.pool.places.page c.from.result n in
     let new = pool-after unit c.args.first frame c.from.result n is c.from.ensures c.requires.within lines c.copy_from_slice.new.self (ap length c.copy_from_slice.ensures.after) in
     let same = marked-same (pool_of unit.pool) frame lines in
@@ -109,7 +105,7 @@ returns-in-Some c =
     let unit = c.args.self.now in
     let frame = c.in-Some.frame in
     let n = length c.args.from.now in
-    let is = found unit c.args.first c.find.result (Some frame) c.find.ensures c.in-Some.is in
+    let is = sym c.frame_at.ensures ∙ c.in-Some.is in
     let lines : List ℕ = lines_of_part unit.pool.places.page c.from.result n in
     let new = pool-after unit c.args.first frame c.from.result n is c.from.ensures c.requires.within lines c.copy_from_slice.new.self (ap length c.copy_from_slice.ensures.after) in
     ap (λ (p : Pool). (let now : Reach = record (reach_of unit) { pool = p } in now)) new
@@ -125,4 +121,4 @@ pub returns-in_default : goal.returns-in_default
 returns-in_default c =
     let unit = c.args.self.now in
     absurd (found-some (reach_of unit) (unit-sound unit) c.args.first (length c.args.from.now) c.requires.some c.requires.lies c.requires.there
-    (found unit c.args.first c.find.result None c.find.ensures (none-of c.find.result c.in_default.not-Some)))
+    (sym c.frame_at.ensures ∙ (none-of c.frame_at.result c.in_default.not-Some)))
