@@ -24,69 +24,119 @@ const SHOWN: &str =
 const FIRST: &str =
     "frames 2\nprogram shown\n.window 1, 1, r\ncau r6, r0, 0x1000\nl r2, 0(r6)\nsvc 1\nsvc 0\nend\nschedule\nbegin shown\nturn 1 9\nend\n";
 
+/// Three programs side by side, each of which stores a number in a page of its own: the second commits first, and the third
+/// never.
+const SIDE_BY_SIDE: &str =
+    "frames 2\nprogram put\n.window 1, 1, rw\ncau r6, r0, 0x1000\na r6, r3\nst r2, 0(r6)\nsvc 0\nend\nschedule\n\
+    begin put 5 0\nbegin put 7 2048\nbegin put 9 4096\nturn 1 3\nturn 2 3\nturn 3 3\nturn 2 9\nturn 1 9\nend\n";
+
+/// A program that prints the last byte of the first word of each of the three pages.
+const PAGES: &str =
+    "frames 2\nprogram shown\n.window 1, 1, r\ncau r6, r0, 0x1000\nl r2, 0(r6)\nsvc 1\nl r2, 2048(r6)\nsvc 1\n\
+    l r2, 4096(r6)\nsvc 1\nsvc 0\nend\nschedule\nbegin shown\nturn 1 9\nend\n";
+
+/// What runs until the disk stops.
+#[derive(Clone, Copy)]
+enum Running {
+    OneAdd,
+    Filled,
+    SideBySide,
+}
+
 /// A disk that stops at a write with some bytes in its range, and what opens then.
 struct Stop {
-    small: bool,
+    running: Running,
     write: u32,
     outcome: (u8, usize),
     report: &'static str,
 }
 
-const STOPS: [Stop; 9] = [
+const STOPS: [Stop; 14] = [
     Stop {
-        small: false,
+        running: Running::OneAdd,
         write: 1,
         outcome: (0xff, 143),
         report: "open 0\nbegin 1 shown\nturn 1 ran 4 page 1 lock 1\ncommit 1 number 1 steps 4 out 00\nend 1\n",
     },
     Stop {
-        small: false,
+        running: Running::OneAdd,
         write: 2,
         outcome: (0x5a, 1),
         report: "open 0\nbegin 1 shown\nturn 1 ran 4 page 1 lock 1\ncommit 1 number 1 steps 4 out 00\nend 1\n",
     },
     Stop {
-        small: false,
+        running: Running::OneAdd,
         write: 2,
         outcome: (0xa5, 1),
         report: "open 1\nbegin 1 shown\nturn 1 ran 4 page 1 lock 1\ncommit 1 number 2 steps 4 out 05\nend 2\n",
     },
     // the home line 3, the head of the other bank, and the selector
     Stop {
-        small: true,
+        running: Running::Filled,
         write: 6,
         outcome: (0xff, 128),
         report: "open 1\nbegin 1 shown\nturn 1 ran 5 page 1 lock 1\ncommit 1 number 2 steps 5 out 1c\nend 2\n",
     },
     Stop {
-        small: true,
+        running: Running::Filled,
         write: 34,
         outcome: (0xa5, 9),
         report: "open 1\nbegin 1 shown\nturn 1 ran 5 page 1 lock 1\ncommit 1 number 2 steps 5 out 1c\nend 2\n",
     },
     Stop {
-        small: true,
+        running: Running::Filled,
         write: 35,
         outcome: (7, 1),
         report: "open 1\nbegin 1 shown\nturn 1 ran 5 page 1 lock 1\ncommit 1 number 2 steps 5 out 1c\nend 2\n",
     },
     Stop {
-        small: true,
+        running: Running::Filled,
         write: 35,
         outcome: (1, 1),
         report: "open 1\nbegin 1 shown\nturn 1 ran 5 page 1 lock 1\ncommit 1 number 2 steps 5 out 1c\nend 2\n",
     },
     Stop {
-        small: true,
+        running: Running::Filled,
         write: 36,
         outcome: (0xff, 11),
         report: "open 1\nbegin 1 shown\nturn 1 ran 5 page 1 lock 1\ncommit 1 number 2 steps 5 out 1c\nend 2\n",
     },
     Stop {
-        small: true,
+        running: Running::Filled,
         write: 37,
         outcome: (0xa5, 1),
         report: "open 2\nbegin 1 shown\nturn 1 ran 5 page 1 lock 1\ncommit 1 number 3 steps 5 out 1c\nend 3\n",
+    },
+    // the body and the gate of the first commit, and those of the second
+    Stop {
+        running: Running::SideBySide,
+        write: 1,
+        outcome: (0xff, 143),
+        report: "open 0\nbegin 1 shown\nturn 1 ran 8 page 3 lock 3\ncommit 1 number 1 steps 8 out 000000\nend 1\n",
+    },
+    Stop {
+        running: Running::SideBySide,
+        write: 2,
+        outcome: (0xa5, 1),
+        report: "open 1\nbegin 1 shown\nturn 1 ran 8 page 3 lock 3\ncommit 1 number 2 steps 8 out 000700\nend 2\n",
+    },
+    Stop {
+        running: Running::SideBySide,
+        write: 3,
+        outcome: (0xff, 143),
+        report: "open 1\nbegin 1 shown\nturn 1 ran 8 page 3 lock 3\ncommit 1 number 2 steps 8 out 000700\nend 2\n",
+    },
+    Stop {
+        running: Running::SideBySide,
+        write: 4,
+        outcome: (0x5a, 1),
+        report: "open 1\nbegin 1 shown\nturn 1 ran 8 page 3 lock 3\ncommit 1 number 2 steps 8 out 000700\nend 2\n",
+    },
+    Stop {
+        running: Running::SideBySide,
+        write: 4,
+        outcome: (0xa5, 1),
+        report: "open 2\nbegin 1 shown\nturn 1 ran 8 page 3 lock 3\ncommit 1 number 3 steps 8 out 050700\nend 3\n",
     },
 ];
 
@@ -146,10 +196,10 @@ fn small_store(alloc: Global) -> Result<Vec<u8>, Fail> {
 fn a_disk_that_stopped_opens_as_the_commits_before(rt: HostRuntime) -> Result<(), Fail> {
     let alloc = rt.alloc();
     for stop in &STOPS {
-        let (held, job, reads) = if stop.small {
-            (small_store(alloc)?, FILLED, SHOWN)
-        } else {
-            (try_store(alloc)?, ONE_ADD, FIRST)
+        let (held, job, reads) = match stop.running {
+            Running::OneAdd => (try_store(alloc)?, ONE_ADD, FIRST),
+            Running::Filled => (small_store(alloc)?, FILLED, SHOWN),
+            Running::SideBySide => (try_store(alloc)?, SIDE_BY_SIDE, PAGES),
         };
         let outcome = vec![in alloc; stop.outcome.0; stop.outcome.1]?;
         let stopped = run(alloc, held, Some((stop.write, outcome)), job)?;
