@@ -50,6 +50,7 @@ use Rattle.activations.specs.Follows.{IsSound, IsSetUp, IsIdentified, IsKept, Fo
 use Rattle.activations.proofs.BeginBytes.{private-there, private-other, store-frame, shown-same}
 use Rattle.activations.proofs.HoldingLemmas.{held-flat}
 use Rattle.activations.proofs.SittingLemmas.{sitter-there, sitter-other, live-other, live-there}
+use Rattle.activations.proofs.SoundLemmas.{sound-beside}
 use Rattle.activations.proofs.TableLemmas.{under-page}
 use Rattle.activations.proofs.VacateLemmas.{none-of-page, none-of-pages}
 
@@ -77,20 +78,9 @@ held-none pages = record {
 
 -- a number that is given to nobody
 pub sound-given : (a : Activity) → IsSound a → IsSound (given a)
-sound-given a sound = record {
-  seating = sound.seating;
-  seats = sound.seats;
-  numbers = all-of (λ seat. number_in a.seating seat < a.next + 1) a.seating.taken (λ seat inside. let was = all-has (λ seat. number_in a.seating seat < a.next) a.seating.taken seat sound.numbers inside in omega (arith, was));
-  live = sound.live;
-  pages = sound.pages;
-  lines = sound.lines;
-  requests = sound.requests;
-  begun = sound.begun;
-  entries = sound.entries;
-  set_up = λ seat inside. let was = sound.set_up seat inside in record { program = was.program; begun = was.begun; registers = was.registers; printed = was.printed; few = was.few };
-  free = sound.free;
-  identified = sound.identified;
-}
+sound-given a sound =
+    sound-beside a (a.next + 1) a.reach.pool sound
+    (all-of (λ seat. number_in a.seating seat < a.next + 1) a.seating.taken (λ seat inside. let was = all-has (λ seat. number_in a.seating seat < a.next) a.seating.taken seat sound.numbers inside in omega (arith, was)))
 
 pub follows-given : (a : Activity) (committed : List ℕ) → Follows a committed → Follows (given a) committed
 follows-given a committed follows = record {

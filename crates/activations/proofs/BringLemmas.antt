@@ -174,12 +174,12 @@ moved-then old mid new first second = record {
 pub keeps-then : (directory : Layout) (old mid new : Pool) (committed : List ℕ) → Keeps directory old mid committed → Keeps directory mid new committed → Keeps directory old new committed
 keeps-then directory old mid new committed first second = record { same = second.same ∙ first.same; clean = second.clean }
 
-none-has : (xs : List ℕ) → ((x : ℕ) → has xs x ≡ false) → xs ≡ []
+pub none-has : (xs : List ℕ) → ((x : ℕ) → has xs x ≡ true → ⊥) → xs ≡ []
 none-has [] none = refl
-none-has (x ∷ xs) none = absurd (both_ways (has (x ∷ xs) x) (none x) (or_left (x == x) (has xs x) (eq-eqb x x refl)))
+none-has (x ∷ xs) none = absurd (none x (or_left (x == x) (has xs x) (eq-eqb x x refl)))
 
 pub emptied-resident : (pool : Pool) → IsSeen pool → IsSeen (emptied pool) → (emptied pool).resident ≡ []
-emptied-resident pool seen after = none-has (emptied pool).resident (λ page. after.resident page ∙ ap is_some (emptied-frame pool page seen))
+emptied-resident pool seen after = none-has (emptied pool).resident (λ page inside. both_ways (has (emptied pool).resident page) (after.resident page ∙ ap is_some (emptied-frame pool page seen)) inside)
 
 -- a page that is to stay, stays: of at least two frames another can be had
 pub keeps-other : (p : StorePages) (other page : ℕ) → has p.resident.items other ≡ true → has (brought p.frames (other ∷ []) p.resident.items page) other ≡ true

@@ -46,9 +46,6 @@ module _ (seat : ℕ) (first now : Activity) (before after : Counts) (cycle : Li
     (contests : Contests seat first before now after)
     (found : cycle_of now.seating seat ≡ Some cycle) (sits : seat_of now.seating (victim_of cycle) ≡ Some loser)
     (rolls : (committed : List ℕ) → AreConsistent (store_over now committed) now.most_lines now.next (entries now) → IsKept now committed → RollsBack now loser pool committed) where
-  pub loser-taken : has now.seating.taken loser ≡ true
-  loser-taken = (seat-found now.seating sound.seating (victim_of cycle) loser sits).0
-
   -- another is rolled back: the contest goes on
   pub contests-on : (victim_of cycle == number_in now.seating seat) ≡ false → Contests seat first before (rolled now loser pool) (with_cycle after cycle)
   contests-on other begins attempt refused desk committed order is contested =

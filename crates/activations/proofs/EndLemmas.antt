@@ -1,6 +1,6 @@
 -- Who is rolled back: after a program check, and one after another.
-use Rattle.std.specs.Prelude.{◌≡◌, ℕ, ◌+◌, ◌-◌, true, List, []}
-use Rattle.std.proofs.Common.{arith, ap, sym, ◌∙◌, subst}
+use Rattle.std.specs.Prelude.{◌≡◌, ℕ, ◌+◌, true, List, []}
+use Rattle.std.proofs.Common.{ap, sym, ◌∙◌, subst}
 use Rattle.lock_rules.specs.Sets.{has}
 use Rattle.flat_machine.specs.Row.{Check, row}
 use Rattle.frame_pool.specs.declared.model.Pool.{Pool}
@@ -11,31 +11,19 @@ use Rattle.desk_law.specs.Beside.{IsState, over_all}
 use Rattle.desk_law.specs.Orderly.{IsOrderly}
 use Rattle.desk_law.proofs.Contest.{rolled-consistent}
 use Rattle.desk_law.proofs.EntriesEnd.{check-ends}
-use Rattle.storage_unit.specs.Bytes.{private_bytes}
 use Rattle.storage_unit.specs.Rows.{plain_over}
 use Rattle.activations.specs.Activity.{Activity, live_in, program_in, entry_in, store_over, desk_over, state_in, shown}
 use Rattle.activations.specs.Ends.{WereRolled}
 use Rattle.activations.specs.Follows.{IsSound, Follows}
 use Rattle.activations.specs.Serving.{IsOver, instruction_in}
 use Rattle.activations.specs.Steps.{with_pool, rolled, RollsBack}
+use Rattle.activations.proofs.SittingLemmas.{state-shows}
+use Rattle.activations.proofs.SoundLemmas.{sound-beside}
 use Rattle.activations.proofs.VacateLemmas.{sound-left}
 
 -- frames may have other pages
 pub sound-pool : (a : Activity) (pool : Pool) → IsSound a → IsSound (with_pool a pool)
-sound-pool a pool sound = record {
-  seating = sound.seating;
-  seats = sound.seats;
-  numbers = sound.numbers;
-  live = sound.live;
-  pages = sound.pages;
-  lines = sound.lines;
-  requests = sound.requests;
-  begun = sound.begun;
-  entries = sound.entries;
-  set_up = λ seat inside. let was = sound.set_up seat inside in record { program = was.program; begun = was.begun; registers = was.registers; printed = was.printed; few = was.few };
-  free = sound.free;
-  identified = sound.identified;
-}
+sound-pool a pool sound = sound-beside a a.next pool sound sound.numbers
 
 module _ (a : Activity) (seat : ℕ) (pool : Pool) where
   pub sound-rolled : IsSound a → has a.seating.taken seat ≡ true → IsSound (rolled a seat pool)
@@ -62,23 +50,10 @@ module _ (a : Activity) (seat : ℕ) (pool : Pool) where
   checked code committed order counts taken runner follows went rolls = record {
     comes = λ word reads.
         check-ends (desk_over a committed order) counts (entry_in a seat) (over_all (state_in a seat) state.bytes) code (shown a committed) state.at
-        (ap (row (program_in a seat) a.reach.directory) shows ∙ went) word
+        (ap (row (program_in a seat) a.reach.directory) (state-shows a seat committed state.bytes runner) ∙ went) word
         ∙ ap (λ (d : Desk). Over d counts (Checked code (live_in a seat).cpu.iar)) (sym (rolls.desk order));
     follows = rolled-follows committed follows rolls;
   }
     where
       state : IsState (store_over a committed) (entry_in a seat) (state_in a seat)
       state = follows.kept.stand seat taken
-
-      runs_here : a.reach.runner - 1 ≡ seat
-      runs_here = ap (λ (n : ℕ). n - 1) runner ∙ omega arith
-
-      shows : over_all (over_all (state_in a seat) state.bytes) (shown a committed) ≡ plain_over committed (live_in a seat).cpu a.reach (live_in a seat).out
-      shows i = record {
-        regs = (live_in a seat).cpu.regs;
-        cs = (live_in a seat).cpu.cs;
-        iar = (live_in a seat).cpu.iar;
-        private = private_bytes a.reach.pool (sym runs_here i);
-        store = shown a committed;
-        out = (live_in a seat).out;
-      }

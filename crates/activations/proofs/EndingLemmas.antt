@@ -1,7 +1,7 @@
 -- What a seat that is left leaves, once its written lines are forgotten or committed.
-use Rattle.std.specs.Prelude.{◌≡◌, refl, ℕ, ◌+◌, ◌<◌, ◌==◌, ◌&&◌, not, Bool, true, false, List, [], ◌∷◌, slice_index, is_some, Some}
+use Rattle.std.specs.Prelude.{◌≡◌, refl, ℕ, ◌+◌, ◌<◌, ◌==◌, ◌&&◌, not, Bool, true, false, List, [], slice_index, is_some, Some}
 use Rattle.std.proofs.Common.{arith, ap, sym, ◌∙◌, subst}
-use Rattle.std.proofs.lemmas.Bool.{both_ways, eqb-true, eqb-false, eq-eqb, or_left}
+use Rattle.std.proofs.lemmas.Bool.{both_ways, eqb-true, eqb-false}
 use Rattle.line_geometry.specs.Directory.{byte_count}
 use Rattle.line_geometry.specs.Lines.{line_of}
 use Rattle.line_geometry.proofs.Within.{line-bytes-pos}
@@ -33,6 +33,7 @@ use Rattle.activations.specs.Activity.{Activity, program_in, entry_in, entries, 
 use Rattle.activations.specs.Ends.{HasUndone, HasSettled, WereRolled, IsRestarted, IsDeserted}
 use Rattle.activations.specs.Follows.{IsSound, IsKept, Follows}
 use Rattle.activations.specs.Steps.{rolled, vacated, with_pool, RollsBack, Commits}
+use Rattle.activations.proofs.BringLemmas.{none-has}
 use Rattle.activations.proofs.CommitLemmas.{ends, wrote-seen, commits-here}
 use Rattle.activations.proofs.EndLemmas.{sound-pool, sound-rolled, rolled-more}
 use Rattle.activations.proofs.IdleLemmas.{restarts}
@@ -156,10 +157,6 @@ module _ (old now : Activity) (seat : ℕ) (so : RolledSo seat old now) where
       by_test at below false e =
           has-filter (λ other. not (other == seat)) now.seating.taken at
           ∙ ap (λ (b : Bool). b && not (at == seat)) (so.gone at (let apart = eqb-false at seat e in omega (arith, below, apart)))
-
-none-has : (xs : List ℕ) → ((x : ℕ) → has xs x ≡ true → ⊥) → xs ≡ []
-none-has [] none = refl
-none-has (x ∷ xs) none = absurd (none x (or_left (x == x) (has xs x) (eq-eqb x x refl)))
 
 -- All sixteen are left, and the pages go out.
 module _ (old now new : Activity) (so : RolledSo 16 old now) (fits : Fits now.reach.directory now.reach.pool) (is : new ≡ with_pool now (emptied now.reach.pool)) where

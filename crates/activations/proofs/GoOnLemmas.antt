@@ -1,22 +1,20 @@
 -- The row whose access was served: it takes effect.
-use Rattle.std.specs.Prelude.{◌≡◌, refl, ℕ, ◌+◌, ◌<◌, ◌≤◌, ◌==◌, ◌⊎◌, not, Bool, true, false, List, filter, length, None}
+use Rattle.std.specs.Prelude.{◌≡◌, refl, ℕ, ◌+◌, ◌<◌, ◌≤◌, ◌==◌, ◌⊎◌, Bool, true, false, List, None}
 use Rattle.std.proofs.Common.{arith, ap, sym, ◌∙◌, subst, inl, inr}
 use Rattle.std.proofs.lemmas.Bool.{eqb-true}
 use Rattle.lock_rules.specs.Sets.{has}
-use Rattle.flat_machine.specs.Row.{Outcome, On, Commit, Check, row}
+use Rattle.flat_machine.specs.Row.{Commit, Check}
 use Rattle.romp_cpu.specs.declared.cpu.Attempt.{Attempt}
-use Rattle.frame_pool.specs.declared.model.Pool.{Pool}
 use Rattle.desk.specs.Instruction.{Word, Counts, Turning}
 use Rattle.seats.specs.declared.seat.Seat.{Seat}
 use Rattle.seats.specs.Seating.{sitter, went_on}
 use Rattle.seats.proofs.Kept.{taken-below}
-use Rattle.activations.specs.Activity.{Activity, live_in, program_in}
-use Rattle.activations.specs.Attempted.{TookEffect, WasAttempted, CameTo, IsShut, plain_in}
+use Rattle.activations.specs.Activity.{Activity, live_in}
+use Rattle.activations.specs.Attempted.{TookEffect, WasAttempted, CameTo}
 use Rattle.activations.specs.Follows.{IsSound}
 use Rattle.activations.specs.Instructed.{GoesUncounted, IsServed}
 use Rattle.activations.specs.Kept.{AreRowsWithin, KeepsParts}
-use Rattle.activations.specs.Serving.{Goes}
-use Rattle.activations.specs.Steps.{counted, rolled}
+use Rattle.activations.specs.Steps.{counted}
 use Rattle.activations.proofs.SittingLemmas.{sitter-there, sitter-other}
 
 -- rows that are counted, and nothing else
@@ -61,10 +59,6 @@ module _ (begins : Word → Turning) (a after : Activity) (seat : ℕ) (committe
 
   pub not-commit : CameTo Commit a seat after → ⊥
   not-commit came = let goes = served.row_goes.1 in let commit = came.1 committed served.long in cc (goes, commit)
-
--- who sat there sits there still
-pub still-taken : (a after : Activity) (seat : ℕ) → has a.seating.taken seat ≡ true → TookEffect a seat after → has after.seating.taken seat ≡ true
-still-taken a after seat taken took = ap (λ (x : Activity). has x.seating.taken seat) took.shape ∙ taken
 
 -- whether it printed or not
 pub took-either : (attempt : Attempt) (a after : Activity) (seat : ℕ) → (attempt ≡ Attempt.Went) ⊎ ((byte : ℕ) × (attempt ≡ Attempt.Print byte)) → WasAttempted attempt a seat after → TookEffect a seat after

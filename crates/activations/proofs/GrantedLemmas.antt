@@ -1,5 +1,5 @@
 -- Who took what he asked for is granted it as on the desk: his lines are open then, and his next row isn't refused.
-use Rattle.std.specs.Prelude.{◌≡◌, refl, ℕ, zero, suc, ◌+◌, ◌-◌, ◌<◌, ◌≤◌, ◌==◌, if◌then◌else◌, Bool, true, false, List, [], ◌∷◌, ◌++◌, filter, length, slice_index_or, Some}
+use Rattle.std.specs.Prelude.{◌≡◌, refl, ℕ, zero, suc, ◌+◌, ◌-◌, ◌<◌, ◌==◌, if◌then◌else◌, Bool, true, false, List, [], ◌∷◌, ◌++◌, filter, length, slice_index_or, Some}
 use Rattle.std.proofs.Common.{arith, ap, sym, ◌∙◌, subst, inl, inr}
 use Rattle.std.proofs.lemmas.Bool.{eqb-true, or_cases}
 use Rattle.std.proofs.lemmas.List.Elements.{All-head, All-tail}
@@ -26,7 +26,6 @@ use Rattle.desk_law.specs.Consistent.{due_to, permitted}
 use Rattle.desk_law.specs.Orderly.{IsOrderly}
 use Rattle.desk_law.proofs.AttemptsOnCurrent.{wanted-is}
 use Rattle.desk_law.proofs.Entries.{one-entry}
-use Rattle.desk_law.proofs.FetchedThere.{fetched-there}
 use Rattle.desk_law.proofs.GoesOn.{grants-held, row-goes-on}
 use Rattle.desk_law.proofs.Others.{touched_of}
 use Rattle.desk_law.proofs.Seats.{seat-told}
@@ -229,9 +228,3 @@ module _ (begins : Word → Turning) (attempt : Attempt) (refused : List ℕ) (a
 
           on-check : (left : Plain) (code : ℕ) → On left ≡ Check code → ⊥
           on-check left code is = cc
-
--- At most two pages that were fetched are resident, where there are two frames.
-pub fetched-resident : (a : Activity) (committed : List ℕ) (order : List (ℕ × ℕ)) (pages : List ℕ) (before counted : ℕ) (pool : Pool) → 1 < a.reach.pool.frames → length pages ≤ 2
-    → IsFetched a committed order pages before pool counted → (page : ℕ) → has pages page ≡ true → has pool.resident page ≡ true
-fetched-resident a committed order pages before counted pool two few fetch =
-    fetched-there a.reach.pool.frames pages a.reach.pool.resident pool.resident before counted few two fetch.fetched

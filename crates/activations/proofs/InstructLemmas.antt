@@ -1,25 +1,21 @@
 -- One instruction of who sits in a seat: a row that takes effect, and the commit call.
-use Rattle.std.specs.Prelude.{◌≡◌, refl, ℕ, ◌+◌, ◌-◌, true, List, [], Result, Err}
-use Rattle.std.proofs.Common.{arith, ap, sym, ◌∙◌, subst}
+use Rattle.std.specs.Prelude.{◌≡◌, ℕ, true, List, []}
+use Rattle.std.proofs.Common.{ap, sym, ◌∙◌, subst}
 use Rattle.lock_rules.specs.Sets.{has}
 use Rattle.flat_machine.specs.declared.machine.Plain.{Plain}
 use Rattle.flat_machine.specs.Row.{Commit, row}
-use Rattle.desk.specs.declared.answers.TurnEnd.{TurnEnd}
-use Rattle.desk.specs.Instruction.{Word, Counts, Turning}
+use Rattle.desk.specs.Instruction.{Counts}
 use Rattle.desk_law.specs.Beside.{IsState, over_all}
-use Rattle.storage_unit.specs.Bytes.{private_bytes}
-use Rattle.storage_unit.specs.Rows.{plain_over}
 use Rattle.activations.specs.Activity.{Activity, live_in, program_in, entry_in, store_over, state_in, shown}
-use Rattle.activations.specs.Attempted.{IsSelected, TookEffect, CameTo, plain_in}
+use Rattle.activations.specs.Attempted.{IsSelected, TookEffect, CameTo}
 use Rattle.activations.specs.Follows.{IsSound, Follows}
 use Rattle.activations.specs.Instructed.{GoesUncounted}
 use Rattle.activations.specs.Serving.{instruction_in}
-use Rattle.activations.specs.Steps.{counted, executed, GoesOn}
-use Rattle.activations.specs.declared.instructions.Went.{Went}
-use Rattle.activations.specs.Turning.{HasEnded}
-use Rattle.activations.specs.Turns.{IsAtCommit, IsStep}
+use Rattle.activations.specs.Steps.{GoesOn}
+use Rattle.activations.specs.Turns.{IsAtCommit}
 use Rattle.activations.proofs.CommitLemmas.{ends}
 use Rattle.activations.proofs.RowLemmas.{goes-on}
+use Rattle.activations.proofs.SittingLemmas.{state-shows}
 
 module _ (a : Activity) (seat : ℕ) (committed : List ℕ) (order : List (ℕ × ℕ)) (counts : Counts)
     (sound : IsSound a) (taken : has a.seating.taken seat ≡ true) (selected : IsSelected a seat) (follows : Follows a committed) where
@@ -38,20 +34,6 @@ module _ (a : Activity) (seat : ℕ) (committed : List ℕ) (order : List (ℕ �
   abbrev now : Plain
   now = over_all (state_in a seat) state.bytes
 
-  runs_here : a.reach.runner - 1 ≡ seat
-  runs_here = ap (λ (n : ℕ). n - 1) selected.runner ∙ omega arith
-
-  -- the state over the bytes that all see is what the unit shows
-  shows : over_all now (shown a committed) ≡ plain_in a seat committed
-  shows i = record {
-    regs = (live_in a seat).cpu.regs;
-    cs = (live_in a seat).cpu.cs;
-    iar = (live_in a seat).cpu.iar;
-    private = private_bytes a.reach.pool (sym runs_here i);
-    store = shown a committed;
-    out = (live_in a seat).out;
-  }
-
   -- the commit call
   pub at-commit : (after : Activity) → CameTo Commit a seat after → IsAtCommit (instruction_in a seat committed order counts) after seat committed order counts
   at-commit after came =
@@ -65,9 +47,4 @@ module _ (a : Activity) (seat : ℕ) (committed : List ℕ) (order : List (ℕ �
       })
     where
       call : row (program_in a seat) a.reach.directory (over_all now (shown a committed)) ≡ Commit
-      call = ap (row (program_in a seat) a.reach.directory) shows ∙ came.1 committed follows.kept.long
-
--- an end that is handed on
-pub stepped : (result : Result Went TurnEnd) (end : TurnEnd) → result ≡ Err end → (begins : Word → Turning) (a : Activity) (seat : ℕ) (committed : List ℕ) (order : List (ℕ × ℕ)) (counts : Counts)
-    → HasEnded end begins a committed order counts → IsStep result begins a seat committed order counts
-stepped result end is begins a seat committed order counts ended = subst (λ (r : Result Went TurnEnd). IsStep r begins a seat committed order counts) (sym is) ended
+      call = ap (row (program_in a seat) a.reach.directory) (state-shows a seat committed state.bytes selected.runner) ∙ came.1 committed follows.kept.long

@@ -1,5 +1,5 @@
 -- What stays while those that run are served: of a rollback of another, and one after another.
-use Rattle.std.specs.Prelude.{◌≡◌, refl, ℕ, ◌+◌, ◌<◌, ◌≤◌, ◌==◌, ◌&&◌, not, if◌then◌else◌, Bool, true, false, List, [], ◌∷◌, filter, length, None, replicate, Result, Ok, Err, OnOk}
+use Rattle.std.specs.Prelude.{◌≡◌, refl, ℕ, ◌+◌, ◌≤◌, ◌==◌, ◌&&◌, not, if◌then◌else◌, Bool, true, false, List, [], ◌∷◌, filter, length, None, replicate, Result, Ok, Err, OnOk}
 use Rattle.std.proofs.Common.{arith, ap, sym, ◌∙◌, subst}
 use Rattle.std.proofs.lemmas.Bool.{eqb-true, eq-eqb, both_ways}
 use Rattle.lock_rules.specs.Sets.{has}
@@ -11,7 +11,7 @@ use Rattle.activations.specs.declared.tally.Tally.{Tally}
 use Rattle.activations.specs.Activity.{Activity}
 use Rattle.seats.specs.Seating.{sitter}
 use Rattle.activations.specs.Attempted.{IsSelected, TookEffect}
-use Rattle.activations.specs.Kept.{AreRowsWithin, KeepsParts, StaysSeated}
+use Rattle.activations.specs.Kept.{KeepsParts, StaysSeated}
 use Rattle.line_locks.specs.declared.request.Want.{Want}
 use Rattle.lockbit_rules.specs.declared.Authority.{Authority}
 use Rattle.activations.specs.Serving.{locked}

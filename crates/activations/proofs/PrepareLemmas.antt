@@ -1,6 +1,6 @@
 -- An access is prepared: its pages come in, or one of them can't be read.
 use mir.Val.{bool_byte}
-use Rattle.std.specs.Prelude.{◌≡◌, refl, ℕ, ◌+◌, nat_lt, if◌then◌else◌, Bool, true, false, List, [], ◌∷◌, ◌++◌, length, Result, Ok, Err, IsErrAnd}
+use Rattle.std.specs.Prelude.{◌≡◌, refl, ℕ, ◌+◌, nat_lt, if◌then◌else◌, Bool, true, false, List, [], ◌∷◌, length}
 use Rattle.std.proofs.Common.{ap, sym, ◌∙◌, subst}
 use Rattle.lock_rules.specs.Sets.{has}
 use Rattle.line_locks.specs.Flat.{lines_wanted}
@@ -15,7 +15,6 @@ use Rattle.frame_pool.specs.declared.model.Pool.{Pool}
 use Rattle.storage_unit.specs.Bytes.{IsClean}
 use Rattle.desk.specs.Desk.{Desk, rolled_back}
 use Rattle.desk.specs.Instruction.{Word, ReadFailed, Counts, Attempt, Turning, Over, Disk, fetches, touched_pages}
-use Rattle.desk.specs.declared.answers.TurnEnd.{TurnEnd}
 use Rattle.desk_law.specs.Consistent.{AreConsistent}
 use Rattle.activations.specs.declared.touch.Touch.{Touch}
 use Rattle.activations.specs.Activity.{Activity, program_in, entry_in, entries, store_over, desk_over}
@@ -23,12 +22,12 @@ use Rattle.activations.specs.Attempted.{IsSelected, IsShut}
 use Rattle.activations.specs.Ends.{HasUndone}
 use Rattle.activations.specs.Fetching.{IsStoreOf, IsBrokenOff, HasBrokenOff}
 use Rattle.activations.specs.Follows.{IsSound, IsKept, Follows}
-use Rattle.activations.specs.Instructed.{IsAsked, IsPrepared, Prepares}
+use Rattle.activations.specs.Instructed.{IsAsked, IsPrepared}
 use Rattle.activations.specs.Serves.{IsToServe, IsFetched, AreTouched, attempt_in, lines_with, counted_with}
 use Rattle.activations.specs.Serving.{instruction_in}
 use Rattle.activations.specs.Steps.{with_pool, rolled, RollsBack}
-use Rattle.activations.specs.Touched.{AreWanted, wants_of, pages_wanted, refuses_want, each_refused, pages_refused, pages_picked}
-use Rattle.activations.specs.Turning.{HasBroken, HasEnded}
+use Rattle.activations.specs.Touched.{AreWanted, wants_of, pages_wanted, refuses_want, each_refused, pages_refused}
+use Rattle.activations.specs.Turning.{HasBroken}
 use Rattle.activations.proofs.EndLemmas.{rolled-follows}
 use Rattle.activations.proofs.PoolLemmas.{moved-desk, moved-follows}
 use Rattle.activations.proofs.GrantingLemmas.{picked-refused}
@@ -163,10 +162,3 @@ module _ (a : Activity) (seat : ℕ) (committed : List ℕ) (order : List (ℕ �
         (subst (λ (marked : Bool × Bool). IsPrepared (instruction_in a seat committed order counts) (with_pool a pool) seat touch marked committed order (record counts { pages = after; locks = counts.locks + (one + other) })) (sym same)
         (subst (λ (n : ℕ). IsPrepared (instruction_in a seat committed order counts) (with_pool a pool) seat touch (each_refused a.reach.entries (seat + 1) touch) committed order (record counts { pages = after; locks = counts.locks + n })) (sym many)
         prepared))
-
--- what a turn ends with where an access wasn't prepared
-pub ends-so : (result : Result (Touch × (Bool × Bool)) TurnEnd) (end : TurnEnd) → IsErrAnd result (λ told. told ≡ end)
-    → (begins : Word → Turning) (a : Activity) (seat : ℕ) (committed : List ℕ) (order : List (ℕ × ℕ)) (counts : Counts)
-    → HasEnded end begins a committed order counts → Prepares result begins a seat committed order counts
-ends-so (Ok got) end is begins a seat committed order counts ended = absurd is
-ends-so (Err told) end is begins a seat committed order counts ended = subst (λ (how : TurnEnd). HasEnded how begins a committed order counts) (sym is) ended

@@ -15,7 +15,7 @@ use Rattle.store_format.specs.Stands.{laid}
 use Rattle.storage_unit.proofs.FillLemmas.{over-part, in-part}
 use Rattle.storage_unit.specs.Reached as reached
 use Rattle.storage_unit.specs.Bytes.{is_line_marked}
-use Rattle.storage_unit.proofs.ByteLemmas.{all-long, byte-of-all}
+use Rattle.storage_unit.proofs.ByteLemmas.{byte-of-all}
 use Rattle.flat_machine.specs.declared.machine.Plain.{Plain}
 use Rattle.flat_machine.specs.After.{after}
 use Rattle.flat_machine.specs.Row.{Commit, row}
@@ -118,9 +118,6 @@ module _ (a : Activity) (seat : ℕ) (committed : List ℕ) (now : Plain) (sound
   marked line inside =
       follows.kept.marked.is line
       ∙ among-any (λ (entry : Entry). has (due_to store entry).writes line) (entries a) (entry_in a seat) (seat-told a.seating.taken (entry_in a) seat taken) (sym (lines-due line) ∙ inside)
-
-  seen-long : length (shown a committed) ≡ byte_count a.reach.directory
-  seen-long = all-long a.reach.directory a.reach.pool committed
 
   bytes-all : byte_count a.reach.directory ≡ page_count a.reach.directory * 2048
   bytes-all = byte_count-pages a.reach.directory ∙ ap (λ (size : PageSize). page_count a.reach.directory * page_bytes size) reached.two

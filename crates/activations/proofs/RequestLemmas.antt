@@ -96,6 +96,13 @@ whole-of-page wants sets = record { reads = reads wants sets.reads; writes = wri
         by_test true old = old
         by_test false old = old
 
+pub or-cross : (a b c d : Bool) → ((a || b) || (c || d)) ≡ ((a || c) || (b || d))
+or-cross true b c d = refl
+or-cross false true true d = refl
+or-cross false true false d = refl
+or-cross false false true d = refl
+or-cross false false false d = refl
+
 -- What is asked for is what is touched, with the whole pages that are written into.
 pub asked-alike : (wants : List Want) → AreOfPage wants → AreAlike (lines_wanted (map with_whole_page wants)) (with_whole_pages (lines_wanted wants))
 asked-alike wants sets = record {
@@ -141,20 +148,13 @@ asked-alike wants sets = record {
         by_test true = refl
         by_test false = refl
 
-    split : (a b c d : Bool) → ((a || b) || (c || d)) ≡ ((a || c) || (b || d))
-    split true b c d = refl
-    split false true true d = refl
-    split false true false d = refl
-    split false false true d = refl
-    split false false false d = refl
-
     each : (line : ℕ) (wants : List Want) → list_any (λ want. (want.page == page_of_line line) && has want.reads (line % 16)) (map with_whole_page wants)
         ≡ (list_any (λ want. (want.page == page_of_line line) && has want.reads (line % 16)) wants || list_any (λ want. (want.page == page_of_line line) && not (length want.writes == 0)) wants)
     each line [] = refl
     each line (want ∷ wants) =
         (λ i. (((page-same want i == page_of_line line) && has (with_whole_page want).reads (line % 16)) || each line wants i))
         ∙ ap (λ (b : Bool). b || (list_any (λ want. (want.page == page_of_line line) && has want.reads (line % 16)) wants || list_any (λ want. (want.page == page_of_line line) && not (length want.writes == 0)) wants)) (one line want)
-        ∙ split ((want.page == page_of_line line) && has want.reads (line % 16)) ((want.page == page_of_line line) && not (length want.writes == 0))
+        ∙ or-cross ((want.page == page_of_line line) && has want.reads (line % 16)) ((want.page == page_of_line line) && not (length want.writes == 0))
         (list_any (λ want. (want.page == page_of_line line) && has want.reads (line % 16)) wants) (list_any (λ want. (want.page == page_of_line line) && not (length want.writes == 0)) wants)
 
     same : (line : ℕ) (wants : List Want) → list_any (λ want. (want.page == page_of_line line) && has want.writes (line % 16)) (map with_whole_page wants)

@@ -1,7 +1,7 @@
 -- A row of one that takes effect, over what all see.
-use Rattle.std.specs.Prelude.{◌≡◌, refl, ℕ, ◌+◌, ◌-◌, ◌<◌, ◌==◌, ◌||◌, Bool, true, false, List, [], Some}
+use Rattle.std.specs.Prelude.{◌≡◌, ℕ, ◌+◌, ◌-◌, ◌<◌, ◌==◌, ◌||◌, true, false, List, [], Some}
 use Rattle.std.proofs.Common.{arith, ap, sym, ◌∙◌, subst}
-use Rattle.std.proofs.lemmas.Bool.{eqb-true, eq-eqb, both_ways}
+use Rattle.std.proofs.lemmas.Bool.{eq-eqb, both_ways}
 use Rattle.line_geometry.specs.FlatStore.{FlatStore}
 use Rattle.lock_rules.specs.Sets.{has}
 use Rattle.lock_rules.specs.Lines.{Lines}
@@ -30,7 +30,7 @@ use Rattle.activations.specs.declared.live.Live.{Live}
 use Rattle.activations.specs.Activity.{Activity, live_in, program_in, entry_in, entries, store_over, desk_over, authority_under, locks_in, request_for, request_in, state_in, shown}
 use Rattle.activations.specs.Follows.{IsSound, IsKept, Follows}
 use Rattle.activations.specs.Steps.{counted, executed, HasExecuted, GoesOn}
-use Rattle.activations.proofs.SittingLemmas.{sitter-other, entry-counted, entry-other, under-counted, live-other, live-there}
+use Rattle.activations.proofs.SittingLemmas.{by_seat, state-shows, sitter-other, entry-counted, entry-other, under-counted, live-other, live-there}
 use Rattle.activations.proofs.TableLemmas.{there}
 
 -- a consistent desk is so whatever its order
@@ -70,14 +70,7 @@ module _ (a : Activity) (seat : ℕ) (live : Live) (bytes : List ℕ) (marked : 
   state = follows.kept.stand seat taken
 
   shows : over_all (over_all (state_in a seat) state.bytes) (shown a committed) ≡ before
-  shows i = record {
-    regs = (live_in a seat).cpu.regs;
-    cs = (live_in a seat).cpu.cs;
-    iar = (live_in a seat).cpu.iar;
-    private = private_bytes a.reach.pool (sym runs_here i);
-    store = shown a committed;
-    out = (live_in a seat).out;
-  }
+  shows = state-shows a seat committed state.bytes runner
 
   gone : (order : List (ℕ × ℕ)) (counts : Counts) → HasGone (desk_over a committed order) counts entry left
   gone order counts =
@@ -152,28 +145,21 @@ module _ (a : Activity) (seat : ℕ) (live : Live) (bytes : List ℕ) (marked : 
         out = (sym live-same i).out;
       }
 
-  by_seat : {P : ℕ → Type 0} → P seat → ((at : ℕ) → has a.seating.taken at ≡ true → (at == seat) ≡ false → P at) → (at : ℕ) → has a.seating.taken at ≡ true → P at
-  by_seat {P} this others at inside = by_test (at == seat) refl
-    where
-      by_test : (same : Bool) → (at == seat) ≡ same → P at
-      by_test true e = subst P (sym (eqb-true at seat e)) this
-      by_test false e = others at inside e
-
   kept-next : IsKept next committed
   kept-next = record {
     long = follows.kept.long;
-    held = by_seat {P = λ at. AreAlike (locks_in next at) (due_to store (entry_in next at))}
+    held = by_seat {P = λ at. AreAlike (locks_in next at) (due_to store (entry_in next at))} a.seating.taken seat
         (subst (λ (e : Entry). AreAlike (locks_in a seat) (due_to store e)) (sym entry-next)
         (alike-then (locks_in a seat) (due_to store entry) (due_to store (gone_on entry)) (follows.kept.held seat taken)
         (alike-back (due_to store (gone_on entry)) (due_to store entry) (open-due (desk_over a committed []) entry first.held))))
         (λ at inside differs. subst (λ (e : Entry). AreAlike (locks_in a at) (due_to store e)) (sym (entry-others at differs)) (follows.kept.held at inside));
-    asked = by_seat {P = λ at. (entry_in next at).waiting ≡ true → AreAlike (request_in next at) (requested store (entry_in next at))}
+    asked = by_seat {P = λ at. (entry_in next at).waiting ≡ true → AreAlike (request_in next at) (requested store (entry_in next at))} a.seating.taken seat
         (λ waits. absurd (both_ways (entry_in next seat).waiting (ap (λ (e : Entry). e.waiting) entry-next) waits))
         (λ at inside differs waits.
         subst (λ (e : Entry). AreAlike (request_in next at) (requested store e)) (sym (entry-others at differs))
         (subst (λ (who : Seat). AreAlike (request_for who) (requested store (entry_in a at))) (sym (sitter-other a.seating seat _ at differs))
         (follows.kept.asked at inside (sym (ap (λ (e : Entry). e.waiting) (entry-others at differs)) ∙ waits))));
-    stand = by_seat {P = λ at. IsState store (entry_in next at) (state_in next at)} state-next state-others;
+    stand = by_seat {P = λ at. IsState store (entry_in next at) (state_in next at)} a.seating.taken seat state-next state-others;
     is_current = subst (λ (these : List Entry). IsCurrent store these (shown next committed)) (sym entries-next) first.is_current;
     marked = subst (λ (these : List Entry). AreMarked store these (is_line_marked next.reach.pool)) (sym entries-next)
         (marked-row store a.most_lines a.next (entries a) follows.orderly.active (is_line_marked a.reach.pool) follows.kept.marked entry (is_line_marked next.reach.pool) here

@@ -1,7 +1,7 @@
 -- A row that was served takes effect: its pages are there, its lines are locked and granted, and its second attempt went.
 use Rattle.std.specs.Prelude.{◌≡◌, refl, ℕ, ◌+◌, ◌-◌, ◌%◌, ◌<◌, ◌==◌, ◌||◌, if◌then◌else◌, Bool, true, false, List, [], map, slice_index_or, Some}
 use Rattle.std.proofs.Common.{arith, ap, sym, ◌∙◌, subst}
-use Rattle.std.proofs.lemmas.Bool.{eqb-true, eq-eqb, both_ways}
+use Rattle.std.proofs.lemmas.Bool.{eq-eqb, both_ways}
 use Rattle.line_geometry.specs.FlatStore.{FlatStore}
 use Rattle.lock_rules.specs.Sets.{has}
 use Rattle.lock_rules.specs.Lines.{Lines, no_lines, page_of_line, both, with_whole_pages}
@@ -43,7 +43,7 @@ use Rattle.activations.specs.Steps.{counted, executed, with_pool, IsMoved, HasEx
 use Rattle.activations.specs.Touched.{with_whole_page}
 use Rattle.activations.proofs.CommitLemmas.{told-kept}
 use Rattle.activations.proofs.ContestLemmas.{orderly-other}
-use Rattle.activations.proofs.SittingLemmas.{sitter-other, entry-counted, entry-other, under-counted, live-other, live-there}
+use Rattle.activations.proofs.SittingLemmas.{by_seat, sitter-other, entry-counted, entry-other, under-counted, live-other, live-there}
 
 module _ (begins : Word → Turning) (attempt : Attempt) (refused : List ℕ) (a : Activity) (seat : ℕ) (committed : List ℕ) (order : List (ℕ × ℕ)) (counts : Counts)
     (wants : List Want) (owned : List Authority) (pool : Pool) (live : Live) (bytes : List ℕ) (marked : List (List ℕ)) (counted_pages : ℕ) (next : Plain)
@@ -174,18 +174,11 @@ module _ (begins : Word → Turning) (attempt : Attempt) (refused : List ℕ) (a
     other-number : (at : ℕ) → has a.seating.taken at ≡ true → (at == seat) ≡ false → ((entry_in done at).number == attempt.entry.number) ≡ false
     other-number at inside differs = (λ i. (entry-others at differs i).number == number i) ∙ sound.seats.apart at seat inside taken ∙ differs
 
-    by_seat : {P : ℕ → Type 0} → P seat → ((at : ℕ) → has a.seating.taken at ≡ true → (at == seat) ≡ false → P at) → (at : ℕ) → has a.seating.taken at ≡ true → P at
-    by_seat {P} this others at inside = by_test (at == seat) refl
-      where
-        by_test : (is : Bool) → (at == seat) ≡ is → P at
-        by_test true e = subst P (sym (eqb-true at seat e)) this
-        by_test false e = others at inside e
-
     number-done : (entry_in done seat).number ≡ attempt.entry.number
     number-done = ap (λ (e : Entry). e.number) entry-done
 
     locks-done : (at : ℕ) → has a.seating.taken at ≡ true → more (entry_in done at).number ≡ locks_in done at
-    locks-done = by_seat {P = λ at. more (entry_in done at).number ≡ locks_in done at}
+    locks-done = by_seat {P = λ at. more (entry_in done at).number ≡ locks_in done at} a.seating.taken seat
         (ap more number-done ∙ ap (λ (b : Bool). if b then locks_in (locked a seat wants owned) seat else locks attempt.entry.number) mine)
         (λ at inside differs.
         ap (λ (b : Bool). if b then locks_in (locked a seat wants owned) seat else locks (entry_in done at).number) (other-number at inside differs)
@@ -194,7 +187,7 @@ module _ (begins : Word → Turning) (attempt : Attempt) (refused : List ℕ) (a
         ∙ ap lines_held (sym (other-with a.seating.holding seat (with_wants (of_seat a.seating.holding seat) (map with_whole_page wants)) sound.seating.whole at differs)))
 
     requests-done : (at : ℕ) → has a.seating.taken at ≡ true → (entry_in done at).waiting ≡ true → requests (entry_in done at).number ≡ request_in done at
-    requests-done = by_seat {P = λ at. (entry_in done at).waiting ≡ true → requests (entry_in done at).number ≡ request_in done at}
+    requests-done = by_seat {P = λ at. (entry_in done at).waiting ≡ true → requests (entry_in done at).number ≡ request_in done at} a.seating.taken seat
         (λ waits. absurd (both_ways (entry_in done seat).waiting (ap (λ (e : Entry). e.waiting) entry-done) waits))
         (λ at inside differs waits.
         ap (λ (e : Entry). requests e.number) (entry-others at differs)
@@ -218,7 +211,7 @@ module _ (begins : Word → Turning) (attempt : Attempt) (refused : List ℕ) (a
     shown-as s t over e is stands = record { bytes = stands.bytes; at = stands.at ∙ ap (λ (p : Plain). Some (over_all p stands.bytes)) is }
 
     states-done : (at : ℕ) → has a.seating.taken at ≡ true → IsState store (entry_in done at) (state_in done at)
-    states-done = by_seat {P = λ at. IsState store (entry_in done at) (state_in done at)}
+    states-done = by_seat {P = λ at. IsState store (entry_in done at) (state_in done at)} a.seating.taken seat
         (shown-as left (state_in done seat) store (entry_in done seat) left-is
         (subst (IsState store (entry_in done seat)) (ap new number-done ∙ ap (λ (b : Bool). if b then left else states attempt.entry.number) mine) (went-on.told.stand (entry_in done seat) (among-done seat taken))))
         (λ at inside differs.

@@ -1,11 +1,15 @@
 -- Who sits in a seat, and what runs there, when one seat changes.
-use Rattle.std.specs.Prelude.{◌≡◌, refl, ℕ, zero, suc, ◌+◌, ◌<◌, ◌==◌, Bool, true, false, List, length, slice_index_or, slice_set, None, []}
-use Rattle.std.proofs.Common.{arith, ap, sym, ◌∙◌, get_or-set_same, get_or-set_other, set-set}
+use Rattle.std.specs.Prelude.{◌≡◌, refl, ℕ, zero, suc, ◌+◌, ◌-◌, ◌<◌, ◌==◌, Bool, true, false, List, length, slice_index_or, slice_set, None, []}
+use Rattle.std.proofs.Common.{arith, ap, sym, ◌∙◌, subst, get_or-set_same, get_or-set_other, set-set}
 use Rattle.std.proofs.lemmas.Bool.{eqb-true, eqb-false}
+use Rattle.lock_rules.specs.Sets.{has}
+use Rattle.desk_law.specs.Beside.{over_all}
 use Rattle.seats.specs.declared.seat.Seat.{Seat}
 use Rattle.seats.specs.Seating.{Seating, sitter, number_in, newcomer, with_sitter, went_on}
+use Rattle.storage_unit.specs.Bytes.{private_bytes}
+use Rattle.storage_unit.specs.Rows.{plain_over}
 use Rattle.activations.specs.declared.live.Live.{Live}
-use Rattle.activations.specs.Activity.{Activity, nothing_runs, entry_for, entry_in, number_under}
+use Rattle.activations.specs.Activity.{Activity, nothing_runs, live_in, state_in, shown, entry_for, entry_in, number_under}
 use Rattle.activations.specs.Steps.{counted}
 
 module _ (seating : Seating) (seat : ℕ) (who : Seat) (sixteen : length seating.sitters ≡ 16) (below : seat < 16) where
@@ -21,6 +25,29 @@ module _ (seating : Seating) (seat : ℕ) (who : Seat) (sixteen : length seating
           ap (number_in (with_sitter seating seat who)) (eqb-true at seat e) ∙ ap (λ (s : Seat). s.number) sitter-there ∙ same
           ∙ sym (ap (number_in seating) (eqb-true at seat e))
       by_test false e = ap (λ (s : Seat). s.number) (get_or-set_other seating.sitters seat at who (newcomer 0 0 []) (eqb-false at seat e))
+
+-- what holds of a seat, and of the other taken ones, holds of all that are taken
+pub by_seat : {P : ℕ → Type 0} (taken : List ℕ) (seat : ℕ) → P seat → ((at : ℕ) → has taken at ≡ true → (at == seat) ≡ false → P at) → (at : ℕ) → has taken at ≡ true → P at
+by_seat {P} taken seat this others at inside = by_test (at == seat) refl
+  where
+    by_test : (same : Bool) → (at == seat) ≡ same → P at
+    by_test true e = subst P (sym (eqb-true at seat e)) this
+    by_test false e = others at inside e
+
+-- the state of who is selected, over the bytes that all see, is what the unit shows
+pub state-shows : (a : Activity) (seat : ℕ) (committed bytes : List ℕ) → a.reach.runner ≡ seat + 1
+    → over_all (over_all (state_in a seat) bytes) (shown a committed) ≡ plain_over committed (live_in a seat).cpu a.reach (live_in a seat).out
+state-shows a seat committed bytes runner i = record {
+  regs = (live_in a seat).cpu.regs;
+  cs = (live_in a seat).cpu.cs;
+  iar = (live_in a seat).cpu.iar;
+  private = private_bytes a.reach.pool (sym here i);
+  store = shown a committed;
+  out = (live_in a seat).out;
+}
+  where
+    here : a.reach.runner - 1 ≡ seat
+    here = ap (λ (n : ℕ). n - 1) runner ∙ omega arith
 
 pub sitter-other : (seating : Seating) (seat : ℕ) (who : Seat) (at : ℕ) → (at == seat) ≡ false → sitter (with_sitter seating seat who) at ≡ sitter seating at
 sitter-other seating seat who at differs = get_or-set_other seating.sitters seat at who (newcomer 0 0 []) (eqb-false at seat differs)

@@ -1,7 +1,7 @@
 -- An access that isn't permitted: where its serving begins, and what becomes of it first.
-use Rattle.std.specs.Prelude.{◌≡◌, refl, ℕ, zero, suc, ◌+◌, ◌-◌, ◌<◌, ◌==◌, nat_lt, if◌then◌else◌, Bool, true, false, List, [], ◌∷◌, ◌++◌, All, filter, length, map, Some}
-use Rattle.std.proofs.Common.{arith, ap, sym, ◌∙◌, subst}
-use Rattle.std.proofs.lemmas.Bool.{eqb-true, eq-eqb}
+use Rattle.std.specs.Prelude.{◌≡◌, refl, ℕ, zero, suc, ◌+◌, ◌<◌, ◌==◌, nat_lt, if◌then◌else◌, Bool, true, false, List, [], ◌∷◌, ◌++◌, All, filter, length, map, Some}
+use Rattle.std.proofs.Common.{ap, sym, ◌∙◌, subst}
+use Rattle.std.proofs.lemmas.Bool.{eq-eqb}
 use Rattle.lock_rules.specs.Sets.{has, size}
 use Rattle.lock_rules.specs.Lines.{Lines, no_lines, with_whole_pages}
 use Rattle.line_locks.specs.declared.request.Request.{Request}
@@ -33,7 +33,7 @@ use Rattle.seats.specs.Seating.{sitter}
 use Rattle.seats.specs.Waiting.{holders}
 use Rattle.seats.proofs.Kept.{taken-below}
 use Rattle.seats.proofs.Numbers.{AreOfPage}
-use Rattle.storage_unit.specs.Bytes.{private_bytes, is_line_marked}
+use Rattle.storage_unit.specs.Bytes.{is_line_marked}
 use Rattle.storage_unit.specs.Laws.{Keeps}
 use Rattle.storage_unit.specs.Rows.{plain_over}
 use Rattle.activations.specs.Activity.{Activity, live_in, program_in, entry_for, entry_in, entries, authority_under, number_under, request_for, store_over, desk_over, locks_in, request_in, state_in, shown}
@@ -47,7 +47,7 @@ use Rattle.activations.proofs.PoolLemmas.{moved-kept, moved-desk, moved-follows}
 use Rattle.activations.proofs.RefusedLemmas.{refused-are}
 use Rattle.activations.proofs.RequestLemmas.{asked-alike, whole-of-page}
 use Rattle.activations.proofs.RowLemmas.{orderly-order}
-use Rattle.activations.proofs.SittingLemmas.{sitter-there, sitter-other, number-there}
+use Rattle.activations.proofs.SittingLemmas.{by_seat, state-shows, sitter-there, sitter-other, number-there}
 use Rattle.activations.proofs.WaitLemmas.{holders-told}
 
 module _ (a : Activity) (seat : ℕ) (committed : List ℕ) (order : List (ℕ × ℕ)) (counts : Counts) (wants : List Want) (next : Plain)
@@ -67,17 +67,7 @@ module _ (a : Activity) (seat : ℕ) (committed : List ℕ) (order : List (ℕ �
   now = over_all (state_in a seat) (follows.kept.stand seat taken).bytes
 
   shows : over_all now (shown a committed) ≡ plain_over committed (live_in a seat).cpu a.reach (live_in a seat).out
-  shows i = record {
-    regs = (live_in a seat).cpu.regs;
-    cs = (live_in a seat).cpu.cs;
-    iar = (live_in a seat).cpu.iar;
-    private = private_bytes a.reach.pool (sym runs_here i);
-    store = shown a committed;
-    out = (live_in a seat).out;
-  }
-    where
-      runs_here : a.reach.runner - 1 ≡ seat
-      runs_here = ap (λ (n : ℕ). n - 1) runner ∙ omega arith
+  shows = state-shows a seat committed (follows.kept.stand seat taken).bytes runner
 
   goes : row entry.runs.program a.reach.directory (over_all now (shown a committed)) ≡ On next
   goes = ap (row (program_in a seat) a.reach.directory) shows ∙ went
@@ -229,23 +219,16 @@ module _ (a : Activity) (seat : ℕ) (committed : List ℕ) (order : List (ℕ �
         kept-there : IsKept there committed
         kept-there = moved-kept a pool committed sound moved keeps follows.kept
 
-        by_seat : {P : ℕ → Type 0} → P seat → ((at : ℕ) → has a.seating.taken at ≡ true → (at == seat) ≡ false → P at) → (at : ℕ) → has a.seating.taken at ≡ true → P at
-        by_seat {P} this rest at inside = by_test (at == seat) refl
-          where
-            by_test : (is : Bool) → (at == seat) ≡ is → P at
-            by_test true e = subst P (sym (eqb-true at seat e)) this
-            by_test false e = rest at inside e
-
         marked-among : IsAmong (replaced marked_entry (entries a)) marked_entry
         marked-among = subst (IsAmong (replaced marked_entry (entries a))) entry-waits (subst (λ (these : List Entry). IsAmong these (entry_in waits seat)) entries-wait (seat-told a.seating.taken (entry_in waits) seat taken))
 
         kept-waits : IsKept waits committed
         kept-waits = record {
           long = kept-there.long;
-          held = by_seat {P = λ at. AreAlike (locks_in a at) (due_to (store_over a committed) (entry_in waits at))}
+          held = by_seat {P = λ at. AreAlike (locks_in a at) (due_to (store_over a committed) (entry_in waits at))} a.seating.taken seat
               (subst (λ (e : Entry). AreAlike (locks_in a seat) (due_to (store_over a committed) e)) (sym entry-waits) (kept-there.held seat taken))
               (λ at inside differs. subst (λ (e : Entry). AreAlike (locks_in a at) (due_to (store_over a committed) e)) (sym (entry-others at differs)) (kept-there.held at inside));
-          asked = by_seat {P = λ at. (entry_in waits at).waiting ≡ true → AreAlike (request_in waits at) (requested (store_over a committed) (entry_in waits at))}
+          asked = by_seat {P = λ at. (entry_in waits at).waiting ≡ true → AreAlike (request_in waits at) (requested (store_over a committed) (entry_in waits at))} a.seating.taken seat
               (λ waiting.
               subst (λ (e : Entry). AreAlike (request_in waits seat) (requested (store_over a committed) e)) (sym entry-waits)
               (subst (λ (who : Seat). AreAlike (request_for who) (requested (store_over a committed) marked_entry)) (sym sits)
@@ -259,7 +242,7 @@ module _ (a : Activity) (seat : ℕ) (committed : List ℕ) (order : List (ℕ �
               subst (λ (e : Entry). AreAlike (request_in waits at) (requested (store_over a committed) e)) (sym (entry-others at differs))
               (subst (λ (who : Seat). AreAlike (request_for who) (requested (store_over a committed) (entry_in a at))) (sym (sitter-other a.seating seat waiter at differs))
               (kept-there.asked at inside (sym (ap (λ (e : Entry). e.waiting) (entry-others at differs)) ∙ waiting))));
-          stand = by_seat {P = λ at. IsState (store_over a committed) (entry_in waits at) (state_in there at)}
+          stand = by_seat {P = λ at. IsState (store_over a committed) (entry_in waits at) (state_in there at)} a.seating.taken seat
               (subst (λ (e : Entry). IsState (store_over a committed) e (state_in there seat)) (sym entry-waits) (remarked (kept-there.stand seat taken)))
               (λ at inside differs. subst (λ (e : Entry). IsState (store_over a committed) e (state_in there at)) (sym (entry-others at differs)) (kept-there.stand at inside));
           is_current =

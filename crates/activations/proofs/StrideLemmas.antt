@@ -1,10 +1,6 @@
 -- Rows that take effect one after another, before they are counted.
-use Rattle.std.specs.Prelude.{◌≡◌, refl, ℕ, suc, ◌+◌, ◌<◌, ◌==◌, Bool, true, false, List, All, length, find, Option, Some, None}
-use Rattle.std.specs.List.{AllPairs}
-use Rattle.std.specs.Option.{option_map, ForSome}
-use Rattle.std.proofs.lemmas.Bool.{eqb-true}
-use Rattle.std.proofs.lemmas.List.{length-set}
-use Rattle.std.proofs.lemmas.List.Elements.{All-set}
+use Rattle.std.specs.Prelude.{◌≡◌, refl, ℕ, suc, ◌+◌, ◌<◌, ◌==◌, true, List, length, find, Option, Some, None}
+use Rattle.std.specs.Option.{option_map}
 use Rattle.std.proofs.Common.{arith, ap, sym, ◌∙◌, subst}
 use Rattle.lock_rules.specs.Sets.{has}
 use Rattle.flat_machine.specs.Row.{Outcome, row}
@@ -14,21 +10,20 @@ use Rattle.desk.specs.Desk.{Desk, Entry}
 use Rattle.desk.specs.Instruction.{Word, Counts, Going, instruction, turns}
 use Rattle.desk_law.proofs.Seats.{told-found}
 use Rattle.storage_unit.specs.Rows.{GoesOpen, plain_over}
-use Rattle.line_locks.specs.Held.{AreWithin}
-use Rattle.line_locks.specs.declared.request.Request.{Request}
 use Rattle.seats.specs.declared.seat.Seat.{Seat}
-use Rattle.seats.specs.Seating.{Seating, IsSeating, sitter, number_in, went_on}
+use Rattle.seats.specs.Seating.{Seating, sitter, number_in, went_on}
 use Rattle.seats.proofs.Kept.{taken-below}
-use Rattle.seats.proofs.Numbers.{AreOfPage, seat-of-taken}
+use Rattle.seats.proofs.Numbers.{seat-of-taken}
 use Rattle.activations.specs.declared.live.Live.{Live}
-use Rattle.activations.specs.Activity.{Activity, live_in, program_at, program_in, entry_in, entries, desk_over}
+use Rattle.activations.specs.Activity.{Activity, live_in, program_in, entry_in, entries, desk_over}
 use Rattle.romp_cpu.specs.Segments.{registers_of_program}
 use Rattle.storage_unit.specs.Places.{private_segment}
 use Rattle.activations.specs.Attempted.{IsSelected, TookEffect, Strode, CameTo, plain_in}
-use Rattle.activations.specs.Follows.{IsSetUp, IsSound, Follows}
+use Rattle.activations.specs.Follows.{IsSound, Follows}
 use Rattle.activations.specs.Steps.{counted, executed, HasExecuted, GoesOn, Strides}
 use Rattle.activations.proofs.RowLemmas.{goes-on}
-use Rattle.activations.proofs.SittingLemmas.{entry-counted, number-counted, counted-more, sitter-there, sitter-other}
+use Rattle.activations.proofs.SoundLemmas.{sound-reseated}
+use Rattle.activations.proofs.SittingLemmas.{entry-counted, number-counted, counted-more}
 
 -- one row more, over so many that aren't counted yet
 pub strides : (a : Activity) (seat rows : ℕ) (live : Live) (bytes : List ℕ) (marked : List (List ℕ)) (committed : List ℕ) → IsSound (counted a seat rows) → has a.seating.taken seat ≡ true → a.reach.runner ≡ seat + 1
@@ -65,72 +60,16 @@ module _ (a : Activity) (seat rows : ℕ) (sound : IsSound a) (taken : has a.sea
   numbers : (at : ℕ) → number_in (went_on a.seating seat rows) at ≡ number_in a.seating at
   numbers = number-counted a seat rows sound.seating.sixteen below
 
-  there : sitter (went_on a.seating seat rows) seat ≡ who
-  there = sitter-there a.seating seat who sound.seating.sixteen below
-
-  seating-counted : IsSeating (went_on a.seating seat rows)
-  seating-counted = record {
-    sixteen = length-set a.seating.sitters seat who ∙ sound.seating.sixteen;
-    among = sound.seating.among;
-    ascending = subst (λ (number : ℕ → ℕ). AllPairs (λ at later. number at < number later) a.seating.taken) (sym (λ i at. numbers at i)) sound.seating.ascending;
-    within = All-set (λ (one : Seat). ForSome one.waits (λ request. AreWithin a.seating.holding.pages request.wants.items)) a.seating.sitters seat who (λ request none. absurd (cc (none))) sound.seating.within;
-    whole = sound.seating.whole;
-    free = sound.seating.free;
-  }
-
   -- rows that are counted
   pub sound-counted : IsSound (counted a seat rows)
-  sound-counted = record {
-    seating = seating-counted;
-    seats = record { apart = λ at other inside among. (λ i. numbers at i == numbers other i) ∙ sound.seats.apart at other inside among };
-    numbers = subst (λ (number : ℕ → ℕ). All (λ at. number at < a.next) a.seating.taken) (sym (λ i at. numbers at i)) sound.numbers;
-    live = sound.live;
-    pages = sound.pages;
-    lines = sound.lines;
-    requests = λ at request inside waits. by_test at request inside (at == seat) refl waits;
-    begun = sound.begun;
-    entries = sound.entries;
-    set_up = λ at inside. set_up at inside (at == seat) refl;
-    free = sound.free;
-    identified = sound.identified;
-  }
-    where
-      by_test : (at : ℕ) (request : Request) → has a.seating.taken at ≡ true → (same : Bool) → (at == seat) ≡ same → (sitter (went_on a.seating seat rows) at).waits ≡ Some request → AreOfPage request.wants.items
-      by_test at request inside true e waits =
-          let none : (sitter (went_on a.seating seat rows) at).waits ≡ None = ap (λ (n : ℕ). (sitter (went_on a.seating seat rows) n).waits) (eqb-true at seat e) ∙ ap (λ (s : Seat). s.waits) there in
-          absurd (cc (none, waits))
-      by_test at request inside false e waits =
-          sound.requests at request inside (ap (λ (s : Seat). s.waits) (sym (sitter-other a.seating seat who at e)) ∙ waits)
-
-      set_up : (at : ℕ) → has a.seating.taken at ≡ true → (same : Bool) → (at == seat) ≡ same → IsSetUp (counted a seat rows) at
-      set_up at inside true e =
-          let was = sound.set_up at inside in
-          let same : (sitter (went_on a.seating seat rows) at).program ≡ (sitter a.seating at).program =
-          ap (λ (n : ℕ). (sitter (went_on a.seating seat rows) n).program) (eqb-true at seat e) ∙ ap (λ (s : Seat). s.program) there ∙ ap (λ (n : ℕ). (sitter a.seating n).program) (sym (eqb-true at seat e)) in
-          record {
-            program = subst (λ (n : ℕ). n < length a.programs) (sym same) was.program;
-            begun = was.begun;
-            registers = was.registers ∙ ap (λ (n : ℕ). registers_of_program (program_at a.programs n) a.reach.directory (private_segment at)) (sym same);
-            printed = was.printed;
-            few = was.few;
-          }
-      set_up at inside false e =
-          let was = sound.set_up at inside in
-          let same : (sitter (went_on a.seating seat rows) at).program ≡ (sitter a.seating at).program = ap (λ (s : Seat). s.program) (sitter-other a.seating seat who at e) in
-          record {
-            program = subst (λ (n : ℕ). n < length a.programs) (sym same) was.program;
-            begun = was.begun;
-            registers = was.registers ∙ ap (λ (n : ℕ). registers_of_program (program_at a.programs n) a.reach.directory (private_segment at)) (sym same);
-            printed = was.printed;
-            few = was.few;
-          }
+  sound-counted = sound-reseated a seat who sound taken refl refl (λ request none. absurd (cc (none))) (λ request none. absurd (cc (none)))
 
   -- the entry of who sits there is found by its number
   pub found-counted : find (λ (entry : Entry). entry.number == number_in a.seating seat) (entries (counted a seat rows)) ≡ Some (entry_in (counted a seat rows) seat)
   found-counted =
       told-found a.seating.taken (entry_in (counted a seat rows)) (number_in a.seating seat)
       ∙ ap (λ (n : ℕ). option_map (entry_in (counted a seat rows)) (find (λ at. number_in (went_on a.seating seat rows) at == n) a.seating.taken)) (sym (numbers seat))
-      ∙ ap (option_map (entry_in (counted a seat rows))) (seat-of-taken (went_on a.seating seat rows) seating-counted seat taken)
+      ∙ ap (option_map (entry_in (counted a seat rows))) (seat-of-taken (went_on a.seating seat rows) sound-counted.seating seat taken)
 
 -- an instruction of a turn that goes on
 turns-on : (word : Word) (number left : ℕ) (desk later : Desk) (counts after : Counts) (entry : Entry)
@@ -155,19 +94,6 @@ one-strode a after seat sound taken selected took = record {
     step committed before follows =
         strides a seat before (live_in after seat) after.reach.pool.bytes after.reach.pool.marked committed (sound-counted a seat before sound taken) taken selected.runner sound.seating.sixteen follows
         (took.went committed follows.kept.long follows.kept.clean)
-
--- no row at all
-pub none-strode : (a : Activity) (seat : ℕ) → Strode a seat 0 a
-none-strode a seat = record {
-  seating = refl;
-  follows = λ committed before follows. subst (λ (n : ℕ). Follows (counted a seat n) committed) (omega arith) follows;
-  turns = λ word committed order before left counts follows.
-      ap (λ (n : ℕ). turns word (number_in a.seating seat) n (Going (desk_over (counted a seat before) committed order) counts)) (omega arith)
-      ∙ (λ i. turns word (number_in a.seating seat) left (Going (desk_over (counted a seat (nothing before i)) committed order) (record counts { ran = nothing counts.ran i })));
-}
-  where
-    nothing : (n : ℕ) → n ≡ n + 0
-    nothing n = omega arith
 
 -- and one after the other
 pub strode-on : (a middle after : Activity) (seat rows : ℕ) → Strode a seat rows middle → Strode middle seat 1 after → Strode a seat (rows + 1) after

@@ -1,5 +1,5 @@
 -- What a seat holds once it has taken what it asked for, and what it is granted then.
-use Rattle.std.specs.Prelude.{◌≡◌, refl, ℕ, suc, ◌+◌, ◌*◌, ◌/◌, ◌%◌, ◌<◌, ◌==◌, ◌||◌, Bool, true, false, List, [], ◌∷◌, ◌++◌, length, map, slice_set}
+use Rattle.std.specs.Prelude.{◌≡◌, refl, ℕ, suc, ◌+◌, ◌*◌, ◌/◌, ◌%◌, ◌<◌, ◌==◌, ◌||◌, true, List, [], ◌∷◌, ◌++◌, length, map, slice_set}
 use Rattle.std.proofs.Common.{arith, ap, sym, ◌∙◌, subst}
 use Rattle.std.proofs.lemmas.Bool.{eq-eqb, or_left, or_right}
 use Rattle.std.proofs.lemmas.List.{length-set}
@@ -28,7 +28,7 @@ use Rattle.activations.specs.Serving.{AreGranted, locked}
 use Rattle.activations.specs.Touched.{with_whole_page}
 use Rattle.activations.proofs.GrantLemmas.{granted-page, under-set}
 use Rattle.activations.proofs.HoldingLemmas.{held-flat}
-use Rattle.activations.proofs.RequestLemmas.{asked-alike, whole-of-page}
+use Rattle.activations.proofs.RequestLemmas.{asked-alike, or-cross, whole-of-page}
 
 -- two sets of flat lines of the same pages are alike
 flat-alike : (pages : List (List ℕ × List ℕ)) (one other : Lines) → IsFlat pages one → IsFlat pages other → AreAlike one other
@@ -51,19 +51,12 @@ whole-both one other = record {
   reads = λ line.
       has-append (with_whole_pages one).reads (with_whole_pages other).reads line
       ∙ (λ i. has-whole_pages one line i || has-whole_pages other line i)
-      ∙ split (has one.reads line) (has (pages_of one.writes) (page_of_line line)) (has other.reads line) (has (pages_of other.writes) (page_of_line line))
+      ∙ or-cross (has one.reads line) (has (pages_of one.writes) (page_of_line line)) (has other.reads line) (has (pages_of other.writes) (page_of_line line))
       ∙ sym (λ i. has-append one.reads other.reads line i || pages-both (page_of_line line) i)
       ∙ sym (has-whole_pages (both one other) line);
   writes = λ line. refl;
 }
   where
-    split : (a b c d : Bool) → ((a || b) || (c || d)) ≡ ((a || c) || (b || d))
-    split true b c d = refl
-    split false true true d = refl
-    split false true false d = refl
-    split false false true d = refl
-    split false false false d = refl
-
     pages-both : (page : ℕ) → has (pages_of (one.writes ++ other.writes)) page ≡ (has (pages_of one.writes) page || has (pages_of other.writes) page)
     pages-both page =
         has-pages_of (one.writes ++ other.writes) page ∙ list_any-append (λ line. page_of_line line == page) one.writes other.writes

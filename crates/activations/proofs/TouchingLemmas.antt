@@ -142,16 +142,6 @@ wanted-two d one two first last store page page' set set' lines order near diffe
       writes = All-cons (λ (w : Want). IsOfPage w.writes) one (two ∷ []) (All-head (λ (w : Want). IsOfPage w.writes) one [] set.writes) set'.writes;
     }
 
--- no line
-pub wanted-none : (d : Layout) → AreWanted d []
-wanted-none d = record {
-  within = All-nil (λ (w : Want). w.page < page_count d);
-  sets = record { reads = All-nil (λ (w : Want). IsOfPage w.reads); writes = All-nil (λ (w : Want). IsOfPage w.writes) };
-  apart = All-nil _;
-  once = tt;
-  pages = refl;
-}
-
 -- few bytes lie in one line or two
 near : (page : PageSize) (at bytes : ℕ) → 0 < bytes → bytes ≤ 64 → at + bytes ≤ 2 ^ 22
     → (at / (page_bytes page / 16) ≤ (at + bytes - 1) / (page_bytes page / 16)) × ((at + bytes - 1) / (page_bytes page / 16) ≤ at / (page_bytes page / 16) + 1)

@@ -1,13 +1,13 @@
 -- The rows of a turn, instruction by instruction.
-use Rattle.std.specs.Prelude.{◌≡◌, refl, ℕ, suc, ◌+◌, ◌-◌, ◌<◌, ◌≤◌, true, List, length, Result, Err}
+use Rattle.std.specs.Prelude.{◌≡◌, refl, ℕ, suc, ◌+◌, ◌-◌, ◌<◌, ◌≤◌, true, List, length}
 use Rattle.std.proofs.Common.{arith, ap, sym, ◌∙◌, subst, inl}
 use Rattle.std.proofs.lemmas.Bool.Decides.{nat_tests}
 use Rattle.lock_rules.specs.Sets.{has}
 use Rattle.outside.specs.declared.world.Outside.{Ghosts}
 use Rattle.outside.specs.Runs.{OnlyAsks}
 use Rattle.desk.specs.Answers.{ending_told}
-use Rattle.desk.specs.Desk.{Desk, Entry}
-use Rattle.desk.specs.Instruction.{Word, ReadFailed, Counts, Turning, Going, Over, Ending, Limit, Disk, commits, turns}
+use Rattle.desk.specs.Desk.{Desk}
+use Rattle.desk.specs.Instruction.{Word, ReadFailed, Counts, Turning, Going, Ending, Limit, Disk, turns}
 use Rattle.desk.specs.declared.answers.TurnEnd.{TurnEnd}
 use Rattle.desk.specs.declared.answers.TurnEnd.TheVariants as end
 use Rattle.desk_law.specs.Beside.{Reads}
@@ -27,7 +27,7 @@ use Rattle.activations.specs.Kept.{KeepsParts, StaysSeated}
 use Rattle.activations.specs.Serving.{IsOver, instruction_in}
 use Rattle.activations.specs.Steps.{counted}
 use Rattle.activations.specs.Turning.{HasBroken, HasEnded, counts_of}
-use Rattle.activations.specs.Turns.{AreTurns, IsAtCommit, IsTurning, selected_in, turn_in, commit_call}
+use Rattle.activations.specs.Turns.{IsAtCommit, IsTurning, selected_in, turn_in, commit_call}
 use Rattle.activations.proofs.KeptLemmas.{keeps-less, keeps-on}
 use Rattle.activations.proofs.RowLemmas.{orderly-order}
 use Rattle.activations.proofs.SittingLemmas.{number-counted}
@@ -176,11 +176,6 @@ asks-none G w = record {
   writes = refl;
   crash = λ told image seen left. left;
 }
-
--- an end that is handed on
-pub handed-turn : {U : Type 0} (result : Result U TurnEnd) (over : TurnEnd) → result ≡ Err over → (begins : Word → Turning) (a : Activity) (seat : ℕ) (committed : List ℕ) (order : List (ℕ × ℕ)) (counts : Counts)
-    → HasEnded over begins a committed order counts → AreTurns result begins a seat committed order counts
-handed-turn {U} result over is begins a seat committed order counts ended = subst (λ (r : Result U TurnEnd). AreTurns r begins a seat committed order counts) (sym is) ended
 
 -- more rows of a turn with a limit were done
 pub keeps-far : (first old mid new : Activity) (limit left rows : ℕ) → rows ≤ left → left ≤ limit → KeepsParts first old (limit - left) → KeepsParts old mid 0 → KeepsParts mid new rows → KeepsParts first new (limit - (left - rows))

@@ -3,7 +3,7 @@ use Rattle.std.specs.Prelude.{◌≡◌, ◌≢◌, ℕ, ◌+◌, ◌<◌, ◌�
 use Rattle.outside.specs.declared.world.Outside.{Ghosts}
 use Rattle.outside.specs.Causes.{Rose}
 use Rattle.flat_machine.specs.declared.machine.Plain.{Plain}
-use Rattle.flat_machine.specs.Row.{On, Commit, Check, row}
+use Rattle.flat_machine.specs.Row.{On, row}
 use Rattle.line_geometry.specs.Directory.{byte_count}
 use Rattle.line_locks.specs.Flat.{lines_wanted}
 use Rattle.line_locks.specs.declared.request.Request.{Request}

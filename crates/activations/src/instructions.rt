@@ -101,7 +101,14 @@ impl Activations {
     /// # Errors
     ///
     /// The end of the turn: it asks for too many lines, a page can't be read, it waits, or it is a victim.
-    pub(super) fn serve<W: Outside>(&mut self, store: &Durable, outside: &mut W, seat: u8, access: Access, tally: &mut Tally) -> Result<(), TurnEnd>
+    pub(super) fn serve<W: Outside>(
+        &mut self,
+        store: &Durable,
+        outside: &mut W,
+        seat: u8,
+        access: Access,
+        tally: &mut Tally,
+    ) -> Result<(), TurnEnd>
         requires sound { IsSound (activity_of self.old) }
         requires taken { has (activity_of self.old).seating.taken seat ≡ true }
         requires selected { IsSelected (activity_of self.old) seat }
@@ -132,7 +139,14 @@ impl Activations {
     /// # Errors
     ///
     /// The end of the turn: it asks for too many lines, or a page can't be read.
-    fn prepare<W: Outside>(&mut self, store: &Durable, outside: &mut W, seat: u8, access: Access, tally: &mut Tally) -> Result<(Touch, (bool, bool)), TurnEnd>
+    fn prepare<W: Outside>(
+        &mut self,
+        store: &Durable,
+        outside: &mut W,
+        seat: u8,
+        access: Access,
+        tally: &mut Tally,
+    ) -> Result<(Touch, (bool, bool)), TurnEnd>
         requires sound { IsSound (activity_of self.old) }
         requires taken { has (activity_of self.old).seating.taken seat ≡ true }
         requires selected { IsSelected (activity_of self.old) seat }
@@ -165,7 +179,14 @@ impl Activations {
     /// # Errors
     ///
     /// A page can't be read: who sits in the seat is rolled back, and no page is resident.
-    fn bring<W: Outside>(&mut self, store: &Durable, outside: &mut W, seat: u8, touch: &Touch, tally: &mut Tally) -> Result<(), TurnEnd>
+    fn bring<W: Outside>(
+        &mut self,
+        store: &Durable,
+        outside: &mut W,
+        seat: u8,
+        touch: &Touch,
+        tally: &mut Tally,
+    ) -> Result<(), TurnEnd>
         requires sound { IsSound (activity_of self.old) }
         requires taken { has (activity_of self.old).seating.taken seat ≡ true }
         requires wanted { AreWanted (activity_of self.old).reach.directory (wants_of touch.now) }
@@ -224,7 +245,15 @@ impl Activations {
     /// # Errors
     ///
     /// The end of the turn: a page can't be read.
-    fn get<W: Outside>(&mut self, store: &Durable, outside: &mut W, seat: u8, touch: &Touch, refused: (bool, bool), tally: &mut Tally) -> Result<(), TurnEnd>
+    fn get<W: Outside>(
+        &mut self,
+        store: &Durable,
+        outside: &mut W,
+        seat: u8,
+        touch: &Touch,
+        refused: (bool, bool),
+        tally: &mut Tally,
+    ) -> Result<(), TurnEnd>
         requires sound { IsSound (activity_of self.old) }
         requires taken { has (activity_of self.old).seating.taken seat ≡ true }
         requires selected { IsSelected (activity_of self.old) seat }

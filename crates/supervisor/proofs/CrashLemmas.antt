@@ -1,12 +1,12 @@
 -- What a crash of a session did.
-use Rattle.std.proofs.Common.{◌≡◌, inl, inr, ℕ, ◌+◌, ◌*◌, ◌≤◌, List, [], length, refl, sym, ◌∙◌, ap, subst, arith, Option}
-use Rattle.std.specs.Prelude.{Bool, true, false, unwrap_or, slice_index_or}
+use Rattle.std.proofs.Common.{◌≡◌, inl, inr, ℕ, List, [], refl, sym, ◌∙◌, ap, arith, Option}
+use Rattle.std.specs.Prelude.{true, unwrap_or}
 use Rattle.outside.specs.declared.world.Outside.{Ghosts}
 use Rattle.outside.specs.Causes.{Rose}
 use Rattle.outside.specs.Durable.{IsSure}
 use Rattle.outside.specs.Runs.{OnlyAsks, held_of}
 use Rattle.outside.proofs.Durable.{leaves_held}
-use Rattle.store_format.specs.Header.{Header, HasRanges, most_lines}
+use Rattle.store_format.specs.Header.{Header}
 use Rattle.store_format.specs.Bank.{Holds, Faulty, bank_of}
 use Rattle.store_format.specs.Stands.{Stands, stands, chosen}
 use Rattle.restart.specs.Kept.{KeptStore, number_of}
@@ -22,10 +22,7 @@ use Rattle.desk.specs.Report.{number_after}
 use Rattle.desk.specs.Run.{Step, Crashed, CrashFailed, shut, restarted}
 use Rattle.run_law.proofs.StepLemmas.{stepped}
 use Rattle.activations.specs.declared.activations.Activations.{Activations}
-use Rattle.seats.specs.declared.seat.Seat.{Seat}
-use Rattle.seats.specs.Seating.{newcomer}
-use Rattle.activations.specs.Ends.{IsDeserted, IsRestarted}
-use Rattle.activations.specs.Follows as running
+use Rattle.activations.specs.Ends.{IsRestarted}
 use Rattle.activations.specs.View.{activity_of}
 use Rattle.supervisor.specs.declared.session.Session.{Session}
 use Rattle.supervisor.specs.Session.{IsSound, activity, desk_of, order_of}
@@ -104,29 +101,6 @@ module _ {W : Type 0} (G : Ghosts W) (s : Session) (store : KeptStore) (header :
     crash = λ image seen there. inl (crash-leaves image seen there);
     doubt = λ doubted. absurd (failed-sure doubted);
   }
-
--- A session from which all are gone is sound, closed or not: who sat in its seats did what he did before.
-pub sound-forgotten : (s : Session) (store : KeptStore) (left : Activations) (closed : Bool) → store.header ≡ s.store.header → IsSound s → s.closed ≡ false → running.IsSound (activity_of left) → IsDeserted (activity s) (activity_of left)
-    → (activity_of left).most_lines ≡ (activity s).most_lines → (activity_of left).reach.directory ≡ (activity s).reach.directory → (activity_of left).seating.sitters ≡ (activity s).seating.sitters
-    → IsSound (record s { store = store; activations = left; closed = closed })
-sound-forgotten s store left closed header sound still runs gone most directory sitters = record {
-  ranges = subst HasRanges (sym header) sound.ranges;
-  running = runs;
-  directory = ap (λ (said : Header). said.directory) header ∙ sound.directory ∙ sym directory;
-  most = ap most_lines header ∙ sound.most ∙ sym most;
-  room = record {
-    begun = subst (λ (next : ℕ). next ≤ s.begins + 1) (sym gone.next) sound.room.begun;
-    begin_numbers = sound.room.begin_numbers;
-    turned = sound.room.turned;
-    rows = λ seat within. subst (λ (those : List Seat). (slice_index_or those seat (newcomer 0 0 [])).rows ≤ s.turns * 1000000) (sym sitters) (sound.room.rows seat within);
-    places = λ open_now.
-        let before = sound.room.places still in
-        let none : length (activity_of left).seating.taken ≡ 0 = ap length gone.taken in
-        let next = gone.next in
-        omega (arith, before, none, next);
-    order = sound.room.order;
-  };
-}
 
 -- bytes that were its store's have no fault
 pub undamaged : (s : Session) (held : List ℕ) → IsOver s held → (offset : ℕ) → bank_of held s.store.header (chosen held) ≡ Faulty offset → ⊥

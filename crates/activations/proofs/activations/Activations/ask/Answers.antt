@@ -1,17 +1,14 @@
-use Rattle.std.proofs.Common.{◌≡◌, false, ℕ, IsSome, ap, arith, sym, ◌∙◌, subst}
-use Rattle.std.specs.Result.{OnOk, IfErr}
-use Rattle.line_locks.specs.Held.{AreWithin}
-use Rattle.line_locks.specs.declared.request.Want.{Want}
-use Rattle.seats.specs.Seating.{Seating, IsSeating, sitter, number_in}
+use Rattle.std.proofs.Common.{◌≡◌, ℕ, IsSome, ap, arith, sym, ◌∙◌, subst}
+use Rattle.std.specs.Result.{IfErr}
+use Rattle.seats.specs.Seating.{Seating, sitter, number_in}
 use Rattle.seats.specs.Waiting.{holders}
-use Rattle.desk.specs.declared.answers.TurnEnd.{TurnEnd}
-use Rattle.activations.specs.Activity.{Activity, desk_over}
+use Rattle.activations.specs.Activity.{desk_over}
 use Rattle.activations.specs.Follows.{IsSound}
 use Rattle.activations.specs.Kept.{KeepsParts, StaysSeated}
 use Rattle.activations.specs.Serving.{IsContested}
 use Rattle.activations.specs.Turning.{IsContestEnd, counts_of}
 use Rattle.activations.specs.View.{activity_of}
-use Rattle.activations.specs.Touched.{with_whole_page, wants_of}
+use Rattle.activations.specs.Touched.{wants_of}
 use Rattle.activations.proofs.AskLemmas.{asked-within, some-holders, sound-asking, asks-now, keeps-asking, stays-asking, asked-whole}
 use Rattle.activations.proofs.KeptLemmas.{keeps-on, stays-on, ok-then}
 use Rattle.seats.proofs.Kept.{taken-below}

@@ -3,7 +3,6 @@ use Rattle.desk.specs.Instruction as desk
 use Rattle.activations.specs.declared.live.Live.{Live}
 use Rattle.activations.specs.Activity.{Activity, live_in}
 use Rattle.activations.specs.Serving.{IsOver, instruction_in}
-use Rattle.activations.specs.Steps.{rolled}
 use Rattle.activations.specs.View.{activity_of}
 use Rattle.activations.proofs.EndLemmas.{checked}
 use Rattle.activations.proofs.ExecuteLemmas.{runs-there}

@@ -1,16 +1,9 @@
-use Rattle.std.proofs.Common.{◌≡◌, true, ℕ, ◌+◌, length, ap, arith, sym, ◌∙◌, subst, inl, inr}
+use Rattle.std.proofs.Common.{◌≡◌, subst, inl, inr}
 use Rattle.romp_cpu.specs.declared.cpu.Attempt.{Attempt}
-use Rattle.seats.specs.Seating.{Seating}
-use Rattle.activations.specs.Activity.{Activity}
 use Rattle.activations.specs.Attempted.{WasAttempted}
-use Rattle.activations.specs.Follows.{IsSound}
-use Rattle.activations.specs.Kept.{KeepsParts}
-use Rattle.activations.specs.Serving.{Goes}
-use Rattle.activations.specs.Turning.{counts_of}
 use Rattle.activations.specs.View.{activity_of}
-use Rattle.activations.proofs.GoOnLemmas.{keeps-counted, took-served, not-check, not-commit, still-taken, took-either}
-use Rattle.activations.proofs.KeptLemmas.{keeps-took, keeps-on, keeps-checked}
-use Rattle.activations.proofs.StrideLemmas.{sound-counted}
+use Rattle.activations.proofs.GoOnLemmas.{took-served, not-check, not-commit, took-either}
+use Rattle.activations.proofs.KeptLemmas.{keeps-took, keeps-checked}
 use Rattle.activations.proofs.activations.Activations.go_on.Goals as goal
 
 pub returns-in-Went-clause-parts : goal.returns-in-Went-clause-parts

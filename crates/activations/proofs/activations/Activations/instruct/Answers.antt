@@ -1,28 +1,25 @@
-use Rattle.std.proofs.Common.{◌≡◌, ◌+◌, Ok, Err, ap, arith, sym, ◌∙◌, subst}
-use Rattle.std.proofs.lemmas.Result.{err_from_is_err_and}
+use Rattle.std.proofs.Common.{◌≡◌, Result, arith, sym, subst}
 use Rattle.desk.specs.declared.answers.TurnEnd.{TurnEnd}
 use Rattle.romp_cpu.specs.declared.cpu.Attempt.{Attempt}
 use Rattle.flat_machine.specs.Row.{Check, row}
-use Rattle.seats.specs.Seating.{Seating}
 use Rattle.activations.specs.Activity.{Activity, program_in}
 use Rattle.activations.specs.Attempted.{IsSelected, WasAttempted, plain_in}
-use Rattle.activations.specs.Follows.{IsSound, Follows}
-use Rattle.activations.specs.Kept.{KeepsParts}
+use Rattle.activations.specs.Follows.{Follows}
 use Rattle.activations.specs.Instructed.{GoesUncounted}
 use Rattle.activations.specs.Serving.{instruction_in}
 use Rattle.activations.specs.Turning.{HasEnded, counts_of}
+use Rattle.activations.specs.Turns.{IsStep}
 use Rattle.activations.specs.View.{activity_of}
-use Rattle.activations.proofs.GoOnLemmas.{keeps-counted, still-taken, took-either}
-use Rattle.activations.proofs.InstructLemmas.{row-goes, at-commit, stepped}
-use Rattle.activations.proofs.KeptLemmas.{keeps-took, keeps-on, keeps-checked}
-use Rattle.activations.proofs.StrideLemmas.{sound-counted}
+use Rattle.activations.proofs.GoOnLemmas.{took-either}
+use Rattle.activations.proofs.InstructLemmas.{row-goes, at-commit}
+use Rattle.activations.proofs.KeptLemmas.{keeps-took, keeps-checked}
+use Rattle.activations.proofs.ServeLemmas.{handed}
 use Rattle.activations.proofs.activations.Activations.instruct.Goals as goal
 
 pub returns-in_err-serve-clause-step : goal.returns-in_err-serve-clause-step
 returns-in_err-serve-clause-step g c committed order store follows =
-    let told = err_from_is_err_and c.from_residual.result c.from_residual.ensures.1 in
-    stepped c.from_residual.result c.in_err-serve.field-0.0 (told.1 ∙ ap (λ (end : TurnEnd). Err end) told.2) (instruction_in (activity_of c.args.self.now) c.args.seat committed order (counts_of c.args.tally.now))
-    (activity_of c.serve.new.self) c.args.seat committed order (counts_of c.serve.new.tally) (c.in_err-serve.ensures.served committed order store follows)
+    handed (λ (r : Result _ TurnEnd). IsStep r (instruction_in (activity_of c.args.self.now) c.args.seat committed order (counts_of c.args.tally.now)) (activity_of c.serve.new.self) c.args.seat committed order (counts_of c.serve.new.tally))
+    c.from_residual.result c.in_err-serve.field-0.0 c.from_residual.ensures.1 (c.in_err-serve.ensures.served committed order store follows)
 
 pub returns-in-Went-clause-parts : goal.returns-in-Went-clause-parts
 returns-in-Went-clause-parts g c =

@@ -1,10 +1,10 @@
-use Rattle.std.proofs.Common.{◌+◌, sym, ◌∙◌, ap, subst}
+use Rattle.std.proofs.Common.{◌+◌, Result, sym, ◌∙◌, ap, subst}
 use Rattle.desk.specs.declared.answers.TurnEnd.{TurnEnd}
 use Rattle.storage_unit.specs.Bytes.{IsClean}
 use Rattle.activations.specs.declared.tally.Tally.{Tally}
 use Rattle.activations.specs.Activity.{Activity}
 use Rattle.activations.specs.Fetching.{HasBrokenOff}
-use Rattle.activations.specs.Instructed.{IsPrepared}
+use Rattle.activations.specs.Instructed.{IsPrepared, Prepares}
 use Rattle.activations.specs.Serves.{IsFetched}
 use Rattle.activations.specs.Serving.{instruction_in}
 use Rattle.activations.specs.Steps.{with_pool}
@@ -12,7 +12,8 @@ use Rattle.activations.specs.Touched.{wants_of, pages_wanted}
 use Rattle.activations.specs.Turning.{HasEnded, HasBroken, counts_of}
 use Rattle.activations.specs.View.{activity_of}
 use Rattle.activations.proofs.KeptLemmas.{keeps-left, keeps-broke}
-use Rattle.activations.proofs.PrepareLemmas.{is-to-serve, prepare-broke, prepared-so, ends-so}
+use Rattle.activations.proofs.PrepareLemmas.{is-to-serve, prepare-broke, prepared-so}
+use Rattle.activations.proofs.ServeLemmas.{handed}
 use Rattle.activations.proofs.activations.Activations.prepare.Goals as goal
 
 pub returns-in_err-keep_limit-clause-parts : goal.returns-in_err-keep_limit-clause-parts
@@ -24,8 +25,8 @@ returns-in_err-keep_limit-clause-prepared g c committed order is follows =
     let counts = counts_of c.args.tally.now in
     let to = is-to-serve (activity_of c.args.self.now) c.args.seat c.args.access (wants_of c.touch_of-touch.result) c.requires.sound c.requires.taken c.requires.selected c.requires.shut
     c.touch_of-touch.ensures.lines committed follows in
-    ends-so c.from_residual.result c.in_err-keep_limit.field-0.0 c.from_residual.ensures.1 (instruction_in (activity_of c.args.self.now) c.args.seat committed order counts)
-    (activity_of c.keep_limit.new.self) c.args.seat committed order counts (c.in_err-keep_limit.ensures.over committed order counts to.0 to.1)
+    handed (λ (r : Result _ TurnEnd). Prepares r (instruction_in (activity_of c.args.self.now) c.args.seat committed order counts) (activity_of c.keep_limit.new.self) c.args.seat committed order counts)
+    c.from_residual.result c.in_err-keep_limit.field-0.0 c.from_residual.ensures.1 (c.in_err-keep_limit.ensures.over committed order counts to.0 to.1)
 
 pub returns-in_err-bring-clause-parts : goal.returns-in_err-bring-clause-parts
 returns-in_err-bring-clause-parts g c =
@@ -51,8 +52,8 @@ returns-in_err-bring-clause-prepared g c committed order is follows =
     (λ (a : Activity). HasBrokenOff g.W.Outside c.args.store.now c.args.outside.now a c.args.seat (pages_wanted (wants_of c.touch_of-touch.result)) c.args.tally.now.pages
     (activity_of c.bring.new.self) c.bring.new.tally.pages)
     c.in_ok-keep_limit.ensures.kept.0 c.in_err-bring.ensures.broke) in
-    ends-so c.from_residual-in_err-bring.result c.in_err-bring.field-0.0 c.from_residual-in_err-bring.ensures.1 begins (activity_of c.bring.new.self) c.args.seat committed order
-    (counts_of c.bring.new.tally)
+    handed (λ (r : Result _ TurnEnd). Prepares r begins (activity_of c.bring.new.self) c.args.seat committed order (counts_of c.bring.new.tally))
+    c.from_residual-in_err-bring.result c.in_err-bring.field-0.0 c.from_residual-in_err-bring.ensures.1
     (subst (λ (how : TurnEnd). HasEnded how begins (activity_of c.bring.new.self) committed order (counts_of c.bring.new.tally)) (sym c.in_err-bring.ensures.ends.0)
     (subst (λ (t : Tally). HasBroken begins (activity_of c.bring.new.self) committed order (counts_of t)) (sym c.bring.ensures.tally) broke))
 

@@ -1,8 +1,6 @@
-use Rattle.std.proofs.Common.{◌≡◌, ◌<◌, ◌≤◌, ◌+◌, ◌-◌, ◌*◌, ◌^◌, ℕ, List, true, length, Ok, Err, refl, ap, arith, sym, ◌∙◌, subst}
-use Rattle.std.proofs.lemmas.Result.{err_from_is_err_and}
+use Rattle.std.proofs.Common.{◌≡◌, ◌+◌, ◌-◌, ◌^◌, ℕ, List, true, length, Result, Ok, refl, ap, arith, sym, ◌∙◌, subst}
 use Rattle.lock_rules.specs.Sets.{has}
 use Rattle.outside.proofs.Runs.{asks_on}
-use Rattle.outside.specs.Causes.{Rose}
 use Rattle.desk.specs.Instruction.{Counts, Limit}
 use Rattle.desk.specs.declared.answers.TurnEnd.{TurnEnd}
 use Rattle.arrayvec.specs.ArrayVec.{array_vec_len}
@@ -10,15 +8,16 @@ use Rattle.activations.specs.declared.tally.Tally.{Tally}
 use Rattle.activations.specs.declared.instructions.Went.{Went}
 use Rattle.activations.specs.Activity.{Activity}
 use Rattle.activations.specs.Follows.{Follows}
-use Rattle.activations.specs.Kept.{KeepsParts, AreRowsWithin}
+use Rattle.activations.specs.Kept.{KeepsParts}
 use Rattle.activations.specs.Steps.{counted}
 use Rattle.activations.specs.Serving.{IsOver, instruction_in}
 use Rattle.activations.specs.Turning.{counts_of}
-use Rattle.activations.specs.Turns.{IsStep, IsTurning, IsAtCommit, AreTurns, turn_in, selected_in}
+use Rattle.activations.specs.Turns.{IsStep, IsTurning, IsAtCommit, AreTurns, turn_in}
 use Rattle.activations.specs.View.{activity_of}
 use Rattle.activations.proofs.BringLemmas.{store-on}
 use Rattle.activations.proofs.KeptLemmas.{keeps-itself, stays-itself, stays-on}
-use Rattle.activations.proofs.TurnLemmas.{asks-none, follows-selected, keeps-far, keeps-within, handed-turn, turn-begins, turn-goes, turn-commits, turn-ends, turn-limit}
+use Rattle.activations.proofs.ServeLemmas.{handed}
+use Rattle.activations.proofs.TurnLemmas.{asks-none, follows-selected, keeps-far, keeps-within, turn-begins, turn-goes, turn-commits, turn-ends, turn-limit}
 use Rattle.activations.proofs.activations.Activations.run.Goals as goal
 
 pub loop-left-init : goal.loop-left-init
@@ -100,9 +99,8 @@ returns-in_err-instruct-clause-turned g c committed order store follows =
     let begins = turn_in first seat c.args.limit committed order (counts_of c.args.tally.now) in
     let turning = inv.11 committed order store (subst (λ (x : Activity). Follows x committed) (sym c.select.ensures.shape) (follows-selected (activity_of c.args.self.now) seat committed follows)) in
     let here = store-on g.W.Outside g.met.W.Outside.fewer_later c.args.store.now c.args.outside.now c.loop-left.outside committed inv.4 store in
-    let told = err_from_is_err_and c.from_residual.result c.from_residual.ensures.1 in
     subst (λ (x : Activity). AreTurns c.from_residual.result (turn_in x seat c.args.limit committed order (counts_of c.args.tally.now)) new seat committed order (counts_of c.instruct.new.tally)) c.select.ensures.shape
-    (handed-turn c.from_residual.result c.in_err-instruct.field-0.0 (told.1 ∙ ap (λ (end : TurnEnd). Err end) told.2) begins new seat committed order (counts_of c.instruct.new.tally)
+    (handed (λ (r : Result _ TurnEnd). AreTurns r begins new seat committed order (counts_of c.instruct.new.tally)) c.from_residual.result c.in_err-instruct.field-0.0 c.from_residual.ensures.1
     (turn-ends begins old seat c.loop-left.left committed order (counts_of c.loop-left.tally) inv.0 inv.1.taken c.loop-left-test.true turning g.W.Outside c.loop-left.outside c.instruct.new.outside c.loop-left.tally c.instruct.new.tally
     c.in_err-instruct.field-0.0 new refl c.instruct.ensures.tally.pages_before c.in_err-instruct.ensures.ends (c.in_err-instruct.ensures.step committed order here turning.follows)))
 

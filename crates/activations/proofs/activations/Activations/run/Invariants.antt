@@ -1,5 +1,5 @@
 -- The instructions of a turn.
-use Rattle.std.proofs.Common.{◌≡◌, ◌≤◌, ◌+◌, ◌*◌, ◌-◌, true, ℕ, List, length}
+use Rattle.std.proofs.Common.{◌≡◌, ◌≤◌, ◌+◌, ◌*◌, ◌-◌, ℕ, List, length}
 use Rattle.arrayvec.specs.ArrayVec.{array_vec_len}
 use Rattle.outside.specs.Runs.{OnlyAsks}
 use Rattle.activations.specs.Attempted.{IsSelected}

@@ -1,7 +1,6 @@
-use Rattle.std.proofs.Common.{ap, sym, ◌∙◌, subst}
+use Rattle.std.proofs.Common.{sym, subst}
 use Rattle.line_geometry.specs.Directory.{Layout}
 use Rattle.line_geometry.specs.Legal.{IsLegal}
-use Rattle.segment_regs.specs.declared.registers.SegmentRegister.{SegmentRegister}
 use Rattle.storage_unit.specs.Held.{AreReached}
 use Rattle.storage_unit.proofs.UnitLemmas.{program-reached}
 use Rattle.activations.specs.Activity.{program_in}

@@ -1,10 +1,10 @@
-use Rattle.std.proofs.Common.{◌≡◌, ◌<◌, ℕ, Err, ap, arith, sym, ◌∙◌, subst}
+use Rattle.std.proofs.Common.{◌<◌, ℕ, Result, Err, ap, arith, sym, ◌∙◌, subst}
 use Rattle.std.proofs.lemmas.Result.{err_from_is_err_and}
 use Rattle.outside.proofs.Runs.{asks_on}
 use Rattle.desk.specs.declared.answers.TurnEnd.{TurnEnd}
-use Rattle.activations.specs.Kept.{KeepsParts}
 use Rattle.outside.specs.Causes.{Rose}
 use Rattle.activations.specs.declared.tally.Tally.{Tally}
+use Rattle.activations.specs.Instructed.{IsInstruction}
 use Rattle.activations.specs.Serving.{instruction_in}
 use Rattle.activations.specs.Turning.{counts_of}
 use Rattle.activations.specs.View.{activity_of}
@@ -18,9 +18,8 @@ returns-in_err-touch-clause-parts g c = c.prepare.ensures.parts
 
 pub returns-in_err-touch-clause-served : goal.returns-in_err-touch-clause-served
 returns-in_err-touch-clause-served g c committed order store follows =
-    let told = err_from_is_err_and c.from_residual.result c.from_residual.ensures.1 in
-    handed c.from_residual.result c.in_err-touch.field-0.0 (told.1 ∙ ap (λ (end : TurnEnd). Err end) told.2) (instruction_in (activity_of c.args.self.now) c.args.seat committed order (counts_of c.args.tally.now))
-    (activity_of c.prepare.new.self) c.args.seat committed order (counts_of c.prepare.new.tally) (c.in_err-touch.ensures.prepared committed order store follows)
+    handed (λ (r : Result _ TurnEnd). IsInstruction r (instruction_in (activity_of c.args.self.now) c.args.seat committed order (counts_of c.args.tally.now)) (activity_of c.prepare.new.self) c.args.seat committed order (counts_of c.prepare.new.tally))
+    c.from_residual.result c.in_err-touch.field-0.0 c.from_residual.ensures.1 (c.in_err-touch.ensures.prepared committed order store follows)
 
 pub returns-in_err-ask-clause-parts : goal.returns-in_err-ask-clause-parts
 returns-in_err-ask-clause-parts g c =
@@ -29,10 +28,9 @@ returns-in_err-ask-clause-parts g c =
 pub returns-in_err-ask-clause-served : goal.returns-in_err-ask-clause-served
 returns-in_err-ask-clause-served g c committed order store follows =
     let begins = instruction_in (activity_of c.args.self.now) c.args.seat committed order (counts_of c.args.tally.now) in
-    let told = err_from_is_err_and c.from_residual-in_err-ask.result c.from_residual-in_err-ask.ensures.1 in
     let prepared = c.in_ok-touch.ensures.prepared committed order store follows in
-    handed c.from_residual-in_err-ask.result c.in_err-ask.field-0.0 (told.1 ∙ ap (λ (end : TurnEnd). Err end) told.2) begins
-    (activity_of c.ask.new.self) c.args.seat committed order (counts_of c.ask.new.tally) (c.in_err-ask.ensures.settled begins prepared.attempt _ committed order prepared.asked)
+    handed (λ (r : Result _ TurnEnd). IsInstruction r begins (activity_of c.ask.new.self) c.args.seat committed order (counts_of c.ask.new.tally))
+    c.from_residual-in_err-ask.result c.in_err-ask.field-0.0 c.from_residual-in_err-ask.ensures.1 (c.in_err-ask.ensures.settled begins prepared.attempt _ committed order prepared.asked)
 
 pub returns-in_err-get-clause-asks : goal.returns-in_err-get-clause-asks
 returns-in_err-get-clause-asks g c = asks_on g.W.Outside g.met.W.Outside.fewer_later c.args.outside.now c.prepare.new.outside c.get.new.outside c.prepare.ensures.asks c.get.ensures.asks
@@ -56,10 +54,9 @@ returns-in_err-get-clause-ends g c =
 pub returns-in_err-get-clause-served : goal.returns-in_err-get-clause-served
 returns-in_err-get-clause-served g c committed order store follows =
     let begins = instruction_in (activity_of c.args.self.now) c.args.seat committed order (counts_of c.args.tally.now) in
-    let told = err_from_is_err_and c.from_residual-in_err-get.result c.from_residual-in_err-get.ensures.1 in
     let prepared = c.in_ok-touch.ensures.prepared committed order store follows in
-    handed c.from_residual-in_err-get.result c.in_err-get.field-0.0 (told.1 ∙ ap (λ (end : TurnEnd). Err end) told.2) begins
-    (activity_of c.get.new.self) c.args.seat committed order (counts_of c.get.new.tally)
+    handed (λ (r : Result _ TurnEnd). IsInstruction r begins (activity_of c.get.new.self) c.args.seat committed order (counts_of c.get.new.tally))
+    c.from_residual-in_err-get.result c.in_err-get.field-0.0 c.from_residual-in_err-get.ensures.1
     (c.in_err-get.ensures.served begins prepared.attempt prepared.next committed order (store-on g.W.Outside g.met.W.Outside.fewer_later c.args.store.now c.args.outside.now c.prepare.new.outside committed c.prepare.ensures.asks store)
     (prepared.asked.number ∙ sym c.in_ok-ask.ensures.stays.number) prepared.goes prepared.lines (c.in_ok-ask.ensures.settled begins prepared.attempt _ committed order prepared.asked))
 

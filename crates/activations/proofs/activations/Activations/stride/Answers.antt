@@ -4,7 +4,7 @@ use Rattle.romp_cpu.specs.declared.cpu.Attempt.{Attempt}
 use Rattle.activations.specs.Attempted.{WasAttempted}
 use Rattle.activations.specs.View.{activity_of}
 use Rattle.activations.proofs.GoOnLemmas.{took-either}
-use Rattle.activations.proofs.KeptLemmas.{keeps-itself, keeps-two, keeps-took}
+use Rattle.activations.proofs.KeptLemmas.{keeps-two, keeps-took}
 use Rattle.activations.proofs.StrideLemmas.{strode-more, came-still}
 use Rattle.activations.proofs.activations.Activations.stride.Goals as goal
 

@@ -1,0 +1,95 @@
+-- What leaves what is kept sound: other pages in the frames, numbers that are given, and a seat whose sitter goes on.
+use Rattle.std.specs.Prelude.{◌≡◌, ℕ, ◌<◌, ◌==◌, Bool, true, false, All, length, Some}
+use Rattle.std.specs.List.{AllPairs}
+use Rattle.std.specs.Option.{ForSome}
+use Rattle.std.proofs.Common.{ap, refl, sym, ◌∙◌, subst}
+use Rattle.std.proofs.lemmas.Bool.{eqb-true}
+use Rattle.std.proofs.lemmas.List.{length-set}
+use Rattle.std.proofs.lemmas.List.Elements.{All-set}
+use Rattle.lock_rules.specs.Sets.{has}
+use Rattle.line_locks.specs.Held.{AreWithin}
+use Rattle.line_locks.specs.declared.request.Request.{Request}
+use Rattle.frame_pool.specs.declared.model.Pool.{Pool}
+use Rattle.romp_cpu.specs.Segments.{registers_of_program}
+use Rattle.seats.specs.declared.seat.Seat.{Seat}
+use Rattle.seats.specs.Seating.{IsSeating, sitter, number_in, with_sitter}
+use Rattle.seats.proofs.Kept.{taken-below}
+use Rattle.seats.proofs.Numbers.{AreOfPage}
+use Rattle.storage_unit.specs.Places.{private_segment}
+use Rattle.activations.specs.Activity.{Activity, program_at}
+use Rattle.activations.specs.Follows.{IsSound}
+use Rattle.activations.proofs.SittingLemmas.{sitter-there, sitter-other, number-there}
+
+-- frames may have other pages, and numbers may have been given
+pub sound-beside : (a : Activity) (next : ℕ) (pool : Pool) → IsSound a → All (λ seat. number_in a.seating seat < next) a.seating.taken → IsSound (record a { next = next; reach = record a.reach { pool = pool } })
+sound-beside a next pool sound numbers = record {
+  seating = sound.seating;
+  seats = sound.seats;
+  numbers = numbers;
+  live = sound.live;
+  pages = sound.pages;
+  lines = sound.lines;
+  requests = sound.requests;
+  begun = sound.begun;
+  entries = sound.entries;
+  set_up = λ seat inside. let was = sound.set_up seat inside in record { program = was.program; begun = was.begun; registers = was.registers; printed = was.printed; few = was.few };
+  free = sound.free;
+  identified = sound.identified;
+}
+
+-- A seat's sitter may go on with the same number and program: with more rows, and with a request or without.
+module _ (a : Activity) (seat : ℕ) (who : Seat) (sound : IsSound a) (taken : has a.seating.taken seat ≡ true)
+    (number : who.number ≡ number_in a.seating seat) (program : who.program ≡ (sitter a.seating seat).program) where
+  below : seat < 16
+  below = taken-below a.seating sound.seating seat taken
+
+  numbers : (at : ℕ) → number_in (with_sitter a.seating seat who) at ≡ number_in a.seating at
+  numbers = number-there a.seating seat who sound.seating.sixteen below number
+
+  there : sitter (with_sitter a.seating seat who) seat ≡ who
+  there = sitter-there a.seating seat who sound.seating.sixteen below
+
+  pub sound-reseated : ForSome who.waits (λ (request : Request). AreWithin a.seating.holding.pages request.wants.items) → ForSome who.waits (λ (request : Request). AreOfPage request.wants.items)
+      → IsSound (record a { seating = with_sitter a.seating seat who })
+  sound-reseated within sets = record {
+    seating = seating-now;
+    seats = record { apart = λ at other inside among. (λ i. numbers at i == numbers other i) ∙ sound.seats.apart at other inside among };
+    numbers = subst (λ (number : ℕ → ℕ). All (λ at. number at < a.next) a.seating.taken) (sym (λ i at. numbers at i)) sound.numbers;
+    live = sound.live;
+    pages = sound.pages;
+    lines = sound.lines;
+    requests = λ at request inside waits. by_test at request inside (at == seat) refl waits;
+    begun = sound.begun;
+    entries = sound.entries;
+    set_up = λ at inside. let was = sound.set_up at inside in record {
+      program = subst (λ (n : ℕ). n < length a.programs) (sym (programs at (at == seat) refl)) was.program;
+      begun = was.begun;
+      registers = was.registers ∙ ap (λ (n : ℕ). registers_of_program (program_at a.programs n) a.reach.directory (private_segment at)) (sym (programs at (at == seat) refl));
+      printed = was.printed;
+      few = was.few;
+    };
+    free = sound.free;
+    identified = sound.identified;
+  }
+    where
+      seating-now : IsSeating (with_sitter a.seating seat who)
+      seating-now = record {
+        sixteen = length-set a.seating.sitters seat who ∙ sound.seating.sixteen;
+        among = sound.seating.among;
+        ascending = subst (λ (number : ℕ → ℕ). AllPairs (λ at later. number at < number later) a.seating.taken) (sym (λ i at. numbers at i)) sound.seating.ascending;
+        within = All-set (λ (one : Seat). ForSome one.waits (λ (request : Request). AreWithin a.seating.holding.pages request.wants.items)) a.seating.sitters seat who within sound.seating.within;
+        whole = sound.seating.whole;
+        free = sound.seating.free;
+      }
+
+      by_test : (at : ℕ) (request : Request) → has a.seating.taken at ≡ true → (same : Bool) → (at == seat) ≡ same → (sitter (with_sitter a.seating seat who) at).waits ≡ Some request → AreOfPage request.wants.items
+      by_test at request inside true e waits =
+          sets request (sym (ap (λ (n : ℕ). (sitter (with_sitter a.seating seat who) n).waits) (eqb-true at seat e) ∙ ap (λ (s : Seat). s.waits) there) ∙ waits)
+      by_test at request inside false e waits =
+          sound.requests at request inside (ap (λ (s : Seat). s.waits) (sym (sitter-other a.seating seat who at e)) ∙ waits)
+
+      programs : (at : ℕ) → (same : Bool) → (at == seat) ≡ same → (sitter (with_sitter a.seating seat who) at).program ≡ (sitter a.seating at).program
+      programs at true e =
+          ap (λ (n : ℕ). (sitter (with_sitter a.seating seat who) n).program) (eqb-true at seat e) ∙ ap (λ (s : Seat). s.program) there ∙ program
+          ∙ ap (λ (n : ℕ). (sitter a.seating n).program) (sym (eqb-true at seat e))
+      programs at false e = ap (λ (s : Seat). s.program) (sitter-other a.seating seat who at e)
