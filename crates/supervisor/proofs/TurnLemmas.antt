@@ -1,5 +1,5 @@
 -- How a turn of a session ends: over what ran, and then its commit.
-use Rattle.std.specs.Prelude.{◌≡◌, refl, ℕ, ◌+◌, ◌-◌, ◌*◌, ◌%◌, ◌^◌, ◌<◌, ◌≤◌, ◌==◌, ◌⊎◌, Bool, true, false, List, [], find, length, map, slice_set, Option, Some, None, IsSome, unwrap_or}
+use Rattle.std.specs.Prelude.{◌≡◌, refl, ℕ, ◌+◌, ◌-◌, ◌*◌, ◌<◌, ◌≤◌, ◌⊎◌, true, false, List, [], map, Option, Some, None, IsSome, unwrap_or}
 use Rattle.std.specs.Option.{option_map}
 use Rattle.std.proofs.Common.{arith, ap, sym, ◌∙◌, subst, inl, inr, ⊎_elim}
 use Rattle.lock_rules.specs.Sets.{has}
@@ -9,8 +9,7 @@ use Rattle.outside.specs.Causes.{Rose}
 use Rattle.outside.specs.Durable.{IsSure}
 use Rattle.outside.specs.Runs.{FewerLater, Leaves, OnlyAsks, held_of}
 use Rattle.outside.proofs.Runs.{leaves_on}
-use Rattle.flat_machine.specs.declared.machine.Program.{Program}
-use Rattle.store_format.specs.Stands.{Standing, Stands, stands}
+use Rattle.store_format.specs.Stands.{Stands, stands}
 use Rattle.restart.proofs.ShowLemmas.{sure_on}
 use Rattle.restart.specs.Shows.{Shows}
 use Rattle.desk.specs.declared.answers.Cycle.{Cycle}
@@ -21,7 +20,7 @@ use Rattle.desk.specs.Answers.{ending_told, HasNumbers}
 use Rattle.redo_journal.specs.Held.{OnlyWrites}
 use Rattle.desk.specs.Crash.{IsEitherOf, fine_step, standing_of}
 use Rattle.desk.specs.Desk.{Desk, Entry}
-use Rattle.desk.specs.Instruction.{Word, Fine, ReadFailed, Doubt, Counts, Turning, Going, Over, Ending, no_counts, commits, turn, turn_of, turns}
+use Rattle.desk.specs.Instruction.{Word, Fine, ReadFailed, Doubt, Counts, Going, Over, no_counts, commits, turn, turn_of, turns}
 use Rattle.desk.specs.Report.{number_after}
 use Rattle.desk.specs.Run.{Step, turned}
 use Rattle.desk_law.specs.Beside.{Reads}
@@ -33,14 +32,14 @@ use Rattle.seats.specs.Seating.{number_in, seat_of}
 use Rattle.seats.proofs.Numbers.{seat-found}
 use Rattle.activations.specs.declared.activations.Activations.{Activations}
 use Rattle.activations.specs.declared.tally.Tally.{Tally}
-use Rattle.activations.specs.Activity.{Activity, entries, entry_in, desk_over}
+use Rattle.activations.specs.Activity.{entries, entry_in, desk_over}
 use Rattle.activations.specs.Fetching.{IsStoreOf}
 use Rattle.activations.specs.Follows.{Follows}
 use Rattle.activations.specs.Follows as running
 use Rattle.activations.specs.Instructed.{IsEndOfRows, IsWaiter}
 use Rattle.activations.specs.Kept as kept
 use Rattle.activations.specs.Serving.{IsOver as IsOverTurn}
-use Rattle.activations.specs.Turning.{HasEnded, HasBroken, counts_of}
+use Rattle.activations.specs.Turning.{HasEnded, counts_of}
 use Rattle.activations.specs.Turns.{IsAtCommit, commit_call, turn_in}
 use Rattle.activations.specs.View.{activity_of}
 use Rattle.supervisor.specs.declared.session.Session.{Session}

@@ -50,7 +50,10 @@ impl Session {
         let Some(seat) = self.activations.seat_of(activation) else {
             return TurnEnd::Idle;
         };
-        match self.activations.run(&self.store, outside, seat, limit, tally) {
+        match self
+            .activations
+            .run(&self.store, outside, seat, limit, tally)
+        {
             Err(end) => end,
             Ok(()) => self.commit(outside, seat, tally),
         }

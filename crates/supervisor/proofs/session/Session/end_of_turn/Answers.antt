@@ -1,14 +1,9 @@
-use Rattle.std.proofs.Common.{◌≡◌, ◌+◌, ◌≤◌, ℕ, List, Some, None, length, refl, ap, arith, sym, ◌∙◌, subst}
-use Rattle.arrayvec.specs.ArrayVec.{array_vec_len}
-use Rattle.outside.specs.Runs.{held_of}
+use Rattle.std.proofs.Common.{List, length, ap, arith, sym, ◌∙◌}
 use Rattle.redo_journal.proofs.WriteLemmas.{asks_only, writes_on}
-use Rattle.desk.specs.Instruction.{no_counts}
 use Rattle.restart.proofs.ShowLemmas.{sure_on}
 use Rattle.desk.specs.declared.answers.Cycle.{Cycle}
 use Rattle.seats.proofs.Kept.{few-taken}
 use Rattle.seats.proofs.Numbers.{seat-found}
-use Rattle.activations.specs.Turning.{counts_of}
-use Rattle.activations.specs.View.{activity_of}
 use Rattle.supervisor.specs.Session.{activity, order_of}
 use Rattle.supervisor.proofs.TurnLemmas.{idle, ended, committed, nothing-counted, sound-ran, over-ran, store-over}
 use Rattle.activations.proofs.TurnLemmas.{asks-none}
