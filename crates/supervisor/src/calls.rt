@@ -1,5 +1,5 @@
 // The calls of a session: what each does, and why each answer comes.
-ghost use Rattle.std.specs.Prelude.{◌≡◌, ◌≢◌, ◌↔◌, ◌+◌, ◌-◌, ◌≤◌, ◌<◌, ◌^◌, true, false, List, ℕ, length, map};
+ghost use Rattle.std.specs.Prelude.{◌≡◌, ◌≢◌, ◌↔◌, ◌+◌, ◌-◌, ◌≤◌, ◌<◌, ◌^◌, true, false, List, ℕ, length, map, Some, None};
 ghost use Rattle.outside.specs.Causes.{Rose};
 ghost use Rattle.outside.specs.Durable.{IsSure};
 ghost use Rattle.outside.specs.Runs.{CallsDisk, OnlyAsks, held_of};
@@ -38,6 +38,10 @@ fn told(tally: Tally, end: TurnEnd) -> Turn
 impl Session {
     ghost use Rattle.supervisor.specs.Session.{IsSound, activity, order_of};
     ghost use Rattle.supervisor.specs.Shown.{Shown};
+    ghost use Rattle.supervisor.specs.Causes.{IsFull, HasPlace, lacking, TellsNumber, EntersOrder, ReopenedNumber};
+    ghost use Rattle.activations.specs.Instructed.{IsWaiter};
+    ghost use Rattle.restart.specs.Kept.{number_of};
+    ghost use Rattle.seats.specs.Seating.{seat_of, numbers as numbers_seated};
 
     /// The program with this place begins with four values.
     pub fn begin(&mut self, program: u16, args: [u32; 4]) -> Begun
@@ -46,6 +50,9 @@ impl Session {
         requires room { (activity self.old).next - 1 < self.old.begins }
         ensures did { (held : List ℕ) (desk : Desk) → Shown self.old held desk → (next : Desk) × (step (activity self.old).programs (event.Begin program args) Fine desk ≡ record { desk = next; happening = begun_told program result }) × Shown self.new held next }
         ensures shut { (result ≡ Begun.Shut) ↔ (self.old.closed ≡ true) }
+        ensures busy { (number : ℕ) → (result ≡ Begun.Busy number) ↔ ((self.old.closed ≡ false) × IsFull (activity self.old) × (number ≡ (activity self.old).next)) }
+        ensures no_segment { (number segment : ℕ) → (result ≡ Begun.NoSegment number segment) ↔ ((self.old.closed ≡ false) × HasPlace (activity self.old) × (lacking (activity self.old) program ≡ Some segment) × (number ≡ (activity self.old).next)) }
+        ensures started { (number : ℕ) → (result ≡ Begun.Started number) ↔ ((self.old.closed ≡ false) × HasPlace (activity self.old) × (lacking (activity self.old) program ≡ None) × (number ≡ (activity self.old).next)) }
         ensures unchanged { self.old.closed ≡ true → self.new ≡ self.old }
         ensures closed { self.new.closed ≡ self.old.closed }
         ensures order { order_of self.new ≡ order_of self.old }
@@ -72,6 +79,11 @@ impl Session {
         ensures did { (desk : Desk) → IsSure W.Outside outside.old → Shown self.old (held_of W.Outside outside.old) desk → (did : Did W.Outside (activity self.old).programs self.old.opened (event.Turn activation limit) (turn_told activation result self.new.printed) self.new.closed (order_of self.new) (Shown self.new) desk outside.old outside.new) × HasNumbers result.end activation (number_after self.old.opened did.next) }
         ensures writes { WritesMore (W.writes outside.old) (W.writes outside.new) (writes_due result.end) }
         ensures shut { (result.end ≡ TurnEnd.Shut) ↔ (self.old.closed ≡ true) }
+        ensures idle { self.old.closed ≡ false → (result.end ≡ TurnEnd.Idle) ↔ (seat_of (activity self.old).seating activation ≡ None) }
+        ensures waits { IsWaiter activation result.end }
+        ensures pages { result.end ≡ TurnEnd.Disk → 0 < result.pages }
+        ensures numbered { TellsNumber activation (number_of self.old.store) result.end }
+        ensures ordered { EntersOrder activation result.end (order_of self.old) (order_of self.new) }
         ensures unchanged { self.old.closed ≡ true → (self.new ≡ self.old) × (outside.new ≡ outside.old) }
         ensures closed { self.new.closed ≡ turn_closes result.end }
         ensures cause { self.old.closed ≡ false → self.new.closed ≡ true → Rose (W.disk_faults outside.old) (W.disk_faults outside.new) }
@@ -104,6 +116,8 @@ impl Session {
         ensures did { (desk : Desk) → IsSure W.Outside outside.old → Shown self.old (held_of W.Outside outside.old) desk → (did : Did W.Outside (activity self.old).programs self.old.opened event.Checkpoint (stored_told result) self.new.closed (order_of self.new) (Shown self.new) desk outside.old outside.new) × StoredNumber result (number_after self.old.opened did.next) }
         ensures writes { WritesMore (W.writes outside.old) (W.writes outside.new) 0 }
         ensures shut { (result ≡ Stored.Shut) ↔ (self.old.closed ≡ true) }
+        ensures fault { result ≡ Stored.Closed → Rose (W.disk_faults outside.old) (W.disk_faults outside.new) }
+        ensures number { StoredNumber result (number_of self.old.store) }
         ensures unchanged { self.old.closed ≡ true → (self.new ≡ self.old) × (outside.new ≡ outside.old) }
         ensures closed { self.new.closed ≡ stored_closes result }
         ensures cause { self.old.closed ≡ false → self.new.closed ≡ true → Rose (W.disk_faults outside.old) (W.disk_faults outside.new) }
@@ -137,6 +151,7 @@ impl Session {
         requires bytes { HoldsStore W.Outside self.old.store.header outside.old }
         ensures did { (desk : Desk) → IsSure W.Outside outside.old → Shown self.old (held_of W.Outside outside.old) desk → (did : Did W.Outside (activity self.old).programs self.old.opened event.Crash (reopened_told (numbers desk) result) self.new.closed (order_of self.new) (Shown self.new) desk outside.old outside.new) × IsReopened result (number_after self.old.opened did.next) }
         ensures shut { (result ≡ Reopened.Shut) ↔ (self.old.closed ≡ true) }
+        ensures number { ReopenedNumber result (number_of self.new.store) }
         ensures unchanged { self.old.closed ≡ true → (self.new ≡ self.old) × (outside.new ≡ outside.old) }
         ensures closed { self.new.closed ≡ reopened_closes result }
         ensures cause { result ≡ Reopened.DiskFault → Rose (W.disk_faults outside.old) (W.disk_faults outside.new) }
@@ -171,7 +186,8 @@ impl Session {
     /// The store's number.
     pub fn number(&self) -> u64
         requires { IsSound self.now }
-        ensures { (held : List ℕ) (desk : Desk) → Shown self.now held desk → result ≡ number_after self.now.opened desk }
+        ensures number { result ≡ number_of self.now.store }
+        ensures shown { (held : List ℕ) (desk : Desk) → Shown self.now held desk → result ≡ number_after self.now.opened desk }
     {
         self.store.number()
     }
@@ -179,7 +195,8 @@ impl Session {
     /// The numbers of those that are active, ascending.
     pub fn active(&self) -> ArrayVec<u32, 16>
         requires { IsSound self.now }
-        ensures { (held : List ℕ) (desk : Desk) → Shown self.now held desk → result.items ≡ numbers desk }
+        ensures active { result.items ≡ numbers_seated (activity self.now).seating }
+        ensures shown { (held : List ℕ) (desk : Desk) → Shown self.now held desk → result.items ≡ numbers desk }
     {
         self.activations.active()
     }
