@@ -4,3 +4,4 @@ pub mod CrashLemmas
 pub mod DidLemmas
 pub mod OpeningLemmas
 pub mod TurnLemmas
+pub mod CauseLemmas

@@ -3,3 +3,4 @@ pub mod Shown
 pub mod ShownLaws
 pub mod Opened
 pub mod Went
+pub mod Causes

@@ -21,6 +21,8 @@ impl Session {
     ghost use Rattle.activations.specs.Turns.{IsAtCommit};
     ghost use Rattle.supervisor.specs.Session.{IsSound, KeepsParts, activity, order_of, records_told};
     ghost use Rattle.supervisor.specs.Shown.{IsOver};
+    ghost use Rattle.supervisor.specs.Causes.{TellsNumber, EntersOrder};
+    ghost use Rattle.restart.specs.Kept.{number_of};
     ghost use Rattle.supervisor.specs.Went.{HasCommitted, IsCommitEnd, most_kept};
 
     /// The commit call of who sits in a seat: his record, and the end of the turn.
@@ -40,6 +42,8 @@ impl Session {
         ensures only { OnlyWrites W.Outside outside.old outside.new }
         ensures writes { WritesMore (W.writes outside.old) (W.writes outside.new) (writes_due result) }
         ensures end { IsCommitEnd result }
+        ensures numbered { TellsNumber (number_in (activity self.old).seating seat) (number_of self.old.store) result }
+        ensures ordered { EntersOrder (number_in (activity self.old).seating seat) result (order_of self.old) (order_of self.new) }
         ensures closed { self.new.closed ≡ turn_closes result }
         ensures cause { turn_closes result ≡ true → Rose (W.disk_faults outside.old) (W.disk_faults outside.new) }
         ensures calm { turn_fails result ≡ false → W.disk_faults outside.new ≡ W.disk_faults outside.old }

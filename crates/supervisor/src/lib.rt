@@ -2,6 +2,7 @@
 //! does (docs/MODEL.md, "The desk"), commits through the store's journal, and finds the committed bytes again after a crash.
 #![tactic(auto)]
 
+mod calls;
 mod commits;
 mod session;
 mod supervisor;

@@ -1,5 +1,5 @@
 // A turn of an activation.
-ghost use Rattle.std.specs.Prelude.{◌≡◌, ◌+◌, ◌*◌, ◌-◌, ◌<◌, ◌≤◌, [], true, false};
+ghost use Rattle.std.specs.Prelude.{◌≡◌, ◌+◌, ◌*◌, ◌-◌, ◌<◌, ◌≤◌, [], true, false, ◌↔◌, None};
 ghost use Rattle.outside.specs.Causes.{Rose};
 ghost use Rattle.outside.specs.Durable.{IsSure};
 ghost use Rattle.outside.specs.Runs.{held_of};
@@ -15,8 +15,12 @@ use outside::Outside;
 
 impl Session {
     ghost use Rattle.activations.specs.Kept.{AreRowsWithin};
-    ghost use Rattle.supervisor.specs.Session.{IsSound, KeepsParts, activity, records_told};
+    ghost use Rattle.supervisor.specs.Session.{IsSound, KeepsParts, activity, order_of, records_told};
     ghost use Rattle.supervisor.specs.Shown.{IsOver};
+    ghost use Rattle.supervisor.specs.Causes.{TellsNumber, EntersOrder};
+    ghost use Rattle.activations.specs.Instructed.{IsWaiter};
+    ghost use Rattle.restart.specs.Kept.{number_of};
+    ghost use Rattle.seats.specs.Seating.{seat_of};
     ghost use Rattle.supervisor.specs.Went.{HasRun, IsTurned, most_kept};
 
     /// A turn of an activation, in which nothing is counted yet: how it ended.
@@ -40,6 +44,11 @@ impl Session {
         ensures only { OnlyWrites W.Outside outside.old outside.new }
         ensures writes { WritesMore (W.writes outside.old) (W.writes outside.new) (writes_due result) }
         ensures turned { IsTurned result }
+        ensures idle { (result ≡ end.Idle) ↔ (seat_of (activity self.old).seating activation ≡ None) }
+        ensures waits { IsWaiter activation result }
+        ensures pages { result ≡ end.Disk → 0 < tally.new.pages }
+        ensures numbered { TellsNumber activation (number_of self.old.store) result }
+        ensures ordered { EntersOrder activation result (order_of self.old) (order_of self.new) }
         ensures closed { self.new.closed ≡ turn_closes result }
         ensures cause { turn_closes result ≡ true → Rose (W.disk_faults outside.old) (W.disk_faults outside.new) }
         ensures disk { result ≡ end.Disk → Rose (W.disk_faults outside.old) (W.disk_faults outside.new) }

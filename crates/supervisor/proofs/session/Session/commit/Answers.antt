@@ -19,7 +19,7 @@ use Rattle.activations.specs.Ends.{reprinted}
 use Rattle.activations.specs.View.{activity_of}
 use Rattle.supervisor.specs.declared.session.Session.{Session}
 use Rattle.supervisor.specs.Session.{activity}
-use Rattle.supervisor.proofs.CommitLemmas.{writes-more, gone, has_place, sound-left, sound-closed, out-is, tracked, went-done, went-doubt, went-unwritten}
+use Rattle.supervisor.proofs.CommitLemmas.{order-more, writes-more, gone, has_place, sound-left, sound-closed, out-is, tracked, went-done, went-doubt, went-unwritten}
 use Rattle.supervisor.proofs.session.Session.commit.Goals as goal
 
 pub returns-in-Err-clause-sound : goal.returns-in-Err-clause-sound
@@ -164,3 +164,10 @@ returns-in-Unwritten-clause-went g c = λ begins sure over at.
     let tracks = tracked G s seat c.requires.sound before after over at.now lines gives sure c.record.new.store begun in
     went-unwritten G s seat c.requires.sound before after over at.now lines gives c.number-number.result (c.number-number.ensures ∙ ap number_of begun) _
     refl refl c.args.tally.now (c.commit.ensures.unwritten_cause c.in-Unwritten.is) (c.commit.ensures.unwritten c.in-Unwritten.is tracks)
+
+pub returns-in-Doubt-clause-ordered : goal.returns-in-Doubt-clause-ordered
+returns-in-Doubt-clause-ordered g c = (
+  _,
+  order-more c.args.self.now.order.items _ c.committed_in-committed.result _ _ c.enter_order-in-Doubt.ensures.order
+      (c.committed_in-committed.ensures.activation ∙ ap (λ (a : Activity). number_in a.seating c.args.seat) c.in_default.ensures.kept) refl,
+)

@@ -1,4 +1,4 @@
-use Rattle.std.proofs.Common.{List, length, ap, arith, sym, ◌∙◌}
+use Rattle.std.proofs.Common.{ℕ, List, length, ap, arith, sym, ◌∙◌, subst}
 use Rattle.redo_journal.proofs.WriteLemmas.{asks_only, writes_on}
 use Rattle.restart.proofs.ShowLemmas.{sure_on}
 use Rattle.desk.specs.declared.answers.Cycle.{Cycle}
@@ -7,6 +7,9 @@ use Rattle.seats.proofs.Numbers.{seat-found}
 use Rattle.supervisor.specs.Session.{activity, order_of}
 use Rattle.supervisor.proofs.TurnLemmas.{idle, ended, committed, nothing-counted, sound-ran, over-ran, store-over}
 use Rattle.activations.proofs.TurnLemmas.{asks-none}
+use Rattle.activations.specs.Instructed.{IsWaiter}
+use Rattle.restart.specs.Kept.{number_of}
+use Rattle.supervisor.specs.Causes.{TellsNumber, EntersOrder}
 use Rattle.supervisor.proofs.session.Session.end_of_turn.Goals as goal
 
 pub returns-in_default-clause-went : goal.returns-in_default-clause-went
@@ -50,3 +53,18 @@ returns-in-Ok-clause-went g c sure over =
     c.run.ensures.parts c.commit.new.outside c.commit.new.self c.commit.result c.commit.new.tally at c.in-Ok.ensures.stays.number c.in-Ok.ensures.calm c.commit.ensures.only c.commit.ensures.end
     (c.commit.ensures.went _ (sure_on G g.met.W.Outside.fewer_later before c.run.new.outside sure asks)
     (over-ran G g.met.W.Outside.fewer_later s c.requires.sound c.args.activation c.args.limit before c.run.new.outside sure over asks c.run.new.self at.follows) at)
+
+pub returns-in-Err-clause-waits : goal.returns-in-Err-clause-waits
+returns-in-Err-clause-waits g c =
+    let found = (seat-found (activity c.args.self.now).seating c.requires.sound.running.seating c.args.activation c.in-Some.seat (sym c.seat_of.ensures ∙ c.in-Some.is)).1 in
+    subst (λ (n : ℕ). IsWaiter n c.in-Err.end) found c.in-Err.ensures.waits
+
+pub returns-in-Ok-clause-numbered : goal.returns-in-Ok-clause-numbered
+returns-in-Ok-clause-numbered g c =
+    let found = (seat-found (activity c.args.self.now).seating c.requires.sound.running.seating c.args.activation c.in-Some.seat (sym c.seat_of.ensures ∙ c.in-Some.is)).1 in
+    subst (λ (n : ℕ). TellsNumber n (number_of c.args.self.now.store) c.commit.result) (c.in-Ok.ensures.stays.number ∙ found) c.commit.ensures.numbered
+
+pub returns-in-Ok-clause-ordered : goal.returns-in-Ok-clause-ordered
+returns-in-Ok-clause-ordered g c =
+    let found = (seat-found (activity c.args.self.now).seating c.requires.sound.running.seating c.args.activation c.in-Some.seat (sym c.seat_of.ensures ∙ c.in-Some.is)).1 in
+    subst (λ (n : ℕ). EntersOrder n c.commit.result (order_of c.args.self.now) (order_of c.commit.new.self)) (c.in-Ok.ensures.stays.number ∙ found) c.commit.ensures.ordered

@@ -9,7 +9,7 @@ use Rattle.desk.specs.Report.{number_after}
 use Rattle.supervisor.specs.Session.{activity, order_of, records_told}
 use Rattle.supervisor.specs.Shown.{IsOver, Shown}
 use Rattle.supervisor.proofs.DidLemmas.{did-turn, few-records}
-use Rattle.supervisor.proofs.supervisor.SessionSupervisor.turn.Goals as goal
+use Rattle.supervisor.proofs.session.Session.turn.Goals as goal
 
 pub returns-clause-did : goal.returns-clause-did
 returns-clause-did g c = λ desk sure shown.

@@ -13,7 +13,7 @@ use Rattle.desk.specs.Run.{CheckpointMade, CheckpointFailed}
 use Rattle.supervisor.specs.Session.{activity, desk_of, order_of}
 use Rattle.supervisor.specs.Shown.{Shown}
 use Rattle.supervisor.proofs.DidLemmas.{did-checkpoint, did-fail-checkpoint}
-use Rattle.supervisor.proofs.supervisor.SessionSupervisor.checkpoint.Goals as goal
+use Rattle.supervisor.proofs.session.Session.checkpoint.Goals as goal
 
 pub returns-in-Ok-clause-did : goal.returns-in-Ok-clause-did
 returns-in-Ok-clause-did g c = λ desk sure shown.

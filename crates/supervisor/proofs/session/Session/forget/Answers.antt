@@ -13,7 +13,7 @@ use Rattle.desk.specs.Run.{Crashed, CrashFailed}
 use Rattle.supervisor.specs.Session.{activity, order_of}
 use Rattle.supervisor.specs.Shown.{Shown}
 use Rattle.supervisor.proofs.CrashLemmas.{did-crash, did-fail-crash, number-restarted, undamaged}
-use Rattle.supervisor.proofs.supervisor.SessionSupervisor.forget.Goals as goal
+use Rattle.supervisor.proofs.session.Session.forget.Goals as goal
 
 pub returns-in-Ok-clause-did : goal.returns-in-Ok-clause-did
 returns-in-Ok-clause-did g c = λ desk sure shown.

@@ -1,0 +1,73 @@
+-- Why a begin is answered so.
+use Rattle.std.proofs.Common.{◌≡◌, ◌≤◌, ℕ, length, arith, sym, ap, ◌∙◌, subst, List, Option, Some, None, refl}
+use Rattle.seats.specs.Seating.{next_seat, number_in}
+use Rattle.seats.proofs.Ascending.{none-free}
+use Rattle.seats.proofs.Kept.{few-taken}
+use Rattle.desk.specs.declared.answers.Begun.{Begun}
+use Rattle.desk.specs.declared.answers.Begun.TheVariants as begun
+use Rattle.activations.specs.Activity.{Activity}
+use Rattle.activations.specs.Begins.{begins, begins_by}
+use Rattle.activations.specs.Follows as running
+use Rattle.activations.proofs.BeginLemmas.{some-next}
+use Rattle.supervisor.specs.Causes.{IsFull, HasPlace, lacking}
+
+-- the number that the answer to a begin tells, and the segment
+abbrev number_told : Begun → ℕ
+number_told (begun.Started number) = number
+number_told (begun.Busy number) = number
+number_told (begun.NoSegment number segment) = number
+number_told begun.Shut = 0
+
+abbrev segment_told : Begun → ℕ
+segment_told (begun.NoSegment number segment) = segment
+segment_told _ = 0
+
+none-next : (a : Activity) → running.IsSound a → next_seat a.seating ≡ None → 16 ≤ length a.seating.taken
+unfolding next_seat
+none-next a sound none = none-free (number_in a.seating) a.seating.taken sound.seating.ascending none
+
+-- each answer to a begin of an open session, and why it comes
+pub record IsAnswered (a : Activity) (program : ℕ) (answer : Begun) : Type 0 where
+  pub busy : (number : ℕ) → answer ≡ begun.Busy number → IsFull a × (number ≡ a.next)
+  pub busy_back : (number : ℕ) → IsFull a → number ≡ a.next → answer ≡ begun.Busy number
+  pub no_segment : (number segment : ℕ) → answer ≡ begun.NoSegment number segment → HasPlace a × (lacking a program ≡ Some segment) × (number ≡ a.next)
+  pub no_segment_back : (number segment : ℕ) → HasPlace a → lacking a program ≡ Some segment → number ≡ a.next → answer ≡ begun.NoSegment number segment
+  pub started : (number : ℕ) → answer ≡ begun.Started number → HasPlace a × (lacking a program ≡ None) × (number ≡ a.next)
+  pub started_back : (number : ℕ) → HasPlace a → lacking a program ≡ None → number ≡ a.next → answer ≡ begun.Started number
+
+module _ (a : Activity) (program : ℕ) (args : List ℕ) (sound : running.IsSound a) where
+  answered-by : (free absent : Option ℕ) → next_seat a.seating ≡ free → lacking a program ≡ absent → IsAnswered a program (begins_by free absent a program args).0
+  answered-by None absent free lacks =
+      let full = none-next a sound free in
+      let few = few-taken a.seating sound.seating in
+      record {
+        busy = λ number e. (omega (arith, full, few), sym (ap number_told e));
+        busy_back = λ number there same. ap begun.Busy (sym same);
+        no_segment = λ number segment e. absurd (cc (e));
+        no_segment_back = λ number segment place there same. absurd (omega (arith, full, place));
+        started = λ number e. absurd (cc (e));
+        started_back = λ number place there same. absurd (omega (arith, full, place));
+      }
+  answered-by (Some seat) (Some segment) free lacks =
+      let room = (some-next a seat sound free).2 in
+      record {
+        busy = λ number e. absurd (cc (e));
+        busy_back = λ number there same. absurd (omega (arith, there, room));
+        no_segment = λ number other e. (room, lacks ∙ ap Some (ap segment_told e), sym (ap number_told e));
+        no_segment_back = λ number other place there same. let alike : segment ≡ other = cc (lacks, there) in λ i. begun.NoSegment (sym same i) (alike i);
+        started = λ number e. absurd (cc (e));
+        started_back = λ number place there same. let no : Some segment ≡ None = sym lacks ∙ there in absurd (cc (no));
+      }
+  answered-by (Some seat) None free lacks =
+      let room = (some-next a seat sound free).2 in
+      record {
+        busy = λ number e. absurd (cc (e));
+        busy_back = λ number there same. absurd (omega (arith, there, room));
+        no_segment = λ number other e. absurd (cc (e));
+        no_segment_back = λ number other place there same. let no : None ≡ Some other = sym lacks ∙ there in absurd (cc (no));
+        started = λ number e. (room, lacks, sym (ap number_told e));
+        started_back = λ number place there same. ap begun.Started (sym same);
+      }
+
+  pub answered : (answer : Begun) → answer ≡ (begins a program args).0 → IsAnswered a program answer
+  answered answer is = subst (IsAnswered a program) (sym is) (answered-by (next_seat a.seating) (lacking a program) refl refl)

@@ -1,0 +1,219 @@
+// The calls of a session: what each does, and why each answer comes.
+ghost use Rattle.std.specs.Prelude.{◌≡◌, ◌≢◌, ◌↔◌, ◌+◌, ◌-◌, ◌≤◌, ◌<◌, ◌^◌, true, false, List, ℕ, length, map, Some, None};
+ghost use Rattle.outside.specs.Causes.{Rose};
+ghost use Rattle.outside.specs.Durable.{IsSure};
+ghost use Rattle.outside.specs.Runs.{CallsDisk, OnlyAsks, held_of};
+ghost use Rattle.desk.specs.declared.event.Event.TheVariants as event;
+ghost use Rattle.desk.specs.Desk.{Desk};
+ghost use Rattle.desk.specs.Holdings.{numbers};
+ghost use Rattle.desk.specs.Instruction.{Fine};
+ghost use Rattle.desk.specs.Run.{step};
+ghost use Rattle.desk.specs.Report.{number_after};
+ghost use Rattle.desk.specs.Answers.{begun_told, turn_told, stored_told, reopened_told, counts_told, turn_closes, stored_closes, reopened_closes, HasNumbers, StoredNumber, IsReopened};
+ghost use Rattle.desk.specs.Crash.{Did};
+ghost use Rattle.desk.specs.Kept.{HoldsStore, StillTold, IsDamage, WritesMore, writes_due, turn_fails};
+ghost use Rattle.activations.specs.Turning.{counts_of};
+
+use super::session::Session;
+use activations::Tally;
+use arrayvec::ArrayVec;
+use desk::{Begun, Committed, Reopened, Stored, Turn, TurnEnd};
+use outside::{Failed, Outside};
+use redo_journal::ReopenFault;
+
+/// What is told of a turn that was counted so and ended so.
+fn told(tally: Tally, end: TurnEnd) -> Turn
+    ensures counts { counts_told result ≡ counts_of tally }
+    ensures end { result.end ≡ end }
+{
+    Turn {
+        ran: tally.ran,
+        pages: tally.pages,
+        locks: tally.locks,
+        cycles: tally.cycles,
+        end,
+    }
+}
+
+impl Session {
+    ghost use Rattle.supervisor.specs.Session.{IsSound, activity, order_of};
+    ghost use Rattle.supervisor.specs.Shown.{Shown};
+    ghost use Rattle.supervisor.specs.Causes.{IsFull, HasPlace, lacking, TellsNumber, EntersOrder, ReopenedNumber};
+    ghost use Rattle.activations.specs.Instructed.{IsWaiter};
+    ghost use Rattle.restart.specs.Kept.{number_of};
+    ghost use Rattle.seats.specs.Seating.{seat_of, numbers as numbers_seated};
+
+    /// The program with this place begins with four values.
+    pub fn begin(&mut self, program: u16, args: [u32; 4]) -> Begun
+        requires sound { IsSound self.old }
+        requires program { program < length (activity self.old).programs }
+        requires room { (activity self.old).next - 1 < self.old.begins }
+        ensures did { (held : List ℕ) (desk : Desk) → Shown self.old held desk → (next : Desk) × (step (activity self.old).programs (event.Begin program args) Fine desk ≡ record { desk = next; happening = begun_told program result }) × Shown self.new held next }
+        ensures shut { (result ≡ Begun.Shut) ↔ (self.old.closed ≡ true) }
+        ensures busy { (number : ℕ) → (result ≡ Begun.Busy number) ↔ ((self.old.closed ≡ false) × IsFull (activity self.old) × (number ≡ (activity self.old).next)) }
+        ensures no_segment { (number segment : ℕ) → (result ≡ Begun.NoSegment number segment) ↔ ((self.old.closed ≡ false) × HasPlace (activity self.old) × (lacking (activity self.old) program ≡ Some segment) × (number ≡ (activity self.old).next)) }
+        ensures started { (number : ℕ) → (result ≡ Begun.Started number) ↔ ((self.old.closed ≡ false) × HasPlace (activity self.old) × (lacking (activity self.old) program ≡ None) × (number ≡ (activity self.old).next)) }
+        ensures unchanged { self.old.closed ≡ true → self.new ≡ self.old }
+        ensures closed { self.new.closed ≡ self.old.closed }
+        ensures order { order_of self.new ≡ order_of self.old }
+        ensures sound { IsSound self.new }
+        ensures programs { (activity self.new).programs ≡ (activity self.old).programs }
+        ensures opened { self.new.opened ≡ self.old.opened }
+        ensures header { self.new.store.header ≡ self.old.store.header }
+        ensures begins { self.new.begins ≡ self.old.begins }
+        ensures given { (activity self.new).next - 1 ≤ (activity self.old).next - 1 + 1 }
+        ensures turns { self.new.turns ≡ self.old.turns }
+    {
+        if self.closed {
+            return Begun::Shut;
+        }
+        self.activations.begin(program, args)
+    }
+
+    /// A turn of an activation with at most so many rows, a million at most.
+    pub fn turn<W: Outside>(&mut self, outside: &mut W, activation: u32, limit: u32) -> Turn
+        requires sound { IsSound self.old }
+        requires limit { limit ≤ 1000000 }
+        requires turns { self.old.turns < 2 ^ 32 }
+        requires bytes { HoldsStore W.Outside self.old.store.header outside.old }
+        ensures did { (desk : Desk) → IsSure W.Outside outside.old → Shown self.old (held_of W.Outside outside.old) desk → (did : Did W.Outside (activity self.old).programs self.old.opened (event.Turn activation limit) (turn_told activation result self.new.printed) self.new.closed (order_of self.new) (Shown self.new) desk outside.old outside.new) × HasNumbers result.end activation (number_after self.old.opened did.next) }
+        ensures writes { WritesMore (W.writes outside.old) (W.writes outside.new) (writes_due result.end) }
+        ensures shut { (result.end ≡ TurnEnd.Shut) ↔ (self.old.closed ≡ true) }
+        ensures idle { self.old.closed ≡ false → (result.end ≡ TurnEnd.Idle) ↔ (seat_of (activity self.old).seating activation ≡ None) }
+        ensures waits { IsWaiter activation result.end }
+        ensures pages { result.end ≡ TurnEnd.Disk → 0 < result.pages }
+        ensures numbered { TellsNumber activation (number_of self.old.store) result.end }
+        ensures ordered { EntersOrder activation result.end (order_of self.old) (order_of self.new) }
+        ensures unchanged { self.old.closed ≡ true → (self.new ≡ self.old) × (outside.new ≡ outside.old) }
+        ensures closed { self.new.closed ≡ turn_closes result.end }
+        ensures cause { self.old.closed ≡ false → self.new.closed ≡ true → Rose (W.disk_faults outside.old) (W.disk_faults outside.new) }
+        ensures disk { result.end ≡ TurnEnd.Disk → Rose (W.disk_faults outside.old) (W.disk_faults outside.new) }
+        ensures calm { turn_fails result.end ≡ false → W.disk_faults outside.new ≡ W.disk_faults outside.old }
+        ensures calls { CallsDisk W.Outside outside.old outside.new }
+        ensures told { StillTold W.Outside outside.old outside.new }
+        ensures bytes { HoldsStore W.Outside self.new.store.header outside.new }
+        ensures sound { IsSound self.new }
+        ensures programs { (activity self.new).programs ≡ (activity self.old).programs }
+        ensures opened { self.new.opened ≡ self.old.opened }
+        ensures header { self.new.store.header ≡ self.old.store.header }
+        ensures begins { self.new.begins ≡ self.old.begins }
+        ensures given { (activity self.new).next - 1 ≡ (activity self.old).next - 1 }
+        ensures turns { self.new.turns ≤ self.old.turns + 1 }
+    {
+        let mut tally = Tally::new();
+        if self.closed {
+            return told(tally, TurnEnd::Shut);
+        }
+        self.turns += 1;
+        let end = self.end_of_turn(outside, activation, limit, &mut tally);
+        told(tally, end)
+    }
+
+    /// Brings the store home, so that its journal begins again.
+    pub fn checkpoint<W: Outside>(&mut self, outside: &mut W) -> Stored
+        requires sound { IsSound self.old }
+        requires bytes { HoldsStore W.Outside self.old.store.header outside.old }
+        ensures did { (desk : Desk) → IsSure W.Outside outside.old → Shown self.old (held_of W.Outside outside.old) desk → (did : Did W.Outside (activity self.old).programs self.old.opened event.Checkpoint (stored_told result) self.new.closed (order_of self.new) (Shown self.new) desk outside.old outside.new) × StoredNumber result (number_after self.old.opened did.next) }
+        ensures writes { WritesMore (W.writes outside.old) (W.writes outside.new) 0 }
+        ensures shut { (result ≡ Stored.Shut) ↔ (self.old.closed ≡ true) }
+        ensures fault { result ≡ Stored.Closed → Rose (W.disk_faults outside.old) (W.disk_faults outside.new) }
+        ensures number { StoredNumber result (number_of self.old.store) }
+        ensures unchanged { self.old.closed ≡ true → (self.new ≡ self.old) × (outside.new ≡ outside.old) }
+        ensures closed { self.new.closed ≡ stored_closes result }
+        ensures cause { self.old.closed ≡ false → self.new.closed ≡ true → Rose (W.disk_faults outside.old) (W.disk_faults outside.new) }
+        ensures calm { result ≢ Stored.Closed → W.disk_faults outside.new ≡ W.disk_faults outside.old }
+        ensures calls { CallsDisk W.Outside outside.old outside.new }
+        ensures told { StillTold W.Outside outside.old outside.new }
+        ensures bytes { HoldsStore W.Outside self.new.store.header outside.new }
+        ensures sound { IsSound self.new }
+        ensures programs { (activity self.new).programs ≡ (activity self.old).programs }
+        ensures opened { self.new.opened ≡ self.old.opened }
+        ensures header { self.new.store.header ≡ self.old.store.header }
+        ensures begins { self.new.begins ≡ self.old.begins }
+        ensures given { (activity self.new).next - 1 ≡ (activity self.old).next - 1 }
+        ensures turns { self.new.turns ≡ self.old.turns }
+    {
+        if self.closed {
+            return Stored::Shut;
+        }
+        match self.store.checkpoint(outside) {
+            Ok(()) => Stored::Number(self.store.number()),
+            Err(Failed) => {
+                self.closed = true;
+                Stored::Closed
+            }
+        }
+    }
+
+    /// A crash: it forgets all that isn't on the disk, and reads the store again. It only asks the disk.
+    pub fn forget<W: Outside>(&mut self, outside: &mut W) -> Reopened
+        requires sound { IsSound self.old }
+        requires bytes { HoldsStore W.Outside self.old.store.header outside.old }
+        ensures did { (desk : Desk) → IsSure W.Outside outside.old → Shown self.old (held_of W.Outside outside.old) desk → (did : Did W.Outside (activity self.old).programs self.old.opened event.Crash (reopened_told (numbers desk) result) self.new.closed (order_of self.new) (Shown self.new) desk outside.old outside.new) × IsReopened result (number_after self.old.opened did.next) }
+        ensures shut { (result ≡ Reopened.Shut) ↔ (self.old.closed ≡ true) }
+        ensures number { ReopenedNumber result (number_of self.new.store) }
+        ensures unchanged { self.old.closed ≡ true → (self.new ≡ self.old) × (outside.new ≡ outside.old) }
+        ensures closed { self.new.closed ≡ reopened_closes result }
+        ensures cause { result ≡ Reopened.DiskFault → Rose (W.disk_faults outside.old) (W.disk_faults outside.new) }
+        ensures calm { result ≢ Reopened.DiskFault → W.disk_faults outside.new ≡ W.disk_faults outside.old }
+        ensures damage { IsDamage W.Outside self.old.store.header outside.old result }
+        ensures asks { OnlyAsks W.Outside outside.old outside.new }
+        ensures sound { IsSound self.new }
+        ensures programs { (activity self.new).programs ≡ (activity self.old).programs }
+        ensures opened { self.new.opened ≡ self.old.opened }
+        ensures header { self.new.store.header ≡ self.old.store.header }
+        ensures begins { self.new.begins ≡ self.old.begins }
+        ensures given { (activity self.new).next - 1 ≡ (activity self.old).next - 1 }
+        ensures turns { self.new.turns ≡ self.old.turns }
+    {
+        if self.closed {
+            return Reopened::Shut;
+        }
+        self.activations.forget();
+        match self.store.reopen(outside) {
+            Ok(()) => Reopened::Number(self.store.number()),
+            Err(ReopenFault::Damaged(offset)) => {
+                self.closed = true;
+                Reopened::Damaged(offset)
+            }
+            Err(ReopenFault::DiskFault) => {
+                self.closed = true;
+                Reopened::DiskFault
+            }
+        }
+    }
+
+    /// The store's number.
+    pub fn number(&self) -> u64
+        requires { IsSound self.now }
+        ensures number { result ≡ number_of self.now.store }
+        ensures shown { (held : List ℕ) (desk : Desk) → Shown self.now held desk → result ≡ number_after self.now.opened desk }
+    {
+        self.store.number()
+    }
+
+    /// The numbers of those that are active, ascending.
+    pub fn active(&self) -> ArrayVec<u32, 16>
+        requires { IsSound self.now }
+        ensures active { result.items ≡ numbers_seated (activity self.now).seating }
+        ensures shown { (held : List ℕ) (desk : Desk) → Shown self.now held desk → result.items ≡ numbers desk }
+    {
+        self.activations.active()
+    }
+
+    /// What the activation of the last turn that ended by a commit had printed.
+    pub fn printed(&self) -> &[u8]
+        ensures bytes { result.now ≡ self.now.printed }
+        ensures few { length result.now ≤ 4096 }
+    {
+        self.printed.as_slice()
+    }
+
+    /// The commits, in order, with one in doubt at most at the end.
+    pub fn order(&self) -> &[Committed]
+        requires { IsSound self.now }
+        ensures { map (λ commit. (commit.activation, commit.steps)) result.now ≡ order_of self.now }
+    {
+        &self.order
+    }
+}
