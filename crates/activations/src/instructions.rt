@@ -34,6 +34,7 @@ pub enum Went {
 
 impl Activations {
     ghost use Rattle.activations.specs.Activity.{live_in, program_in};
+    ghost use Rattle.activations.specs.Causes.{IsJournal, IsNoLimit, IsVictim};
     ghost use Rattle.activations.specs.Attempted.{IsSelected, IsShut, plain_in};
     ghost use Rattle.activations.specs.Fetching.{IsStoreOf, HasBrokenOff};
     ghost use Rattle.activations.specs.Follows.{IsSound, Follows};
@@ -78,6 +79,9 @@ impl Activations {
         ensures calm { OnOk result (W.disk_faults outside.new ≡ W.disk_faults outside.old) }
         ensures ends { IfErr result (IsEndOfRows W.Outside outside.old outside.new tally.old tally.new) }
         ensures waits { IfErr result (IsWaiter (number_in (activity_of self.old).seating seat)) }
+        ensures journal { IfErr result (IsJournal (activity_of self.new).most_lines) }
+        ensures no_limit { IfErr result IsNoLimit }
+        ensures victim { IfErr result (IsVictim (number_in (activity_of self.old).seating seat) tally.new.cycles.items) }
         ensures step { (committed : List ℕ) (order : List (ℕ × ℕ)) → IsStoreOf W.Outside store.now outside.old committed → Follows (activity_of self.old) committed → IsStep result (instruction_in (activity_of self.old) seat committed order (counts_of tally.old)) (activity_of self.new) seat committed order (counts_of tally.new) }
     {
         if let Some(access) = shut {
@@ -101,7 +105,14 @@ impl Activations {
     /// # Errors
     ///
     /// The end of the turn: it asks for too many lines, a page can't be read, it waits, or it is a victim.
-    pub(super) fn serve<W: Outside>(&mut self, store: &Durable, outside: &mut W, seat: u8, access: Access, tally: &mut Tally) -> Result<(), TurnEnd>
+    pub(super) fn serve<W: Outside>(
+        &mut self,
+        store: &Durable,
+        outside: &mut W,
+        seat: u8,
+        access: Access,
+        tally: &mut Tally,
+    ) -> Result<(), TurnEnd>
         requires sound { IsSound (activity_of self.old) }
         requires taken { has (activity_of self.old).seating.taken seat ≡ true }
         requires selected { IsSelected (activity_of self.old) seat }
@@ -119,6 +130,9 @@ impl Activations {
         ensures calm { OnOk result (W.disk_faults outside.new ≡ W.disk_faults outside.old) }
         ensures ends { IfErr result (IsEndOfRows W.Outside outside.old outside.new tally.old tally.new) }
         ensures waits { IfErr result (IsWaiter (number_in (activity_of self.old).seating seat)) }
+        ensures journal { IfErr result (IsJournal (activity_of self.new).most_lines) }
+        ensures no_limit { IfErr result IsNoLimit }
+        ensures victim { IfErr result (IsVictim (number_in (activity_of self.old).seating seat) tally.new.cycles.items) }
         ensures served { (committed : List ℕ) (order : List (ℕ × ℕ)) → IsStoreOf W.Outside store.now outside.old committed → Follows (activity_of self.old) committed → IsInstruction result (instruction_in (activity_of self.old) seat committed order (counts_of tally.old)) (activity_of self.new) seat committed order (counts_of tally.new) }
     {
         let (touch, refused) = self.prepare(store, outside, seat, access, tally)?;
@@ -132,7 +146,14 @@ impl Activations {
     /// # Errors
     ///
     /// The end of the turn: it asks for too many lines, or a page can't be read.
-    fn prepare<W: Outside>(&mut self, store: &Durable, outside: &mut W, seat: u8, access: Access, tally: &mut Tally) -> Result<(Touch, (bool, bool)), TurnEnd>
+    fn prepare<W: Outside>(
+        &mut self,
+        store: &Durable,
+        outside: &mut W,
+        seat: u8,
+        access: Access,
+        tally: &mut Tally,
+    ) -> Result<(Touch, (bool, bool)), TurnEnd>
         requires sound { IsSound (activity_of self.old) }
         requires taken { has (activity_of self.old).seating.taken seat ≡ true }
         requires selected { IsSelected (activity_of self.old) seat }
@@ -150,6 +171,9 @@ impl Activations {
         ensures calm { OnOk result (W.disk_faults outside.new ≡ W.disk_faults outside.old) }
         ensures ends { IfErr result (IsEndOfRows W.Outside outside.old outside.new tally.old tally.new) }
         ensures waits { IfErr result (IsWaiter (number_in (activity_of self.old).seating seat)) }
+        ensures journal { IfErr result (IsJournal (activity_of self.new).most_lines) }
+        ensures no_limit { IfErr result IsNoLimit }
+        ensures victim { IfErr result (IsVictim (number_in (activity_of self.old).seating seat) tally.new.cycles.items) }
         ensures prepared { (committed : List ℕ) (order : List (ℕ × ℕ)) → IsStoreOf W.Outside store.now outside.old committed → Follows (activity_of self.old) committed → Prepares result (instruction_in (activity_of self.old) seat committed order (counts_of tally.old)) (activity_of self.new) seat committed order (counts_of tally.new) }
     {
         let touch = self.touch_of(seat, access);
@@ -165,7 +189,14 @@ impl Activations {
     /// # Errors
     ///
     /// A page can't be read: who sits in the seat is rolled back, and no page is resident.
-    fn bring<W: Outside>(&mut self, store: &Durable, outside: &mut W, seat: u8, touch: &Touch, tally: &mut Tally) -> Result<(), TurnEnd>
+    fn bring<W: Outside>(
+        &mut self,
+        store: &Durable,
+        outside: &mut W,
+        seat: u8,
+        touch: &Touch,
+        tally: &mut Tally,
+    ) -> Result<(), TurnEnd>
         requires sound { IsSound (activity_of self.old) }
         requires taken { has (activity_of self.old).seating.taken seat ≡ true }
         requires wanted { AreWanted (activity_of self.old).reach.directory (wants_of touch.now) }
@@ -208,6 +239,7 @@ impl Activations {
         ensures tally { tally.new ≡ record tally.old { cycles = tally.new.cycles } }
         ensures stays { OnOk result (StaysSeated (activity_of self.old) (activity_of self.new) seat) }
         ensures ends { IfErr result (IsContestEnd (number_in (activity_of self.old).seating seat)) }
+        ensures victim { IfErr result (IsVictim (number_in (activity_of self.old).seating seat) tally.new.cycles.items) }
         ensures settled { (begins : Word → Turning) (attempt : desk.Attempt) (refused : List ℕ) (committed : List ℕ) (order : List (ℕ × ℕ)) → IsAsked begins attempt refused (activity_of self.old) seat (wants_of touch.now) committed order (counts_of tally.old) → IsSettled result begins attempt refused (activity_of self.new) committed order (counts_of tally.new) }
     {
         let request = touch.request();
@@ -224,7 +256,15 @@ impl Activations {
     /// # Errors
     ///
     /// The end of the turn: a page can't be read.
-    fn get<W: Outside>(&mut self, store: &Durable, outside: &mut W, seat: u8, touch: &Touch, refused: (bool, bool), tally: &mut Tally) -> Result<(), TurnEnd>
+    fn get<W: Outside>(
+        &mut self,
+        store: &Durable,
+        outside: &mut W,
+        seat: u8,
+        touch: &Touch,
+        refused: (bool, bool),
+        tally: &mut Tally,
+    ) -> Result<(), TurnEnd>
         requires sound { IsSound (activity_of self.old) }
         requires taken { has (activity_of self.old).seating.taken seat ≡ true }
         requires selected { IsSelected (activity_of self.old) seat }

@@ -1,17 +1,15 @@
-use Rattle.std.proofs.Common.{◌≡◌, false, ℕ, IsSome, ap, arith, sym, ◌∙◌, subst}
-use Rattle.std.specs.Result.{OnOk, IfErr}
-use Rattle.line_locks.specs.Held.{AreWithin}
-use Rattle.line_locks.specs.declared.request.Want.{Want}
-use Rattle.seats.specs.Seating.{Seating, IsSeating, sitter, number_in}
+use Rattle.std.proofs.Common.{◌≡◌, ℕ, IsSome, ap, arith, sym, ◌∙◌, subst}
+use Rattle.std.specs.Result.{IfErr}
+use Rattle.seats.specs.Seating.{Seating, sitter, number_in}
 use Rattle.seats.specs.Waiting.{holders}
-use Rattle.desk.specs.declared.answers.TurnEnd.{TurnEnd}
-use Rattle.activations.specs.Activity.{Activity, desk_over}
+use Rattle.activations.specs.Activity.{desk_over}
 use Rattle.activations.specs.Follows.{IsSound}
+use Rattle.activations.specs.Causes.{IsVictim}
 use Rattle.activations.specs.Kept.{KeepsParts, StaysSeated}
 use Rattle.activations.specs.Serving.{IsContested}
 use Rattle.activations.specs.Turning.{IsContestEnd, counts_of}
 use Rattle.activations.specs.View.{activity_of}
-use Rattle.activations.specs.Touched.{with_whole_page, wants_of}
+use Rattle.activations.specs.Touched.{wants_of}
 use Rattle.activations.proofs.AskLemmas.{asked-within, some-holders, sound-asking, asks-now, keeps-asking, stays-asking, asked-whole}
 use Rattle.activations.proofs.KeptLemmas.{keeps-on, stays-on, ok-then}
 use Rattle.seats.proofs.Kept.{taken-below}
@@ -71,3 +69,9 @@ returns-clause-settled c begins attempt refused committed order asked =
     (subst (λ (s : Seating). IsContested begins attempt refused (desk_over a committed order) (record a { seating = s }) committed order (counts_of c.args.tally.now)) (sym c.wait.ensures)
     (asked.contested c.request-request.result others.0 others.1 c.request-request.ensures
     (sym (c.holders.ensures ∙ ap (holders c.args.self.now.seats c.args.seat) c.request-request.ensures) ∙ others.2)))
+
+pub returns-clause-victim : goal.returns-clause-victim
+returns-clause-victim c =
+    subst (λ (n : ℕ). IfErr c.contend.result (IsVictim n c.contend.new.tally.cycles.items))
+    (subst (λ (s : Seating). number_in s c.args.seat ≡ number_in c.args.self.now.seats c.args.seat) (sym c.wait.ensures) (stays-asking (activity_of c.args.self.now) c.args.seat c.request-request.result c.requires.sound c.requires.taken).number)
+    c.contend.ensures.victim

@@ -1,21 +1,18 @@
-use Rattle.std.proofs.Common.{◌≡◌, ◌+◌, Ok, Err, ap, arith, sym, ◌∙◌, subst}
+use Rattle.std.proofs.Common.{◌≡◌, Err, ap, arith, sym, ◌∙◌, subst}
 use Rattle.std.proofs.lemmas.Result.{err_from_is_err_and}
 use Rattle.desk.specs.declared.answers.TurnEnd.{TurnEnd}
 use Rattle.romp_cpu.specs.declared.cpu.Attempt.{Attempt}
 use Rattle.flat_machine.specs.Row.{Check, row}
-use Rattle.seats.specs.Seating.{Seating}
 use Rattle.activations.specs.Activity.{Activity, program_in}
 use Rattle.activations.specs.Attempted.{IsSelected, WasAttempted, plain_in}
-use Rattle.activations.specs.Follows.{IsSound, Follows}
-use Rattle.activations.specs.Kept.{KeepsParts}
+use Rattle.activations.specs.Follows.{Follows}
 use Rattle.activations.specs.Instructed.{GoesUncounted}
 use Rattle.activations.specs.Serving.{instruction_in}
 use Rattle.activations.specs.Turning.{HasEnded, counts_of}
 use Rattle.activations.specs.View.{activity_of}
-use Rattle.activations.proofs.GoOnLemmas.{keeps-counted, still-taken, took-either}
+use Rattle.activations.proofs.GoOnLemmas.{took-either}
 use Rattle.activations.proofs.InstructLemmas.{row-goes, at-commit, stepped}
-use Rattle.activations.proofs.KeptLemmas.{keeps-took, keeps-on, keeps-checked}
-use Rattle.activations.proofs.StrideLemmas.{sound-counted}
+use Rattle.activations.proofs.KeptLemmas.{keeps-took, keeps-checked}
 use Rattle.activations.proofs.activations.Activations.instruct.Goals as goal
 
 pub returns-in_err-serve-clause-step : goal.returns-in_err-serve-clause-step
@@ -64,3 +61,6 @@ returns-in-Check-clause-step g c committed order store follows =
     (c.check.ensures.checked committed order (counts_of c.args.tally.now) (subst (λ (a : Activity). IsSelected a c.args.seat) (sym came.0) c.requires.selected)
     (subst (λ (a : Activity). Follows a committed) (sym came.0) follows)
     (subst (λ (a : Activity). row (program_in a c.args.seat) a.reach.directory (plain_in a c.args.seat committed) ≡ Check c.in-Check.code) (sym came.0) (came.1 committed follows.kept.long)))
+
+pub returns-in-Some-clause-step : goal.returns-in-Some-clause-step
+returns-in-Some-clause-step g c committed order store follows = c.in_ok-serve.ensures.served committed order store follows
