@@ -38,7 +38,7 @@ fn told(tally: Tally, end: TurnEnd) -> Turn
 }
 
 impl Session {
-    ghost use Rattle.supervisor.specs.Session.{IsSound, activity, order_of};
+    ghost use Rattle.supervisor.specs.Session.{IsSound, activity, order_of, records_told};
     ghost use Rattle.supervisor.specs.Shown.{Shown};
     ghost use Rattle.supervisor.specs.Causes.{IsFull, HasPlace, lacking, TellsNumber, EntersOrder, ReopenedNumber};
     ghost use Rattle.activations.specs.Instructed.{IsWaiter};
@@ -125,6 +125,7 @@ impl Session {
         ensures shut { (result ≡ Stored.Shut) ↔ (self.old.closed ≡ true) }
         ensures fault { result ≡ Stored.Closed → Rose (W.disk_faults outside.old) (W.disk_faults outside.new) }
         ensures number { StoredNumber result (number_of self.old.store) }
+        ensures emptied { (number : ℕ) → result ≡ Stored.Number number → records_told self.new ≡ 0 }
         ensures unchanged { self.old.closed ≡ true → (self.new ≡ self.old) × (outside.new ≡ outside.old) }
         ensures closed { self.new.closed ≡ stored_closes result }
         ensures cause { self.old.closed ≡ false → self.new.closed ≡ true → Rose (W.disk_faults outside.old) (W.disk_faults outside.new) }
