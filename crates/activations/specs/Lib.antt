@@ -14,3 +14,4 @@ pub mod Serves
 pub mod Instructed
 pub mod Turns
 pub mod Recorded
+pub mod Causes

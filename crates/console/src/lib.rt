@@ -17,4 +17,6 @@ pub use status::{Ended, Status, status_text};
 #[cfg(test)]
 mod crash_tests;
 #[cfg(test)]
+mod side_by_side_tests;
+#[cfg(test)]
 mod tests;

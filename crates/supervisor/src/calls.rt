@@ -25,6 +25,8 @@ use redo_journal::ReopenFault;
 fn told(tally: Tally, end: TurnEnd) -> Turn
     ensures counts { counts_told result ≡ counts_of tally }
     ensures end { result.end ≡ end }
+    ensures ran { result.ran ≡ tally.ran }
+    ensures cycles { result.cycles ≡ tally.cycles }
 {
     Turn {
         ran: tally.ran,
@@ -36,10 +38,12 @@ fn told(tally: Tally, end: TurnEnd) -> Turn
 }
 
 impl Session {
-    ghost use Rattle.supervisor.specs.Session.{IsSound, activity, order_of};
+    ghost use Rattle.supervisor.specs.Session.{IsSound, activity, order_of, records_told};
     ghost use Rattle.supervisor.specs.Shown.{Shown};
     ghost use Rattle.supervisor.specs.Causes.{IsFull, HasPlace, lacking, TellsNumber, EntersOrder, ReopenedNumber};
     ghost use Rattle.activations.specs.Instructed.{IsWaiter};
+    ghost use Rattle.activations.specs.Causes.{IsJournal, IsLimit, IsVictim};
+    ghost use Rattle.store_format.specs.Header.{most_lines};
     ghost use Rattle.restart.specs.Kept.{number_of};
     ghost use Rattle.seats.specs.Seating.{seat_of, numbers as numbers_seated};
 
@@ -81,6 +85,9 @@ impl Session {
         ensures shut { (result.end ≡ TurnEnd.Shut) ↔ (self.old.closed ≡ true) }
         ensures idle { self.old.closed ≡ false → (result.end ≡ TurnEnd.Idle) ↔ (seat_of (activity self.old).seating activation ≡ None) }
         ensures waits { IsWaiter activation result.end }
+        ensures journal { IsJournal (most_lines self.old.store.header) result.end }
+        ensures limit { IsLimit limit result.ran result.end }
+        ensures victim { IsVictim activation result.cycles.items result.end }
         ensures pages { result.end ≡ TurnEnd.Disk → 0 < result.pages }
         ensures numbered { TellsNumber activation (number_of self.old.store) result.end }
         ensures ordered { EntersOrder activation result.end (order_of self.old) (order_of self.new) }
@@ -118,6 +125,7 @@ impl Session {
         ensures shut { (result ≡ Stored.Shut) ↔ (self.old.closed ≡ true) }
         ensures fault { result ≡ Stored.Closed → Rose (W.disk_faults outside.old) (W.disk_faults outside.new) }
         ensures number { StoredNumber result (number_of self.old.store) }
+        ensures emptied { (number : ℕ) → result ≡ Stored.Number number → records_told self.new ≡ 0 }
         ensures unchanged { self.old.closed ≡ true → (self.new ≡ self.old) × (outside.new ≡ outside.old) }
         ensures closed { self.new.closed ≡ stored_closes result }
         ensures cause { self.old.closed ≡ false → self.new.closed ≡ true → Rose (W.disk_faults outside.old) (W.disk_faults outside.new) }

@@ -19,6 +19,8 @@ impl Session {
     ghost use Rattle.supervisor.specs.Shown.{IsOver};
     ghost use Rattle.supervisor.specs.Causes.{TellsNumber, EntersOrder};
     ghost use Rattle.activations.specs.Instructed.{IsWaiter};
+    ghost use Rattle.activations.specs.Causes.{IsJournal, IsLimit, IsVictim};
+    ghost use Rattle.store_format.specs.Header.{most_lines};
     ghost use Rattle.restart.specs.Kept.{number_of};
     ghost use Rattle.seats.specs.Seating.{seat_of};
     ghost use Rattle.supervisor.specs.Went.{HasRun, IsTurned, most_kept};
@@ -46,6 +48,9 @@ impl Session {
         ensures turned { IsTurned result }
         ensures idle { (result ≡ end.Idle) ↔ (seat_of (activity self.old).seating activation ≡ None) }
         ensures waits { IsWaiter activation result }
+        ensures journal { IsJournal (most_lines self.old.store.header) result }
+        ensures limit { IsLimit limit tally.new.ran result }
+        ensures victim { IsVictim activation tally.new.cycles.items result }
         ensures pages { result ≡ end.Disk → 0 < tally.new.pages }
         ensures numbered { TellsNumber activation (number_of self.old.store) result }
         ensures ordered { EntersOrder activation result (order_of self.old) (order_of self.new) }

@@ -135,3 +135,11 @@ returns-else-is_empty-clause-settled c begins attempt refused first committed or
       c.loop-members.invariant.3 (sym c.cycle_from.ensures ∙ ap (option_map (λ cycle. cycle.items)) w.in_default.is) c.awaited-holders.result.items c.awaited-holders.ensures
       (sym c.is_empty.ensures ∙ c.if-is_empty.false) begins attempt refused first committed order number contested
 ]
+
+pub returns-then-victim-number-clause-victim : goal.returns-then-victim-number-clause-victim
+returns-then-victim-number-clause-victim c = (
+  c.loop-members.tally.cycles.items,
+  _,
+  c.push.ensures.items,
+  sym c.greatest-victim.ensures ∙ c.if-victim-number.true ∙ ap (λ (who : Seat). who.number) c.sitter.ensures,
+)

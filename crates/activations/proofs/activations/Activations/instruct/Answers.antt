@@ -61,3 +61,6 @@ returns-in-Check-clause-step g c committed order store follows =
     (c.check.ensures.checked committed order (counts_of c.args.tally.now) (subst (λ (a : Activity). IsSelected a c.args.seat) (sym came.0) c.requires.selected)
     (subst (λ (a : Activity). Follows a committed) (sym came.0) follows)
     (subst (λ (a : Activity). row (program_in a c.args.seat) a.reach.directory (plain_in a c.args.seat committed) ≡ Check c.in-Check.code) (sym came.0) (came.1 committed follows.kept.long)))
+
+pub returns-in-Some-clause-step : goal.returns-in-Some-clause-step
+returns-in-Some-clause-step g c committed order store follows = c.in_ok-serve.ensures.served committed order store follows

@@ -7,6 +7,7 @@ use Rattle.seats.proofs.Numbers.{seat-found}
 use Rattle.supervisor.specs.Session.{activity, order_of}
 use Rattle.supervisor.proofs.TurnLemmas.{idle, ended, committed, nothing-counted, sound-ran, over-ran, store-over}
 use Rattle.activations.proofs.TurnLemmas.{asks-none}
+use Rattle.activations.specs.Causes.{IsVictim}
 use Rattle.activations.specs.Instructed.{IsWaiter}
 use Rattle.restart.specs.Kept.{number_of}
 use Rattle.supervisor.specs.Causes.{TellsNumber, EntersOrder}
@@ -68,3 +69,8 @@ pub returns-in-Ok-clause-ordered : goal.returns-in-Ok-clause-ordered
 returns-in-Ok-clause-ordered g c =
     let found = (seat-found (activity c.args.self.now).seating c.requires.sound.running.seating c.args.activation c.in-Some.seat (sym c.seat_of.ensures ∙ c.in-Some.is)).1 in
     subst (λ (n : ℕ). EntersOrder n c.commit.result (order_of c.args.self.now) (order_of c.commit.new.self)) (c.in-Ok.ensures.stays.number ∙ found) c.commit.ensures.ordered
+
+pub returns-in-Err-clause-victim : goal.returns-in-Err-clause-victim
+returns-in-Err-clause-victim g c =
+    let found = (seat-found (activity c.args.self.now).seating c.requires.sound.running.seating c.args.activation c.in-Some.seat (sym c.seat_of.ensures ∙ c.in-Some.is)).1 in
+    subst (λ (n : ℕ). IsVictim n c.run.new.tally.cycles.items c.in-Err.end) found c.in-Err.ensures.victim
