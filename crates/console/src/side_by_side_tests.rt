@@ -6,6 +6,8 @@ use outside::{Call, Joint, MemoryDisk, MemoryScreen, MemorySource, Refusal};
 use std::process::Abort;
 use std::test::Fail;
 
+/// The programs of the rows in which several are active. The offsets are in segment 1, whose pages have 2,048 bytes each,
+/// and whose lines have 128.
 const SIDE_BY_SIDE: &str = "\
     program add\n.window 1, 1, rw\ncau r6, r0, 0x1000\nl r3, 0(r6)\na r3, r2\nst r3, 0(r6)\nsvc 0\nend\n\
     program wr\n.window 1, 1, rw\ncau r6, r0, 0x1000\nst r2, 128(r6)\nsvc 0\nend\n\

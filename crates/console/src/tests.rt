@@ -666,6 +666,3 @@ fn a_store_is_made_run_on_and_shown(rt: HostRuntime) -> Result<(), Fail> {
     assert_eq!(rt; held.len(), 16_672);
     Ok(())
 }
-
-/// The programs of the rows in which several are active. The offsets are in segment 1, whose pages have 2,048 bytes each,
-/// and whose lines have 128.
