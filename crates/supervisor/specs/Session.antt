@@ -1,6 +1,7 @@
 -- A session, the desk that it is over committed bytes, and what holds of it at every moment.
-use Rattle.std.specs.Prelude.{◌≡◌, ℕ, ◌+◌, ◌*◌, ◌<◌, ◌≤◌, ◌^◌, false, List, length, vec_len, vec_capacity}
+use Rattle.std.specs.Prelude.{◌≡◌, ℕ, Bool, ◌+◌, ◌*◌, ◌<◌, ◌≤◌, ◌^◌, false, List, length, vec_len, vec_capacity}
 use Rattle.store_format.specs.Header.{Header, HasRanges, most_lines}
+use Rattle.restart.specs.Kept.{number_of}
 use Rattle.desk.specs.Answers.{order_told}
 use Rattle.desk.specs.Desk.{Desk}
 use Rattle.activations.specs.Activity.{Activity, desk_over}
@@ -20,6 +21,30 @@ order_of s = order_told s.order.items
 -- the header of its store
 abbrev pub header_of_session : Session → Header
 header_of_session s = s.store.header
+
+-- it was closed, by a fault of the disk or by damage
+abbrev pub is_closed : Session → Bool
+is_closed s = s.closed
+
+-- the number of its store at the opening
+abbrev pub opened_at : Session → ℕ
+opened_at s = s.opened
+
+-- the number of its store
+abbrev pub number_told : Session → ℕ
+number_told s = number_of s.store
+
+-- how many begins it has room for
+abbrev pub begins_of : Session → ℕ
+begins_of s = s.begins
+
+-- how many turns were asked of it
+abbrev pub turns_of : Session → ℕ
+turns_of s = s.turns
+
+-- what the last commit had printed
+abbrev pub printed_of : Session → List ℕ
+printed_of s = s.printed
 
 -- the desk that it is over committed bytes
 abbrev pub desk_of : Session → (committed : List ℕ) → Desk

@@ -38,35 +38,34 @@ fn told(tally: Tally, end: TurnEnd) -> Turn
 }
 
 impl Session {
-    ghost use Rattle.supervisor.specs.Session.{IsSound, activity, order_of, records_told};
+    ghost use Rattle.supervisor.specs.Session.{IsSound, activity, order_of, records_told, is_closed, opened_at, begins_of, turns_of, printed_of, header_of_session, number_told};
     ghost use Rattle.supervisor.specs.Shown.{Shown};
     ghost use Rattle.supervisor.specs.Causes.{IsFull, HasPlace, lacking, TellsNumber, EntersOrder, ReopenedNumber};
     ghost use Rattle.activations.specs.Instructed.{IsWaiter};
     ghost use Rattle.activations.specs.Causes.{IsJournal, IsLimit, IsVictim};
     ghost use Rattle.store_format.specs.Header.{most_lines};
-    ghost use Rattle.restart.specs.Kept.{number_of};
     ghost use Rattle.seats.specs.Seating.{seat_of, numbers as numbers_seated};
 
     /// The program with this place begins with four values.
     pub fn begin(&mut self, program: u16, args: [u32; 4]) -> Begun
         requires sound { IsSound self.old }
         requires program { program < length (activity self.old).programs }
-        requires room { (activity self.old).next - 1 < self.old.begins }
+        requires room { (activity self.old).next - 1 < begins_of self.old }
         ensures did { (held : List ℕ) (desk : Desk) → Shown self.old held desk → (next : Desk) × (step (activity self.old).programs (event.Begin program args) Fine desk ≡ record { desk = next; happening = begun_told program result }) × Shown self.new held next }
-        ensures shut { (result ≡ Begun.Shut) ↔ (self.old.closed ≡ true) }
-        ensures busy { (number : ℕ) → (result ≡ Begun.Busy number) ↔ ((self.old.closed ≡ false) × IsFull (activity self.old) × (number ≡ (activity self.old).next)) }
-        ensures no_segment { (number segment : ℕ) → (result ≡ Begun.NoSegment number segment) ↔ ((self.old.closed ≡ false) × HasPlace (activity self.old) × (lacking (activity self.old) program ≡ Some segment) × (number ≡ (activity self.old).next)) }
-        ensures started { (number : ℕ) → (result ≡ Begun.Started number) ↔ ((self.old.closed ≡ false) × HasPlace (activity self.old) × (lacking (activity self.old) program ≡ None) × (number ≡ (activity self.old).next)) }
-        ensures unchanged { self.old.closed ≡ true → self.new ≡ self.old }
-        ensures closed { self.new.closed ≡ self.old.closed }
+        ensures shut { (result ≡ Begun.Shut) ↔ (is_closed self.old ≡ true) }
+        ensures busy { (number : ℕ) → (result ≡ Begun.Busy number) ↔ ((is_closed self.old ≡ false) × IsFull (activity self.old) × (number ≡ (activity self.old).next)) }
+        ensures no_segment { (number segment : ℕ) → (result ≡ Begun.NoSegment number segment) ↔ ((is_closed self.old ≡ false) × HasPlace (activity self.old) × (lacking (activity self.old) program ≡ Some segment) × (number ≡ (activity self.old).next)) }
+        ensures started { (number : ℕ) → (result ≡ Begun.Started number) ↔ ((is_closed self.old ≡ false) × HasPlace (activity self.old) × (lacking (activity self.old) program ≡ None) × (number ≡ (activity self.old).next)) }
+        ensures unchanged { is_closed self.old ≡ true → self.new ≡ self.old }
+        ensures closed { is_closed self.new ≡ is_closed self.old }
         ensures order { order_of self.new ≡ order_of self.old }
         ensures sound { IsSound self.new }
         ensures programs { (activity self.new).programs ≡ (activity self.old).programs }
-        ensures opened { self.new.opened ≡ self.old.opened }
-        ensures header { self.new.store.header ≡ self.old.store.header }
-        ensures begins { self.new.begins ≡ self.old.begins }
+        ensures opened { opened_at self.new ≡ opened_at self.old }
+        ensures header { header_of_session self.new ≡ header_of_session self.old }
+        ensures begins { begins_of self.new ≡ begins_of self.old }
         ensures given { (activity self.new).next - 1 ≤ (activity self.old).next - 1 + 1 }
-        ensures turns { self.new.turns ≡ self.old.turns }
+        ensures turns { turns_of self.new ≡ turns_of self.old }
     {
         if self.closed {
             return Begun::Shut;
@@ -78,34 +77,34 @@ impl Session {
     pub fn turn<W: Outside>(&mut self, outside: &mut W, activation: u32, limit: u32) -> Turn
         requires sound { IsSound self.old }
         requires limit { limit ≤ 1000000 }
-        requires turns { self.old.turns < 2 ^ 32 }
-        requires bytes { HoldsStore W.Outside self.old.store.header outside.old }
-        ensures did { (desk : Desk) → IsSure W.Outside outside.old → Shown self.old (held_of W.Outside outside.old) desk → (did : Did W.Outside (activity self.old).programs self.old.opened (event.Turn activation limit) (turn_told activation result self.new.printed) self.new.closed (order_of self.new) (Shown self.new) desk outside.old outside.new) × HasNumbers result.end activation (number_after self.old.opened did.next) }
+        requires turns { turns_of self.old < 2 ^ 32 }
+        requires bytes { HoldsStore W.Outside (header_of_session self.old) outside.old }
+        ensures did { (desk : Desk) → IsSure W.Outside outside.old → Shown self.old (held_of W.Outside outside.old) desk → (did : Did W.Outside (activity self.old).programs (opened_at self.old) (event.Turn activation limit) (turn_told activation result (printed_of self.new)) (is_closed self.new) (order_of self.new) (Shown self.new) desk outside.old outside.new) × HasNumbers result.end activation (number_after (opened_at self.old) did.next) }
         ensures writes { WritesMore (W.writes outside.old) (W.writes outside.new) (writes_due result.end) }
-        ensures shut { (result.end ≡ TurnEnd.Shut) ↔ (self.old.closed ≡ true) }
-        ensures idle { self.old.closed ≡ false → (result.end ≡ TurnEnd.Idle) ↔ (seat_of (activity self.old).seating activation ≡ None) }
+        ensures shut { (result.end ≡ TurnEnd.Shut) ↔ (is_closed self.old ≡ true) }
+        ensures idle { is_closed self.old ≡ false → (result.end ≡ TurnEnd.Idle) ↔ (seat_of (activity self.old).seating activation ≡ None) }
         ensures waits { IsWaiter activation result.end }
-        ensures journal { IsJournal (most_lines self.old.store.header) result.end }
+        ensures journal { IsJournal (most_lines (header_of_session self.old)) result.end }
         ensures limit { IsLimit limit result.ran result.end }
         ensures victim { IsVictim activation result.cycles.items result.end }
         ensures pages { result.end ≡ TurnEnd.Disk → 0 < result.pages }
-        ensures numbered { TellsNumber activation (number_of self.old.store) result.end }
+        ensures numbered { TellsNumber activation (number_told self.old) result.end }
         ensures ordered { EntersOrder activation result.end (order_of self.old) (order_of self.new) }
-        ensures unchanged { self.old.closed ≡ true → (self.new ≡ self.old) × (outside.new ≡ outside.old) }
-        ensures closed { self.new.closed ≡ turn_closes result.end }
-        ensures cause { self.old.closed ≡ false → self.new.closed ≡ true → Rose (W.disk_faults outside.old) (W.disk_faults outside.new) }
+        ensures unchanged { is_closed self.old ≡ true → (self.new ≡ self.old) × (outside.new ≡ outside.old) }
+        ensures closed { is_closed self.new ≡ turn_closes result.end }
+        ensures cause { is_closed self.old ≡ false → is_closed self.new ≡ true → Rose (W.disk_faults outside.old) (W.disk_faults outside.new) }
         ensures disk { result.end ≡ TurnEnd.Disk → Rose (W.disk_faults outside.old) (W.disk_faults outside.new) }
         ensures calm { turn_fails result.end ≡ false → W.disk_faults outside.new ≡ W.disk_faults outside.old }
         ensures calls { CallsDisk W.Outside outside.old outside.new }
         ensures told { StillTold W.Outside outside.old outside.new }
-        ensures bytes { HoldsStore W.Outside self.new.store.header outside.new }
+        ensures bytes { HoldsStore W.Outside (header_of_session self.new) outside.new }
         ensures sound { IsSound self.new }
         ensures programs { (activity self.new).programs ≡ (activity self.old).programs }
-        ensures opened { self.new.opened ≡ self.old.opened }
-        ensures header { self.new.store.header ≡ self.old.store.header }
-        ensures begins { self.new.begins ≡ self.old.begins }
+        ensures opened { opened_at self.new ≡ opened_at self.old }
+        ensures header { header_of_session self.new ≡ header_of_session self.old }
+        ensures begins { begins_of self.new ≡ begins_of self.old }
         ensures given { (activity self.new).next - 1 ≡ (activity self.old).next - 1 }
-        ensures turns { self.new.turns ≤ self.old.turns + 1 }
+        ensures turns { turns_of self.new ≤ turns_of self.old + 1 }
     {
         let mut tally = Tally::new();
         if self.closed {
@@ -119,27 +118,27 @@ impl Session {
     /// Brings the store home, so that its journal begins again.
     pub fn checkpoint<W: Outside>(&mut self, outside: &mut W) -> Stored
         requires sound { IsSound self.old }
-        requires bytes { HoldsStore W.Outside self.old.store.header outside.old }
-        ensures did { (desk : Desk) → IsSure W.Outside outside.old → Shown self.old (held_of W.Outside outside.old) desk → (did : Did W.Outside (activity self.old).programs self.old.opened event.Checkpoint (stored_told result) self.new.closed (order_of self.new) (Shown self.new) desk outside.old outside.new) × StoredNumber result (number_after self.old.opened did.next) }
+        requires bytes { HoldsStore W.Outside (header_of_session self.old) outside.old }
+        ensures did { (desk : Desk) → IsSure W.Outside outside.old → Shown self.old (held_of W.Outside outside.old) desk → (did : Did W.Outside (activity self.old).programs (opened_at self.old) event.Checkpoint (stored_told result) (is_closed self.new) (order_of self.new) (Shown self.new) desk outside.old outside.new) × StoredNumber result (number_after (opened_at self.old) did.next) }
         ensures writes { WritesMore (W.writes outside.old) (W.writes outside.new) 0 }
-        ensures shut { (result ≡ Stored.Shut) ↔ (self.old.closed ≡ true) }
+        ensures shut { (result ≡ Stored.Shut) ↔ (is_closed self.old ≡ true) }
         ensures fault { result ≡ Stored.Closed → Rose (W.disk_faults outside.old) (W.disk_faults outside.new) }
-        ensures number { StoredNumber result (number_of self.old.store) }
+        ensures number { StoredNumber result (number_told self.old) }
         ensures emptied { (number : ℕ) → result ≡ Stored.Number number → records_told self.new ≡ 0 }
-        ensures unchanged { self.old.closed ≡ true → (self.new ≡ self.old) × (outside.new ≡ outside.old) }
-        ensures closed { self.new.closed ≡ stored_closes result }
-        ensures cause { self.old.closed ≡ false → self.new.closed ≡ true → Rose (W.disk_faults outside.old) (W.disk_faults outside.new) }
+        ensures unchanged { is_closed self.old ≡ true → (self.new ≡ self.old) × (outside.new ≡ outside.old) }
+        ensures closed { is_closed self.new ≡ stored_closes result }
+        ensures cause { is_closed self.old ≡ false → is_closed self.new ≡ true → Rose (W.disk_faults outside.old) (W.disk_faults outside.new) }
         ensures calm { result ≢ Stored.Closed → W.disk_faults outside.new ≡ W.disk_faults outside.old }
         ensures calls { CallsDisk W.Outside outside.old outside.new }
         ensures told { StillTold W.Outside outside.old outside.new }
-        ensures bytes { HoldsStore W.Outside self.new.store.header outside.new }
+        ensures bytes { HoldsStore W.Outside (header_of_session self.new) outside.new }
         ensures sound { IsSound self.new }
         ensures programs { (activity self.new).programs ≡ (activity self.old).programs }
-        ensures opened { self.new.opened ≡ self.old.opened }
-        ensures header { self.new.store.header ≡ self.old.store.header }
-        ensures begins { self.new.begins ≡ self.old.begins }
+        ensures opened { opened_at self.new ≡ opened_at self.old }
+        ensures header { header_of_session self.new ≡ header_of_session self.old }
+        ensures begins { begins_of self.new ≡ begins_of self.old }
         ensures given { (activity self.new).next - 1 ≡ (activity self.old).next - 1 }
-        ensures turns { self.new.turns ≡ self.old.turns }
+        ensures turns { turns_of self.new ≡ turns_of self.old }
     {
         if self.closed {
             return Stored::Shut;
@@ -156,23 +155,23 @@ impl Session {
     /// A crash: it forgets all that isn't on the disk, and reads the store again. It only asks the disk.
     pub fn forget<W: Outside>(&mut self, outside: &mut W) -> Reopened
         requires sound { IsSound self.old }
-        requires bytes { HoldsStore W.Outside self.old.store.header outside.old }
-        ensures did { (desk : Desk) → IsSure W.Outside outside.old → Shown self.old (held_of W.Outside outside.old) desk → (did : Did W.Outside (activity self.old).programs self.old.opened event.Crash (reopened_told (numbers desk) result) self.new.closed (order_of self.new) (Shown self.new) desk outside.old outside.new) × IsReopened result (number_after self.old.opened did.next) }
-        ensures shut { (result ≡ Reopened.Shut) ↔ (self.old.closed ≡ true) }
-        ensures number { ReopenedNumber result (number_of self.new.store) }
-        ensures unchanged { self.old.closed ≡ true → (self.new ≡ self.old) × (outside.new ≡ outside.old) }
-        ensures closed { self.new.closed ≡ reopened_closes result }
+        requires bytes { HoldsStore W.Outside (header_of_session self.old) outside.old }
+        ensures did { (desk : Desk) → IsSure W.Outside outside.old → Shown self.old (held_of W.Outside outside.old) desk → (did : Did W.Outside (activity self.old).programs (opened_at self.old) event.Crash (reopened_told (numbers desk) result) (is_closed self.new) (order_of self.new) (Shown self.new) desk outside.old outside.new) × IsReopened result (number_after (opened_at self.old) did.next) }
+        ensures shut { (result ≡ Reopened.Shut) ↔ (is_closed self.old ≡ true) }
+        ensures number { ReopenedNumber result (number_told self.new) }
+        ensures unchanged { is_closed self.old ≡ true → (self.new ≡ self.old) × (outside.new ≡ outside.old) }
+        ensures closed { is_closed self.new ≡ reopened_closes result }
         ensures cause { result ≡ Reopened.DiskFault → Rose (W.disk_faults outside.old) (W.disk_faults outside.new) }
         ensures calm { result ≢ Reopened.DiskFault → W.disk_faults outside.new ≡ W.disk_faults outside.old }
-        ensures damage { IsDamage W.Outside self.old.store.header outside.old result }
+        ensures damage { IsDamage W.Outside (header_of_session self.old) outside.old result }
         ensures asks { OnlyAsks W.Outside outside.old outside.new }
         ensures sound { IsSound self.new }
         ensures programs { (activity self.new).programs ≡ (activity self.old).programs }
-        ensures opened { self.new.opened ≡ self.old.opened }
-        ensures header { self.new.store.header ≡ self.old.store.header }
-        ensures begins { self.new.begins ≡ self.old.begins }
+        ensures opened { opened_at self.new ≡ opened_at self.old }
+        ensures header { header_of_session self.new ≡ header_of_session self.old }
+        ensures begins { begins_of self.new ≡ begins_of self.old }
         ensures given { (activity self.new).next - 1 ≡ (activity self.old).next - 1 }
-        ensures turns { self.new.turns ≡ self.old.turns }
+        ensures turns { turns_of self.new ≡ turns_of self.old }
     {
         if self.closed {
             return Reopened::Shut;
@@ -194,8 +193,8 @@ impl Session {
     /// The store's number.
     pub fn number(&self) -> u64
         requires { IsSound self.now }
-        ensures number { result ≡ number_of self.now.store }
-        ensures shown { (held : List ℕ) (desk : Desk) → Shown self.now held desk → result ≡ number_after self.now.opened desk }
+        ensures number { result ≡ number_told self.now }
+        ensures shown { (held : List ℕ) (desk : Desk) → Shown self.now held desk → result ≡ number_after (opened_at self.now) desk }
     {
         self.store.number()
     }
@@ -211,7 +210,7 @@ impl Session {
 
     /// What the activation of the last turn that ended by a commit had printed.
     pub fn printed(&self) -> &[u8]
-        ensures bytes { result.now ≡ self.now.printed }
+        ensures bytes { result.now ≡ printed_of self.now }
         ensures few { length result.now ≤ 4096 }
     {
         self.printed.as_slice()

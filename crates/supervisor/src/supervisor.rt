@@ -7,7 +7,7 @@ use desk::{Begun, Committed, Reopened, Stored, Supervisor, Turn};
 use outside::Outside;
 
 impl Supervisor for Session {
-    ghost use Rattle.supervisor.specs.Session.{IsSound, activity, order_of};
+    ghost use Rattle.supervisor.specs.Session.{IsSound, activity, order_of, is_closed, opened_at, begins_of, turns_of, printed_of, header_of_session};
     ghost use Rattle.supervisor.specs.Shown.{Shown};
     ghost use Rattle.supervisor.specs.ShownLaws.{shown-open, shown-order, shown-closed, shown-stands};
 
@@ -15,21 +15,21 @@ impl Supervisor for Session {
 
     ghost sound = { IsSound };
 
-    ghost closed = { λ s. s.closed };
+    ghost closed = { is_closed };
 
     ghost programs = { λ s. (activity s).programs };
 
-    ghost opened = { λ s. s.opened };
+    ghost opened = { opened_at };
 
-    ghost header = { λ s. s.store.header };
+    ghost header = { header_of_session };
 
-    ghost begins = { λ s. s.begins };
+    ghost begins = { begins_of };
 
     ghost given = { λ s. (activity s).next - 1 };
 
-    ghost turns = { λ s. s.turns };
+    ghost turns = { turns_of };
 
-    ghost printed = { λ s. s.printed };
+    ghost printed = { printed_of };
 
     ghost order = { order_of };
 
