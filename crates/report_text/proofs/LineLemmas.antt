@@ -152,13 +152,20 @@ no_feed (word ∷ next ∷ words) are =
 abbrev pub inner : Line → List ℕ
 inner line = join_with_byte 32 (kind_of line ∷ parts_of line)
 
+-- the first line feed of a text that begins with words and a line feed stands behind the words
+pub feed_of_words : (words : List (List ℕ)) (behind : List ℕ) → AllByRecursion IsOneWord words
+    → position is_feed ((join_with_byte 32 words ++ 10 ∷ []) ++ behind) ≡ Some (length (join_with_byte 32 words))
+feed_of_words words behind are =
+    let all = join_with_byte 32 words in
+    let here : (all ++ 10 ∷ []) ++ behind ≡ all ++ 10 ∷ behind = append_assoc all (10 ∷ []) behind in
+    let place : prefix_len (λ byte. not (byte == 10)) (all ++ 10 ∷ behind) ≡ length all =
+    run_length (λ byte. not (byte == 10)) all (10 ∷ behind) (no_feed words are) refl in
+    rw (here, place, lt-ltb (length all) (length (all ++ 10 ∷ behind)) (simp length-append (omega arith))) refl
+
 -- the first line feed of a text that begins with a line ends the line
 pub feed_of : (line : Line) (behind : List ℕ) → IsLine line → position is_feed (line_text line ++ behind) ≡ Some (length (inner line))
 feed_of line behind is =
-    let here : line_text line ++ behind ≡ inner line ++ 10 ∷ behind = rw (line_words line) (append_assoc (inner line) (10 ∷ []) behind) in
-    let place : prefix_len (λ byte. not (byte == 10)) (inner line ++ 10 ∷ behind) ≡ length (inner line) =
-    run_length (λ byte. not (byte == 10)) (inner line) (10 ∷ behind) (no_feed (kind_of line ∷ parts_of line) (kind_word line, parts_words line is)) refl in
-    rw (here, place, lt-ltb (length (inner line)) (length (inner line ++ 10 ∷ behind)) (simp length-append (omega arith))) refl
+    rw (line_words line) (feed_of_words (kind_of line ∷ parts_of line) behind (kind_word line, parts_words line is))
 
 -- a line without its last byte
 pub without_feed : (line : Line) (text : List ℕ) → text ≡ line_text line → take (length text - 1) text ≡ inner line

@@ -12,7 +12,7 @@ use hex::FromHexError;
 use std::alloc::{AllocError, Global};
 
 /// The place of the first byte of a text that is this one.
-pub(crate) fn place_of(byte: u8, text: &[u8]) -> Option<usize>
+pub fn place_of(byte: u8, text: &[u8]) -> Option<usize>
     ensures value { result ≡ position (λ other. other == byte) text.now }
     ensures inside { IfSome result (λ at. at < length text.now) }
 {
@@ -32,7 +32,7 @@ pub(crate) fn split(text: &[u8]) -> (&[u8], &[u8])
 }
 
 /// What stands behind the first word of a text.
-pub(crate) fn behind(text: &[u8]) -> &[u8]
+pub fn behind(text: &[u8]) -> &[u8]
     ensures { (word : List ℕ) (words : List (List ℕ)) → IsOneWord word
         → text.now ≡ join_with_byte 32 (word ∷ words) → result.now ≡ join_with_byte 32 words }
 {
@@ -57,7 +57,7 @@ pub(crate) fn small(word: &[u8]) -> u32
 }
 
 /// The number that a text begins with, and what stands behind it.
-pub(crate) fn first_number(text: &[u8]) -> (u64, &[u8])
+pub fn first_number(text: &[u8]) -> (u64, &[u8])
     ensures { (n : ℕ) (words : List (List ℕ)) → n < 2 ^ 64
         → text.now ≡ join_with_byte 32 (decimal n ∷ words) → (result.0 ≡ n) × (result.1.now ≡ join_with_byte 32 words) }
 {

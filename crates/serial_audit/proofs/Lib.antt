@@ -1,0 +1,5 @@
+pub mod BegunLemmas
+pub mod BundleLemmas
+pub mod RowLemmas
+pub mod SameLemmas
+pub mod VerdictLemmas

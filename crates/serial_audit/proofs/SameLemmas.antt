@@ -1,0 +1,15 @@
+-- Equal directories.
+use Rattle.std.proofs.Common.{◌≡◌, ℕ, ◌==◌, ◌&&◌, ap, Decides}
+use Rattle.std.proofs.lemmas.Bool.Decides.{Decides-and, Decides-eqb}
+use Rattle.line_geometry.specs.Directory.{Layout}
+
+-- pairs are the same where their parts are
+pub pair_decides : (a b : ℕ × ℕ) → Decides ((a.0 == b.0) && (a.1 == b.1)) (a ≡ b)
+pair_decides (a, b) (c, d) =
+    let both = Decides-and (a == c) (b == d) (Decides-eqb a c) (Decides-eqb b d) in
+    (λ e. let parts = both.0 e in cc, λ e. both.1 (ap (λ p. p.0) e, ap (λ p. p.1) e))
+
+-- directories are the same where their pages and segments are
+pub layout_same : (a b : Layout) → a.page ≡ b.page → a.segments ≡ b.segments → a ≡ b
+layout_same a b page segments =
+    let e : record { page = a.page; segments = a.segments } ≡ record { page = b.page; segments = b.segments } = cc in e

@@ -1,0 +1,15 @@
+use Rattle.std.proofs.Common.{◌≡◌, sym, ◌∙◌}
+use Rattle.std.proofs.lemmas.Bool.Decides.{Decides-eqb}
+use Rattle.std.proofs.lemmas.Slice.Eq.{slice_eq-Decides}
+use Rattle.serial_audit.specs.Bundle.{head_text}
+use Rattle.serial_audit.specs.Lengths.{sizes_of}
+use Rattle.serial_audit.proofs.BundleLemmas.{head_written}
+use Rattle.serial_audit.proofs.bundle.Lengths.are_told.Goals as goal
+
+pub returns-clause-told : goal.returns-clause-told
+returns-clause-told c =
+    let written : c.as_slice.result.now ≡ head_text (sizes_of c.args.self.now) =
+    rw (c.as_slice.ensures, c.end.ensures, c.number-4.ensures.value, c.number-3.ensures.value, c.number-2.ensures.value, c.number.ensures.value, c.begin.ensures)
+    (head_written (sizes_of c.args.self.now)) in
+    let decides = slice_eq-Decides Decides-eqb c.args.line.now c.as_slice.result.now c.eq.result c.eq.ensures in
+    (λ same. decides.0 same ∙ written, λ is. decides.1 (is ∙ sym written))

@@ -1,0 +1,11 @@
+use Rattle.std.proofs.Common.{◌≡◌, ◌-◌, length, Some}
+use Rattle.line_geometry.specs.Directory.{byte_count}
+use Rattle.flat_machine.specs.After.{after}
+use Rattle.serial_audit.proofs.replay.run_to_commit.Given as goal
+
+abbrev pub invariant-loop-row : goal.invariant-loop-row
+invariant-loop-row l = record {
+  state : after l.program l.fn.args (record { directory = l.directory; bytes = l.store }) (l._row - 1) ≡ Some l.plain;
+  private : length l.plain.private ≡ 16384;
+  store : length l.plain.store ≡ byte_count l.directory;
+}

@@ -1,0 +1,123 @@
+-- A report whose commits are those of the programs run one after another.
+use Rattle.std.specs.Prelude.{◌≡◌, ℕ, ◌+◌, ◌≤◌, ◌%◌, ◌^◌, ◌==◌, ◌⊎◌, if◌then◌else◌, Bool, true, false, List, [], ◌∷◌, ◌++◌, length, map, sum, Some}
+use Rattle.std.specs.List.{Contains}
+use Rattle.line_geometry.specs.FlatStore.{FlatStore}
+use Rattle.flat_machine.specs.declared.machine.Plain.{Plain}
+use Rattle.flat_machine.specs.Serial.{Activation, committing, serial}
+use Rattle.desk.specs.declared.event.Event.{Event}
+use Rattle.desk.specs.declared.event.Event.TheVariants.{Turn}
+use Rattle.desk.specs.Commits.{begun}
+use Rattle.desk.specs.Lines as line
+use Rattle.desk.specs.Lines.{Line}
+use Rattle.job_text.specs.declared.job.Job.{Job}
+use Rattle.report_text.specs.declared.owned.OwnedLine.{OwnedLine}
+use Rattle.report_text.specs.ReadLines.{owned_told}
+use Rattle.serial_audit.specs.declared.auditing.KeptStore.{KeptStore}
+use Rattle.serial_audit.specs.declared.auditing.Verdict.{Verdict}
+use Rattle.serial_audit.specs.declared.auditing.Verdict.TheVariants.{Serial, NotSerial}
+
+-- what a commit line tells
+pub record Told : Type 0 where
+  pub activation : ℕ
+  pub number : ℕ
+  pub steps : ℕ
+  pub out : List ℕ
+
+-- what a line tells, if it is that of a commit, before others
+abbrev pub told_before : Line → List Told → List Told
+told_before (line.Commit activation number steps out) others =
+    record { activation = activation; number = number; steps = steps; out = out } ∷ others
+told_before _ others = others
+
+-- what the commit lines among lines tell, in their order
+abbrev pub commits_told : List Line → List Told
+commits_told [] = []
+commits_told (line ∷ lines) = told_before line (commits_told lines)
+
+-- the activations that a job's begins make
+abbrev pub activations_of : Job → List Activation
+activations_of job = begun job.programs.items job.events.items
+
+-- the limit of a turn of an activation, and 0 of any other event
+abbrev pub limit_of : ℕ → Event → ℕ
+limit_of activation (Turn other limit) = if activation == other then limit else 0
+limit_of activation _ = 0
+
+-- how many steps an activation's turns allow in all
+abbrev pub steps_allowed : Job → ℕ → ℕ
+steps_allowed job activation = sum (map (limit_of activation) job.events.items)
+
+-- the store of a kept one, by its directory
+abbrev pub flat_of : KeptStore → FlatStore
+flat_of kept = record { directory = kept.directory; bytes = kept.store.items }
+
+-- an activation and its steps
+abbrev pub pair_of : Told → ℕ × ℕ
+pair_of told = (told.activation, told.steps)
+
+-- A commit line behind others is sound: its number is the one that follows; no commit line before it has its activation; its steps are
+-- within those that the activation's turns allow; and on the store that the commits before it leave one after another, the activation
+-- commits with just these steps, having printed just these bytes. That it began is part of that.
+pub record IsSound (job : Job) (opening : KeptStore) (before : List Told) (told : Told) : Type 0 where
+  pub number : told.number ≡ (opening.number + (length before + 1)) % 2 ^ 64
+  pub first : ¬ (Contains (map (λ earlier. earlier.activation) before) told.activation)
+  pub allowed : told.steps ≤ steps_allowed job told.activation
+  pub left : FlatStore
+  pub leaves : serial (activations_of job) (map pair_of before) (flat_of opening) ≡ Some left
+  pub state : Plain
+  pub commits : committing (activations_of job) (pair_of told) left ≡ Some state
+  pub prints : told.out ≡ state.out
+
+-- each of these commit lines is sound behind those before it
+abbrev pub AreSound : Job → KeptStore → List Told → Type 0
+AreSound job opening lines =
+    (before : List Told) (told : Told) (behind : List Told) → lines ≡ before ++ told ∷ behind → IsSound job opening before told
+
+-- A report is serial: all its commit lines are sound, and the closing store has the directory of the opening one, as its number the
+-- opening one and as many commits more, and the bytes that the commits leave one after another.
+pub record IsSerial (job : Job) (opening closing : KeptStore) (lines : List Told) : Type 0 where
+  pub sound : AreSound job opening lines
+  pub directory : closing.directory ≡ opening.directory
+  pub number : closing.number ≡ (opening.number + length lines) % 2 ^ 64
+  pub store : serial (activations_of job) (map pair_of lines) (flat_of opening) ≡ Some (flat_of closing)
+
+-- After commit lines a check stands at their last number, these activations, and this store, which the commits leave one after another.
+pub record Stands (job : Job) (opening : KeptStore) (before : List Told) (number : ℕ) (seen bytes : List ℕ) : Type 0 where
+  pub number_is : number ≡ (opening.number + length before) % 2 ^ 64
+  pub seen_are : seen ≡ map (λ earlier. earlier.activation) before
+  pub leaves : serial (activations_of job) (map pair_of before) (flat_of opening) ≡ Some (record { directory = opening.directory; bytes = bytes })
+
+-- a commit line was taken where it is sound, and left where it isn't
+abbrev pub IsTaken : Bool → Job → KeptStore → List Told → Told → ℕ → List ℕ → List ℕ → Type 0
+IsTaken true job opening before told number seen bytes =
+    IsSound job opening before told × Stands job opening (before ++ told ∷ []) number seen bytes
+IsTaken false job opening before told number seen bytes = ¬ (IsSound job opening before told)
+
+-- a commit runs again on a store as it is told, and leaves these bytes
+pub record Replays (job : Job) (store : FlatStore) (told : Told) (bytes : List ℕ) : Type 0 where
+  pub allowed : told.steps ≤ steps_allowed job told.activation
+  pub state : Plain
+  pub commits : committing (activations_of job) (pair_of told) store ≡ Some state
+  pub prints : told.out ≡ state.out
+  pub leaves : bytes ≡ state.store
+
+-- the commit line with this number, counted from 1, is the first that isn't sound
+pub record IsFirstUnsound (job : Job) (opening : KeptStore) (lines : List Told) (number : ℕ) : Type 0 where
+  pub before : List Told
+  pub told : Told
+  pub behind : List Told
+  pub lines_are : lines ≡ before ++ told ∷ behind
+  pub place : number ≡ length before + 1
+  pub sound : AreSound job opening before
+  pub unsound : ¬ (IsSound job opening before told)
+
+-- the answer of an audit: serial; or the first commit line that isn't sound; or, where all are and the report isn't serial, their number and one more
+abbrev pub IsVerdict : Job → KeptStore → KeptStore → List Told → Verdict → Type 0
+IsVerdict job opening closing lines Serial = IsSerial job opening closing lines
+IsVerdict job opening closing lines (NotSerial number) =
+    IsFirstUnsound job opening lines number
+    ⊎ ((number ≡ length lines + 1) × AreSound job opening lines × (¬ (IsSerial job opening closing lines)))
+
+-- what the commit lines of owned lines tell
+abbrev pub report_told : List OwnedLine → List Told
+report_told lines = commits_told (map owned_told lines)

@@ -1,0 +1,4 @@
+pub mod Audit
+pub mod Bundle
+pub mod Commit
+pub mod Lengths

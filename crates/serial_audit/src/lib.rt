@@ -1,0 +1,12 @@
+//! A finished run checked without scheduler, locks or journal: the commits of its report are run again, one after
+//! another, on the store that it began with (docs/MODEL.md).
+#![tactic(auto)]
+
+mod auditing;
+mod bundle;
+mod replay;
+#[cfg(test)]
+mod tests;
+
+pub use auditing::{KeptStore, Verdict, audit};
+pub use bundle::{Bundle, Span, split_bundle};
