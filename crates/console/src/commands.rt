@@ -84,7 +84,7 @@ fn read<S: Source>(alloc: Global, source: &mut S) -> Result<Job, Status>
 }
 
 /// The store is opened, and the events of the job run.
-fn try_job<W: Outside>(alloc: Global, job: Job, outside: &mut W) -> Ended
+pub fn try_job<W: Outside>(alloc: Global, job: Job, outside: &mut W) -> Ended
     requires { IsReady job }
     ensures opened { OpensBy W.Outside outside.old outside.new result.status }
     ensures unfailed { result.status ≡ Status.Done → W.put_faults outside.new ≡ W.put_faults outside.old }
