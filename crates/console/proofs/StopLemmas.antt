@@ -35,16 +35,22 @@ use Rattle.run_law.specs.Headline.{IsPrefix}
 use Rattle.schedule_replay.proofs.PutsLemmas.{PrintedNow}
 use Rattle.schedule_replay.specs.Puts.{shown_of}
 use Rattle.job_text.specs.declared.job.Job.{Job}
+use Rattle.supervisor.specs.declared.session.Session.{Session}
 use Rattle.console.specs.declared.status.Status.{Status}
 use Rattle.console.specs.declared.status.Status.TheVariants as status
 use Rattle.console.specs.declared.stops.Stop.{Stop}
 use Rattle.console.specs.Drill.{IsLeft, IsStop, all_fine, fine_order}
-use Rattle.console.specs.Headline.{HasRun, HappenedTo, Untouched, job_desk, names_of}
+use Rattle.console.specs.Headline.{ByOpening, HasRun, HasRunFrom, HappenedTo, Refused, StoodForNone, Untouched, job_desk, names_of}
 use Rattle.console.specs.Opening.{StandsAt}
 
 -- a crash now may leave what is held
 abbrev pub HeldNow : {W : Type 0} → Ghosts W → Type 0
 HeldNow {W} G = (w : W) (image : List ℕ) → G.held w ≡ Some image → (seen : List ℕ) × G.left_since w (G.moment w) image seen
+
+-- by whether a session was opened
+by-opening : {A B C : Type 0} (session : Option Session) → (A → C) → (B → C) → ByOpening session A B → C
+by-opening None opened refused did = refused did
+by-opening (Some session) opened refused did = opened did
 
 -- words of which none isn't fine
 one-more : (event : Event × Word) (taken : List (Event × Word)) → faulted (event ∷ taken) ≡ faulted (event ∷ []) + faulted taken
@@ -103,12 +109,12 @@ pub number-within : (image : List ℕ) (number : ℕ) (store : FlatStore) → st
 unfolding stands
 number-within image number store is = within-if image (first_fault (length image) (fields (take 128 image))) (header_of (take 128 image)) number store is
 
-module _ {W : Type 0} (G : Ghosts W) (job : Job) (number : ℕ) (store : FlatStore) (before after : W) (order : List (ℕ × ℕ)) where
+module _ {W : Type 0} (G : Ghosts W) (job : Job) (number : ℕ) (store : FlatStore) (before after : W) (order : List (ℕ × ℕ)) (session : Option Session) where
   abbrev commits : List Activation
   commits = begun job.programs.items job.events.items
 
   -- a run leaves the first commits
-  first-left : (status : Status) → FewerLater G → PrintedNow G → HeldNow G → HasRun G job number store before after order status
+  first-left : (status : Status) → FewerLater G → PrintedNow G → HeldNow G → HasRun G job number store before after order session status
       → (image seen : List ℕ) → G.held after ≡ Some image → G.printed before ≡ Some [] → G.printed after ≡ Some seen → IsPrefix commits number store order [] image seen
   first-left status fewer_later printed_now held_now ran image printed holds nothing prints =
       let (seen, left) = held_now after image holds in
@@ -119,7 +125,7 @@ module _ {W : Type 0} (G : Ghosts W) (job : Job) (number : ℕ) (store : FlatSto
       (ran.crash told image seen (fewer_later after (G.moment before) (G.moment after) image seen ran.time.later left)))
 
   -- where nothing failed all events were fine
-  order-fine : (status : Status) → HasRun G job number store before after order status → status ≡ Status.Done → (Rose (G.disk_faults before) (G.disk_faults after) → ⊥) → order ≡ fine_order job (held_of G before) store
+  order-fine : (status : Status) → HasRun G job number store before after order session status → status ≡ Status.Done → (Rose (G.disk_faults before) (G.disk_faults after) → ⊥) → order ≡ fine_order job (held_of G before) store
   order-fine status ran done calm =
       let none : faulted ran.taken ≡ 0 = ran.all_fine calm in
       let all : map (λ event. event.0) ran.taken ≡ job.events.items =
@@ -128,14 +134,14 @@ module _ {W : Type 0} (G : Ghosts W) (job : Job) (number : ℕ) (store : FlatSto
       ran.order_is ∙ ap (λ (events : List (Event × Word)). (run job.programs.items events (job_desk job (held_of G before) store)).order) taken
 
   -- and two writes were made for each commit
-  writes-made : (status : Status) → HasRun G job number store before after order status → status ≡ Status.Done → WritesMore (G.writes before) (G.writes after) (2 * length order)
+  writes-made : (status : Status) → HasRun G job number store before after order session status → status ≡ Status.Done → WritesMore (G.writes before) (G.writes after) (2 * length order)
   writes-made status ran done =
       let lines = event_lines (names_of job) job.programs.items number ran.taken (job_desk job (held_of G before) store) in
       let each : length order ≡ count_by is_commit lines = lines-of-commits commits number store order lines _ _ (ran.still_open done) ran.serial_run in
       subst (λ (n : ℕ). WritesMore (G.writes before) (G.writes after) (2 * n)) (sym each) ran.writes
 
   -- what ran
-  left-by : (status : Status) → FewerLater G → PrintedNow G → HeldNow G → HasRun G job number store before after order status → IsLeft G job number store before after order status
+  left-by : (status : Status) → FewerLater G → PrintedNow G → HeldNow G → HasRun G job number store before after order session status → IsLeft G job number store before after order status
   left-by status fewer_later printed_now held_now ran = record {
     first = first-left status fewer_later printed_now held_now ran;
     all = λ done. (ran.leaves (ran.still_open done)).1;
@@ -167,13 +173,17 @@ module _ {W : Type 0} (G : Ghosts W) (job : Job) (number : ℕ) (store : FlatSto
   }
 
   -- whatever happened
-  pub happened-left : (status : Status) → FewerLater G → PrintedNow G → HeldNow G → StandsAt G before number store → HappenedTo G job before after order status → IsLeft G job number store before after order status
+  pub happened-left : (status : Status) → FewerLater G → PrintedNow G → HeldNow G → StandsAt G before number store → HappenedTo G job before after order session status → IsLeft G job number store before after order status
   happened-left status.Done fewer_later printed_now held_now standing ran = left-by status.Done fewer_later printed_now held_now (ran number store standing)
   happened-left status.PutFault fewer_later printed_now held_now standing ran = left-by status.PutFault fewer_later printed_now held_now (ran number store standing)
-  happened-left status.DiskFault fewer_later printed_now held_now standing (inl ran) = left-by status.DiskFault fewer_later printed_now held_now (ran number store standing)
-  happened-left status.DiskFault fewer_later printed_now held_now standing (inr untouched) = untouched-left status.DiskFault (λ is. cc) untouched standing
-  happened-left (status.Store offset) fewer_later printed_now held_now standing (inl refused) = untouched-left (status.Store offset) (λ is. cc) refused.untouched standing
-  happened-left (status.Store offset) fewer_later printed_now held_now standing (inr none) = absurd (none number store standing)
+  happened-left status.DiskFault fewer_later printed_now held_now standing did =
+      by-opening session
+      (λ (ran : HasRunFrom G job before after order session status.DiskFault). left-by status.DiskFault fewer_later printed_now held_now (ran number store standing))
+      (λ (untouched : Untouched G before after order). untouched-left status.DiskFault (λ is. cc) untouched standing) did
+  happened-left (status.Store offset) fewer_later printed_now held_now standing did =
+      by-opening session
+      (λ (none : StoodForNone G before). let that : IsLeft G job number store before after order (status.Store offset) = absurd (none number store standing) in that)
+      (λ (refused : Refused G before after order). untouched-left (status.Store offset) (λ is. cc) refused.untouched standing) did
   happened-left status.Usage fewer_later printed_now held_now standing refused = untouched-left status.Usage (λ is. cc) refused.untouched standing
   happened-left (status.Job line kind) fewer_later printed_now held_now standing refused = untouched-left (status.Job line kind) (λ is. cc) refused.untouched standing
   happened-left status.SourceFault fewer_later printed_now held_now standing refused = untouched-left status.SourceFault (λ is. cc) refused.untouched standing
