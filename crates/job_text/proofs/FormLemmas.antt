@@ -19,7 +19,7 @@ use Rattle.job_text.specs.declared.stage.Stage.{Stage}
 use Rattle.job_text.specs.declared.stage.Stage.TheVariants.{Frames, Programs, Source, Schedule, Ended}
 use Rattle.job_text.specs.Grammar.{Content, job_of, last_part, read_from, then_read, whole}
 use Rattle.job_text.specs.Reading.{Reading, nothing_read, frames_line, program_begins, programs_line, is_end, is_part, program_ends, source_ends, source_goes_on, source_line, sources_of, with_event, values_of, four_of, begin_of, begin_line, is_limit, turn_line, rounds_of, drain_line, single_line, schedule_line, ended_line, by_tokens, line_read}
-use Rattle.job_text.specs.Form.{IsBlank, AreBlank, IsOnly, HaveNoMark, HasSources, IsFramesLine, HasPrograms, IsLimit, IsEventLine, HasEvents, IsJobText}
+use Rattle.job_text.specs.Form.{IsBlank, AreBlank, IsOnly, HasSources, IsFramesLine, HasPrograms, IsLimit, IsEventLine, HasEvents, IsJobText}
 use Rattle.job_text.proofs.DrainLemmas.{length-rounds_of}
 
 -- what a reading says

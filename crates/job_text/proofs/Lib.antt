@@ -8,6 +8,8 @@ pub mod GrammarLemmas
 pub mod WrittenLemmas
 pub mod SourceLemmas
 pub mod BackLemmas
+pub mod BigLemmas
+pub mod BigSources
 pub mod PutLemmas
 pub mod NameLemmas
 pub mod LengthLemmas

@@ -6,3 +6,4 @@ pub mod Reader
 pub mod Faults
 pub mod Written
 pub mod Form
+pub mod Big

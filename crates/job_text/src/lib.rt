@@ -1,6 +1,7 @@
 //! Jobs as texts (docs/FORMATS.md, "Job").
 #![tactic(auto)]
 
+mod big;
 mod grammar;
 mod job;
 mod law;
@@ -10,6 +11,7 @@ mod stage;
 mod tests;
 mod writer;
 
+pub use big::big_job;
 pub use desk::Event;
 pub use grammar::read_job;
 pub use job::{Job, JobFault, Name};

@@ -1,5 +1,5 @@
 //! Texts and their jobs, written and read again, and texts that are refused, with the line and the kind of the fault.
-use super::{Job, JobFault, read_job, write_job};
+use super::{Job, JobFault, big_job, read_job, write_job};
 use desk::Event;
 use flat_machine::Program;
 use std::alloc::Global;
@@ -324,5 +324,16 @@ fn bytes_that_are_left_are_written(rt: HostRuntime) -> Result<(), Fail> {
         job.programs.last().map(|program| program.image.as_slice()),
         Some(image.as_slice())
     );
+    Ok(())
+}
+
+#[test]
+fn the_big_job_is_written_and_read(rt: HostRuntime) -> Result<(), Fail> {
+    let job = big_job(rt.alloc(), 512)?;
+    assert_eq!(rt; job.events.len(), 9_220);
+    let text = write_job(rt.alloc(), &job)?;
+    assert!(rt; text.len() < 1_000_000);
+    let again = read_job(rt.alloc(), text.as_slice())?;
+    assert!(rt; is_same(&again, &job));
     Ok(())
 }

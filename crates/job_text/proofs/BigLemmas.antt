@@ -1,0 +1,122 @@
+-- The events of `big N`.
+use Rattle.std.proofs.Common.{Global, ◌≡◌, ℕ, ◌+◌, ◌-◌, ◌*◌, ◌/◌, ◌%◌, ◌≤◌, ◌==◌, min, Bool, true, false, List, [], ◌∷◌, ◌++◌, length, map, refl, ap, ◌∙◌, sym, subst, arith, append_assoc, append-nil, length-append, if◌then◌else◌, All}
+use Rattle.std.specs.List.{flat_map, range_with_len}
+use Rattle.std.proofs.lemmas.Grind.{flat_map-append}
+use Rattle.std.proofs.lemmas.List.Elements.{All-append, All-cons, All-nil, All-map}
+use Rattle.std.proofs.lemmas.List.FromFn.{map-range_with_len_more, length-map-range_with_len, length-range_with_len}
+use Rattle.desk.specs.declared.event.Event.{Event}
+use Rattle.desk.specs.declared.event.Event.TheVariants.{Begin, Turn}
+use Rattle.std.specs.declared.vec.Vec.{Vec}
+use Rattle.job_text.specs.declared.job.Job.{Job}
+use Rattle.job_text.specs.Big.{batch, batches, big_events, move_of, account_of, other_of, transfer, turns_of}
+use Rattle.job_text.specs.Ready.{IsEventAmong, IsReady}
+
+-- a list with more events behind it, and then one more
+pub one_more : (old mid new : List Event) (f : ℕ → Event) (first n k : ℕ) → first + n ≡ k → mid ≡ old ++ map f (range_with_len first n) → new ≡ mid ++ f k ∷ [] → new ≡ old ++ map f (range_with_len first (n + 1))
+one_more old mid new f first n k at so_far next =
+    next ∙ ap (λ (these : List Event). these ++ f k ∷ []) so_far ∙ append_assoc old (map f (range_with_len first n)) (f k ∷ [])
+    ∙ ap (λ (these : List Event). old ++ these) (sym (map-range_with_len_more f first n k at))
+
+map_same : (xs : List ℕ) → map (λ x. x) xs ≡ xs
+map_same [] = refl
+map_same (x ∷ xs) = ap (λ (these : List ℕ). x ∷ these) (map_same xs)
+
+range_more : (first n k : ℕ) → first + n ≡ k → range_with_len first (n + 1) ≡ range_with_len first n ++ k ∷ []
+range_more first n k at = sym (map_same (range_with_len first (n + 1))) ∙ map-range_with_len_more (λ x. x) first n k at ∙ ap (λ (these : List ℕ). these ++ k ∷ []) (map_same (range_with_len first n))
+
+-- and then several more
+pub some_more : (old mid new : List Event) (f : ℕ → List Event) (n : ℕ) → mid ≡ old ++ flat_map f (range_with_len 0 n) → new ≡ mid ++ f n → new ≡ old ++ flat_map f (range_with_len 0 (n + 1))
+some_more old mid new f n so_far next =
+    let split : flat_map f (range_with_len 0 (n + 1)) ≡ flat_map f (range_with_len 0 n) ++ (f n ++ []) = ap (flat_map f) (range_more 0 n n (omega arith)) ∙ flat_map-append f (range_with_len 0 n) (n ∷ []) in
+    next ∙ ap (λ (these : List Event). these ++ f n) so_far ∙ append_assoc old (flat_map f (range_with_len 0 n)) (f n)
+    ∙ ap (λ (these : List Event). old ++ (flat_map f (range_with_len 0 n) ++ these)) (sym (append-nil (f n)))
+    ∙ ap (λ (these : List Event). old ++ these) (sym split)
+
+-- three parts, one after another
+pub three_more : (old one two three xs ys zs : List Event) → one ≡ old ++ xs → two ≡ one ++ ys → three ≡ two ++ zs → three ≡ old ++ (xs ++ ys ++ zs)
+three_more old one two three xs ys zs first second third =
+    third ∙ ap (λ (front : List Event). front ++ zs) (second ∙ ap (λ (front : List Event). front ++ ys) first ∙ append_assoc old xs ys) ∙ append_assoc old (xs ++ ys) zs
+
+-- how many events there are
+same_each : (ys : List Event) (xs : List ℕ) → length (flat_map (λ round. ys) xs) ≡ length xs * length ys
+same_each ys [] = omega arith
+same_each ys (x ∷ xs) = let rest = same_each ys xs in let split = length-append ys (flat_map (λ round. ys) xs) in omega (arith, rest, split)
+
+turns_long : (limit first count : ℕ) → length (turns_of limit first count) ≡ count
+turns_long limit first count = length-map-range_with_len (λ k. Turn (k + 2) limit) first count
+
+batch_long : (first count : ℕ) → length (batch first count) ≡ count + count + count * count
+batch_long first count =
+    let begins : List Event = map transfer (range_with_len first count) in
+    let rounds : List Event = flat_map (λ round. turns_of 50 first count) (range_with_len 0 count) in
+    let rounds_long : length rounds ≡ count * count = same_each (turns_of 50 first count) (range_with_len 0 count) ∙ ap (λ n. length (range_with_len 0 count) * n) (turns_long 50 first count) ∙ ap (λ n. n * count) (length-range_with_len 0 count) in
+    length-append (begins ++ turns_of 7 first count) rounds ∙ ap (λ n. n + length rounds) (length-append begins (turns_of 7 first count))
+    ∙ ap (λ n. n + length (turns_of 7 first count) + length rounds) (length-map-range_with_len transfer first count)
+    ∙ ap (λ n. count + n + length rounds) (turns_long 7 first count) ∙ ap (λ n. count + count + n) rounds_long
+
+small_square : (n : ℕ) → n ≤ 16 → n * n ≤ 256
+small_square n small = grind arith
+
+batches_short : (size : ℕ → ℕ) → ((i : ℕ) → size i ≤ 16) → (xs : List ℕ) → length (flat_map (λ i. batch (16 * i) (size i)) xs) ≤ 288 * length xs
+batches_short size small [] = omega arith
+batches_short size small (x ∷ xs) =
+    let rest = batches_short size small xs in
+    let split = length-append (batch (16 * x) (size x)) (flat_map (λ i. batch (16 * i) (size i)) xs) in
+    let one = batch_long (16 * x) (size x) in
+    let square = small_square (size x) (small x) in
+    omega (arith, rest, split, one, square, small x)
+
+few_events : (n : ℕ) → n ≤ 512 → length (big_events n) ≤ 10000
+few_events n small =
+    let all = batches_short (λ i. min 16 (n - 16 * i)) (λ i. omega arith) (range_with_len 0 ((n + 15) / 16)) in
+    let count = length-range_with_len 0 ((n + 15) / 16) in
+    let split = length-append (batches n) (Begin 2 (0 ∷ 256 ∷ 0 ∷ 0 ∷ []) ∷ Turn (n + 2) 1000000 ∷ []) in
+    omega (arith, all, count, split)
+
+-- each of them can be run
+abbrev CanRun : Event → Type 0
+CanRun = IsEventAmong 3
+
+all_flat : (f : ℕ → List Event) → ((i : ℕ) → All CanRun (f i)) → (xs : List ℕ) → All CanRun (flat_map f xs)
+all_flat f each [] = All-nil CanRun
+all_flat f each (x ∷ xs) = All-append CanRun (f x) (flat_map f xs) (each x) (all_flat f each xs)
+
+each_of : (f : ℕ → Event) → ((i : ℕ) → CanRun (f i)) → (xs : List ℕ) → All CanRun (map f xs)
+each_of f each xs = All-map CanRun f xs (λ k d below. each _)
+
+moves : (even : Bool) (one other amount : ℕ) → CanRun (if even then move_of one other amount else move_of other one amount)
+moves true one other amount = omega arith
+moves false one other amount = omega arith
+
+turns_run : (limit : ℕ) → limit ≤ 1000000 → (first count : ℕ) → All CanRun (turns_of limit first count)
+turns_run limit small first count = each_of (λ k. Turn (k + 2) limit) (λ k. small) (range_with_len first count)
+
+batch_runs : (first count : ℕ) → All CanRun (batch first count)
+batch_runs first count =
+    All-append CanRun (map transfer (range_with_len first count) ++ turns_of 7 first count) (flat_map (λ round. turns_of 50 first count) (range_with_len 0 count))
+    (All-append CanRun (map transfer (range_with_len first count)) (turns_of 7 first count) (each_of transfer (λ k. moves (k % 2 == 0) (account_of (k / 2)) (other_of (k / 2)) (1 + k % 9)) (range_with_len first count)) (turns_run 7 (omega arith) first count))
+    (all_flat (λ round. turns_of 50 first count) (λ i. turns_run 50 (omega arith) first count) (range_with_len 0 count))
+
+events_run : (n : ℕ) → All CanRun (big_events n)
+events_run n =
+    let tally : List Event = Begin 2 (0 ∷ 256 ∷ 0 ∷ 0 ∷ []) ∷ Turn (n + 2) 1000000 ∷ [] in
+    let behind : All CanRun tally = All-cons CanRun (Begin 2 (0 ∷ 256 ∷ 0 ∷ 0 ∷ [])) (Turn (n + 2) 1000000 ∷ []) (omega arith) (All-cons CanRun (Turn (n + 2) 1000000) [] (omega arith) (All-nil CanRun)) in
+    let moved : All CanRun (batches n) = all_flat (λ i. batch (16 * i) (min 16 (n - 16 * i))) (λ i. batch_runs (16 * i) (min 16 (n - 16 * i))) (range_with_len 0 ((n + 15) / 16)) in
+    All-cons CanRun (Begin 0 (1000 ∷ 256 ∷ 0 ∷ 0 ∷ [])) (Turn 1 1000000 ∷ (batches n ++ tally)) (omega arith)
+    (All-cons CanRun (Turn 1 1000000) (batches n ++ tally) (omega arith) (All-append CanRun (batches n) tally moved behind))
+
+-- a job that could be run can be with these events
+pub big_ready : (n : ℕ) (job : Job) (events : Vec Event Global) → n ≤ 512 → IsReady job → length job.programs.items ≡ 3 → events.items ≡ big_events n → IsReady (record job { events = events })
+big_ready n job events small ready three are = record {
+  frames = ready.frames;
+  named = ready.named;
+  names = ready.names;
+  events =
+      subst (λ (these : List Event). All (IsEventAmong (length job.programs.items)) these) (sym are)
+      (subst (λ (programs : ℕ). All (IsEventAmong programs) (big_events n)) (sym three) (events_run n));
+  few = subst (λ (these : List Event). length these ≤ 10000) (sym are) (few_events n small);
+}
+
+-- an empty list of events and these are these
+pub from_none : (old new these : List Event) → old ≡ [] → new ≡ old ++ these → new ≡ these
+from_none old new these none is = is ∙ ap (λ (front : List Event). front ++ these) none

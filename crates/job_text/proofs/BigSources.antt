@@ -1,0 +1,45 @@
+-- The sources of `big N`, as the checker reads them.
+use Rattle.std.proofs.Common.{◌≡◌, ℕ, List, [], length, map, refl, ap, ◌∙◌, sym, Option, Some, None, Result, Ok, Err}
+use Rattle.std.proofs.lemmas.List.{length-map}
+use Rattle.desk.specs.declared.event.Event.{Event}
+use Rattle.asm_parse.specs.Form.{form_of}
+use Rattle.asm_parse.specs.Token.{tokens_past}
+use Rattle.romp_table.specs.Names.{mnemonic, op_named}
+use Rattle.romp_table.specs.Rows.{row_of}
+use Rattle.romp_asm.specs.Layout.{image_behind, parts_of}
+use Rattle.romp_asm.specs.Sources.{joined_from}
+use Rattle.romp_asm.specs.Value.{address_from}
+use Rattle.romp_link.specs.Linked.{fault_among, fault_behind}
+use Rattle.job_text.specs.declared.job.Job.{Job}
+use Rattle.job_text.specs.Grammar.{Content, content_of, job_of, read_from}
+use Rattle.job_text.specs.Big.{big_sources}
+
+-- how many programs a reading gives, and the events
+abbrev told_of : Result Content (ℕ × ℕ) → Option (ℕ × List Event)
+told_of (Ok content) = Some (length content.programs, content.events)
+told_of (Err fault) = None
+
+-- the sources have no fault
+sources_read : told_of (job_of big_sources) ≡ Some (3, [])
+unfolding tokens_past form_of mnemonic op_named row_of image_behind joined_from address_from fault_among fault_behind read_from
+sources_read = refl
+
+text_read : (text : List ℕ) → text ≡ big_sources → told_of (job_of text) ≡ Some (3, [])
+text_read text same = ap (λ (these : List ℕ). told_of (job_of these)) same ∙ sources_read
+
+some_none : {A : Type 0} (x : A) → Some x ≡ None → ⊥
+some_none x is = cc
+
+some_same : (n : ℕ) (events : List Event) → ◌≡◌ {A = Option (ℕ × List Event)} (Some (n, events)) (Some (3, [])) → (n ≡ 3) × (events ≡ [])
+some_same n events is =
+    let both : ◌≡◌ {A = ℕ × List Event} (n, events) (3, []) = cc in
+    (ap (λ (pair : ℕ × List Event). pair.0) both, ap (λ (pair : ℕ × List Event). pair.1) both)
+
+pub never_faulty : (text : List ℕ) (line kind : ℕ) → text ≡ big_sources → job_of text ≡ Err (line, kind) → ⊥
+never_faulty text line kind same is = some_none (3, []) (sym (text_read text same) ∙ ap told_of is)
+
+-- a job that they mean has three programs and no event
+pub sources_told : (text : List ℕ) (job : Job) → text ≡ big_sources → job_of text ≡ Ok (content_of job) → (length job.programs.items ≡ 3) × (job.events.items ≡ [])
+sources_told text job same is =
+    let both = some_same (length (map parts_of job.programs.items)) job.events.items (sym (ap told_of is) ∙ text_read text same) in
+    (sym (length-map job.programs.items parts_of) ∙ both.0, both.1)

@@ -1,0 +1,16 @@
+use Rattle.std.proofs.Common.{◌≡◌, ap, ◌∙◌, ◌++◌, arith, map}
+use Rattle.std.specs.List.{flat_map, range_with_len}
+use Rattle.job_text.specs.Big.{transfer, turns_of}
+use Rattle.job_text.proofs.BigLemmas.{some_more, three_more}
+use Rattle.job_text.proofs.big.put_batch.Goals as goal
+
+pub loop-round-preserved : goal.loop-round-preserved
+loop-round-preserved c =
+    some_more c.put_turns.new.events.items c.loop-round.events.items c.put_turns-in-loop-round.new.events.items (λ round. turns_of 50 c.args.first c.args.count) c.loop-round._round c.loop-round.invariant c.in_ok-put_turns-2.ensures
+
+pub returns : goal.returns
+returns c =
+    let all : c.loop-round._round ≡ c.args.count = omega arith in
+    three_more c.args.events.now.items c.put_begins.new.events.items c.put_turns.new.events.items c.loop-round.events.items (map transfer (range_with_len c.args.first c.args.count)) (turns_of 7 c.args.first c.args.count) (flat_map (λ round. turns_of 50 c.args.first c.args.count) (range_with_len 0 c.args.count))
+    c.in_ok-put_begins.ensures c.in_ok-put_turns.ensures
+    (c.loop-round.invariant ∙ ap (λ n. c.put_turns.new.events.items ++ flat_map (λ round. turns_of 50 c.args.first c.args.count) (range_with_len 0 n)) all)

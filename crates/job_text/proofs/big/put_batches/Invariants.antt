@@ -1,0 +1,7 @@
+use Rattle.std.proofs.Common.{◌≡◌, ◌++◌, ◌*◌, ◌-◌, min}
+use Rattle.std.specs.List.{flat_map, range_with_len}
+use Rattle.job_text.specs.Big.{batch}
+use Rattle.job_text.proofs.big.put_batches.Given as goal
+
+abbrev pub invariant-loop-place : goal.invariant-loop-place
+invariant-loop-place l = l.events.items ≡ l.initial.events.items ++ flat_map (λ i. batch (16 * i) (min 16 (l.transfers - 16 * i))) (range_with_len 0 l.place)

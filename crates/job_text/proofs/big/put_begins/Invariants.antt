@@ -1,0 +1,7 @@
+use Rattle.std.proofs.Common.{◌≡◌, ◌++◌, map}
+use Rattle.std.specs.List.{range_with_len}
+use Rattle.job_text.specs.Big.{transfer}
+use Rattle.job_text.proofs.big.put_begins.Given as goal
+
+abbrev pub invariant-loop-place : goal.invariant-loop-place
+invariant-loop-place l = l.events.items ≡ l.initial.events.items ++ map transfer (range_with_len l.first l.place)

@@ -1,0 +1,6 @@
+use Rattle.std.proofs.Common.{◌≡◌, ◌++◌}
+use Rattle.job_text.specs.Big.{turns_of}
+use Rattle.job_text.proofs.big.put_turns.Given as goal
+
+abbrev pub invariant-loop-place : goal.invariant-loop-place
+invariant-loop-place l = l.events.items ≡ l.initial.events.items ++ turns_of l.limit l.first l.place

@@ -1,0 +1,19 @@
+use Rattle.std.proofs.Common.{ap, sym, ◌∙◌, subst}
+use Rattle.job_text.specs.Grammar.{job_of}
+use Rattle.job_text.specs.JobAnswers.{IsJobFaultOf}
+use Rattle.job_text.proofs.BigSources.{never_faulty, sources_told}
+use Rattle.job_text.proofs.big.without_events.Goals as goal
+
+pub unreachable-requires : goal.unreachable-requires
+unreachable-requires c =
+    never_faulty c.as_bytes.result.now c.in-Err-Fault.field-0-0 c.in-Err-Fault.field-0-1 c.as_bytes.ensures.value
+    (subst (λ fault. IsJobFaultOf fault (job_of c.as_bytes.result.now)) c.in-Err-Fault.field-0-is c.in-Err-Fault.ensures.answer)
+
+pub returns-in-Ok-clause-job : goal.returns-in-Ok-clause-job
+returns-in-Ok-clause-job c = ap job_of (sym c.as_bytes.ensures.value) ∙ c.in-Ok.ensures.answer
+
+pub returns-in-Ok-clause-empty : goal.returns-in-Ok-clause-empty
+returns-in-Ok-clause-empty c = (sources_told c.as_bytes.result.now c.in-Ok.job c.as_bytes.ensures.value c.in-Ok.ensures.answer).1
+
+pub returns-in-Ok-clause-three : goal.returns-in-Ok-clause-three
+returns-in-Ok-clause-three c = (sources_told c.as_bytes.result.now c.in-Ok.job c.as_bytes.ensures.value c.in-Ok.ensures.answer).0
