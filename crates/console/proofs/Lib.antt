@@ -8,3 +8,4 @@ pub mod MadeLemmas
 pub mod StopLemmas
 pub mod SeenLemmas
 pub mod CopyLemmas
+pub mod DrillLemmas

@@ -9,3 +9,4 @@ pub mod Listed
 pub mod Show
 pub mod New
 pub mod Drill
+pub mod Drilled

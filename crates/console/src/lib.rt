@@ -2,6 +2,7 @@
 #![tactic(auto)]
 
 mod commands;
+mod drill;
 mod job_copy;
 mod list;
 mod new;
