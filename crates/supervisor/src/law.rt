@@ -1,5 +1,5 @@
-// What holds of each desk that a session shows.
-ghost use Rattle.supervisor.specs.Laws.{LocksAreDue, ShownIsOrderly};
+// What holds of each desk that a session shows, and of each run from one.
+ghost use Rattle.supervisor.specs.Laws.{LocksAreDue, RunsEndForCause, ShownIsOrderly};
 
 /// A desk that a session shows is orderly: no line that one wrote is held by another, what a page's entry permits is held,
 /// and no wait leads back to where it began (docs/MODEL.md). It calls nothing.
@@ -10,4 +10,9 @@ pub fn shown_desks_are_orderly()
 /// The locks that a session keeps for each that is active are those due to it. It calls nothing.
 pub fn locks_are_due()
     ensures { LocksAreDue }
+{}
+
+/// In a run from a desk that opened on a whole store, each turn of one that is active ends for its cause. It calls nothing.
+pub fn runs_end_for_cause()
+    ensures { RunsEndForCause }
 {}

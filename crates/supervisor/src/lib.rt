@@ -9,5 +9,5 @@ mod session;
 mod supervisor;
 mod turns;
 
-pub use law::{locks_are_due, shown_desks_are_orderly};
+pub use law::{locks_are_due, runs_end_for_cause, shown_desks_are_orderly};
 pub use session::Session;
