@@ -5,3 +5,7 @@ pub mod WordLemmas
 pub mod ShowLemmas
 pub mod ShownLemmas
 pub mod MadeLemmas
+pub mod StopLemmas
+pub mod SeenLemmas
+pub mod CopyLemmas
+pub mod DrillLemmas

@@ -92,11 +92,13 @@ alone (first ∷ []) word bytes None some one is same given = no
     no : (form : Command) → IsForm form (first ∷ []) → ⊥
     no command.Try form = let says = form.says in given command.Try tt (cc)
     no command.List form = let says = form.says in given command.List tt (cc)
+    no command.Drill form = let says = form.says in given command.Drill tt (cc)
     no command.Run form = let are = form.says.are in cc
     no (command.Show range) form = let are = form.says.are in cc
     no (command.New header) form = let are = form.says.are in cc
 alone (first ∷ []) word bytes (Some command.Try) some one is same given = let said = given.1 in record { says = cc; within = tt }
 alone (first ∷ []) word bytes (Some command.List) some one is same given = let said = given.1 in record { says = cc; within = tt }
+alone (first ∷ []) word bytes (Some command.Drill) some one is same given = let said = given.1 in record { says = cc; within = tt }
 alone (first ∷ []) word bytes (Some command.Run) some one is same given = absurd given.0
 alone (first ∷ []) word bytes (Some (command.Show range)) some one is same given = absurd given.0
 alone (first ∷ []) word bytes (Some (command.New header)) some one is same given = absurd given.0
@@ -138,6 +140,7 @@ with_store (first ∷ second ∷ rest) word store bytes numbers result two is th
     no : ((form : Command) → (IsAlone form → ⊥) → bytes ≡ word_of form → numbers ≡ numbers_of form → AreWithin form → ⊥) → (form : Command) → IsForm form (first ∷ second ∷ rest) → ⊥
     no none command.Try form = let says = form.says in cc
     no none command.List form = let says = form.says in cc
+    no none command.Drill form = let says = form.says in cc
     no none command.Run form = unnamed command.Run none (λ alone. alone) form.within form.says
     no none (command.Show range) form = unnamed (command.Show range) none (λ alone. alone) form.within form.says
     no none (command.New header) form = unnamed (command.New header) none (λ alone. alone) form.within form.says
@@ -149,6 +152,7 @@ with_store (first ∷ second ∷ rest) word store bytes numbers result two is th
     answered None given = no given
     answered (Some command.Try) given = absurd (given.0 tt)
     answered (Some command.List) given = absurd (given.0 tt)
+    answered (Some command.Drill) given = absurd (given.0 tt)
     answered (Some command.Run) given = record { says = named command.Run given.1 given.2; within = given.3 }
     answered (Some (command.Show range)) given = record { says = named (command.Show range) given.1 given.2; within = given.3 }
     answered (Some (command.New header)) given = record { says = named (command.New header) given.1 given.2; within = given.3 }
@@ -167,6 +171,7 @@ without_numbers (first ∷ second ∷ rest) two none form is = no form is
     no : (form : Command) → IsForm form (first ∷ second ∷ rest) → ⊥
     no command.Try form = let says = form.says in cc
     no command.List form = let says = form.says in cc
+    no command.Drill form = let says = form.says in cc
     no command.Run form = unnamed command.Run (omega arith) form.says
     no (command.Show range) form = unnamed (command.Show range) (omega arith) form.says
     no (command.New header) form = unnamed (command.New header) (let few = form.within.1.few in omega (arith, few, length-spread header.directory.segments)) form.says

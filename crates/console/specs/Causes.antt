@@ -82,11 +82,12 @@ pub record HasJob (left : Option (List ℕ)) : Type 0 where
 abbrev pub HasStore : {W : Type 0} → Ghosts W → W → Type 0
 HasStore G outside = IsTrue (G.is_honest outside) × IsSome (G.held outside) × IsStanding (held_of G outside)
 
--- what a command needs: the text of a job and a store to run it on, or to list it; bytes that stand for a store with a range; an empty disk
+-- what a command needs: the text of a job and a store to run it on, to list it or to drill it; bytes that stand for a store with a range; an empty disk
 abbrev pub HasAll : {W : Type 0} → Ghosts W → Command → Option (List ℕ) → W → Type 0
 HasAll G command.Try left outside = HasJob left × HasStore G outside
 HasAll G command.Run left outside = HasJob left × HasStore G outside
 HasAll G command.List left outside = HasJob left
+HasAll G command.Drill left outside = HasJob left
 HasAll G (command.Show range) left outside = IsSome (G.held outside) × HasRange G range outside
 HasAll G (command.New header) left outside = G.held outside ≡ Some []
 
@@ -103,7 +104,7 @@ IsOfRun status.Exists = ⊥
 IsOfRun status.NoRange = ⊥
 IsOfRun _ = Unit {0}
 
--- a status of a listing
+-- a status of a listing, or of a drill
 abbrev pub IsOfList : Status → Type 0
 IsOfList status.Done = Unit {0}
 IsOfList status.PutFault = Unit {0}
@@ -130,5 +131,6 @@ abbrev pub IsOf : Command → Status → Type 0
 IsOf command.Try = IsOfRun
 IsOf command.Run = IsOfRun
 IsOf command.List = IsOfList
+IsOf command.Drill = IsOfList
 IsOf (command.Show range) = IsOfShow
 IsOf (command.New header) = IsOfNew

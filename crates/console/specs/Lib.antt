@@ -8,3 +8,5 @@ pub mod Headline
 pub mod Listed
 pub mod Show
 pub mod New
+pub mod Drill
+pub mod Drilled

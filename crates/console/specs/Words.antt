@@ -13,6 +13,7 @@ abbrev pub word_of : Command → List ℕ
 word_of command.Try = codes "try"
 word_of command.Run = codes "run"
 word_of command.List = codes "list"
+word_of command.Drill = codes "drill"
 word_of (command.Show range) = codes "show"
 word_of (command.New header) = codes "new"
 
@@ -44,6 +45,7 @@ AreWithin _ = Unit {0}
 abbrev pub IsAlone : Command → Type 0
 IsAlone command.Try = Unit {0}
 IsAlone command.List = Unit {0}
+IsAlone command.Drill = Unit {0}
 IsAlone _ = ⊥
 
 -- the words are a command's word, a store, which is any word that isn't empty, and the command's numbers
@@ -58,6 +60,7 @@ pub record NamesStore (form : Command) (words : List (List ℕ)) : Type 0 where
 abbrev pub Says : Command → List (List ℕ) → Type 0
 Says command.Try words = words ≡ word_of command.Try ∷ []
 Says command.List words = words ≡ word_of command.List ∷ []
+Says command.Drill words = words ≡ word_of command.Drill ∷ []
 Says form words = NamesStore form words
 
 -- the words are a command
@@ -73,6 +76,6 @@ IsNoForm words = (form : Command) → IsForm form words → ⊥
 abbrev pub RunsJob : List (String Global) → Type 0
 RunsJob words = IsForm command.Try words ⊎ IsForm command.Run words
 
--- and for one to be read: those, or `list`
+-- and for one to be read: those, `list` or `drill`
 abbrev pub ReadsJob : List (String Global) → Type 0
-ReadsJob words = RunsJob words ⊎ IsForm command.List words
+ReadsJob words = RunsJob words ⊎ IsForm command.List words ⊎ IsForm command.Drill words

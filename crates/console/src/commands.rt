@@ -9,11 +9,13 @@ ghost use Rattle.store_format.specs.Header.{Header};
 ghost use Rattle.console.specs.Causes.{IsComplete, ReadsBy, OpensBy, IsOf, IsPastJob, IsOfReading, status_of};
 ghost use Rattle.console.specs.Handed.{HandsOn};
 ghost use Rattle.console.specs.Headline.{Happened, HappenedTo};
+ghost use Rattle.console.specs.Drilled.{Drilled};
 ghost use Rattle.console.specs.Listed.{Listed};
 ghost use Rattle.console.specs.New.{Made};
 ghost use Rattle.console.specs.Show.{Shown};
 ghost use Rattle.console.specs.Words.{IsForm, IsNoForm, ReadsJob, RunsJob};
 
+use super::drill::drill_job;
 use super::list::list_job;
 use super::new::make;
 use super::show::{Range, show};
@@ -31,7 +33,8 @@ use supervisor::Session;
 /// and screen that are handed in, and answers how it ended (docs/FORMATS.md, "Words" and "Statuses").
 ///
 /// The words `try` and `run STORE`: the job of the source runs on the disk's store, and its report is put, a line at a
-/// time. The words `list`: the programs of the job are listed, a line at a time, and the disk is left alone. The words
+/// time. The words `list`: the programs of the job are listed, a line at a time, and the disk is left alone. The word
+/// `drill`: the job is stopped at each of its writes in turn, in memory, and a line is put for each stop. The words
 /// `show STORE S FROM COUNT`: bytes of the disk's store are put, a row at a time. The words `new STORE BANK S P ..`: an
 /// empty disk becomes a store with nothing in it. A file that the word STORE names is opened by whoever makes the disk.
 pub fn console<S: Source, W: Outside>(
@@ -53,6 +56,7 @@ pub fn console<S: Source, W: Outside>(
     ensures handed { RunsJob words.now → HandsOn (order_told result.order.items) result.session result.status }
     ensures no_session { (RunsJob words.now → ⊥) → result.session ≡ None }
     ensures listed { IsForm Command.List words.now → Listed W.Outside (S.left job.old) (S.left job.new) outside.old outside.new (order_told result.order.items) result.status }
+    ensures drilled { IsForm Command.Drill words.now → Drilled W.Outside (S.left job.old) (S.left job.new) outside.old outside.new (order_told result.order.items) result.status }
     ensures shown { (range : Range) → IsForm (Command.Show range) words.now → Shown W.Outside range outside.old outside.new (order_told result.order.items) result.status }
     ensures made { (header : Header) → IsForm (Command.New header) words.now → Made W.Outside header outside.old outside.new (order_told result.order.items) result.status }
     ensures complete { IsComplete W.Outside words.now (S.left job.old) outside.old → (Rose (S.faults job.old) (S.faults job.new) → ⊥) → (Rose (W.disk_faults outside.old) (W.disk_faults outside.new) → ⊥) → (Rose (W.put_faults outside.old) (W.put_faults outside.new) → ⊥) → (result.status ≡ Status.Done) ⊎ (result.status ≡ Status.NoMemory) }
@@ -68,6 +72,10 @@ pub fn console<S: Source, W: Outside>(
         Command::List => match read(alloc, job) {
             Err(status) => Ended::without_events(alloc, status),
             Ok(job) => list_job(alloc, &job, outside),
+        },
+        Command::Drill => match read(alloc, job) {
+            Err(status) => Ended::without_events(alloc, status),
+            Ok(job) => drill_job(alloc, &job, outside),
         },
         Command::Show(range) => Ended::without_events(alloc, show(alloc, range, outside)),
         Command::New(header) => Ended::without_events(alloc, make(alloc, &header, outside)),
@@ -87,7 +95,7 @@ fn read<S: Source>(alloc: Global, source: &mut S) -> Result<Job, Status>
 }
 
 /// The store is opened, and the events of the job run. All memory is taken before the first of them.
-fn try_job<W: Outside>(alloc: Global, job: Job, outside: &mut W) -> Ended
+pub fn try_job<W: Outside>(alloc: Global, job: Job, outside: &mut W) -> Ended
     requires { IsReady job }
     ensures opened { OpensBy W.Outside outside.old outside.new result.status }
     ensures unfailed { result.status ≡ Status.Done → W.put_faults outside.new ≡ W.put_faults outside.old }

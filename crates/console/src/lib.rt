@@ -2,17 +2,21 @@
 #![tactic(auto)]
 
 mod commands;
+mod drill;
+mod job_copy;
 mod list;
 mod new;
 mod opening;
 mod show;
 mod source_text;
 mod status;
+mod stops;
 mod words;
 
 pub use commands::console;
 pub use opening::try_store;
 pub use status::{Ended, Status, status_text};
+pub use stops::{Stop, drill_stop};
 
 #[cfg(test)]
 mod crash_tests;

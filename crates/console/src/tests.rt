@@ -19,6 +19,11 @@ const THREE_ROWS: &[u8] =
 const LISTED: &[u8] =
     b"frames 2\nprogram add\n.window 1, 1, rw\ncau r6, r0, 0x1000\nl r3, 0(r6)\na r3, r2\nst r3, 0(r6)\nsvc 0\nend\nschedule\nend\n";
 
+/// Two commits with a checkpoint between them: body, gate, home line, head of a bank, selector, body and gate are written.
+const SEVEN_WRITES: &[u8] =
+    b"frames 2\nprogram add\n.window 1, 1, rw\ncau r6, r0, 0x1000\nl r3, 0(r6)\na r3, r2\nst r3, 0(r6)\nsvc 0\nend\nprogram null\nsvc 0\nend\n\
+    schedule\nbegin add 5\nturn 1 9\ncheckpoint\nbegin null\nturn 2 9\nend\n";
+
 /// Two small programs, and a begin of the second.
 const TWO_LISTED: &[u8] =
     b"frames 2\nprogram none\nend\nprogram far\n.window 3, 9, r\n.window 2, 1, rw\n.entry 2\nsvc 0\nend\nschedule\nbegin far\nend\n";
@@ -176,7 +181,7 @@ const CASES: [Case; 13] = [
 ];
 
 /// Listings, on disks with whatever bytes.
-const LISTINGS: [Case; 6] = [
+const UNCALLED: [Case; 9] = [
     Case {
         name: "a listing",
         words: &["list"],
@@ -219,6 +224,31 @@ const LISTINGS: [Case; 6] = [
         name: "two words",
         words: &["list", "try"],
         status: Status::Usage,
+        ..PLAIN
+    },
+    Case {
+        name: "a drill of two writes",
+        words: &["drill"],
+        printed: b"stop 1 old seen 0 number 0\nstop 1 torn seen 0 number 0\nstop 2 old seen 0 number 0\nstop 2 torn seen 0 number 1\ndrill 2 number 1\n",
+        ..PLAIN
+    },
+    Case {
+        name: "a drill of seven writes",
+        words: &["drill"],
+        text: Text::Bytes(SEVEN_WRITES),
+        printed: b"stop 1 old seen 0 number 0\nstop 1 torn seen 0 number 0\nstop 2 old seen 0 number 0\nstop 2 torn seen 0 number 1\n\
+            stop 3 old seen 1 number 1\nstop 3 torn seen 1 number 1\nstop 4 old seen 1 number 1\nstop 4 torn seen 1 number 1\n\
+            stop 5 old seen 1 number 1\nstop 5 torn seen 1 number 1\nstop 6 old seen 1 number 1\nstop 6 torn seen 1 number 1\n\
+            stop 7 old seen 1 number 1\nstop 7 torn seen 1 number 2\ndrill 7 number 2\n",
+        ..PLAIN
+    },
+    Case {
+        name: "the fourth line of a drill fails",
+        words: &["drill"],
+        other_byte: Some(9),
+        failing_put: Some(4),
+        status: Status::PutFault,
+        printed: b"stop 1 old seen 0 number 0\nstop 1 torn seen 0 number 0\nstop 2 old seen 0 number 0\n",
         ..PLAIN
     },
 ];
@@ -386,9 +416,9 @@ fn a_job_ends_as_its_parts_let_it(rt: HostRuntime) -> Result<(), Fail> {
 }
 
 #[test]
-fn a_listing_leaves_the_disk_alone(rt: HostRuntime) -> Result<(), Fail> {
+fn a_listing_and_a_drill_leave_the_disk_alone(rt: HostRuntime) -> Result<(), Fail> {
     let alloc = rt.alloc();
-    for case in &LISTINGS {
+    for case in &UNCALLED {
         let words = words_of(alloc, case.words)?;
         let mut job = source_of(alloc, case)?;
         let mut outside = outside_of(alloc, case)?;

@@ -21,6 +21,8 @@ pub enum Command {
     Run,
     /// The programs of a job are listed.
     List,
+    /// A job is stopped at each of its writes in turn.
+    Drill,
     /// Bytes of a store in a file are printed.
     Show(Range),
     /// A store with this header is made in a file.
@@ -54,6 +56,8 @@ fn command_alone(word: &str) -> Option<Command>
         Some(Command::Try)
     } else if word == "list" {
         Some(Command::List)
+    } else if word == "drill" {
+        Some(Command::Drill)
     } else {
         None
     }

@@ -1,13 +1,15 @@
-use Rattle.std.proofs.Common.{◌≡◌, List, [], subst, sym}
+use Rattle.std.proofs.Common.{◌≡◌, List, [], ap, subst, sym}
 use Rattle.desk.specs.Answers.{order_told}
 use Rattle.desk.specs.declared.answers.Committed.{Committed}
 use Rattle.store_format.specs.Header.{Header}
 use Rattle.console.specs.declared.show.Range.{Range}
 use Rattle.console.specs.declared.status.Status.{Status}
 use Rattle.console.specs.declared.words.Command.{Command}
+use Rattle.console.specs.Drilled.{DrilledBy}
 use Rattle.console.specs.New.{Made}
 use Rattle.console.specs.Show.{Shown}
 use Rattle.console.specs.Words.{IsForm}
+use Rattle.console.proofs.DrillLemmas.{drilled-text, drilled-unread, none-put}
 use Rattle.console.proofs.RunLemmas.{happens}
 use Rattle.console.proofs.WordLemmas.{one_header, one_range}
 use Rattle.console.proofs.commands.console.Goals as goal
@@ -50,3 +52,26 @@ returns-in-New-clause-made g c = λ header makes.
     subst (λ (status : Status). Made G header before after (order_told c.without_events-in-New.result.order.items) status) (sym ended.status)
     (subst (λ (order : List Committed). Made G header before after (order_told order) c.make.result) (sym ended.order)
     (subst (λ (these : Header). Made G these before after [] c.make.result) same c.make.ensures.made))
+
+pub returns-in_default-clause-drilled : goal.returns-in_default-clause-drilled
+returns-in_default-clause-drilled g c = λ drills. absurd (c.in_default.ensures Command.Drill drills)
+
+pub returns-in-Err-read-2-clause-drilled : goal.returns-in-Err-read-2-clause-drilled
+returns-in-Err-read-2-clause-drilled g c = λ drills.
+    let G = g.W.Outside in
+    let left = g.S.Source.left c.args.job.now in
+    let left_now = g.S.Source.left c.read-in-Drill.new.source in
+    let before = c.args.outside.now in
+    let ended = c.without_events-in-Err-read-2.ensures in
+    record {
+      no_order = ap order_told ended.order;
+      by_status = subst (λ (status : Status). DrilledBy G left left_now before before status) (sym ended.status) (drilled-unread G left left_now before c.in-Err-read-2.status (none-put G before) c.in-Err-read-2.ensures.only);
+    }
+
+pub returns-in-Ok-read-2-clause-drilled : goal.returns-in-Ok-read-2-clause-drilled
+returns-in-Ok-read-2-clause-drilled g c = λ drills.
+    let (text, whole, means) = c.in-Ok-read-2.ensures.means in
+    record {
+      no_order = ap order_told c.drill_job.ensures.order;
+      by_status = drilled-text g.W.Outside c.in-Ok-read-2.job c.args.outside.now c.drill_job.new.outside (g.S.Source.left c.args.job.now) (g.S.Source.left c.read-in-Drill.new.source) text c.drill_job.result.status whole means c.drill_job.ensures.did;
+    }
