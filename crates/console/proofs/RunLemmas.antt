@@ -32,6 +32,7 @@ use Rattle.run_law.specs.Left.{IsLeft}
 use Rattle.run_law.proofs.HeadlineLemmas.{left_is_prefix, doubt_is_whole}
 use Rattle.supervisor.specs.Opened.{IsOpened}
 use Rattle.supervisor.specs.Session.{activity, desk_of, order_of}
+use Rattle.supervisor.specs.Shown.{Shown}
 use Rattle.supervisor.specs.ShownLaws.{shown-stands}
 use Rattle.supervisor.specs.declared.session.Session.{Session}
 use Rattle.supervisor.specs.contracts.supervisor.SessionSupervisor.TheImpl.{ghosts}
@@ -161,10 +162,13 @@ module _ {W : Type 0} (G : Ghosts W) (fewer_later : FewerLater G) (printed_now :
           | inr none_more ↦ omega arith
         ]
 
+    shown-now : ends.closed ≡ false → IsSure G after × Shown new (held_of G after) ends
+    shown-now still = subst (λ (f : Facts). (run f.programs reports.taken f.start).closed ≡ false → IsSure G after × ghosts.shows new (held_of G after) (run f.programs reports.taken f.start)) these reports.still still
+
     -- while the desk is open
     leaves-now : ends.closed ≡ false → IsSure G after × ((left : FlatStore) × (serial commits (order_of new) store ≡ Some left) × (stands (held_of G after) ≡ Stands ((number + length (order_of new)) % 2 ^ 64) left))
     leaves-now still =
-        let shown = subst (λ (f : Facts). (run f.programs reports.taken f.start).closed ≡ false → IsSure G after × ghosts.shows new (held_of G after) (run f.programs reports.taken f.start)) these reports.still still in
+        let shown = shown-now still in
         let none : serial_run.doubt ≡ [] = serial_run.none_open still in
         let all : (order_of new) ≡ serial_run.done = serial_run.order_is ∙ ap (λ (behind : List (ℕ × ℕ)). serial_run.done ++ behind) none ∙ append-nil serial_run.done in
         let stood : stands (held_of G after) ≡ standing_of new.opened ends = shown-stands new (held_of G after) ends shown.1 in (
@@ -213,12 +217,13 @@ module _ {W : Type 0} (G : Ghosts W) (fewer_later : FewerLater G) (printed_now :
 
     pub has_run : put_by now put → ((one two : Option (List ℕ)) (bytes : List ℕ) → Prints one two bytes result → Prints one two bytes put) → (IsErr result → IsErr put)
         → (now ≡ Status.Done → (new.closed ≡ false) × (reports.rest ≡ [])) → (now ≡ Status.DiskFault → new.closed ≡ true)
-        → HasRun G job number store before after (order_of new) now
+        → HasRun G job number store before after (order_of new) (Some new) now
     has_run put_is turns fails ended shut = record {
       taken = reports.taken;
       rest = reports.rest;
       is_run = is_run;
       order_is = ordered;
+      ends = record { session = new; answered = refl; ordered = refl; closes = closes; shows = λ still. (shown-now still).1 };
       all = λ is. (ended is).1;
       still_open = λ is. sym closes ∙ (ended is).0;
       shut = λ is. sym closes ∙ shut is;
@@ -254,28 +259,28 @@ module _ {W : Type 0} (G : Ghosts W) (fewer_later : FewerLater G) (printed_now :
   abbrev replayed-from : (number : ℕ) (store : FlatStore) (standing : StandsAt G before number store) → Replays ghosts G (names_of job) (activity desk).programs desk.opened job.events.items (first_desk G job.frames before start desk (opens standing.honest standing.told) asks) new start after result
   replayed-from number store standing = replays (first_desk G job.frames before start desk (opens standing.honest standing.told) asks) (has-opened G job.frames before start desk (opens standing.honest standing.told) asks)
 
-  pub happened-by : (that : Replayed) → result ≡ that → HappenedTo G job before after (order_of new) (status_of_replay that)
+  pub happened-by : (that : Replayed) → result ≡ that → HappenedTo G job before after (order_of new) (Some new) (status_of_replay that)
   happened-by replayed.Ended is = λ number store standing.
       let reports = subst (λ (those : Replayed). Replays ghosts G (names_of job) (activity desk).programs desk.opened job.events.items (first_desk G job.frames before start desk (opens standing.honest standing.told) asks) new start after those) is (replayed-from number store standing) in
       has_run G fewer_later printed_now job before start after desk new number store standing (opens standing.honest standing.told) asks programs_are same_opened same_honest time asks-calm
       (Ok false) (Ok 0) status.Done reports refl (λ one two bytes prints. prints_well one two bytes false 0 prints) (λ is. is) (λ is. (reports.closed, reports.all refl)) (λ is. absurd (cc))
-  happened-by replayed.Closed is = inl (λ number store standing.
+  happened-by replayed.Closed is = λ number store standing.
       let reports = subst (λ (those : Replayed). Replays ghosts G (names_of job) (activity desk).programs desk.opened job.events.items (first_desk G job.frames before start desk (opens standing.honest standing.told) asks) new start after those) is (replayed-from number store standing) in
       has_run G fewer_later printed_now job before start after desk new number store standing (opens standing.honest standing.told) asks programs_are same_opened same_honest time asks-calm
-      (Ok true) (Ok 0) status.DiskFault reports refl (λ one two bytes prints. prints_well one two bytes true 0 prints) (λ is. is) (λ is. absurd (cc)) (λ is. reports.closed))
-  happened-by (replayed.Damaged offset) is = inr (λ number store standing.
-      subst (λ (those : Replayed). Replays ghosts G (names_of job) (activity desk).programs desk.opened job.events.items (first_desk G job.frames before start desk (opens standing.honest standing.told) asks) new start after those) is (replayed-from number store standing))
+      (Ok true) (Ok 0) status.DiskFault reports refl (λ one two bytes prints. prints_well one two bytes true 0 prints) (λ is. is) (λ is. absurd (cc)) (λ is. reports.closed)
+  happened-by (replayed.Damaged offset) is = λ number store standing.
+      subst (λ (those : Replayed). Replays ghosts G (names_of job) (activity desk).programs desk.opened job.events.items (first_desk G job.frames before start desk (opens standing.honest standing.told) asks) new start after those) is (replayed-from number store standing)
   happened-by replayed.PutFault is = λ number store standing.
       let (failed, reports) = subst (λ (those : Replayed). Replays ghosts G (names_of job) (activity desk).programs desk.opened job.events.items (first_desk G job.frames before start desk (opens standing.honest standing.told) asks) new start after those) is (replayed-from number store standing) in
       has_run G fewer_later printed_now job before start after desk new number store standing (opens standing.honest standing.told) asks programs_are same_opened same_honest time asks-calm
       (Err failed) (Err failed) status.PutFault reports (failed, refl) (λ one two bytes prints. prints_broken {T = Bool} {U = ℕ} (Err failed) (Err failed) refl refl one two bytes prints) (λ is. is) (λ is. absurd (cc)) (λ is. absurd (cc))
 
 -- what happened to the job of a text
-pub happens : {W : Type 0} (G : Ghosts W) (left left_now : Option (List ℕ)) (before after : W) (text : List ℕ) (job : Job) (order : List (ℕ × ℕ)) (now : Status)
-    → IsWhole left left_now text → job_of text ≡ Ok (content_of job) → HappenedTo G job before after order now → Happened G left left_now before after order now
-happens G left left_now before after text job order status.Done whole means did = record { text = text; whole = whole; job = job; means = means; has_run = did }
-happens G left left_now before after text job order status.PutFault whole means did = record { text = text; whole = whole; job = job; means = means; has_run = did }
-happens G left left_now before after text job order status.DiskFault whole means (inl did) = inl (record { text = text; whole = whole; job = job; means = means; has_run = did })
-happens G left left_now before after text job order status.DiskFault whole means (inr untouched) = inr untouched
-happens G left left_now before after text job order (status.Store offset) whole means did = did
-happens G left left_now before after text job order _ whole means did = did
+pub happens : {W : Type 0} (G : Ghosts W) (left left_now : Option (List ℕ)) (before after : W) (text : List ℕ) (job : Job) (order : List (ℕ × ℕ)) (session : Option Session) (now : Status)
+    → IsWhole left left_now text → job_of text ≡ Ok (content_of job) → HappenedTo G job before after order session now → Happened G left left_now before after order session now
+happens G left left_now before after text job order session status.Done whole means did = record { text = text; whole = whole; job = job; means = means; has_run = did }
+happens G left left_now before after text job order session status.PutFault whole means did = record { text = text; whole = whole; job = job; means = means; has_run = did }
+happens G left left_now before after text job order (Some session) status.DiskFault whole means did = record { text = text; whole = whole; job = job; means = means; has_run = did }
+happens G left left_now before after text job order None status.DiskFault whole means did = did
+happens G left left_now before after text job order session (status.Store offset) whole means did = did
+happens G left left_now before after text job order session _ whole means did = did

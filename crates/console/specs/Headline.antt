@@ -1,5 +1,5 @@
 -- What a call of the console did: the run of the desk that its report tells of and what a crash leaves of it, or nothing.
-use Rattle.std.specs.Prelude.{◌≡◌, ℕ, ◌⊎◌, ◌≤◌, ◌+◌, ◌*◌, ◌%◌, ◌^◌, true, false, List, [], ◌∷◌, ◌++◌, length, map, take, count_by, slice_set, Option, Some, IsSome, Result, Ok, Err}
+use Rattle.std.specs.Prelude.{◌≡◌, ℕ, ◌≤◌, ◌+◌, ◌*◌, ◌%◌, ◌^◌, true, false, List, [], ◌∷◌, ◌++◌, length, map, take, count_by, slice_set, Option, None, Some, IsSome, Result, Ok, Err}
 use Rattle.outside.specs.declared.world.Outside.{Ghosts}
 use Rattle.outside.specs.declared.failed.Failed.{Failed}
 use Rattle.outside.specs.Bytes.{Prints}
@@ -22,6 +22,9 @@ use Rattle.desk.specs.Kept.{WritesMore, records_in, most_records, tells_fault}
 use Rattle.run_law.specs.Headline.{IsPrefix}
 use Rattle.schedule_replay.specs.Puts.{PutsTimes, shown_of}
 use Rattle.schedule_replay.specs.Ran.{PrintsEarlier, text_of}
+use Rattle.supervisor.specs.declared.session.Session.{Session}
+use Rattle.supervisor.specs.Session.{order_of, is_closed}
+use Rattle.supervisor.specs.Shown.{Shown}
 use Rattle.job_text.specs.declared.job.Job.{Job}
 use Rattle.job_text.specs.Grammar.{job_of, content_of}
 use Rattle.console.specs.declared.status.Status.{Status}
@@ -49,13 +52,23 @@ DoubtStands G job number store order now =
     (gate : ℕ) × (left : FlatStore) × (serial (begun job.programs.items job.events.items) order store ≡ Some left)
     × Leaves G (λ image seen. stands (slice_set image gate 165) ≡ Stands ((number + length order) % 2 ^ 64) left) now now
 
+-- The session that is answered ends where the run of the desk does: it has the desk's order, is closed exactly where the desk is, and
+-- otherwise shows the desk over the bytes of the disk.
+pub record IsSessionAt {W : Type 0} (G : Ghosts W) (answer : Option Session) (after : W) (order : List (ℕ × ℕ)) (desk : Desk) : Type 0 where
+  pub session : Session
+  pub answered : answer ≡ Some session
+  pub ordered : order_of session ≡ order
+  pub closes : is_closed session ≡ desk.closed
+  pub shows : desk.closed ≡ false → Shown session (held_of G after) desk
+
 -- One run of the desk over the first of a job's events, from the store that the disk stood for. Its order is the answered one, and its
 -- report is printed: to the byte, or after a failed put a prefix of it with the first line and those of all events but the last.
-pub record HasRun {W : Type 0} (G : Ghosts W) (job : Job) (number : ℕ) (store : FlatStore) (before after : W) (order : List (ℕ × ℕ)) (status : Status) : Type 0 where
+pub record HasRun {W : Type 0} (G : Ghosts W) (job : Job) (number : ℕ) (store : FlatStore) (before after : W) (order : List (ℕ × ℕ)) (session : Option Session) (status : Status) : Type 0 where
   pub taken : List (Event × Word)
   pub rest : List Event
   pub is_run : IsRunOf job.programs.items job.events.items (job_desk job (held_of G before) store) taken rest
   pub order_is : order ≡ (run job.programs.items taken (job_desk job (held_of G before) store)).order
+  pub ends : IsSessionAt G session after order (run job.programs.items taken (job_desk job (held_of G before) store))
   -- at Done all events were run and the desk is open, and a disk fault closed it
   pub all : status ≡ Status.Done → rest ≡ []
   pub still_open : status ≡ Status.Done → (run job.programs.items taken (job_desk job (held_of G before) store)).closed ≡ false
@@ -89,20 +102,20 @@ pub record HasRun {W : Type 0} (G : Ghosts W) (job : Job) (number : ℕ) (store 
   pub time : Elapses G.moment G.left_since before after
 
 -- the job was run, from whatever number and store the disk stood for
-abbrev pub HasRunFrom : {W : Type 0} → Ghosts W → Job → W → W → List (ℕ × ℕ) → Status → Type 0
-HasRunFrom G job before after order status = (number : ℕ) (store : FlatStore) → StandsAt G before number store → HasRun G job number store before after order status
+abbrev pub HasRunFrom : {W : Type 0} → Ghosts W → Job → W → W → List (ℕ × ℕ) → Option Session → Status → Type 0
+HasRunFrom G job before after order session status = (number : ℕ) (store : FlatStore) → StandsAt G before number store → HasRun G job number store before after order session status
 
 -- a disk that stood for a store isn't found damaged
 abbrev pub StoodForNone : {W : Type 0} → Ghosts W → W → Type 0
 StoodForNone G before = (number : ℕ) (store : FlatStore) → StandsAt G before number store → ⊥
 
 -- the text was had whole, and means a job whose events were run
-pub record RanJob {W : Type 0} (G : Ghosts W) (left left_now : Option (List ℕ)) (before after : W) (order : List (ℕ × ℕ)) (status : Status) : Type 0 where
+pub record RanJob {W : Type 0} (G : Ghosts W) (left left_now : Option (List ℕ)) (before after : W) (order : List (ℕ × ℕ)) (session : Option Session) (status : Status) : Type 0 where
   pub text : List ℕ
   pub whole : IsWhole left left_now text
   pub job : Job
   pub means : job_of text ≡ Ok (content_of job)
-  pub has_run : HasRunFrom G job before after order status
+  pub has_run : HasRunFrom G job before after order session status
 
 -- no event was run: nothing was printed, and the disk was only asked
 pub record Untouched {W : Type 0} (G : Ghosts W) (before after : W) (order : List (ℕ × ℕ)) : Type 0 where
@@ -114,18 +127,23 @@ pub record Refused {W : Type 0} (G : Ghosts W) (before after : W) (order : List 
   pub untouched : Untouched G before after order
   pub calm : G.disk_faults after ≡ G.disk_faults before
 
--- what a call did, by its status; a disk fault comes in the opening or in an event
-abbrev pub Happened : {W : Type 0} → Ghosts W → Option (List ℕ) → Option (List ℕ) → W → W → List (ℕ × ℕ) → Status → Type 0
-Happened G left left_now before after order status.Done = RanJob G left left_now before after order status.Done
-Happened G left left_now before after order status.PutFault = RanJob G left left_now before after order status.PutFault
-Happened G left left_now before after order status.DiskFault = RanJob G left left_now before after order status.DiskFault ⊎ Untouched G before after order
-Happened G left left_now before after order (status.Store offset) = Refused G before after order ⊎ StoodForNone G before
-Happened G left left_now before after order _ = Refused G before after order
+-- the first where a session was opened, and the second where the call was refused before
+abbrev pub ByOpening : Option Session → Type 0 → Type 0 → Type 0
+ByOpening (Some session) opened refused = opened
+ByOpening None opened refused = refused
+
+-- what a call did, by its status; a disk fault and damage come in the opening or in an event
+abbrev pub Happened : {W : Type 0} → Ghosts W → Option (List ℕ) → Option (List ℕ) → W → W → List (ℕ × ℕ) → Option Session → Status → Type 0
+Happened G left left_now before after order session status.Done = RanJob G left left_now before after order session status.Done
+Happened G left left_now before after order session status.PutFault = RanJob G left left_now before after order session status.PutFault
+Happened G left left_now before after order session status.DiskFault = ByOpening session (RanJob G left left_now before after order session status.DiskFault) (Untouched G before after order)
+Happened G left left_now before after order session (status.Store offset) = ByOpening session (StoodForNone G before) (Refused G before after order)
+Happened G left left_now before after order session _ = Refused G before after order
 
 -- the same for a job that is given
-abbrev pub HappenedTo : {W : Type 0} → Ghosts W → Job → W → W → List (ℕ × ℕ) → Status → Type 0
-HappenedTo G job before after order status.Done = HasRunFrom G job before after order status.Done
-HappenedTo G job before after order status.PutFault = HasRunFrom G job before after order status.PutFault
-HappenedTo G job before after order status.DiskFault = HasRunFrom G job before after order status.DiskFault ⊎ Untouched G before after order
-HappenedTo G job before after order (status.Store offset) = Refused G before after order ⊎ StoodForNone G before
-HappenedTo G job before after order _ = Refused G before after order
+abbrev pub HappenedTo : {W : Type 0} → Ghosts W → Job → W → W → List (ℕ × ℕ) → Option Session → Status → Type 0
+HappenedTo G job before after order session status.Done = HasRunFrom G job before after order session status.Done
+HappenedTo G job before after order session status.PutFault = HasRunFrom G job before after order session status.PutFault
+HappenedTo G job before after order session status.DiskFault = ByOpening session (HasRunFrom G job before after order session status.DiskFault) (Untouched G before after order)
+HappenedTo G job before after order session (status.Store offset) = ByOpening session (StoodForNone G before) (Refused G before after order)
+HappenedTo G job before after order session _ = Refused G before after order

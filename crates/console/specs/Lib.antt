@@ -3,6 +3,7 @@ pub mod Words
 pub mod SourceText
 pub mod Opening
 pub mod Causes
+pub mod Handed
 pub mod Headline
 pub mod Listed
 pub mod Show

@@ -1,4 +1,4 @@
-ghost use Rattle.std.specs.Prelude.{◌≡◌, ◌≢◌, ◌≤◌, ◌⊎◌, ◌↔◌, ℕ, List, [], length, IfOk, IfErr, OnOk, Ok};
+ghost use Rattle.std.specs.Prelude.{◌≡◌, ◌≢◌, ◌≤◌, ◌⊎◌, ◌↔◌, ℕ, List, [], length, vec_capacity, IfOk, IfErr, OnOk, Ok, None};
 ghost use Rattle.outside.specs.Causes.{Rose};
 ghost use Rattle.desk.specs.Answers.{order_told};
 ghost use Rattle.job_text.specs.Grammar.{job_of, content_of};
@@ -7,6 +7,7 @@ ghost use Rattle.schedule_replay.specs.Asked.{begins_in};
 ghost use Rattle.console.specs.SourceText.{IsWhole};
 ghost use Rattle.store_format.specs.Header.{Header};
 ghost use Rattle.console.specs.Causes.{IsComplete, ReadsBy, OpensBy, IsOf, IsPastJob, IsOfReading, status_of};
+ghost use Rattle.console.specs.Handed.{HandsOn};
 ghost use Rattle.console.specs.Headline.{Happened, HappenedTo};
 ghost use Rattle.console.specs.Listed.{Listed};
 ghost use Rattle.console.specs.New.{Made};
@@ -48,7 +49,9 @@ pub fn console<S: Source, W: Outside>(
     ensures opened { RunsJob words.now → OpensBy W.Outside outside.old outside.new result.status }
     ensures put { result.status ≡ Status.PutFault → Rose (W.put_faults outside.old) (W.put_faults outside.new) }
     ensures disk { result.status ≡ Status.DiskFault → Rose (W.disk_faults outside.old) (W.disk_faults outside.new) }
-    ensures happened { RunsJob words.now → Happened W.Outside (S.left job.old) (S.left job.new) outside.old outside.new (order_told result.order.items) result.status }
+    ensures happened { RunsJob words.now → Happened W.Outside (S.left job.old) (S.left job.new) outside.old outside.new (order_told result.order.items) result.session result.status }
+    ensures handed { RunsJob words.now → HandsOn (order_told result.order.items) result.session result.status }
+    ensures no_session { (RunsJob words.now → ⊥) → result.session ≡ None }
     ensures listed { IsForm Command.List words.now → Listed W.Outside (S.left job.old) (S.left job.new) outside.old outside.new (order_told result.order.items) result.status }
     ensures shown { (range : Range) → IsForm (Command.Show range) words.now → Shown W.Outside range outside.old outside.new (order_told result.order.items) result.status }
     ensures made { (header : Header) → IsForm (Command.New header) words.now → Made W.Outside header outside.old outside.new (order_told result.order.items) result.status }
@@ -83,18 +86,46 @@ fn read<S: Source>(alloc: Global, source: &mut S) -> Result<Job, Status>
     Ok(read_job(alloc, &text)?)
 }
 
-/// The store is opened, and the events of the job run.
+/// The store is opened, and the events of the job run. All memory is taken before the first of them.
 fn try_job<W: Outside>(alloc: Global, job: Job, outside: &mut W) -> Ended
     requires { IsReady job }
     ensures opened { OpensBy W.Outside outside.old outside.new result.status }
     ensures unfailed { result.status ≡ Status.Done → W.put_faults outside.new ≡ W.put_faults outside.old }
     ensures put { result.status ≡ Status.PutFault → Rose (W.put_faults outside.old) (W.put_faults outside.new) }
     ensures disk { result.status ≡ Status.DiskFault → Rose (W.disk_faults outside.old) (W.disk_faults outside.new) }
-    ensures happened { HappenedTo W.Outside job outside.old outside.new (order_told result.order.items) result.status }
+    ensures happened { HappenedTo W.Outside job outside.old outside.new (order_told result.order.items) result.session result.status }
+    ensures handed { HandsOn (order_told result.order.items) result.session result.status }
     ensures only { IsPastJob result.status ⊎ (result.status ≡ Status.NoMemory) }
     ensures never { (result.status ≢ Status.Exists) × (result.status ≢ Status.NoRange) }
 {
     let begins = begins_in(&job.events);
+    match Vec::with_capacity(alloc, begins as usize) {
+        Ok(order) => run_job(alloc, job, begins, order, outside),
+        Err(error) => Ended::without_events(alloc, Status::from(error)),
+    }
+}
+
+/// The same, with room in the order for so many begins.
+fn run_job<W: Outside>(
+    alloc: Global,
+    job: Job,
+    begins: u32,
+    order: Vec<Committed>,
+    outside: &mut W,
+) -> Ended
+    requires ready { IsReady job }
+    requires begins { begins ≡ begins_in job.events.items }
+    requires none { order.items ≡ [] }
+    requires room { begins ≤ vec_capacity order }
+    ensures opened { OpensBy W.Outside outside.old outside.new result.status }
+    ensures unfailed { result.status ≡ Status.Done → W.put_faults outside.new ≡ W.put_faults outside.old }
+    ensures put { result.status ≡ Status.PutFault → Rose (W.put_faults outside.old) (W.put_faults outside.new) }
+    ensures disk { result.status ≡ Status.DiskFault → Rose (W.disk_faults outside.old) (W.disk_faults outside.new) }
+    ensures happened { HappenedTo W.Outside job outside.old outside.new (order_told result.order.items) result.session result.status }
+    ensures handed { HandsOn (order_told result.order.items) result.session result.status }
+    ensures only { IsPastJob result.status ⊎ (result.status ≡ Status.NoMemory) }
+    ensures never { (result.status ≢ Status.Exists) × (result.status ≢ Status.NoRange) }
+{
     let mut session = match Session::open(alloc, outside, job.programs, job.frames, begins) {
         Ok(session) => session,
         Err(fault) => return Ended::without_events(alloc, Status::from(fault)),
@@ -102,8 +133,19 @@ fn try_job<W: Outside>(alloc: Global, job: Job, outside: &mut W) -> Ended
     let replayed = replay(&mut session, &job.names, &job.events, outside);
     Ended {
         status: Status::from(replayed),
-        order: session.into_order(),
+        order: filled(order, session.order()),
+        session: Some(session),
     }
+}
+
+/// A list with no commits, and room for these, filled with them. It takes no memory.
+fn filled(mut order: Vec<Committed>, commits: &[Committed]) -> Vec<Committed>
+    requires none { order.items ≡ [] }
+    requires room { length commits.now ≤ vec_capacity order }
+    ensures { result.items ≡ commits.now }
+{
+    let _ = order.extend_from_slice(commits);
+    order
 }
 
 /// How many of the events are begins.

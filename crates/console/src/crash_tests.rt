@@ -182,7 +182,7 @@ fn run(
     Ok(Left {
         status: ended.status,
         printed: screen.into_bytes(),
-        held: disk.into_bytes(),
+        held: disk.into_image(),
     })
 }
 

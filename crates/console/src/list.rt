@@ -1,5 +1,5 @@
 // The listing of a job's programs.
-ghost use Rattle.std.specs.Prelude.{◌≡◌, ◌⊎◌, [], length};
+ghost use Rattle.std.specs.Prelude.{◌≡◌, ◌⊎◌, [], length, None};
 ghost use Rattle.listing.specs.Puts.{Puts, PutsTimes};
 ghost use Rattle.job_text.specs.Grammar.{content_of};
 ghost use Rattle.console.specs.Listed.{listings_of, lines_listed, put_of};
@@ -16,6 +16,7 @@ pub fn list_job<W: Outside>(alloc: Global, job: &Job, outside: &mut W) -> Ended
     ensures puts { Puts W.Outside (listings_of (content_of job.now)) outside.old outside.new (put_of result.status) }
     ensures times { PutsTimes W.Outside (lines_listed (content_of job.now)) outside.old outside.new (put_of result.status) }
     ensures order { result.order.items ≡ [] }
+    ensures session { result.session ≡ None }
     ensures unfailed { result.status ≡ Status.Done → W.put_faults outside.new ≡ W.put_faults outside.old }
     ensures only { (result.status ≡ Status.Done) ⊎ (result.status ≡ Status.PutFault) }
 {

@@ -346,7 +346,7 @@ fn programs_run_side_by_side(rt: HostRuntime) -> Result<(), Fail> {
         let ended = console(alloc, &words, &mut source, &mut outside);
         let (_disk, screen) = outside.into_parts();
         assert_eq!(rt; ended.status, row.status, "{}", row.name);
-        assert!(rt; screen.bytes() == wanted.as_bytes(), "{}", row.name);
+        assert!(rt; screen.printed() == wanted.as_bytes(), "{}", row.name);
     }
     Ok(())
 }

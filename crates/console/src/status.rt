@@ -1,4 +1,4 @@
-ghost use Rattle.std.specs.Prelude.{◌≡◌, ◌+◌, ◌≤◌, [], ◌++◌, length, decimal};
+ghost use Rattle.std.specs.Prelude.{◌≡◌, ◌+◌, ◌≤◌, [], ◌++◌, length, decimal, None};
 ghost use Rattle.console.specs.declared.status.Status.TheVariants.{NoMemory};
 ghost use Rattle.console.specs.Statuses.{status_of_job, status_of_text, status_of_open, status_of_replay, number_of, text_of};
 
@@ -10,6 +10,7 @@ use job_text::JobFault;
 use redo_journal::OpenFault;
 use schedule_replay::Replayed;
 use std::alloc::{AllocError, Global};
+use supervisor::Session;
 
 /// How a call of the console ended (docs/FORMATS.md, "Statuses").
 #[derive(Debug, Clone, Copy, PartialEq, Eq)]
@@ -39,22 +40,25 @@ pub enum Status {
 }
 
 /// What a call of the console came to: its status, and the commits whose gate write began, in order. At most the last of
-/// them has no sync that succeeded.
-#[derive(Debug, Drop)]
+/// them has no sync that succeeded. A call that opened a store for a job's programs hands on its session as it is at the end.
+#[derive(Drop)]
 pub struct Ended {
     pub status: Status,
     pub order: Vec<Committed>,
+    pub session: Option<Session>,
 }
 
 impl Ended {
-    /// A call that ended with this status, and ran no event.
+    /// A call that ended with this status, and opened no session.
     pub fn without_events(alloc: Global, status: Status) -> Self
         ensures status { result.status ≡ status }
         ensures order { result.order.items ≡ [] }
+        ensures session { result.session ≡ None }
     {
         Ended {
             status,
             order: Vec::new(alloc),
+            session: None,
         }
     }
 }

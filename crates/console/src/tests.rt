@@ -372,7 +372,7 @@ fn a_job_ends_as_its_parts_let_it(rt: HostRuntime) -> Result<(), Fail> {
         let mut outside = outside_of(alloc, case)?;
         let ended = console(alloc, &words, &mut job, &mut outside);
         let (disk, screen) = outside.into_parts();
-        let left = disk.into_bytes();
+        let left = disk.into_image();
         let order = Vec::from_slice(alloc, case.order)?;
         let printed = Vec::from_slice(alloc, case.printed)?;
         let store = store_of(alloc, case, &case.record)?;
@@ -396,7 +396,7 @@ fn a_listing_leaves_the_disk_alone(rt: HostRuntime) -> Result<(), Fail> {
         let (disk, screen) = outside.into_parts();
         assert_eq!(rt; ended.status, case.status, "{}", case.name);
         assert!(rt; ended.order.is_empty(), "{}", case.name);
-        assert!(rt; screen.bytes() == case.printed, "{}", case.name);
+        assert!(rt; screen.printed() == case.printed, "{}", case.name);
         assert_eq!(rt; disk.moment(), 0, "{}", case.name);
     }
     Ok(())
@@ -416,7 +416,7 @@ fn assert_report(
     let ended = console(alloc, &words, &mut source, &mut outside);
     let (_disk, screen) = outside.into_parts();
     assert_eq!(rt; ended.status, Status::Done, "{}", name);
-    assert!(rt; screen.bytes() == report.as_bytes(), "{}", name);
+    assert!(rt; screen.printed() == report.as_bytes(), "{}", name);
     Ok(())
 }
 
@@ -658,9 +658,9 @@ fn a_store_is_made_run_on_and_shown(rt: HostRuntime) -> Result<(), Fail> {
         let ended = console(alloc, &words, &mut source, &mut outside);
         let (disk, screen) = outside.into_parts();
         assert_eq!(rt; ended.status, step.status, "{}", job);
-        assert!(rt; screen.bytes() == step.printed.as_bytes(), "{}", job);
+        assert!(rt; screen.printed() == step.printed.as_bytes(), "{}", job);
         if step.kept {
-            held = disk.into_bytes();
+            held = disk.into_image();
         }
     }
     assert_eq!(rt; held.len(), 16_672);

@@ -77,7 +77,7 @@ mod tests {
         let mut joint = Joint::new(disk, MemoryScreen::new(alloc, Vec::new(alloc)));
         assert_eq!(rt; keep_body(&mut joint, b"abc", b"kept\n"), Kept::Done);
         let (disk, screen) = joint.into_parts();
-        assert_eq!(rt; screen.bytes(), b"kept\n".as_slice());
+        assert_eq!(rt; screen.printed(), b"kept\n".as_slice());
         assert_eq!(rt; disk.bytes(), [0xa5, b'a', b'b', b'c', 9].as_slice());
         Ok(())
     }

@@ -43,7 +43,7 @@ fn each_line_is_one_put(rt: HostRuntime) -> Result<(), Fail> {
             wanted.extend_from_slice(line)?;
         }
         assert_eq!(rt; put.is_ok(), whole == LINES.len());
-        assert_eq!(rt; screen.bytes(), wanted.as_slice());
+        assert_eq!(rt; screen.printed(), wanted.as_slice());
     }
     Ok(())
 }

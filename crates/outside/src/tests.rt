@@ -146,7 +146,7 @@ fn a_disk_fails_where_it_is_told_to(rt: HostRuntime) -> Result<(), Fail> {
         }
         let failed = case.steps.iter().filter(|step| step.3).count();
         assert_eq!(rt; disk.faults(), failed as u64, "case {number}");
-        assert_eq!(rt; disk.is_starved(), false, "case {number}");
+        assert_eq!(rt; disk.starved(), false, "case {number}");
         assert_eq!(rt; disk.bytes(), case.left, "case {number}");
     }
     Ok(())
@@ -161,7 +161,7 @@ fn a_screen_and_a_source_fail_where_they_are_told_to(rt: HostRuntime) -> Result<
     assert_eq!(rt; screen.put(b" three", 0), Ok(()));
     assert_eq!(rt; screen.put(b" four", 0), Err(Failed));
     assert_eq!(rt; screen.faults(), 2);
-    assert_eq!(rt; screen.is_starved(), false);
+    assert_eq!(rt; screen.starved(), false);
     assert_eq!(rt;
         screen.into_bytes().as_slice(),
         b"one two three four".as_slice()
@@ -190,8 +190,8 @@ fn a_joint_is_a_disk_and_a_screen(rt: HostRuntime) -> Result<(), Fail> {
     assert_eq!(rt; joint.read_at(0, &mut into), Ok(()));
     assert_eq!(rt; into, *b"on");
     let (disk, screen) = joint.into_parts();
-    assert_eq!(rt; disk.into_bytes().as_slice(), b"onew".as_slice());
-    assert_eq!(rt; screen.bytes(), b"written".as_slice());
+    assert_eq!(rt; disk.into_image().as_slice(), b"onew".as_slice());
+    assert_eq!(rt; screen.printed(), b"written".as_slice());
     Ok(())
 }
 

@@ -1,1 +1,4 @@
+pub mod LineLemmas
 pub mod Listed
+pub mod PartLemmas
+pub mod WordLemmas

@@ -1,1 +1,3 @@
 pub mod Line
+pub mod ReadLines
+pub mod Words

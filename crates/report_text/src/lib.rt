@@ -1,8 +1,16 @@
-//! The lines of a report, each put on the screen as a whole (docs/FORMATS.md, "Report").
+//! The lines of a report, each put on the screen as a whole, and read back from a text (docs/FORMATS.md, "Report").
 #![tactic(auto)]
 
+mod guess;
 mod line;
+mod owned;
 mod put;
+mod read;
+#[cfg(test)]
+mod tests;
+mod word;
 
 pub use line::Line;
+pub use owned::OwnedLine;
 pub use put::{Reporter, put_line};
+pub use read::{LinesFault, read_lines};

@@ -70,7 +70,7 @@ impl Reporter {
 }
 
 /// The whole text of a line, with its line feed.
-fn fill(text: &mut TextLine, line: &Line)
+pub(crate) fn fill(text: &mut TextLine, line: &Line)
     requires short { IsShort line.now }
     ensures { text.new ≡ line_text (line_told line.now) }
 {

@@ -173,7 +173,7 @@ fn filled(rt: &impl Abort, alloc: Global) -> Result<Vec<u8>, AllocError> {
     begin_lines(&mut store, 31);
     assert_eq!(rt; store.commit(&mut disk), Kept::Done);
     let (disk, _) = disk.into_parts();
-    Ok(disk.into_bytes())
+    Ok(disk.into_image())
 }
 
 // Puts the lines of the record where they follow each other, behind four bytes each with their number or without.

@@ -67,6 +67,7 @@ pub fn replay<S: Supervisor, W: Outside>(
     ensures bytes { HoldsStore W.Outside (S.header desk.new) outside.new }
     ensures opened { S.opened desk.new ≡ S.opened desk.old }
     ensures header { S.header desk.new ≡ S.header desk.old }
+    ensures begins { S.begins desk.new ≡ S.begins desk.old }
 {
     match put_report(desk, names, events, &mut Reporter::new(), outside) {
         Err(Failed) => Replayed::PutFault,

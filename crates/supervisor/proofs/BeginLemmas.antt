@@ -87,6 +87,7 @@ module _ (s : Session) (new : Activations) (program : ℕ) (args : List ℕ) (so
       rows = given.rows (s.turns * 1000000) sound.room.rows;
       places = λ still. let was = sound.room.places still in let more = given.more in let next = given.next in omega (arith, was, more, next);
       order = sound.room.order;
+      commits = sound.room.commits;
     };
   }
 

@@ -103,16 +103,20 @@ pub record HasLeft (old new : Session) (seat : ℕ) (pool : Pool) (commits : ℕ
 
 -- a session at the commit call of a taken seat
 module _ (s : Session) (seat : ℕ) (sound : IsSound s) (taken : has (activity s).seating.taken seat ≡ true) where
-  -- the order has a place for the commit
-  pub has_place : s.closed ≡ false → vec_len s.order < vec_capacity s.order
-  has_place still =
+  -- there were fewer commits than begins
+  pub fewer-commits : s.closed ≡ false → vec_len s.order < s.begins
+  fewer-commits still =
       let places = sound.room.places still in
       let some = fewer (activity s).seating.taken seat taken in
-      omega (arith, places, some, sound.room.begun, sound.room.order)
+      omega (arith, places, some, sound.room.begun)
+
+  -- so the order has a place for this one
+  pub has_place : s.closed ≡ false → vec_len s.order < vec_capacity s.order
+  has_place still = let some = fewer-commits still in omega (arith, some, sound.room.order)
 
   -- he has left, whether with a commit or not
-  pub sound-left : (n : Session) (pool : Pool) (commits : ℕ) → HasLeft s n seat pool commits → IsSound n
-  sound-left n pool commits left = record {
+  pub sound-left : (n : Session) (pool : Pool) (commits : ℕ) → s.closed ≡ false → HasLeft s n seat pool commits → IsSound n
+  sound-left n pool commits open_before left = record {
     ranges = subst HasRanges (sym left.header) sound.ranges;
     running = left.running;
     directory = ap (λ (h : Header). h.directory) left.header ∙ sound.directory ∙ sym (ap (λ (a : Activity). a.reach.directory) left.is);
@@ -128,6 +132,7 @@ module _ (s : Session) (seat : ℕ) (sound : IsSound s) (taken : has (activity s
           let rest = ap (λ (a : Activity). length a.seating.taken) left.is in
           omega (arith, places, some, rest, next, left.few, left.longer);
       order = omega (arith, left.begins, left.room, sound.room.order);
+      commits = let some = fewer-commits open_before in omega (arith, some, left.begins, left.few, left.longer);
     };
   }
     where
@@ -135,8 +140,8 @@ module _ (s : Session) (seat : ℕ) (sound : IsSound s) (taken : has (activity s
       next = ap (λ (a : Activity). a.next) left.is
 
   -- it closes, and all else that runs is as before
-  pub sound-closed : (n : Session) → n.store.header ≡ s.store.header → activity n ≡ activity s → n.begins ≡ s.begins → n.turns ≡ s.turns → n.closed ≡ true → vec_capacity s.order ≤ vec_capacity n.order → IsSound n
-  sound-closed n header is begins turns closed room = record {
+  pub sound-closed : (n : Session) → n.store.header ≡ s.store.header → activity n ≡ activity s → n.begins ≡ s.begins → n.turns ≡ s.turns → n.closed ≡ true → vec_capacity s.order ≤ vec_capacity n.order → s.closed ≡ false → vec_len n.order ≤ vec_len s.order + 1 → IsSound n
+  sound-closed n header is begins turns closed room open_before longer = record {
     ranges = subst HasRanges (sym header) sound.ranges;
     running = subst running.IsSound (sym is) sound.running;
     directory = ap (λ (h : Header). h.directory) header ∙ sound.directory ∙ sym (ap (λ (a : Activity). a.reach.directory) is);
@@ -148,6 +153,7 @@ module _ (s : Session) (seat : ℕ) (sound : IsSound s) (taken : has (activity s
       rows = subst (λ (turns : ℕ). AreRowsWithin (activity n) (turns * 1000000)) (sym turns) (subst (λ (a : Activity). AreRowsWithin a (s.turns * 1000000)) (sym is) sound.room.rows);
       places = λ still. absurd (let no : true ≡ false = sym closed ∙ still in cc (no));
       order = omega (arith, begins, room, sound.room.order);
+      commits = let some = fewer-commits open_before in omega (arith, some, begins, longer);
     };
   }
 

@@ -62,6 +62,7 @@ sound-ran s ran limit sound few turned rows is parts = record {
     rows = λ seat below. let here = parts.rows ((s.turns - 1) * 1000000) rows seat below in omega (arith, here, few, turned);
     places = λ still. let places = sound.room.places still in let fewer = parts.fewer in let next = parts.next in omega (arith, places, fewer, next);
     order = sound.room.order;
+    commits = sound.room.commits;
   };
 }
 

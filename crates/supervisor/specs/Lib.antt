@@ -1,6 +1,7 @@
 pub mod Session
 pub mod Shown
 pub mod ShownLaws
+pub mod Laws
 pub mod Opened
 pub mod Went
 pub mod Causes

@@ -58,6 +58,7 @@ pub record HaveRoom (s : Session) : Type 0 where
   pub rows : AreRowsWithin (activity s) (s.turns * 1000000)
   pub places : s.closed ≡ false → vec_len s.order + length (activity s).seating.taken + 1 ≤ (activity s).next
   pub order : s.begins ≤ vec_capacity s.order
+  pub commits : vec_len s.order ≤ s.begins
 
 -- what holds of a session at every moment
 pub record IsSound (s : Session) : Type 0 where

@@ -4,8 +4,10 @@
 
 mod calls;
 mod commits;
+mod law;
 mod session;
 mod supervisor;
 mod turns;
 
+pub use law::{locks_are_due, shown_desks_are_orderly};
 pub use session::Session;

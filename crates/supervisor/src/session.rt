@@ -3,7 +3,6 @@ ghost use Rattle.std.specs.Prelude.{◌≡◌, ◌≢◌, ◌≤◌, ◌<◌, �
 ghost use Rattle.outside.specs.Runs.{OnlyAsks, held_of};
 ghost use Rattle.restart.specs.Faults.{IsOpenFault};
 ghost use Rattle.desk.specs.Kept.{HoldsStore};
-ghost use Rattle.desk.specs.Answers.{order_told};
 
 use activations::Activations;
 use desk::Committed;
@@ -28,7 +27,7 @@ pub struct Session {
 }
 
 impl Session {
-    ghost use Rattle.supervisor.specs.Session.{order_of, header_of_session};
+    ghost use Rattle.supervisor.specs.Session.{header_of_session};
     ghost use Rattle.supervisor.specs.Opened.{IsNew, IsOpened, HasStood};
 
     /// A session over the store that the disk holds, with so many frames for its pages, for so many begins of these programs.
@@ -71,12 +70,5 @@ impl Session {
             turns: 0,
             closed: false,
         })
-    }
-
-    /// The commits whose gate write began.
-    pub fn into_order(self) -> Vec<Committed>
-        ensures { order_told result.items ≡ order_of self }
-    {
-        self.order
     }
 }

@@ -25,7 +25,7 @@ use Rattle.supervisor.proofs.session.Session.commit.Goals as goal
 pub returns-in-Err-clause-sound : goal.returns-in-Err-clause-sound
 returns-in-Err-clause-sound g c =
     let s = c.args.self.now in
-    sound-left s c.args.seat c.requires.sound c.requires.taken _ (activity_of c.record.new.self).reach.pool 0
+    sound-left s c.args.seat c.requires.sound c.requires.taken _ (activity_of c.record.new.self).reach.pool 0 c.requires.open
     (record {
       header = ap (λ (store : KeptStore). store.header) c.in-Err.ensures.unwritten;
       running = c.record.ensures.sound;
@@ -65,7 +65,7 @@ returns-in-Done-clause-sound g c =
     let there : activity entered ≡ activity s = ap activity others ∙ c.in_default.ensures.kept in
     let pool = (activity_of c.commit-in-Done.new.self).reach.pool in
     let order = c.enter_order.ensures.order in
-    sound-left s seat c.requires.sound c.requires.taken _ pool 1
+    sound-left s seat c.requires.sound c.requires.taken _ pool 1 c.requires.open
     (record {
       header = ap (λ (n : Session). n.store.header) others ∙ c.commit.ensures.header ∙ ap (λ (store : KeptStore). store.header) c.in_default.ensures.begun;
       running = c.swap_printed.ensures.sound;
@@ -120,13 +120,16 @@ returns-in-Done-clause-went g c = λ begins sure over at.
 
 pub returns-in-Doubt-clause-sound : goal.returns-in-Doubt-clause-sound
 returns-in-Doubt-clause-sound g c =
+    let s = c.args.self.now in
+    let entered = c.enter_order-in-Doubt.new.self in
     let others = c.enter_order-in-Doubt.ensures.others in
+    let longer = ap length c.enter_order-in-Doubt.ensures.order ∙ length-append s.order.items (c.committed_in-committed.result ∷ []) in
     sound-closed c.args.self.now c.args.seat c.requires.sound c.requires.taken _
     (ap (λ (n : Session). n.store.header) others ∙ c.commit.ensures.header ∙ ap (λ (store : KeptStore). store.header) c.in_default.ensures.begun)
     (ap activity others ∙ c.in_default.ensures.kept)
     (ap (λ (n : Session). n.begins) others)
     (ap (λ (n : Session). n.turns) others)
-    refl c.enter_order-in-Doubt.ensures.room
+    refl c.enter_order-in-Doubt.ensures.room c.requires.open (omega (arith, entered.order.ok.0, s.order.ok.0, longer))
 
 pub returns-in-Doubt-clause-went : goal.returns-in-Doubt-clause-went
 returns-in-Doubt-clause-went g c = λ begins sure over at.
@@ -149,7 +152,7 @@ pub returns-in-Unwritten-clause-sound : goal.returns-in-Unwritten-clause-sound
 returns-in-Unwritten-clause-sound g c =
     sound-closed c.args.self.now c.args.seat c.requires.sound c.requires.taken _
     (c.commit.ensures.header ∙ ap (λ (store : KeptStore). store.header) c.in_default.ensures.begun)
-    c.in_default.ensures.kept refl refl refl (omega arith)
+    c.in_default.ensures.kept refl refl refl (omega arith) c.requires.open (omega arith)
 
 pub returns-in-Unwritten-clause-went : goal.returns-in-Unwritten-clause-went
 returns-in-Unwritten-clause-went g c = λ begins sure over at.

@@ -1,5 +1,6 @@
-use Rattle.std.proofs.Common.{◌≡◌, ◌∙◌, ap, sym, ◌≤◌, subst, arith, length, get_or, All, List, ℕ, refl}
+use Rattle.std.proofs.Common.{◌≡◌, ◌∙◌, ap, sym, ◌≤◌, subst, arith, length, vec_len, get_or, All, List, ℕ, refl, Some}
 use Rattle.std.specs.Prelude.{map}
+use Rattle.std.proofs.lemmas.List.{length-map}
 use Rattle.std.proofs.lemmas.List.Sums.{count_by-le-length}
 use Rattle.arrayvec.specs.ArrayVec.{ArrayVec}
 use Rattle.outside.specs.declared.world.Outside.{Ghosts}
@@ -24,31 +25,40 @@ use Rattle.console.specs.Headline.{HappenedTo, names_of}
 use Rattle.console.proofs.CauseLemmas.{opens-by, put-rose, put-same, disk-rose}
 use Rattle.console.proofs.NameLemmas.{name-unbroken, asked-among}
 use Rattle.console.proofs.RunLemmas.{happened-by, has-opened, first_desk}
-use Rattle.console.proofs.commands.try_job.Goals as goal
+use Rattle.console.proofs.commands.run_job.Goals as goal
 
 pub replay-replayed-requires-clause-ready : goal.replay-replayed-requires-clause-ready
 replay-replayed-requires-clause-ready g c =
     let made = c.in-Ok.ensures.new in
     let ready = c.requires in
-    let events = c.deref-3.ensures.value in
-    let begins : begins_in c.deref-3.result.now ≡ c.begins_in-begins.result = ap (λ (these : List Event). begins_in these) (events ∙ sym c.deref.ensures.value) ∙ sym c.begins_in-begins.ensures in
-    let turns : turns_in c.deref-3.result.now ≤ length c.deref-3.result.now = count_by-le-length is_turn c.deref-3.result.now in
-    let few : length c.deref-3.result.now ≡ length c.args.job.events.items = ap (λ (these : List Event). length these) events in
+    let events = c.deref-2.ensures.value in
+    let begins : begins_in c.deref-2.result.now ≡ c.args.begins = ap (λ (these : List Event). begins_in these) events ∙ sym c.requires.begins in
+    let turns : turns_in c.deref-2.result.now ≤ length c.deref-2.result.now = count_by-le-length is_turn c.deref-2.result.now in
+    let few : length c.deref-2.result.now ≡ length c.args.job.events.items = ap (λ (these : List Event). length these) events in
     let programs : length c.args.job.programs.items ≡ length (activity c.in-Ok.session).programs = sym (ap (λ (these : List Program). length these) made.programs_are) in
     record {
       sound = made.sound;
-      asked = λ k d within. asked-among (length (activity c.in-Ok.session).programs) (get_or c.deref-3.result.now k d)
-          (subst (λ (n : ℕ). IsEventAmong n (get_or c.deref-3.result.now k d)) programs
-          (subst (λ (these : List Event). All (IsEventAmong (length c.args.job.programs.items)) these) (sym events) ready.events k d within));
+      asked = λ k d within. asked-among (length (activity c.in-Ok.session).programs) (get_or c.deref-2.result.now k d)
+          (subst (λ (n : ℕ). IsEventAmong n (get_or c.deref-2.result.now k d)) programs
+          (subst (λ (these : List Event). All (IsEventAmong (length c.args.job.programs.items)) these) (sym events) ready.ready.events k d within));
       begins = omega (arith, made.none_given, begins, made.begins_are);
-      turns = omega (arith, turns, few, ready.few, made.no_turns);
+      turns = omega (arith, turns, few, c.requires.ready.few, made.no_turns);
       bytes = c.in-Ok.ensures.room;
     }
 
 pub replay-replayed-requires-clause-unbroken : goal.replay-replayed-requires-clause-unbroken
 replay-replayed-requires-clause-unbroken g c =
-    subst (λ (names : List (ArrayVec ℕ)). All (λ (name : ArrayVec ℕ). IsUnbroken name.items) names) (sym c.deref-2.ensures.value)
-    (λ k d within. name-unbroken (get_or c.args.job.names.items k d).items (c.requires.names k d within))
+    subst (λ (names : List (ArrayVec ℕ)). All (λ (name : ArrayVec ℕ). IsUnbroken name.items) names) (sym c.deref.ensures.value)
+    (λ k d within. name-unbroken (get_or c.args.job.names.items k d).items (c.requires.ready.names k d within))
+
+-- no more commits than begins
+pub filled-requires-clause-room : goal.filled-requires-clause-room
+filled-requires-clause-room g c =
+    let new = c.replay-replayed.new.desk in
+    let told : length (order_told c.order.result.now) ≡ length (order_told new.order.items) = ap length c.order.ensures in
+    let few : vec_len new.order ≤ new.begins = c.replay-replayed.ensures.sound.room.commits in
+    let begins : new.begins ≡ c.in-Ok.session.begins = c.replay-replayed.ensures.begins in
+    omega (arith, told, length-map {B = ℕ × ℕ} c.order.result.now (λ commit. (commit.activation, commit.steps)), length-map {B = ℕ × ℕ} new.order.items (λ commit. (commit.activation, commit.steps)), new.order.ok.0, few, begins, c.in-Ok.ensures.new.begins_are, c.requires.room)
 
 -- what was replayed, in the job's words
 replays : {W : Type 0} (G : Ghosts W) (names : List (List ℕ)) (events : List Event) (job : Job) (desk new : Session) (start after : W) (result : Replayed)
@@ -70,7 +80,7 @@ returns-clause-opened g c =
     (opens-by G before start after c.in-Ok.session c.replay-replayed.new.desk result c.in-Ok.ensures.told c.replay-replayed.ensures.ends
     (λ offset is honest told.
     let opens = c.in-Ok.ensures.opened honest told in
-    subst (λ (those : Replayed). Replays ghosts G (map (λ name. name.items) c.deref-2.result.now) (activity c.in-Ok.session).programs c.in-Ok.session.opened c.deref-3.result.now (first_desk G c.args.job.frames before start c.in-Ok.session opens c.in-Ok.ensures.asks) c.replay-replayed.new.desk start after those) is
+    subst (λ (those : Replayed). Replays ghosts G (map (λ name. name.items) c.deref.result.now) (activity c.in-Ok.session).programs c.in-Ok.session.opened c.deref-2.result.now (first_desk G c.args.job.frames before start c.in-Ok.session opens c.in-Ok.ensures.asks) c.replay-replayed.new.desk start after those) is
     (c.replay-replayed.ensures.replays (first_desk G c.args.job.frames before start c.in-Ok.session opens c.in-Ok.ensures.asks) (has-opened G c.args.job.frames before start c.in-Ok.session opens c.in-Ok.ensures.asks))))
 
 pub returns-clause-put : goal.returns-clause-put
@@ -92,9 +102,9 @@ returns-clause-happened g c =
     let start = c.open.new.outside in
     let after = c.replay-replayed.new.outside in
     let result = c.replay-replayed.result in
-    let did = replays G _ c.deref-3.result.now job desk new start after result (ap (map (λ name. name.items)) c.deref-2.ensures.value) c.deref-3.ensures.value c.replay-replayed.ensures.replays in
-    subst (λ (now : Status). HappenedTo G job before after (order_told c.into_order.result.items) now) (sym c.from-2.ensures)
-    (subst (λ (order : List (ℕ × ℕ)). HappenedTo G job before after order (status_of_replay result)) (sym c.into_order.ensures)
+    let did = replays G _ c.deref-2.result.now job desk new start after result (ap (map (λ name. name.items)) c.deref.ensures.value) c.deref-2.ensures.value c.replay-replayed.ensures.replays in
+    subst (λ (now : Status). HappenedTo G job before after (order_told c.filled.result.items) (Some new) now) (sym c.from-2.ensures)
+    (subst (λ (order : List (ℕ × ℕ)). HappenedTo G job before after order (Some new) (status_of_replay result)) (sym (ap order_told c.filled.ensures ∙ c.order.ensures))
     (happened-by G g.met.W.Outside.fewer_later g.met.W.Outside.printed_now job before start after desk new c.in-Ok.ensures.opened c.in-Ok.ensures.asks c.in-Ok.ensures.new.programs_are c.replay-replayed.ensures.opened
     c.replay-replayed.ensures.honest c.replay-replayed.ensures.time c.in-Ok.ensures.unfailed result did result refl))
 

@@ -1,0 +1,201 @@
+-- The bytes of a line are its words, and its only line feed is its last byte.
+use Rattle.std.proofs.Common.{◌≡◌, ◌≢◌, ℕ, ◌+◌, ◌-◌, ◌/◌, ◌%◌, ◌^◌, ◌<◌, ◌≤◌, ◌==◌, nat_lt, not, Bool, true, false, List, [], ◌∷◌, ◌++◌, length, map, take, decimal, position, get_or, Some, None, refl, sym, ◌∙◌, ap, append_assoc, append-nil, length-append, arith}
+use Rattle.std.specs.List.{AllByRecursion, flat_map, list_all, join_with_byte, prefix_len}
+use Rattle.std.proofs.lemmas.Bool.{lt-ltb}
+use Rattle.std.proofs.lemmas.Bool.Decides.{nat_tests}
+use Rattle.std.proofs.lemmas.List.{take_at}
+use Rattle.std.proofs.lemmas.List.Concat.{flat_map-append}
+use Rattle.std.proofs.lemmas.List.Elements.{All-get_or, recursion_from_All}
+use Rattle.std.proofs.lemmas.List.Folds.{list_all-append}
+use Rattle.std.proofs.lemmas.List.Sums.{AllPass-from_list_all}
+use Rattle.asm_parse.proofs.RunLemmas.{each_also, run_length}
+use Rattle.byteorder.specs.Endian.{big_bytes}
+use Rattle.hex.specs.Hex.{encode_lower, encode_with, lower_digits}
+use Rattle.desk.specs.Lines.{Line, Open, Begin, Busy, NoSegment, Idle, Turn, Cycle, Victim, Commit, Check, Wait, Journal, Disk, Doubt, Closed, Stored, Lost, Left, End, printed, line_text}
+use Rattle.report_text.specs.declared.owned.OwnedLine.{OwnedLine}
+use Rattle.report_text.specs.ReadLines.{IsLine, owned_told}
+use Rattle.report_text.specs.Words.{IsOneWord, is_feed, kind_of, parts_of}
+use Rattle.report_text.proofs.PartLemmas.{name_word, number_word}
+
+-- the bytes of a line are its words with a space between each two, and a line feed
+pub line_words : (line : Line) → line_text line ≡ join_with_byte 32 (kind_of line ∷ parts_of line) ++ 10 ∷ []
+line_words (Open number) = refl
+line_words (Begin activation name) = refl
+line_words (Busy activation name) = refl
+line_words (NoSegment activation name segment) = refl
+line_words (Idle activation) = refl
+line_words (Turn activation ran pages locks) = refl
+line_words (Cycle members) = refl
+line_words (Victim activation) = refl
+line_words (Commit activation number steps out) = refl
+line_words (Check activation code address) = refl
+line_words (Wait activation holders) = refl
+line_words (Journal activation lines limit) = refl
+line_words (Disk activation) = refl
+line_words (Doubt activation number) = refl
+line_words Closed = refl
+line_words (Stored number) = refl
+line_words (Lost activation) = refl
+line_words (Left activation) = refl
+line_words (End number) = refl
+
+hex_digit : (k : ℕ) → k < 16 → nat_lt 32 (get_or lower_digits k 0) ≡ true
+hex_digit k small =
+    All-get_or (λ byte. nat_lt 32 byte ≡ true) lower_digits k 0 small (AllPass-from_list_all (nat_lt 32) lower_digits refl)
+
+hex_word : (bytes : List ℕ) → AllByRecursion (λ byte. byte < 256) bytes → IsOneWord (encode_lower bytes)
+unfolding encode_with
+hex_word [] all = refl
+hex_word (byte ∷ bytes) all =
+    rw (hex_digit (byte / 16) (omega (arith, all.0)), hex_digit (byte % 16) (omega arith)) (hex_word bytes all.1)
+
+printed_word : (bytes : List ℕ) → AllByRecursion (λ byte. byte < 256) bytes → IsOneWord (printed bytes)
+printed_word [] all = refl
+printed_word (byte ∷ bytes) all = hex_word (byte ∷ bytes) all
+
+small_words : (ns : List ℕ) → AllByRecursion (λ n. n < 2 ^ 32) ns → AllByRecursion IsOneWord (map decimal ns)
+small_words [] all = tt
+small_words (n ∷ ns) all = (number_word n (omega (arith, all.0)), small_words ns all.1)
+
+small_word : (n : ℕ) → n < 2 ^ 32 → IsOneWord (decimal n)
+small_word n small = number_word n (omega arith)
+
+-- the parts of a line are words
+parts_words : (line : Line) → IsLine line → AllByRecursion IsOneWord (parts_of line)
+parts_words (Open number) is = (number_word number is.0, tt)
+parts_words (Begin activation name) is = (small_word activation is.0, (name_word name is.1, tt))
+parts_words (Busy activation name) is = (small_word activation is.0, (name_word name is.1, tt))
+parts_words (NoSegment activation name segment) is = (small_word activation is.0.0, (name_word name is.1, (small_word segment is.0.1, tt)))
+parts_words (Idle activation) is = (small_word activation is.0, tt)
+parts_words (Turn activation ran pages locks) is =
+    (small_word activation is.0.0, (refl, (small_word ran is.0.1, (refl, (small_word pages is.0.2, (refl, (small_word locks is.0.3, tt)))))))
+parts_words (Cycle members) is = small_words members (recursion_from_All (λ member. member < 2 ^ 32) members is.0)
+parts_words (Victim activation) is = (small_word activation is.0, tt)
+parts_words (Commit activation number steps out) is = (
+  small_word activation is.0.0,
+  (
+    refl,
+    (
+      number_word number is.0.1,
+      (
+        refl,
+        (
+          number_word steps is.0.2,
+          (
+            refl,
+            (printed_word out (recursion_from_All (λ byte. byte < 256) out is.0.3), tt),
+          ),
+        ),
+      ),
+    ),
+  ),
+)
+parts_words (Check activation code address) is = (
+  small_word activation is.0.0,
+  (
+    refl,
+    (
+      small_word code is.0.1,
+      (
+        refl,
+        (hex_word (big_bytes 4 address) (omega arith, (omega arith, (omega arith, (omega arith, tt)))), tt),
+      ),
+    ),
+  ),
+)
+parts_words (Wait activation holders) is =
+    (small_word activation is.0.0, (refl, small_words holders (recursion_from_All (λ holder. holder < 2 ^ 32) holders is.0.1)))
+parts_words (Journal activation lines limit) is =
+    (small_word activation is.0.0, (refl, (small_word lines is.0.1, (refl, (small_word limit is.0.2, tt)))))
+parts_words (Disk activation) is = (small_word activation is.0, tt)
+parts_words (Doubt activation number) is = (small_word activation is.0.0, (refl, (number_word number is.0.1, tt)))
+parts_words Closed is = tt
+parts_words (Stored number) is = (number_word number is.0, tt)
+parts_words (Lost activation) is = (small_word activation is.0, tt)
+parts_words (Left activation) is = (small_word activation is.0, tt)
+parts_words (End number) is = (number_word number is.0, tt)
+
+kind_word : (line : Line) → IsOneWord (kind_of line)
+kind_word (Open number) = refl
+kind_word (Begin activation name) = refl
+kind_word (Busy activation name) = refl
+kind_word (NoSegment activation name segment) = refl
+kind_word (Idle activation) = refl
+kind_word (Turn activation ran pages locks) = refl
+kind_word (Cycle members) = refl
+kind_word (Victim activation) = refl
+kind_word (Commit activation number steps out) = refl
+kind_word (Check activation code address) = refl
+kind_word (Wait activation holders) = refl
+kind_word (Journal activation lines limit) = refl
+kind_word (Disk activation) = refl
+kind_word (Doubt activation number) = refl
+kind_word Closed = refl
+kind_word (Stored number) = refl
+kind_word (Lost activation) = refl
+kind_word (Left activation) = refl
+kind_word (End number) = refl
+
+no_feed_in : (byte : ℕ) → nat_lt 32 byte ≡ true → not (byte == 10) ≡ true
+no_feed_in byte inside = grind (arith, nat_tests)
+
+no_feed : (words : List (List ℕ)) → AllByRecursion IsOneWord words → list_all (λ byte. not (byte == 10)) (join_with_byte 32 words) ≡ true
+no_feed [] are = refl
+no_feed (word ∷ []) are = each_also (nat_lt 32) (λ byte. not (byte == 10)) word no_feed_in are.0
+no_feed (word ∷ next ∷ words) are =
+    rw (
+      list_all-append (λ byte. not (byte == 10)) word (32 ∷ join_with_byte 32 (next ∷ words)),
+      each_also (nat_lt 32) (λ byte. not (byte == 10)) word no_feed_in are.0,
+    ) (no_feed (next ∷ words) are.1)
+
+-- the bytes of a line without its line feed
+abbrev pub inner : Line → List ℕ
+inner line = join_with_byte 32 (kind_of line ∷ parts_of line)
+
+-- the first line feed of a text that begins with a line ends the line
+pub feed_of : (line : Line) (behind : List ℕ) → IsLine line → position is_feed (line_text line ++ behind) ≡ Some (length (inner line))
+feed_of line behind is =
+    let here : line_text line ++ behind ≡ inner line ++ 10 ∷ behind = rw (line_words line) (append_assoc (inner line) (10 ∷ []) behind) in
+    let place : prefix_len (λ byte. not (byte == 10)) (inner line ++ 10 ∷ behind) ≡ length (inner line) =
+    run_length (λ byte. not (byte == 10)) (inner line) (10 ∷ behind) (no_feed (kind_of line ∷ parts_of line) (kind_word line, parts_words line is)) refl in
+    rw (here, place, lt-ltb (length (inner line)) (length (inner line ++ 10 ∷ behind)) (simp length-append (omega arith))) refl
+
+-- a line without its last byte
+pub without_feed : (line : Line) (text : List ℕ) → text ≡ line_text line → take (length text - 1) text ≡ inner line
+without_feed line text is =
+    rw (is, line_words line) (take_at (inner line) (10 ∷ []) _ (simp length-append (omega arith)))
+
+-- what the first line of a text is, is what stands up to its first line feed
+pub up_to_feed : (line : Line) (behind text : List ℕ) (at : ℕ) → IsLine line → position is_feed text ≡ Some at → text ≡ line_text line ++ behind
+    → take (at + 1) text ≡ line_text line
+up_to_feed line behind text at is place text_is =
+    let here : at ≡ length (inner line) = cc (feed_of line behind is, ap (λ t. position is_feed t) text_is, place) in
+    rw (text_is, here) (take_at (line_text line) behind (length (inner line) + 1) (rw (line_words line) (simp length-append (omega arith))))
+
+-- a text without a line feed begins with no line
+pub no_line : (line : Line) (behind text : List ℕ) → IsLine line → position is_feed text ≡ None → text ≢ line_text line ++ behind
+no_line line behind text is place text_is = absurd (cc (feed_of line behind is, ap (λ t. position is_feed t) text_is, place))
+
+-- a test isn't both
+pub not_both : (test : Bool) → test ≡ false → test ≡ true → ⊥
+not_both test fails passes = cc
+
+-- a line has a byte
+pub some_bytes : (line : Line) → 0 < length (line_text line)
+some_bytes line = rw (line_words line) (simp length-append (omega arith))
+
+-- one line more
+pub bytes_more : (text left rest : List ℕ) (lines : List OwnedLine) (line : OwnedLine)
+    → text ≡ flat_map (λ line. line_text (owned_told line)) lines ++ left → left ≡ line_text (owned_told line) ++ rest
+    → text ≡ flat_map (λ line. line_text (owned_told line)) (lines ++ line ∷ []) ++ rest
+bytes_more text left rest lines line before is =
+    rw (flat_map-append (λ line. line_text (owned_told line)) lines (line ∷ []), append-nil (line_text (owned_told line)))
+    (before ∙ rw is (sym (append_assoc (flat_map (λ line. line_text (owned_told line)) lines) (line_text (owned_told line)) rest)))
+
+-- fewer bytes are left
+pub fewer : (text left rest : List ℕ) (line : Line) (number : ℕ) → left ≡ line_text line ++ rest → number + length left ≤ length text + 1
+    → number + 1 + length rest ≤ length text + 1
+fewer text left rest line number is few =
+    let some = some_bytes line in
+    let long = ap length is ∙ length-append (line_text line) rest in
+    omega arith

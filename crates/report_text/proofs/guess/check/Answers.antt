@@ -1,0 +1,13 @@
+use Rattle.std.proofs.Common.{ℕ, List, [], ◌∷◌, codes, decimal, refl}
+use Rattle.byteorder.specs.Endian.{big_bytes}
+use Rattle.hex.specs.Hex.{encode_lower}
+use Rattle.report_text.proofs.guess.check.Goals as goal
+
+pub returns : goal.returns
+returns c = λ a code h small_a small_code small_h is.
+    let at : List (List ℕ) = encode_lower (big_bytes 4 h) ∷ [] in
+    let one = c.first_small-activation.ensures.parts a (codes "code" ∷ decimal code ∷ codes "at" ∷ at) small_a is in
+    let two = c.first_small-code.ensures.parts code (codes "at" ∷ at) small_code
+    (c.behind.ensures (codes "code") (decimal code ∷ codes "at" ∷ at) refl one.1) in
+    let three = c.address.ensures h small_h (c.behind-2.ensures (codes "at") at refl two.1) in
+    rw (one.0, two.0, three) refl

@@ -1,0 +1,11 @@
+use Rattle.std.proofs.Common.{◌≡◌, ℕ, ◌^◌, ◌<◌, List, length, map, decimal}
+use Rattle.std.specs.List.{AllByRecursion, join_with_byte}
+use Rattle.report_text.proofs.PartLemmas.{Left}
+use Rattle.report_text.proofs.word.all_small.Given as goal
+
+abbrev pub invariant-loop-left : goal.invariant-loop-left
+invariant-loop-left l = (ns : List ℕ) → AllByRecursion (λ n. n < 2 ^ 32) ns → l.text ≡ join_with_byte 32 (map decimal ns)
+    → Left ns l.numbers.items l.left
+
+abbrev pub decreases-loop-left : goal.decreases-loop-left
+decreases-loop-left l = length l.left

@@ -1,0 +1,120 @@
+// The words of a line. Each function here gives what was written where something was, and anything where nothing was.
+ghost use Rattle.std.specs.Prelude.{◌≡◌, ◌≢◌, ℕ, ◌<◌, ◌^◌, ◌==◌, List, [], ◌∷◌, length, map, decimal, position, All, IfOk, IfSome};
+ghost use Rattle.std.specs.List.{AllByRecursion, join_with_byte};
+ghost use Rattle.byteorder.specs.Endian.{big_bytes};
+ghost use Rattle.hex.specs.Hex.{encode_lower};
+ghost use Rattle.hex.specs.declared.error.FromHexError.TheVariants.{OutOfMemory};
+ghost use Rattle.desk.specs.Lines.{printed};
+ghost use Rattle.report_text.specs.Words.{IsOneWord};
+
+use byteorder::{BigEndian, ByteOrder};
+use hex::FromHexError;
+use std::alloc::{AllocError, Global};
+
+/// The place of the first byte of a text that is this one.
+pub(crate) fn place_of(byte: u8, text: &[u8]) -> Option<usize>
+    ensures value { result ≡ position (λ other. other == byte) text.now }
+    ensures inside { IfSome result (λ at. at < length text.now) }
+{
+    text.iter().position(|other| *other == byte)
+}
+
+/// The first word of a text, and what stands behind the space after it.
+pub(crate) fn split(text: &[u8]) -> (&[u8], &[u8])
+    ensures parts { (word : List ℕ) (words : List (List ℕ)) → IsOneWord word
+        → text.now ≡ join_with_byte 32 (word ∷ words) → (result.0.now ≡ word) × (result.1.now ≡ join_with_byte 32 words) }
+    ensures shorter { length text.now ≢ 0 → length result.1.now < length text.now }
+{
+    match place_of(b' ', text) {
+        Some(at) => (&text[..at], &text[at + 1..]),
+        None => (text, &[]),
+    }
+}
+
+/// What stands behind the first word of a text.
+pub(crate) fn behind(text: &[u8]) -> &[u8]
+    ensures { (word : List ℕ) (words : List (List ℕ)) → IsOneWord word
+        → text.now ≡ join_with_byte 32 (word ∷ words) → result.now ≡ join_with_byte 32 words }
+{
+    split(text).1
+}
+
+/// The number that a word is.
+pub(crate) fn number(word: &[u8]) -> u64
+    ensures { (n : ℕ) → n < 2 ^ 64 → word.now ≡ decimal n → result ≡ n }
+{
+    match str::from_utf8(word) {
+        Ok(text) => text.parse::<u64>().unwrap_or(0),
+        Err(_) => 0,
+    }
+}
+
+/// The number of 32 bits that a word is.
+pub(crate) fn small(word: &[u8]) -> u32
+    ensures { (n : ℕ) → n < 2 ^ 32 → word.now ≡ decimal n → result ≡ n }
+{
+    u32::try_from(number(word)).unwrap_or(0)
+}
+
+/// The number that a text begins with, and what stands behind it.
+pub(crate) fn first_number(text: &[u8]) -> (u64, &[u8])
+    ensures { (n : ℕ) (words : List (List ℕ)) → n < 2 ^ 64
+        → text.now ≡ join_with_byte 32 (decimal n ∷ words) → (result.0 ≡ n) × (result.1.now ≡ join_with_byte 32 words) }
+{
+    let (word, rest) = split(text);
+    (number(word), rest)
+}
+
+/// The number of 32 bits that a text begins with, and what stands behind it.
+pub(crate) fn first_small(text: &[u8]) -> (u32, &[u8])
+    ensures parts { (n : ℕ) (words : List (List ℕ)) → n < 2 ^ 32
+        → text.now ≡ join_with_byte 32 (decimal n ∷ words) → (result.0 ≡ n) × (result.1.now ≡ join_with_byte 32 words) }
+    ensures shorter { length text.now ≢ 0 → length result.1.now < length text.now }
+{
+    let (word, rest) = split(text);
+    (small(word), rest)
+}
+
+/// The numbers of 32 bits that a text is.
+pub(crate) fn all_small(alloc: Global, text: &[u8]) -> Result<Vec<u32>, AllocError>
+    ensures { IfOk result (λ numbers. (ns : List ℕ) → AllByRecursion (λ n. n < 2 ^ 32) ns
+        → text.now ≡ join_with_byte 32 (map decimal ns) → numbers.items ≡ ns) }
+{
+    let mut numbers = Vec::new(alloc);
+    let mut left = text;
+    while !left.is_empty() {
+        let (number, rest) = first_small(left);
+        numbers.push(number)?;
+        left = rest;
+    }
+    Ok(numbers)
+}
+
+/// The printed bytes that a word is.
+pub(crate) fn bytes(alloc: Global, word: &[u8]) -> Result<Vec<u8>, AllocError>
+    ensures { IfOk result (λ bytes. (out : List ℕ) → All (λ byte. byte < 256) out → word.now ≡ printed out → bytes.items ≡ out) }
+{
+    match hex::decode(alloc, word) {
+        Ok(bytes) => Ok(bytes),
+        Err(fault) => no_bytes(alloc, fault),
+    }
+}
+
+/// No bytes, unless there was no memory.
+fn no_bytes(alloc: Global, fault: FromHexError) -> Result<Vec<u8>, AllocError>
+    ensures { IfOk result (λ bytes. (bytes.items ≡ []) × (fault ≢ OutOfMemory)) }
+{
+    match fault {
+        FromHexError::OutOfMemory => Err(AllocError),
+        _ => Ok(Vec::new(alloc)),
+    }
+}
+
+/// The address that a word is.
+pub(crate) fn address(word: &[u8]) -> u32
+    ensures { (n : ℕ) → n < 2 ^ 32 → word.now ≡ encode_lower (big_bytes 4 n) → result ≡ n }
+{
+    let mut bytes = [0; 4];
+    let _ = hex::decode_to_slice(word, &mut bytes);
+    BigEndian::read_u32(&bytes)
+}
