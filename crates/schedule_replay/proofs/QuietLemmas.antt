@@ -1,6 +1,6 @@
 -- Events without a report, one after another.
-use Rattle.std.proofs.Common.{◌≡◌, ℕ, ◌+◌, ◌*◌, ◌<◌, ◌≤◌, ◌⊎◌, List, [], ◌∷◌, ◌++◌, length, cond, take, get_or, refl, sym, ap, ◌∙◌, subst, arith, ⊎_elim, append-nil, length-append}
-use Rattle.std.specs.Prelude.{Bool, true, false, not, count_by, Option, None, Some, IfSome, IsSome, unwrap_or}
+use Rattle.std.proofs.Common.{◌≡◌, ℕ, ◌+◌, ◌*◌, ◌<◌, ◌≤◌, ◌⊎◌, List, [], ◌∷◌, ◌++◌, length, cond, take, get_or, refl, sym, ap, ◌∙◌, subst, arith, ⊎_elim, length-append}
+use Rattle.std.specs.Prelude.{Bool, true, false, not, count_by, Option, None, Some, IfSome, unwrap_or}
 use Rattle.std.specs.List.{flat_map, fold}
 use Rattle.std.proofs.lemmas.List.{map-append, length-map, take_more}
 use Rattle.std.proofs.lemmas.List.Sums.{fold-append, sum_by-append}
@@ -8,7 +8,7 @@ use Rattle.outside.specs.declared.world.Outside.{Ghosts}
 use Rattle.outside.specs.Causes.{Rose, RoseBy}
 use Rattle.outside.specs.Durable.{IsSure}
 use Rattle.outside.specs.Runs.{CallsDisk, FewerLater, held_of}
-use Rattle.outside.proofs.Durable.{told_is, leaves_held}
+use Rattle.outside.proofs.Durable.{leaves_held}
 use Rattle.flat_machine.specs.declared.machine.Program.{Program}
 use Rattle.store_format.specs.Stands.{stands}
 use Rattle.desk.specs.declared.answers.Turn.{Turn}
@@ -28,18 +28,17 @@ use Rattle.desk.specs.Lines.{Line}
 use Rattle.desk.specs.Lines as line
 use Rattle.desk.specs.Report.{cycle_lines, event_lines, happening_lines, number_after}
 use Rattle.desk.specs.Run.{Step, run, step, faulted, is_fine}
-use Rattle.run_law.proofs.LeftLemmas.{left_none, left_quiet}
+use Rattle.run_law.specs.Left.{IsLeft}
+use Rattle.run_law.proofs.LeftLemmas.{left_behind, left_more, left_none, left_quiet}
 use Rattle.run_law.proofs.RunLemmas.{run_on, open_on, lines_on, faulted_on}
 use Rattle.run_law.proofs.SeenLemmas.{commits_in, commits_on}
 use Rattle.run_law.proofs.StepLemmas.{Grew, Stepped, counted_quiet, run_grew, step_by}
-use Rattle.schedule_replay.specs.Puts.{shown_of}
 use Rattle.schedule_replay.specs.Quiet.{RanQuietly, Tells, WentQuietly, is_rollback, last_by, out_after, tally_begun, tally_by}
 use Rattle.schedule_replay.specs.Ran.{InDoubt}
 use Rattle.schedule_replay.specs.declared.quietly.Tally.{Tally}
 use Rattle.schedule_replay.proofs.CountLemmas.{faults_in, faults_front, faults_behind, happened_keep, most_on, most_le}
-use Rattle.schedule_replay.proofs.PutsLemmas.{PrintedNow}
-use Rattle.schedule_replay.proofs.RanLemmas.{leaves_join}
-use Rattle.schedule_replay.proofs.WentLemmas.{last_is, one_event, quiet_is}
+use Rattle.outside.proofs.Runs.{leaves_on}
+use Rattle.schedule_replay.proofs.WentLemmas.{last_is, one_event}
 use Rattle.schedule_replay.proofs.WriteLemmas.{writes_on, writes_same}
 
 -- the victims of cycles are rolled back
@@ -149,7 +148,7 @@ word_faults event word before after le cause =
     ⊎_elim (λ (fine : word ≡ Fine). subst (λ (these : Word). RoseBy (faulted ((event, these) ∷ [])) before after) (sym fine) (omega arith))
     (λ rose. let few : faulted ((event, word) ∷ []) ≤ 1 = few_of (not (is_fine word)) in omega (arith, rose, few)) cause
 
-module _ {D W : Type 0} (S : desk.Ghosts D) (G : Ghosts W) (fewer_later : FewerLater G) (printed_now : PrintedNow G) (programs : List Program) (number : ℕ) where
+module _ {D W : Type 0} (S : desk.Ghosts D) (G : Ghosts W) (fewer_later : FewerLater G) (programs : List Program) (number : ℕ) where
   -- nothing was run yet
   pub ran_nothing : (stands_law : (s : D) (held : List ℕ) (desk : Desk) → S.shows s held desk → stands held ≡ standing_of (S.opened s) desk) (open_law : (s : D) (held : List ℕ) (desk : Desk) → S.shows s held desk → desk.closed ≡ false) (closed_law : (s : D) (held : List ℕ) (desk : Desk) → S.shows s held desk → S.closed s ≡ false) (order_law : (s : D) (held : List ℕ) (desk : Desk) → S.shows s held desk → S.order s ≡ desk.order)
       (start : Desk) (new : D) (w : W) → S.opened new ≡ number → IsSure G w → S.shows new (held_of G w) start → (ran : RanQuietly S G programs number [] start new w w) × (event_lines [] programs number ran.taken start ≡ [])
@@ -165,9 +164,8 @@ module _ {D W : Type 0} (S : desk.Ghosts D) (G : Ghosts W) (fewer_later : FewerL
         faults = omega arith;
         calm = λ none. refl;
         writes = writes_same (G.writes w);
-        left = λ told image seen left.
-            left_none programs number start [] (shown_of G w) image seen 0 (open_law new (held_of G w) start shows) (ap stands (leaves_held G w sure image seen left) ∙ stands_law new (held_of G w) start shows ∙ ap (λ n. standing_of n start) opened)
-            (told_is (G.printed w) seen told (printed_now w image seen left) ∙ sym (append-nil (shown_of G w))) refl;
+        left = λ image seen left.
+            left_none programs number start [] [] image [] 0 (open_law new (held_of G w) start shows) (ap stands (leaves_held G w sure image seen left) ∙ stands_law new (held_of G w) start shows ∙ ap (λ n. standing_of n start) opened) refl refl;
         doubt = λ shut front last is. absurd (none_last front (last, Doubt) is);
       } in
       (ran, refl)
@@ -218,18 +216,13 @@ module _ {D W : Type 0} (S : desk.Ghosts D) (G : Ghosts W) (fewer_later : FewerL
             subst (λ (n : ℕ). WritesMore (G.writes before) (G.writes after) n)
             (let twice : 2 * commits_in first + 2 * commits_in second ≡ 2 * commits_in (event_lines [] programs number (one.taken ++ last_one) start) = omega (arith, split) in twice)
             (writes_on (G.writes before) (G.writes between) (G.writes after) (2 * commits_in first) (2 * commits_in second) one.writes two.writes);
-        left = λ told.
-            let printed : G.printed between ≡ G.printed before = calls_one.quiet.same in
-            let shown : shown_of G between ≡ shown_of G before = ap (λ (those : Option (List ℕ)). unwrap_or those []) printed in
-            let told_still : IsSome (G.printed between) = subst (λ (those : Option (List ℕ)). IsSome those) (sym printed) told in
-            leaves_join G fewer_later programs number start one.taken last_one [] [] before between after steps.more calls_one.time calls_two.time (shown ∙ sym (append-nil (shown_of G before))) one.each_open
-            (let longer = ap (λ (order : List (ℕ × ℕ)). length order) grew.order_is in omega (arith, longer, length-append start.order grew.more))
-            (λ rest. omega arith)
-            steps.order_is (one.left told)
+        left =
+            leaves_on G fewer_later before between after calls_one.time calls_two.time (λ (image seen : List ℕ). IsLeft programs number start (one.taken ++ last_one) [] [] image [])
+            (λ image seen left. left_more programs number start one.taken last_one [] [] [] image [] steps.more steps.order_is (one.left image seen left))
             (λ image seen left.
-            left_quiet programs number event word [] middle still_open [] (shown_of G between) image seen 0
-            (subst (λ (desk : Desk). IsEitherOf programs number event middle desk image) (sym next_is) (two.did.crash image seen left))
-            (quiet_is S G fewer_later printed_now between after calls_two told_still image seen left ∙ sym (append-nil (shown_of G between))) refl);
+            left_behind programs number start one.taken last_one [] [] [] image [] one.each_open
+            (let longer = ap (λ (order : List (ℕ × ℕ)). length order) grew.order_is in omega (arith, longer, length-append start.order grew.more)) (λ rest. omega arith)
+            (left_quiet programs number event word [] middle still_open [] [] image [] 0 (subst (λ (desk : Desk). IsEitherOf programs number event middle desk image) (sym next_is) (two.did.crash image seen left)) refl refl));
         doubt = λ shut front last is.
             let ends = last_is one.taken front (event, word) (last, Doubt) is in
             let doubted : word ≡ Doubt = ap (λ (pair : Event × Word). pair.1) ends.1 in

@@ -1,5 +1,5 @@
 -- What running events without a report did.
-use Rattle.std.specs.Prelude.{◌≡◌, ℕ, ◌+◌, ◌*◌, ◌≤◌, count_by, Bool, true, false, List, [], ◌∷◌, ◌++◌, map, Option, None, Some, IfSome, Result, Ok, IsSome}
+use Rattle.std.specs.Prelude.{◌≡◌, ℕ, ◌+◌, ◌*◌, ◌≤◌, count_by, Bool, true, false, List, [], ◌∷◌, ◌++◌, map, Option, None, Some, IfSome, Result, Ok}
 use Rattle.std.specs.List.{fold}
 use Rattle.outside.specs.declared.world.Outside.{Ghosts}
 use Rattle.outside.specs.declared.failed.Failed.{Failed}
@@ -31,7 +31,6 @@ use Rattle.schedule_replay.specs.declared.events.Going.TheVariants as going
 use Rattle.schedule_replay.specs.declared.quietly.Quiet.{Quiet}
 use Rattle.schedule_replay.specs.declared.quietly.Quiet.TheVariants as quiet
 use Rattle.schedule_replay.specs.declared.quietly.Tally.{Tally}
-use Rattle.schedule_replay.specs.Puts.{shown_of}
 use Rattle.schedule_replay.specs.Ran.{InDoubt}
 
 -- no put failed
@@ -111,8 +110,8 @@ pub record WentQuietly {D W : Type 0} (S : desk.Ghosts D) (G : Ghosts W) (progra
   pub calm : count_by tells_fault (happening_lines [] (number_after number did.next) told) ≡ 0 → G.disk_faults after ≡ G.disk_faults before
   pub tells : IfSome tally (λ tally. Tells tally old_last new_last (happening_lines [] (number_after number did.next) told))
 
--- Events were run from a desk, each with a word, and nothing was put: what `Ran` says but for its lines, which nobody sees. A crash since
--- the start left what is said of the run, with nothing printed since.
+-- Events were run from a desk, each with a word, and nothing was put: what `Ran` says but for its lines, which nobody sees. The image that
+-- a crash since the start left is one of the run, whatever was printed before.
 pub record RanQuietly {D W : Type 0} (S : desk.Ghosts D) (G : Ghosts W) (programs : List Program) (number : ℕ) (events : List Event) (start : Desk) (new : D) (before after : W) : Type 0 where
   pub taken : List (Event × Word)
   pub events_taken : map (λ event. event.0) taken ≡ events
@@ -124,7 +123,7 @@ pub record RanQuietly {D W : Type 0} (S : desk.Ghosts D) (G : Ghosts W) (program
   pub faults : RoseBy (faulted taken) (G.disk_faults before) (G.disk_faults after)
   pub calm : count_by tells_fault (event_lines [] programs number taken start) ≡ 0 → G.disk_faults after ≡ G.disk_faults before
   pub writes : WritesMore (G.writes before) (G.writes after) (2 * count_by is_commit (event_lines [] programs number taken start))
-  pub left : IsSome (G.printed before) → Leaves G (IsLeft programs number start taken [] (shown_of G before)) before after
+  pub left : Leaves G (λ image seen. IsLeft programs number start taken [] [] image []) before after
   pub doubt : (run programs taken start).closed ≡ true → (front : List (Event × Word)) (event : Event) → taken ≡ front ++ (event, Doubt) ∷ [] → InDoubt G programs number start front event after
 
 -- the counts of a run that ended, and what its last commit printed, are those of its lines

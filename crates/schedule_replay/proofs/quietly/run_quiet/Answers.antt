@@ -24,7 +24,7 @@ loop-event-init g c =
       few = omega arith;
       few_back = omega arith;
       ran = λ start sure shows.
-          let it = ran_nothing S G M.fewer_later M.printed_now (S.programs old) (S.opened old) L.shown_stands L.shown_open L.open_shown L.order_shown start old w refl sure shows in
+          let it = ran_nothing S G M.fewer_later (S.programs old) (S.opened old) L.shown_stands L.shown_open L.open_shown L.order_shown start old w refl sure shows in
           (it.0, tells_nothing c.clear.new.self.items (event_lines [] (S.programs old) (S.opened old) it.0.taken start) c.clear.ensures it.1);
     }
 
@@ -49,7 +49,7 @@ loop-event-preserved g c =
       few_back = omega (arith, now.few_back, c.in-Some.ensures.small.1);
       ran = λ start sure shows.
           let so_far = now.ran start sure shows in
-          ran_next_quietly S G M.fewer_later M.printed_now (S.programs old) (S.opened old) c.args.events.now c.loop-event.event-index (Begin 0 []) c.loop-event-test.true start mid new before between after c.loop-event.last.items c.answer.new.last.items (record { commits = c.loop-event.commits; rollbacks = c.loop-event.rollbacks }) (Some c.in-Some.tally)
+          ran_next_quietly S G M.fewer_later (S.programs old) (S.opened old) c.args.events.now c.loop-event.event-index (Begin 0 []) c.loop-event-test.true start mid new before between after c.loop-event.last.items c.answer.new.last.items (record { commits = c.loop-event.commits; rollbacks = c.loop-event.rollbacks }) (Some c.in-Some.tally)
           (now.still (L.open_shown old _ start shows)) now.answered.programs now.answered.opened now.calls c.answer.ensures.calls so_far.0 so_far.1 c.in-Some.ensures.went;
     }
 
@@ -63,7 +63,7 @@ returns-in-None-clause-runs g c =
     let now = c.loop-event.invariant in
     let old = c.args.desk.now in
     let so_far = now.ran start sure shows in
-    let it = ran_next_quietly S G M.fewer_later M.printed_now (S.programs old) (S.opened old) c.args.events.now c.loop-event.event-index (Begin 0 []) c.loop-event-test.true start c.loop-event.desk c.answer.new.desk c.args.outside.now c.loop-event.outside c.answer.new.outside c.loop-event.last.items c.answer.new.last.items (record { commits = c.loop-event.commits; rollbacks = c.loop-event.rollbacks }) None
+    let it = ran_next_quietly S G M.fewer_later (S.programs old) (S.opened old) c.args.events.now c.loop-event.event-index (Begin 0 []) c.loop-event-test.true start c.loop-event.desk c.answer.new.desk c.args.outside.now c.loop-event.outside c.answer.new.outside c.loop-event.last.items c.answer.new.last.items (record { commits = c.loop-event.commits; rollbacks = c.loop-event.rollbacks }) None
     (now.still (L.open_shown old _ start shows)) now.answered.programs now.answered.opened now.calls c.answer.ensures.calls so_far.0 so_far.1 c.in-None.ensures.went in
     record {
       front = take (c.loop-event.event-index + 1) c.args.events.now;
