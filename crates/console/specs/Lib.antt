@@ -8,3 +8,4 @@ pub mod Headline
 pub mod Listed
 pub mod Show
 pub mod New
+pub mod Big

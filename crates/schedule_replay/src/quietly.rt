@@ -61,6 +61,7 @@ pub fn run_quiet<S: Supervisor, W: Outside>(
     ensures bytes { HoldsStore W.Outside (S.header desk.new) outside.new }
     ensures opened { S.opened desk.new ≡ S.opened desk.old }
     ensures header { S.header desk.new ≡ S.header desk.old }
+    ensures begins { S.begins desk.new ≡ S.begins desk.old }
 {
     let mut commits = 0;
     let mut rollbacks = 0;
