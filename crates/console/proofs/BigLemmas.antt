@@ -1,8 +1,7 @@
 -- A load on the store that a disk stands for.
-use Rattle.std.proofs.Common.{◌≡◌, ℕ, ◌+◌, ◌*◌, ◌%◌, ◌^◌, ◌≤◌, inl, inr, ⊎_elim, true, false, List, [], ◌∷◌, ◌++◌, length, map, take, refl, sym, ◌∙◌, ap, subst, arith, append-nil, append_assoc, Option, Some, None}
+use Rattle.std.proofs.Common.{◌≡◌, ℕ, ◌*◌, ◌≤◌, inl, ⊎_elim, true, false, List, [], ◌∷◌, ◌++◌, length, take, refl, sym, ◌∙◌, ap, subst, arith, append-nil, append_assoc, Option}
 use Rattle.std.specs.Prelude.{codes, decimal, All, Bool, Result, Ok, Err, IsSome, IsTrue, unwrap_or, count_by}
 use Rattle.std.specs.List.{fold}
-use Rattle.std.proofs.lemmas.List.{map-append}
 use Rattle.outside.specs.declared.world.Outside.{Ghosts}
 use Rattle.outside.specs.declared.failed.Failed.{Failed}
 use Rattle.outside.specs.Bytes.{AreTold, Prints}
@@ -15,11 +14,11 @@ use Rattle.line_geometry.specs.FlatStore.{FlatStore}
 use Rattle.flat_machine.specs.declared.machine.Program.{Program}
 use Rattle.flat_machine.specs.Serial.{Activation}
 use Rattle.store_format.specs.Header.{header_of, most_lines}
-use Rattle.store_format.specs.Stands.{Standing, Stands, stands}
+use Rattle.store_format.specs.Stands.{Standing, Stands}
 use Rattle.desk.specs.declared.event.Event.{Event}
 use Rattle.desk.specs.Commits.{begun, is_commit, commit_lines, serial_lines, IsSerial}
 use Rattle.desk.specs.Desk.{Desk}
-use Rattle.desk.specs.Instruction.{Word, Doubt}
+use Rattle.desk.specs.Instruction.{Word}
 use Rattle.desk.specs.Lines.{Line, printed, spaced}
 use Rattle.hex.specs.Hex.{encode_lower}
 use Rattle.desk.specs.Lines as line

@@ -1,5 +1,5 @@
 -- What a load of transfers did: one run of the desk over its events, with one line in place of a report.
-use Rattle.std.specs.Prelude.{◌≡◌, ℕ, ◌≤◌, ◌+◌, ◌*◌, ◌%◌, ◌^◌, ◌⊎◌, true, false, List, [], ◌∷◌, ◌++◌, codes, decimal, length, count_by, IsSome, Some}
+use Rattle.std.specs.Prelude.{◌≡◌, ℕ, ◌≤◌, ◌+◌, ◌*◌, ◌%◌, ◌^◌, ◌⊎◌, true, false, List, [], ◌∷◌, ◌++◌, codes, decimal, length, count_by, Some}
 use Rattle.std.specs.List.{fold}
 use Rattle.outside.specs.declared.world.Outside.{Ghosts}
 use Rattle.outside.specs.Causes.{Rose, RoseBy}

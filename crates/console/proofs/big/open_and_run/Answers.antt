@@ -14,7 +14,7 @@ use Rattle.schedule_replay.specs.Asked.{is_turn, begins_in, turns_in}
 use Rattle.schedule_replay.specs.Quiet.{IsLasting, RunsQuietly}
 use Rattle.console.specs.Big.{Loaded}
 use Rattle.console.proofs.NameLemmas.{asked-among}
-use Rattle.console.proofs.BigLemmas.{lasting, loaded, told_put, told_shut, told_only, told_unfailed}
+use Rattle.console.proofs.BigLemmas.{lasting, loaded}
 use Rattle.console.proofs.big.open_and_run.Goals as goal
 
 pub run_quiet-quiet-requires-clause-ready : goal.run_quiet-quiet-requires-clause-ready
