@@ -1,5 +1,6 @@
 pub mod CauseLemmas
 pub mod RunLemmas
+pub mod BigLemmas
 pub mod NameLemmas
 pub mod WordLemmas
 pub mod ShowLemmas

@@ -80,36 +80,50 @@ module _ {W : Type 0} (G : Ghosts W) (frames : ℕ) (before start : W) (desk : S
   pub has-opened : HasOpened ghosts G desk start first_desk
   has-opened = record { sure = opens.sure; shows = opens.shows; number = number-fits }
 
+-- a run of the first of events from an opened desk, without what was put
+pub record RanFrom {W : Type 0} (G : Ghosts W) (names : List (List ℕ)) (programs : List Program) (number : ℕ) (events : List Event) (first : Desk) (new : Session) (start after : W) : Type 0 where
+  pub taken : List (Event × Word)
+  pub rest : List Event
+  pub is_run : IsRunOf programs events first taken rest
+  pub closes : new.closed ≡ (run programs taken first).closed
+  pub ordered : order_of new ≡ (run programs taken first).order
+  pub still : (run programs taken first).closed ≡ false → IsSure G after × ghosts.shows new (held_of G after) (run programs taken first)
+  pub records : (run programs taken first).closed ≡ false → records_in (held_of G after) ≤ most_records (event_lines names programs number taken first) (records_in (held_of G start))
+  pub faults : RoseBy (faulted taken) (G.disk_faults start) (G.disk_faults after)
+  pub calm : count_by tells_fault (event_lines names programs number taken first) ≡ 0 → G.disk_faults after ≡ G.disk_faults start
+  pub writes : WritesMore (G.writes start) (G.writes after) (2 * count_by is_commit (event_lines names programs number taken first))
+  pub doubt : (run programs taken first).closed ≡ true → (front : List (Event × Word)) (event : Event) → taken ≡ front ++ (event, Doubt) ∷ [] → InDoubt G programs number first front event after
+
 -- what a run begins with
-record Facts : Type 0 where
-  programs : List Program
-  start : Desk
-  number : ℕ
+pub record Facts : Type 0 where
+  pub programs : List Program
+  pub start : Desk
+  pub number : ℕ
 
 module _ {W : Type 0} (G : Ghosts W) (fewer_later : FewerLater G) (printed_now : PrintedNow G) (job : Job) (before start after : W) (desk new : Session) (number : ℕ) (store : FlatStore)
     (standing : StandsAt G before number store) (opens : IsOpened G job.frames before start desk) (asks : OnlyAsks G before start) (programs_are : (activity desk).programs ≡ job.programs.items) (same_opened : new.opened ≡ desk.opened)
     (same_honest : G.is_honest after ≡ G.is_honest start) (time : Elapses G.moment G.left_since start after) (asks-calm : G.disk_faults start ≡ G.disk_faults before) where
-  abbrev begins_with : Desk
+  abbrev pub begins_with : Desk
   begins_with = job_desk job (held_of G before) store
 
-  number-is : desk.opened ≡ number
+  pub number-is : desk.opened ≡ number
   number-is = same-number desk.opened number opens.store store (sym opens.stood ∙ standing.stood)
 
   -- the programs, the desk and the number of the run are the job's
-  abbrev given : Facts
+  abbrev pub given : Facts
   given = record { programs = (activity desk).programs; start = first_desk G job.frames before start desk opens asks; number = desk.opened }
 
-  abbrev wanted : Facts
+  abbrev pub wanted : Facts
   wanted = record { programs = job.programs.items; start = begins_with; number = number }
 
-  these : given ≡ wanted
+  pub these : given ≡ wanted
   these = λ i. record {
     programs = programs_are i;
     start = opened job.frames 16 (most_lines (sym opens.header i)) (same-store desk.opened number opens.store store (sym opens.stood ∙ standing.stood) i);
     number = number-is i;
   }
 
-  number-small : (number + 0) % 2 ^ 64 ≡ number
+  pub number-small : (number + 0) % 2 ^ 64 ≡ number
   number-small = subst (λ (n : ℕ). (n + 0) % 2 ^ 64 ≡ n) number-is (number-fits G job.frames before start desk opens asks)
 
   shown-same : shown_of G start ≡ shown_of G before
@@ -130,43 +144,44 @@ module _ {W : Type 0} (G : Ghosts W) (fewer_later : FewerLater G) (printed_now :
         stood = standing.images image seen earlier ∙ ap (λ (n : ℕ). let that : Standing = Stands n store in that) (sym number-small);
       }
 
-  module _ (result : Result Bool Failed) (put : Result ℕ Failed) (now : Status) (reports : Reports ghosts G (names_of job) (activity desk).programs desk.opened job.events.items (first_desk G job.frames before start desk opens asks) new start after (λ closed. closed) result) where
-    is_run : IsRunOf job.programs.items job.events.items begins_with reports.taken reports.rest
-    is_run = subst (λ (f : Facts). IsRunOf f.programs job.events.items f.start reports.taken reports.rest) these reports.is_run
+  -- the same of a run from the opening, in the job's words
+  module _ (names : List (List ℕ)) (half : RanFrom G names (activity desk).programs desk.opened job.events.items (first_desk G job.frames before start desk opens asks) new start after) where
+    pub is_run : IsRunOf job.programs.items job.events.items begins_with half.taken half.rest
+    is_run = subst (λ (f : Facts). IsRunOf f.programs job.events.items f.start half.taken half.rest) these half.is_run
 
-    abbrev ends : Desk
-    ends = run job.programs.items reports.taken begins_with
+    abbrev pub ends : Desk
+    ends = run job.programs.items half.taken begins_with
 
-    closes : new.closed ≡ ends.closed
-    closes = subst (λ (f : Facts). new.closed ≡ (run f.programs reports.taken f.start).closed) these reports.closes
+    pub closes : new.closed ≡ ends.closed
+    closes = subst (λ (f : Facts). new.closed ≡ (run f.programs half.taken f.start).closed) these half.closes
 
-    ordered : (order_of new) ≡ ends.order
-    ordered = subst (λ (f : Facts). (order_of new) ≡ (run f.programs reports.taken f.start).order) these reports.ordered
+    pub ordered : (order_of new) ≡ ends.order
+    ordered = subst (λ (f : Facts). (order_of new) ≡ (run f.programs half.taken f.start).order) these half.ordered
 
-    abbrev commits : List Activation
+    abbrev pub commits : List Activation
     commits = begun job.programs.items job.events.items
 
-    serial_run : IsSerial commits number store (order_of new) (event_lines (names_of job) job.programs.items number reports.taken begins_with) ends.committed ends.closed
+    pub serial_run : IsSerial commits number store (order_of new) (event_lines names job.programs.items number half.taken begins_with) ends.committed ends.closed
     serial_run =
-        subst (λ (order : List (ℕ × ℕ)). IsSerial commits number store order (event_lines (names_of job) job.programs.items number reports.taken begins_with) ends.committed ends.closed)
+        subst (λ (order : List (ℕ × ℕ)). IsSerial commits number store order (event_lines names job.programs.items number half.taken begins_with) ends.committed ends.closed)
         (sym ordered)
-        (run-serial (names_of job) job.programs.items number job.frames 16 (most_lines (header_of (take 128 (held_of G before)))) store job.events.items reports.taken reports.rest is_run)
+        (run-serial names job.programs.items number job.frames 16 (most_lines (header_of (take 128 (held_of G before)))) store job.events.items half.taken half.rest is_run)
 
-    rose : RoseBy (faulted reports.taken) (G.disk_faults before) (G.disk_faults after)
-    rose = omega (arith, asks.calls.disk, reports.faults)
+    pub rose : RoseBy (faulted half.taken) (G.disk_faults before) (G.disk_faults after)
+    rose = omega (arith, asks.calls.disk, half.faults)
 
-    all-fine : (Rose (G.disk_faults before) (G.disk_faults after) → ⊥) → faulted reports.taken ≡ 0
+    pub all-fine : (Rose (G.disk_faults before) (G.disk_faults after) → ⊥) → faulted half.taken ≡ 0
     all-fine none =
-        elim (cases_lt 0 (faulted reports.taken)) [
+        elim (cases_lt 0 (faulted half.taken)) [
           | inl some ↦ absurd (none (omega (arith, some, rose)))
           | inr none_more ↦ omega arith
         ]
 
-    shown-now : ends.closed ≡ false → IsSure G after × Shown new (held_of G after) ends
-    shown-now still = subst (λ (f : Facts). (run f.programs reports.taken f.start).closed ≡ false → IsSure G after × ghosts.shows new (held_of G after) (run f.programs reports.taken f.start)) these reports.still still
+    pub shown-now : ends.closed ≡ false → IsSure G after × Shown new (held_of G after) ends
+    shown-now still = subst (λ (f : Facts). (run f.programs half.taken f.start).closed ≡ false → IsSure G after × ghosts.shows new (held_of G after) (run f.programs half.taken f.start)) these half.still still
 
     -- while the desk is open
-    leaves-now : ends.closed ≡ false → IsSure G after × ((left : FlatStore) × (serial commits (order_of new) store ≡ Some left) × (stands (held_of G after) ≡ Stands ((number + length (order_of new)) % 2 ^ 64) left))
+    pub leaves-now : ends.closed ≡ false → IsSure G after × ((left : FlatStore) × (serial commits (order_of new) store ≡ Some left) × (stands (held_of G after) ≡ Stands ((number + length (order_of new)) % 2 ^ 64) left))
     leaves-now still =
         let shown = shown-now still in
         let none : serial_run.doubt ≡ [] = serial_run.none_open still in
@@ -182,31 +197,63 @@ module _ {W : Type 0} (G : Ghosts W) (fewer_later : FewerLater G) (printed_now :
           ),
         )
 
-    -- a crash
-    crash-leaves : IsSome (G.printed before) → Leaves G (IsPrefix commits number store (order_of new) (shown_of G before)) before after
-    crash-leaves told =
-        let P = IsPrefix commits number store (order_of new) (shown_of G before) in
-        let still : IsSome (G.printed start) = subst (λ (those : Option (List ℕ)). IsSome those) (sym asks.calls.quiet.same) told in
-        leaves_on G fewer_later before start after asks.calls.time time P (opening-left (order_of new) told)
-        (λ image seen left.
-        subst (λ (order : List (ℕ × ℕ)). IsPrefix commits number store order (shown_of G before) image seen) (sym ordered)
-        (subst (λ (printed : List ℕ). IsPrefix commits number store ends.order printed image seen) shown-same
-        (left_is_prefix job.programs.items number job.frames 16 (most_lines (header_of (take 128 (held_of G before)))) store job.events.items reports.taken reports.rest
-        (report (names_of job) job.programs.items number reports.taken reports.rest begins_with) (shown_of G start) image seen is_run
-        (subst (λ (f : Facts). IsLeft f.programs f.number f.start reports.taken (report (names_of job) f.programs f.number reports.taken reports.rest f.start) (shown_of G start) image seen) these (reports.left still image seen left)))))
-
     -- a doubt
-    doubt-leaves : ends.closed ≡ true → (front : List (Event × Word)) (event : Event) → reports.taken ≡ front ++ (event, Doubt) ∷ [] → DoubtStands G job number store (order_of new) after
+    pub doubt-leaves : ends.closed ≡ true → (front : List (Event × Word)) (event : Event) → half.taken ≡ front ++ (event, Doubt) ∷ [] → DoubtStands G job number store (order_of new) after
     doubt-leaves shut front event is =
-        let doubted = subst (λ (f : Facts). (run f.programs reports.taken f.start).closed ≡ true → (front : List (Event × Word)) (event : Event) → reports.taken ≡ front ++ (event, Doubt) ∷ [] → InDoubt G f.programs f.number f.start front event after) these reports.doubt shut front event is in
-        let ran = subst (λ (taken : List (Event × Word)). IsRunOf job.programs.items job.events.items begins_with taken reports.rest) is is_run in
-        let whole = doubt_is_whole job.programs.items number job.frames 16 (most_lines (header_of (take 128 (held_of G before)))) store job.events.items front event reports.rest ran doubted.0 in
+        let doubted = subst (λ (f : Facts). (run f.programs half.taken f.start).closed ≡ true → (front : List (Event × Word)) (event : Event) → half.taken ≡ front ++ (event, Doubt) ∷ [] → InDoubt G f.programs f.number f.start front event after) these half.doubt shut front event is in
+        let ran = subst (λ (taken : List (Event × Word)). IsRunOf job.programs.items job.events.items begins_with taken half.rest) is is_run in
+        let whole = doubt_is_whole job.programs.items number job.frames 16 (most_lines (header_of (take 128 (held_of G before)))) store job.events.items front event half.rest ran doubted.0 in
         let order : (run job.programs.items (front ++ (event, Doubt) ∷ []) begins_with).order ≡ (order_of new) = ap (λ (taken : List (Event × Word)). (run job.programs.items taken begins_with).order) (sym is) ∙ sym ordered in (
           doubted.1.0,
           whole.0,
           ap (λ (those : List (ℕ × ℕ)). serial commits those store) (sym order) ∙ whole.1,
           λ image seen left. doubted.1.1 image seen left ∙ whole.2 ∙ ap (λ (those : List (ℕ × ℕ)). let that : Standing = Stands ((number + length those) % 2 ^ 64) whole.0 in that) order,
         )
+
+    pub calm-now : count_by tells_fault (event_lines names job.programs.items number half.taken begins_with) ≡ 0 → G.disk_faults after ≡ G.disk_faults before
+    calm-now none = subst (λ (f : Facts). count_by tells_fault (event_lines names f.programs f.number half.taken f.start) ≡ 0 → G.disk_faults after ≡ G.disk_faults start) these half.calm none ∙ asks-calm
+
+    pub writes-now : WritesMore (G.writes before) (G.writes after) (2 * count_by is_commit (event_lines names job.programs.items number half.taken begins_with))
+    writes-now =
+        subst (λ (told : Option ℕ). WritesMore told (G.writes after) (2 * count_by is_commit (event_lines names job.programs.items number half.taken begins_with))) asks.writes
+        (subst (λ (f : Facts). WritesMore (G.writes start) (G.writes after) (2 * count_by is_commit (event_lines names f.programs f.number half.taken f.start))) these half.writes)
+
+    pub records-now : ends.closed ≡ false → records_in (held_of G after) ≤ most_records (event_lines names job.programs.items number half.taken begins_with) (records_in (held_of G before))
+    records-now still =
+        subst (λ (those : Option (List ℕ)). records_in (held_of G after) ≤ most_records (event_lines names job.programs.items number half.taken begins_with) (records_in (unwrap_or those []))) asks.held
+        (subst (λ (f : Facts). (run f.programs half.taken f.start).closed ≡ false → records_in (held_of G after) ≤ most_records (event_lines names f.programs f.number half.taken f.start) (records_in (held_of G start))) these half.records still)
+
+  module _ (result : Result Bool Failed) (put : Result ℕ Failed) (now : Status) (reports : Reports ghosts G (names_of job) (activity desk).programs desk.opened job.events.items (first_desk G job.frames before start desk opens asks) new start after (λ closed. closed) result) where
+    abbrev half : RanFrom G (names_of job) (activity desk).programs desk.opened job.events.items (first_desk G job.frames before start desk opens asks) new start after
+    half = record {
+      taken = reports.taken;
+      rest = reports.rest;
+      is_run = reports.is_run;
+      closes = reports.closes;
+      ordered = reports.ordered;
+      still = reports.still;
+      records = reports.records;
+      faults = reports.faults;
+      calm = reports.calm;
+      writes = reports.writes;
+      doubt = reports.doubt;
+    }
+
+    abbrev names : List (List ℕ)
+    names = names_of job
+
+    -- a crash
+    crash-leaves : IsSome (G.printed before) → Leaves G (IsPrefix (commits names half) number store (order_of new) (shown_of G before)) before after
+    crash-leaves told =
+        let P = IsPrefix (commits names half) number store (order_of new) (shown_of G before) in
+        let still : IsSome (G.printed start) = subst (λ (those : Option (List ℕ)). IsSome those) (sym asks.calls.quiet.same) told in
+        leaves_on G fewer_later before start after asks.calls.time time P (opening-left (order_of new) told)
+        (λ image seen left.
+        subst (λ (order : List (ℕ × ℕ)). IsPrefix (commits names half) number store order (shown_of G before) image seen) (sym (ordered names half))
+        (subst (λ (printed : List ℕ). IsPrefix (commits names half) number store (ends names half).order printed image seen) shown-same
+        (left_is_prefix job.programs.items number job.frames 16 (most_lines (header_of (take 128 (held_of G before)))) store job.events.items reports.taken reports.rest
+        (report (names_of job) job.programs.items number reports.taken reports.rest begins_with) (shown_of G start) image seen (is_run names half)
+        (subst (λ (f : Facts). IsLeft f.programs f.number f.start reports.taken (report (names_of job) f.programs f.number reports.taken reports.rest f.start) (shown_of G start) image seen) these (reports.left still image seen left)))))
 
     -- the opening puts nothing
     times-since : (put : Result ℕ Failed) → PutsTimes G (length (report_lines (names_of job) job.programs.items number reports.taken reports.rest begins_with)) start after put → PutsTimes G (length (report_lines (names_of job) job.programs.items number reports.taken reports.rest begins_with)) before after put
@@ -221,12 +268,12 @@ module _ {W : Type 0} (G : Ghosts W) (fewer_later : FewerLater G) (printed_now :
     has_run put_is turns fails ended shut = record {
       taken = reports.taken;
       rest = reports.rest;
-      is_run = is_run;
-      order_is = ordered;
-      ends = record { session = new; answered = refl; ordered = refl; closes = closes; shows = λ still. (shown-now still).1 };
+      is_run = is_run names half;
+      order_is = ordered names half;
+      ends = record { session = new; answered = refl; ordered = refl; closes = closes names half; shows = λ still. (shown-now names half still).1 };
       all = λ is. (ended is).1;
-      still_open = λ is. sym closes ∙ (ended is).0;
-      shut = λ is. sym closes ∙ shut is;
+      still_open = λ is. sym (closes names half) ∙ (ended is).0;
+      shut = λ is. sym (closes names half) ∙ shut is;
       put = put;
       put_is = put_is;
       printed = subst (λ (told : Option (List ℕ)). Prints told (G.printed after) (report (names_of job) job.programs.items number reports.taken reports.rest begins_with) put) asks.calls.quiet.same
@@ -235,18 +282,15 @@ module _ {W : Type 0} (G : Ghosts W) (fewer_later : FewerLater G) (printed_now :
       earlier = subst (λ (told : Option (List ℕ)). PrintsEarlier told (G.printed after) (λ front. line_text (Open number) ++ text_of (names_of job) job.programs.items number front begins_with) reports.taken) asks.calls.quiet.same
           (subst (λ (f : Facts). PrintsEarlier (G.printed start) (G.printed after) (λ front. line_text (Open f.number) ++ text_of (names_of job) f.programs f.number front f.start) reports.taken) these reports.earlier);
       times = times-since put (on_ok_as _ result put fails (subst (λ (f : Facts). PutsTimes G (length (report_lines (names_of job) f.programs f.number reports.taken reports.rest f.start)) start after result) these reports.times));
-      faults = rose;
-      all_fine = all-fine;
-      calm = λ none. subst (λ (f : Facts). count_by tells_fault (event_lines (names_of job) f.programs f.number reports.taken f.start) ≡ 0 → G.disk_faults after ≡ G.disk_faults start) these reports.calm none ∙ asks-calm;
-      writes = subst (λ (told : Option ℕ). WritesMore told (G.writes after) (2 * count_by is_commit (event_lines (names_of job) job.programs.items number reports.taken begins_with))) asks.writes
-          (subst (λ (f : Facts). WritesMore (G.writes start) (G.writes after) (2 * count_by is_commit (event_lines (names_of job) f.programs f.number reports.taken f.start))) these reports.writes);
-      serial_run = serial_run;
-      leaves = leaves-now;
-      records = λ still.
-          subst (λ (those : Option (List ℕ)). records_in (held_of G after) ≤ most_records (event_lines (names_of job) job.programs.items number reports.taken begins_with) (records_in (unwrap_or those []))) asks.held
-          (subst (λ (f : Facts). (run f.programs reports.taken f.start).closed ≡ false → records_in (held_of G after) ≤ most_records (event_lines (names_of job) f.programs f.number reports.taken f.start) (records_in (held_of G start))) these reports.records still);
+      faults = rose names half;
+      all_fine = all-fine names half;
+      calm = calm-now names half;
+      writes = writes-now names half;
+      serial_run = serial_run names half;
+      leaves = leaves-now names half;
+      records = records-now names half;
       crash = crash-leaves;
-      doubt = doubt-leaves;
+      doubt = doubt-leaves names half;
       honest = same_honest ∙ asks.calls.honest;
       time = elapses-trans G fewer_later before start after asks.calls.time time;
     }

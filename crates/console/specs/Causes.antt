@@ -82,7 +82,8 @@ pub record HasJob (left : Option (List ℕ)) : Type 0 where
 abbrev pub HasStore : {W : Type 0} → Ghosts W → W → Type 0
 HasStore G outside = IsTrue (G.is_honest outside) × IsSome (G.held outside) × IsStanding (held_of G outside)
 
--- what a command needs: the text of a job and a store to run it on, to list it or to drill it; bytes that stand for a store with a range; an empty disk
+-- what a command needs: the text of a job and a store to run it on, to list it or to drill it; bytes that stand for a store with a range; an empty disk; a store to
+-- run a load on
 abbrev pub HasAll : {W : Type 0} → Ghosts W → Command → Option (List ℕ) → W → Type 0
 HasAll G command.Try left outside = HasJob left × HasStore G outside
 HasAll G command.Run left outside = HasJob left × HasStore G outside
@@ -90,6 +91,7 @@ HasAll G command.List left outside = HasJob left
 HasAll G command.Drill left outside = HasJob left
 HasAll G (command.Show range) left outside = IsSome (G.held outside) × HasRange G range outside
 HasAll G (command.New header) left outside = G.held outside ≡ Some []
+HasAll G (command.Big transfers) left outside = HasStore G outside
 
 -- the words are a command that has what it needs
 pub record IsComplete {W : Type 0} (G : Ghosts W) (words : List (String Global)) (left : Option (List ℕ)) (outside : W) : Type 0 where
@@ -126,6 +128,12 @@ IsOfNew status.Exists = Unit {0}
 IsOfNew status.NoMemory = Unit {0}
 IsOfNew _ = ⊥
 
+-- a status of a load
+abbrev pub IsOfBig : Status → Type 0
+IsOfBig status.Done = Unit {0}
+IsOfBig status.PutFault = Unit {0}
+IsOfBig other = IsOfOpening other
+
 -- a status of a command, by its own list
 abbrev pub IsOf : Command → Status → Type 0
 IsOf command.Try = IsOfRun
@@ -134,3 +142,4 @@ IsOf command.List = IsOfList
 IsOf command.Drill = IsOfList
 IsOf (command.Show range) = IsOfShow
 IsOf (command.New header) = IsOfNew
+IsOf (command.Big transfers) = IsOfBig

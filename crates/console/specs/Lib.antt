@@ -10,3 +10,4 @@ pub mod Show
 pub mod New
 pub mod Drill
 pub mod Drilled
+pub mod Big

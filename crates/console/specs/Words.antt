@@ -16,6 +16,7 @@ word_of command.List = codes "list"
 word_of command.Drill = codes "drill"
 word_of (command.Show range) = codes "show"
 word_of (command.New header) = codes "new"
+word_of (command.Big transfers) = codes "big"
 
 -- the number of a word: one to ten decimal digits, which write at most 4,294,967,295
 abbrev pub number_of : List ℕ → Option ℕ
@@ -35,10 +36,11 @@ numbers_of (command.Show range) = range.segment ∷ range.from ∷ range.count �
 numbers_of (command.New header) = header.bank_bytes ∷ spread header.directory.segments
 numbers_of _ = []
 
--- they are within their bounds: at most 65,536 bytes are shown, and a new store has a header
+-- they are within their bounds: at most 65,536 bytes are shown, a new store has a header, and a load has 1 to 512 transfers
 abbrev pub AreWithin : Command → Type 0
 AreWithin (command.Show range) = range.count ≤ 65536
 AreWithin (command.New header) = HasRanges header × IsLegal header.directory.segments
+AreWithin (command.Big transfers) = (1 ≤ transfers) × (transfers ≤ 512)
 AreWithin _ = Unit {0}
 
 -- a command whose word stands alone
@@ -48,6 +50,13 @@ IsAlone command.List = Unit {0}
 IsAlone command.Drill = Unit {0}
 IsAlone _ = ⊥
 
+-- a command that names a store
+abbrev pub IsOnStore : Command → Type 0
+IsOnStore command.Run = Unit {0}
+IsOnStore (command.Show range) = Unit {0}
+IsOnStore (command.New header) = Unit {0}
+IsOnStore _ = ⊥
+
 -- the words are a command's word, a store, which is any word that isn't empty, and the command's numbers
 pub record NamesStore (form : Command) (words : List (List ℕ)) : Type 0 where
   pub store : List ℕ
@@ -56,11 +65,18 @@ pub record NamesStore (form : Command) (words : List (List ℕ)) : Type 0 where
   pub are : words ≡ word_of form ∷ store ∷ numbers
   pub say : AreNumbers numbers (numbers_of form)
 
--- the words say a command: its word alone, or with a store and its numbers
+-- the words are a word and a number
+pub record SaysLoad (word : List ℕ) (transfers : ℕ) (words : List (List ℕ)) : Type 0 where
+  pub number : List ℕ
+  pub are : words ≡ word ∷ number ∷ []
+  pub say : number_of number ≡ Some transfers
+
+-- the words say a command: its word alone, with a number, or with a store and its numbers
 abbrev pub Says : Command → List (List ℕ) → Type 0
 Says command.Try words = words ≡ word_of command.Try ∷ []
 Says command.List words = words ≡ word_of command.List ∷ []
 Says command.Drill words = words ≡ word_of command.Drill ∷ []
+Says (command.Big transfers) words = SaysLoad (word_of (command.Big transfers)) transfers words
 Says form words = NamesStore form words
 
 -- the words are a command

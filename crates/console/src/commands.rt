@@ -13,8 +13,10 @@ ghost use Rattle.console.specs.Drilled.{Drilled};
 ghost use Rattle.console.specs.Listed.{Listed};
 ghost use Rattle.console.specs.New.{Made};
 ghost use Rattle.console.specs.Show.{Shown};
+ghost use Rattle.console.specs.Big.{Loaded};
 ghost use Rattle.console.specs.Words.{IsForm, IsNoForm, ReadsJob, RunsJob};
 
+use super::big::run_load;
 use super::drill::drill_job;
 use super::list::list_job;
 use super::new::make;
@@ -36,7 +38,8 @@ use supervisor::Session;
 /// time. The words `list`: the programs of the job are listed, a line at a time, and the disk is left alone. The word
 /// `drill`: the job is stopped at each of its writes in turn, in memory, and a line is put for each stop. The words
 /// `show STORE S FROM COUNT`: bytes of the disk's store are put, a row at a time. The words `new STORE BANK S P ..`: an
-/// empty disk becomes a store with nothing in it. A file that the word STORE names is opened by whoever makes the disk.
+/// empty disk becomes a store with nothing in it. The words `big N`: a load of N transfers, with waits and victims, runs on
+/// the disk's store, and one line tells what came of it. A file that the word STORE names is opened by whoever makes the disk.
 pub fn console<S: Source, W: Outside>(
     alloc: Global,
     words: &[String],
@@ -59,6 +62,7 @@ pub fn console<S: Source, W: Outside>(
     ensures drilled { IsForm Command.Drill words.now → Drilled W.Outside (S.left job.old) (S.left job.new) outside.old outside.new (order_told result.order.items) result.status }
     ensures shown { (range : Range) → IsForm (Command.Show range) words.now → Shown W.Outside range outside.old outside.new (order_told result.order.items) result.status }
     ensures made { (header : Header) → IsForm (Command.New header) words.now → Made W.Outside header outside.old outside.new (order_told result.order.items) result.status }
+    ensures loaded { (transfers : ℕ) → IsForm (Command.Big transfers) words.now → Loaded W.Outside transfers outside.old outside.new (order_told result.order.items) result.status }
     ensures complete { IsComplete W.Outside words.now (S.left job.old) outside.old → (Rose (S.faults job.old) (S.faults job.new) → ⊥) → (Rose (W.disk_faults outside.old) (W.disk_faults outside.new) → ⊥) → (Rose (W.put_faults outside.old) (W.put_faults outside.new) → ⊥) → (result.status ≡ Status.Done) ⊎ (result.status ≡ Status.NoMemory) }
 {
     let Some(command) = command_of(words) else {
@@ -79,6 +83,7 @@ pub fn console<S: Source, W: Outside>(
         },
         Command::Show(range) => Ended::without_events(alloc, show(alloc, range, outside)),
         Command::New(header) => Ended::without_events(alloc, make(alloc, &header, outside)),
+        Command::Big(transfers) => run_load(alloc, transfers, outside),
     }
 }
 
@@ -147,7 +152,7 @@ fn run_job<W: Outside>(
 }
 
 /// A list with no commits, and room for these, filled with them. It takes no memory.
-fn filled(mut order: Vec<Committed>, commits: &[Committed]) -> Vec<Committed>
+pub(crate) fn filled(mut order: Vec<Committed>, commits: &[Committed]) -> Vec<Committed>
     requires none { order.items ≡ [] }
     requires room { length commits.now ≤ vec_capacity order }
     ensures { result.items ≡ commits.now }
@@ -157,7 +162,7 @@ fn filled(mut order: Vec<Committed>, commits: &[Committed]) -> Vec<Committed>
 }
 
 /// How many of the events are begins.
-fn begins_in(events: &[Event]) -> u32
+pub(crate) fn begins_in(events: &[Event]) -> u32
     requires { length events.now ≤ 10000 }
     ensures { result ≡ begins_in events.now }
 {

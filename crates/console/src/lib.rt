@@ -1,6 +1,7 @@
 //! The console: the one call that does all that the program does (docs/MODEL.md).
 #![tactic(auto)]
 
+mod big;
 mod commands;
 mod drill;
 mod job_copy;

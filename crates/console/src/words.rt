@@ -1,8 +1,8 @@
 // The words of the command line.
-ghost use Rattle.std.specs.Prelude.{◌≡◌, ◌≢◌, ◌≤◌, ◌+◌, [], ◌∷◌, ◌++◌, List, ℕ, All, map, length, true, false, MatchOption, string_bytes};
+ghost use Rattle.std.specs.Prelude.{◌≡◌, ◌≢◌, ◌≤◌, ◌+◌, [], ◌∷◌, ◌++◌, List, ℕ, All, map, length, true, false, MatchOption, Some, string_bytes};
 ghost use Rattle.line_geometry.specs.Legal.{IsLegal, IsInRange};
 ghost use Rattle.store_format.specs.Header.{Header as Layout, HasRanges};
-ghost use Rattle.console.specs.Words.{IsForm, IsNoForm, AreWithin, AreNumbers, IsAlone, word_of, numbers_of, number_of, spread};
+ghost use Rattle.console.specs.Words.{IsForm, IsNoForm, AreWithin, AreNumbers, IsAlone, IsOnStore, word_of, numbers_of, number_of, spread};
 
 use super::show::Range;
 use arrayvec::ArrayVec;
@@ -27,12 +27,17 @@ pub enum Command {
     Show(Range),
     /// A store with this header is made in a file.
     New(Header),
+    /// The load of so many transfers is run, on the disk that is handed in.
+    Big(u32),
 }
 
 /// The command that the words are, if they are one.
 pub fn command_of(words: &[String]) -> Option<Command>
     ensures { MatchOption result (IsNoForm words.now) (λ command. IsForm command words.now) }
 {
+    if let Some(transfers) = transfers_of(words) {
+        return Some(Command::Big(transfers));
+    }
     match words {
         [] => None,
         [word] => command_alone(word.as_str()),
@@ -45,6 +50,31 @@ pub fn command_of(words: &[String]) -> Option<Command>
                 None => None,
             }
         }
+    }
+}
+
+/// The transfers that `big` and a number ask for, if the words are these.
+fn transfers_of(words: &[String]) -> Option<u32>
+    ensures { MatchOption result ((transfers : ℕ) → IsForm (Command.Big transfers) words.now → ⊥) (λ transfers. IsForm (Command.Big transfers) words.now) }
+{
+    match words {
+        [word, number] => load_of(word.as_str(), number.as_str()),
+        _ => None,
+    }
+}
+
+/// The transfers that a word and a number ask for.
+fn load_of(word: &str, number: &str) -> Option<u32>
+    ensures { MatchOption result
+        ((transfers : ℕ) → word.now ≡ word_of (Command.Big transfers) → number_of number.now ≡ Some transfers → AreWithin (Command.Big transfers) → ⊥)
+        (λ transfers. (word.now ≡ word_of (Command.Big transfers)) × (number_of number.now ≡ Some transfers) × AreWithin (Command.Big transfers)) }
+{
+    if word != "big" {
+        return None;
+    }
+    match number_of(number) {
+        Some(transfers) if (1..=512).contains(&transfers) => Some(transfers),
+        _ => None,
     }
 }
 
@@ -66,8 +96,8 @@ fn command_alone(word: &str) -> Option<Command>
 /// The command that a word is with a store and these numbers.
 fn command_on(word: &str, numbers: &[u32]) -> Option<Command>
     ensures { MatchOption result
-        ((form : Command) → (IsAlone form → ⊥) → word.now ≡ word_of form → numbers.now ≡ numbers_of form → AreWithin form → ⊥)
-        (λ command. (IsAlone command → ⊥) × (word.now ≡ word_of command) × (numbers.now ≡ numbers_of command) × AreWithin command) }
+        ((form : Command) → IsOnStore form → word.now ≡ word_of form → numbers.now ≡ numbers_of form → AreWithin form → ⊥)
+        (λ command. IsOnStore command × (word.now ≡ word_of command) × (numbers.now ≡ numbers_of command) × AreWithin command) }
 {
     if word == "run" {
         run_of(numbers)

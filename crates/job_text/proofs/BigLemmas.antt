@@ -1,5 +1,5 @@
 -- The events of `big N`.
-use Rattle.std.proofs.Common.{Global, ◌≡◌, ℕ, ◌+◌, ◌-◌, ◌*◌, ◌/◌, ◌%◌, ◌≤◌, ◌==◌, min, Bool, true, false, List, [], ◌∷◌, ◌++◌, length, map, refl, ap, ◌∙◌, sym, subst, arith, append_assoc, append-nil, length-append, if◌then◌else◌, All}
+use Rattle.std.proofs.Common.{Global, ◌≡◌, ℕ, ◌+◌, ◌-◌, ◌*◌, ◌/◌, ◌%◌, ◌<◌, ◌≤◌, ◌==◌, min, Bool, true, false, List, [], ◌∷◌, ◌++◌, length, map, refl, ap, ◌∙◌, sym, subst, arith, append_assoc, append-nil, length-append, if◌then◌else◌, All}
 use Rattle.std.specs.List.{flat_map, range_with_len}
 use Rattle.std.proofs.lemmas.Grind.{flat_map-append}
 use Rattle.std.proofs.lemmas.List.Elements.{All-append, All-cons, All-nil, All-map}
@@ -73,37 +73,35 @@ few_events n small =
     let split = length-append (batches n) (Begin 2 (0 ∷ 256 ∷ 0 ∷ 0 ∷ []) ∷ Turn (n + 2) 1000000 ∷ []) in
     omega (arith, all, count, split)
 
--- each of them can be run
-abbrev CanRun : Event → Type 0
-CanRun = IsEventAmong 3
+-- what holds of each begin of one of three programs, and of each turn, holds of each of them
+module _ (P : Event → Type 0) (begin : (program : ℕ) (args : List ℕ) → program < 3 → P (Begin program args)) (turn : (activation limit : ℕ) → limit ≤ 1000000 → P (Turn activation limit)) where
+  all_flat : (f : ℕ → List Event) → ((i : ℕ) → All P (f i)) → (xs : List ℕ) → All P (flat_map f xs)
+  all_flat f each [] = All-nil P
+  all_flat f each (x ∷ xs) = All-append P (f x) (flat_map f xs) (each x) (all_flat f each xs)
 
-all_flat : (f : ℕ → List Event) → ((i : ℕ) → All CanRun (f i)) → (xs : List ℕ) → All CanRun (flat_map f xs)
-all_flat f each [] = All-nil CanRun
-all_flat f each (x ∷ xs) = All-append CanRun (f x) (flat_map f xs) (each x) (all_flat f each xs)
+  each_of : (f : ℕ → Event) → ((i : ℕ) → P (f i)) → (xs : List ℕ) → All P (map f xs)
+  each_of f each xs = All-map P f xs (λ k d below. each _)
 
-each_of : (f : ℕ → Event) → ((i : ℕ) → CanRun (f i)) → (xs : List ℕ) → All CanRun (map f xs)
-each_of f each xs = All-map CanRun f xs (λ k d below. each _)
+  moves : (even : Bool) (one other amount : ℕ) → P (if even then move_of one other amount else move_of other one amount)
+  moves true one other amount = begin 1 (32 * one ∷ 32 * other ∷ amount ∷ 0 ∷ []) (omega arith)
+  moves false one other amount = begin 1 (32 * other ∷ 32 * one ∷ amount ∷ 0 ∷ []) (omega arith)
 
-moves : (even : Bool) (one other amount : ℕ) → CanRun (if even then move_of one other amount else move_of other one amount)
-moves true one other amount = omega arith
-moves false one other amount = omega arith
+  turns_all : (limit : ℕ) → limit ≤ 1000000 → (first count : ℕ) → All P (turns_of limit first count)
+  turns_all limit small first count = each_of (λ k. Turn (k + 2) limit) (λ k. turn (k + 2) limit small) (range_with_len first count)
 
-turns_run : (limit : ℕ) → limit ≤ 1000000 → (first count : ℕ) → All CanRun (turns_of limit first count)
-turns_run limit small first count = each_of (λ k. Turn (k + 2) limit) (λ k. small) (range_with_len first count)
+  batch_all : (first count : ℕ) → All P (batch first count)
+  batch_all first count =
+      All-append P (map transfer (range_with_len first count) ++ turns_of 7 first count) (flat_map (λ round. turns_of 50 first count) (range_with_len 0 count))
+      (All-append P (map transfer (range_with_len first count)) (turns_of 7 first count) (each_of transfer (λ k. moves (k % 2 == 0) (account_of (k / 2)) (other_of (k / 2)) (1 + k % 9)) (range_with_len first count)) (turns_all 7 (omega arith) first count))
+      (all_flat (λ round. turns_of 50 first count) (λ i. turns_all 50 (omega arith) first count) (range_with_len 0 count))
 
-batch_runs : (first count : ℕ) → All CanRun (batch first count)
-batch_runs first count =
-    All-append CanRun (map transfer (range_with_len first count) ++ turns_of 7 first count) (flat_map (λ round. turns_of 50 first count) (range_with_len 0 count))
-    (All-append CanRun (map transfer (range_with_len first count)) (turns_of 7 first count) (each_of transfer (λ k. moves (k % 2 == 0) (account_of (k / 2)) (other_of (k / 2)) (1 + k % 9)) (range_with_len first count)) (turns_run 7 (omega arith) first count))
-    (all_flat (λ round. turns_of 50 first count) (λ i. turns_run 50 (omega arith) first count) (range_with_len 0 count))
-
-events_run : (n : ℕ) → All CanRun (big_events n)
-events_run n =
-    let tally : List Event = Begin 2 (0 ∷ 256 ∷ 0 ∷ 0 ∷ []) ∷ Turn (n + 2) 1000000 ∷ [] in
-    let behind : All CanRun tally = All-cons CanRun (Begin 2 (0 ∷ 256 ∷ 0 ∷ 0 ∷ [])) (Turn (n + 2) 1000000 ∷ []) (omega arith) (All-cons CanRun (Turn (n + 2) 1000000) [] (omega arith) (All-nil CanRun)) in
-    let moved : All CanRun (batches n) = all_flat (λ i. batch (16 * i) (min 16 (n - 16 * i))) (λ i. batch_runs (16 * i) (min 16 (n - 16 * i))) (range_with_len 0 ((n + 15) / 16)) in
-    All-cons CanRun (Begin 0 (1000 ∷ 256 ∷ 0 ∷ 0 ∷ [])) (Turn 1 1000000 ∷ (batches n ++ tally)) (omega arith)
-    (All-cons CanRun (Turn 1 1000000) (batches n ++ tally) (omega arith) (All-append CanRun (batches n) tally moved behind))
+  pub events_all : (n : ℕ) → All P (big_events n)
+  events_all n =
+      let tally : List Event = Begin 2 (0 ∷ 256 ∷ 0 ∷ 0 ∷ []) ∷ Turn (n + 2) 1000000 ∷ [] in
+      let behind : All P tally = All-cons P (Begin 2 (0 ∷ 256 ∷ 0 ∷ 0 ∷ [])) (Turn (n + 2) 1000000 ∷ []) (begin 2 (0 ∷ 256 ∷ 0 ∷ 0 ∷ []) (omega arith)) (All-cons P (Turn (n + 2) 1000000) [] (turn (n + 2) 1000000 (omega arith)) (All-nil P)) in
+      let moved : All P (batches n) = all_flat (λ i. batch (16 * i) (min 16 (n - 16 * i))) (λ i. batch_all (16 * i) (min 16 (n - 16 * i))) (range_with_len 0 ((n + 15) / 16)) in
+      All-cons P (Begin 0 (1000 ∷ 256 ∷ 0 ∷ 0 ∷ [])) (Turn 1 1000000 ∷ (batches n ++ tally)) (begin 0 (1000 ∷ 256 ∷ 0 ∷ 0 ∷ []) (omega arith))
+      (All-cons P (Turn 1 1000000) (batches n ++ tally) (turn 1 1000000 (omega arith)) (All-append P (batches n) tally moved behind))
 
 -- a job that could be run can be with these events
 pub big_ready : (n : ℕ) (job : Job) (events : Vec Event Global) → n ≤ 512 → IsReady job → length job.programs.items ≡ 3 → events.items ≡ big_events n → IsReady (record job { events = events })
@@ -113,7 +111,7 @@ big_ready n job events small ready three are = record {
   names = ready.names;
   events =
       subst (λ (these : List Event). All (IsEventAmong (length job.programs.items)) these) (sym are)
-      (subst (λ (programs : ℕ). All (IsEventAmong programs) (big_events n)) (sym three) (events_run n));
+      (subst (λ (programs : ℕ). All (IsEventAmong programs) (big_events n)) (sym three) (events_all (IsEventAmong 3) (λ program args small. small) (λ activation limit small. small) n));
   few = subst (λ (these : List Event). length these ≤ 10000) (sym are) (few_events n small);
 }
 

@@ -20,7 +20,7 @@ fn main(rt: HostRuntime) -> ExitCode {
 }
 
 /// The console on the real source and screen, and the disk that the words name: a file, which `new` alone makes, or one
-/// in memory, which for `try` holds the store of `try`.
+/// in memory, which for `try` and `big` holds the store of `try`.
 fn run(rt: &HostRuntime) -> Result<Ended, Status> {
     let alloc = rt.alloc();
     let words = words_of(rt)?;
@@ -34,7 +34,7 @@ fn run(rt: &HostRuntime) -> Result<Ended, Status> {
                 FileDisk::new(rt.clone()?, path, word.as_str() == "new"),
             )
         }
-        [word] if word.as_str() == "try" => {
+        others if runs_in_memory(others) => {
             call(
                 rt,
                 &words,
@@ -55,6 +55,15 @@ fn taken(rt: &HostRuntime) -> Result<<HostRuntime as Files>::File, Status> {
     let mut how = OpenOptions::new();
     how.read(true);
     rt.open_file(&how, "/").map_err(|_| Status::DiskFault)
+}
+
+/// Whether these words run on the store of `try`: that word alone, or a load and its transfers.
+fn runs_in_memory(words: &[String]) -> bool {
+    match words {
+        [word] => word.as_str() == "try",
+        [word, _] => word.as_str() == "big",
+        _ => false,
+    }
 }
 
 /// Whether a store stands behind this word.

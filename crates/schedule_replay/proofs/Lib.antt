@@ -6,3 +6,4 @@ pub mod EventLemmas
 pub mod AnsweredLemmas
 pub mod RanLemmas
 pub mod ReportLemmas
+pub mod QuietLemmas

@@ -3,3 +3,4 @@ pub mod Puts
 pub mod Answered
 pub mod Ran
 pub mod Replays
+pub mod Quiet

@@ -3,5 +3,7 @@
 
 mod events;
 mod lines;
+mod quietly;
 
 pub use events::{Replayed, replay};
+pub use quietly::{Printed, Quiet, run_quiet};

@@ -1,4 +1,4 @@
-use Rattle.std.proofs.Common.{◌≡◌, List, [], ap, subst, sym}
+use Rattle.std.proofs.Common.{◌≡◌, ℕ, List, [], ap, subst, sym}
 use Rattle.desk.specs.Answers.{order_told}
 use Rattle.desk.specs.declared.answers.Committed.{Committed}
 use Rattle.store_format.specs.Header.{Header}
@@ -6,12 +6,13 @@ use Rattle.console.specs.declared.show.Range.{Range}
 use Rattle.console.specs.declared.status.Status.{Status}
 use Rattle.console.specs.declared.words.Command.{Command}
 use Rattle.console.specs.Drilled.{DrilledBy}
+use Rattle.console.specs.Big.{Loaded}
 use Rattle.console.specs.New.{Made}
 use Rattle.console.specs.Show.{Shown}
 use Rattle.console.specs.Words.{IsForm}
 use Rattle.console.proofs.DrillLemmas.{drilled-text, drilled-unread, none-put}
 use Rattle.console.proofs.RunLemmas.{happens}
-use Rattle.console.proofs.WordLemmas.{one_header, one_range}
+use Rattle.console.proofs.WordLemmas.{one_header, one_load, one_range}
 use Rattle.console.proofs.commands.console.Goals as goal
 
 pub returns-in_default-clause-listed : goal.returns-in_default-clause-listed
@@ -22,6 +23,14 @@ returns-in_default-clause-shown g c = λ range shows. absurd (c.in_default.ensur
 
 pub returns-in_default-clause-made : goal.returns-in_default-clause-made
 returns-in_default-clause-made g c = λ header makes. absurd (c.in_default.ensures (Command.New header) makes)
+
+pub returns-in_default-clause-loaded : goal.returns-in_default-clause-loaded
+returns-in_default-clause-loaded g c = λ transfers loads. absurd (c.in_default.ensures (Command.Big transfers) loads)
+
+pub returns-in-Big-clause-loaded : goal.returns-in-Big-clause-loaded
+returns-in-Big-clause-loaded g c = λ transfers loads.
+    let asked : IsForm (Command.Big c.in-Big.transfers) c.args.words.now = subst (λ (form : Command). IsForm form c.args.words.now) c.in-Big.is c.in-Some.ensures in
+    subst (λ (n : ℕ). Loaded g.W.Outside n c.args.outside.now c.run_load.new.outside (order_told c.run_load.result.order.items) c.run_load.result.status) (one_load c.args.words.now c.in-Big.transfers transfers asked loads) c.run_load.ensures.loaded
 
 pub returns-in-Ok-clause-happened : goal.returns-in-Ok-clause-happened
 returns-in-Ok-clause-happened g c = λ runs.

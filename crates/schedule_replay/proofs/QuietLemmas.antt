@@ -1,0 +1,252 @@
+-- Events without a report, one after another.
+use Rattle.std.proofs.Common.{◌≡◌, ℕ, ◌+◌, ◌*◌, ◌<◌, ◌≤◌, ◌⊎◌, List, [], ◌∷◌, ◌++◌, length, cond, take, get_or, refl, sym, ap, ◌∙◌, subst, arith, ⊎_elim, length-append}
+use Rattle.std.specs.Prelude.{Bool, true, false, not, count_by, Option, None, Some, IfSome, unwrap_or}
+use Rattle.std.specs.List.{flat_map, fold}
+use Rattle.std.proofs.lemmas.List.{map-append, length-map, take_more}
+use Rattle.std.proofs.lemmas.List.Sums.{fold-append, sum_by-append}
+use Rattle.outside.specs.declared.world.Outside.{Ghosts}
+use Rattle.outside.specs.Causes.{Rose, RoseBy}
+use Rattle.outside.specs.Durable.{IsSure}
+use Rattle.outside.specs.Runs.{CallsDisk, FewerLater, held_of}
+use Rattle.outside.proofs.Durable.{leaves_held}
+use Rattle.flat_machine.specs.declared.machine.Program.{Program}
+use Rattle.store_format.specs.Stands.{stands}
+use Rattle.desk.specs.declared.answers.Turn.{Turn}
+use Rattle.desk.specs.declared.answers.TurnEnd.{TurnEnd}
+use Rattle.desk.specs.declared.answers.TurnEnd.TheVariants as end
+use Rattle.desk.specs.declared.event.Event.{Event}
+use Rattle.desk.specs.declared.supervisor.Supervisor as desk
+use Rattle.desk.specs.declared.answers.Begun.{Begun}
+use Rattle.desk.specs.declared.answers.Begun.TheVariants as begun
+use Rattle.desk.specs.Answers.{begun_told, turn_told, counts_told}
+use Rattle.desk.specs.Commits.{is_commit}
+use Rattle.desk.specs.Crash.{standing_of, IsEitherOf}
+use Rattle.desk.specs.Desk.{Desk}
+use Rattle.desk.specs.Instruction.{Word, Fine, Doubt}
+use Rattle.desk.specs.Kept.{WritesMore, records_in, most_records}
+use Rattle.desk.specs.Lines.{Line}
+use Rattle.desk.specs.Lines as line
+use Rattle.desk.specs.Report.{cycle_lines, event_lines, happening_lines, number_after}
+use Rattle.desk.specs.Run.{Step, run, step, faulted, is_fine}
+use Rattle.run_law.specs.Left.{IsLeft}
+use Rattle.run_law.proofs.LeftLemmas.{left_behind, left_more, left_none, left_quiet}
+use Rattle.run_law.proofs.RunLemmas.{run_on, open_on, lines_on, faulted_on}
+use Rattle.run_law.proofs.SeenLemmas.{commits_in, commits_on}
+use Rattle.run_law.proofs.StepLemmas.{Grew, Stepped, counted_quiet, run_grew, step_by}
+use Rattle.schedule_replay.specs.Quiet.{RanQuietly, Tells, WentQuietly, is_rollback, last_by, out_after, tally_begun, tally_by}
+use Rattle.schedule_replay.specs.Ran.{InDoubt}
+use Rattle.schedule_replay.specs.declared.quietly.Tally.{Tally}
+use Rattle.schedule_replay.proofs.CountLemmas.{faults_in, faults_front, faults_behind, happened_keep, most_on, most_le}
+use Rattle.outside.proofs.Runs.{leaves_on}
+use Rattle.schedule_replay.proofs.WentLemmas.{last_is, one_event}
+use Rattle.schedule_replay.proofs.WriteLemmas.{writes_on, writes_same}
+
+-- the victims of cycles are rolled back
+cycles_roll : (cycles : List (List ℕ)) (ends : List Line) → count_by is_rollback (flat_map cycle_lines cycles ++ ends) ≡ length cycles + count_by is_rollback ends
+cycles_roll [] ends = omega arith
+cycles_roll (cycle ∷ cycles) ends =
+    let split = sum_by-append (λ each. cond (is_rollback each) 1 0) (cycle_lines cycle) (flat_map cycle_lines cycles ++ ends) in
+    let rest = cycles_roll cycles ends in
+    omega (arith, split, rest)
+
+-- and print nothing
+cycles_last : (last : List ℕ) (cycles : List (List ℕ)) (ends : List Line) → fold out_after last (flat_map cycle_lines cycles ++ ends) ≡ fold out_after last ends
+cycles_last last [] ends = refl
+cycles_last last (cycle ∷ cycles) ends = cycles_last last cycles ends
+
+rolled : (activation : ℕ) (answer : Turn) (ends : List Line) → count_by is_rollback (line.Turn activation answer.ran answer.pages answer.locks ∷ (flat_map cycle_lines (counts_told answer).cycles ++ ends)) ≡ length answer.cycles.items + count_by is_rollback ends
+rolled activation answer ends =
+    let all = cycles_roll (counts_told answer).cycles ends in
+    let many = length-map answer.cycles.items (λ cycle. cycle.members.items) in
+    omega (arith, all, many)
+
+-- the tally of a begin is that of its line
+pub begin_tells : (number program : ℕ) (answer : Begun) (last : List ℕ) → IfSome (tally_begun answer) (λ tally. Tells tally last last (happening_lines [] number (begun_told program answer)))
+begin_tells number program (begun.Started activation) last = record { commits = refl; rollbacks = refl; last = refl }
+begin_tells number program (begun.Busy activation) last = record { commits = refl; rollbacks = refl; last = refl }
+begin_tells number program (begun.NoSegment activation segment) last = record { commits = refl; rollbacks = refl; last = refl }
+begin_tells number program begun.Shut last = tt
+
+-- the tally of a turn is that of its lines
+pub turn_tells : (number activation : ℕ) (answer : Turn) (ends : TurnEnd) (printed last : List ℕ) → IfSome (tally_by ends (length answer.cycles.items)) (λ tally. Tells tally last (last_by ends printed last) (happening_lines [] number (turn_told activation (record answer { end = ends }) printed)))
+turn_tells number activation answer end.Idle printed last = record { commits = refl; rollbacks = refl; last = refl }
+turn_tells number activation answer end.Limit printed last = record {
+  commits = sym (counted_quiet activation (counts_told answer) []);
+  rollbacks = let all = rolled activation answer [] in omega (arith, all);
+  last = sym (cycles_last last (counts_told answer).cycles []);
+}
+turn_tells number activation answer (end.Committed told steps) printed last =
+    let ends : List Line = line.Commit activation number steps printed ∷ [] in
+    record {
+      commits = sym (counted_quiet activation (counts_told answer) ends);
+      rollbacks = let all = rolled activation answer ends in omega (arith, all);
+      last = sym (cycles_last last (counts_told answer).cycles ends);
+    }
+turn_tells number activation answer (end.Checked code address) printed last =
+    let ends : List Line = line.Check activation code address ∷ [] in
+    record {
+      commits = sym (counted_quiet activation (counts_told answer) ends);
+      rollbacks = let all = rolled activation answer ends in omega (arith, all);
+      last = sym (cycles_last last (counts_told answer).cycles ends);
+    }
+turn_tells number activation answer (end.Waits told holders) printed last =
+    let ends : List Line = line.Wait activation holders.items ∷ [] in
+    record {
+      commits = sym (counted_quiet activation (counts_told answer) ends);
+      rollbacks = let all = rolled activation answer ends in omega (arith, all);
+      last = sym (cycles_last last (counts_told answer).cycles ends);
+    }
+turn_tells number activation answer end.Victim printed last = record {
+  commits = sym (counted_quiet activation (counts_told answer) []);
+  rollbacks = let all = rolled activation answer [] in omega (arith, all);
+  last = sym (cycles_last last (counts_told answer).cycles []);
+}
+turn_tells number activation answer (end.Journal lines limit) printed last =
+    let ends : List Line = line.Journal activation lines limit ∷ [] in
+    record {
+      commits = sym (counted_quiet activation (counts_told answer) ends);
+      rollbacks = let all = rolled activation answer ends in omega (arith, all);
+      last = sym (cycles_last last (counts_told answer).cycles ends);
+    }
+turn_tells number activation answer end.Disk printed last =
+    let ends : List Line = line.Disk activation ∷ [] in
+    record {
+      commits = sym (counted_quiet activation (counts_told answer) ends);
+      rollbacks = let all = rolled activation answer ends in omega (arith, all);
+      last = sym (cycles_last last (counts_told answer).cycles ends);
+    }
+turn_tells number activation answer (end.Closed doubt told) printed last = tt
+turn_tells number activation answer end.Shut printed last = tt
+
+-- a tally and then another
+pub tells_on : (one two both : Tally) (old mid new : List ℕ) (xs ys lines : List Line) → lines ≡ xs ++ ys → both.commits ≡ one.commits + two.commits → both.rollbacks ≡ one.rollbacks + two.rollbacks → Tells one old mid xs → Tells two mid new ys → Tells both old new lines
+tells_on one two both old mid new xs ys lines is commits rollbacks first second = record {
+  commits = commits ∙ ap (λ n. n + two.commits) first.commits ∙ ap (λ n. count_by is_commit xs + n) second.commits ∙ sym (sum_by-append (λ each. cond (is_commit each) 1 0) xs ys) ∙ ap (λ (these : List Line). count_by is_commit these) (sym is);
+  rollbacks = rollbacks ∙ ap (λ n. n + two.rollbacks) first.rollbacks ∙ ap (λ n. count_by is_rollback xs + n) second.rollbacks ∙ sym (sum_by-append (λ each. cond (is_rollback each) 1 0) xs ys) ∙ ap (λ (these : List Line). count_by is_rollback these) (sym is);
+  last = second.last ∙ ap (λ (these : List ℕ). fold out_after these ys) first.last ∙ sym (fold-append out_after old xs ys) ∙ ap (λ (these : List Line). fold out_after old these) (sym is);
+}
+
+pub tells_nothing : (last : List ℕ) (lines : List Line) → last ≡ [] → lines ≡ [] → Tells (record { commits = 0; rollbacks = 0 }) [] last lines
+tells_nothing last lines none is = record {
+  commits = ap (λ (these : List Line). count_by is_commit these) (sym is);
+  rollbacks = ap (λ (these : List Line). count_by is_rollback these) (sym is);
+  last = none ∙ ap (λ (these : List Line). fold out_after [] these) (sym is);
+}
+
+-- of a tally that is there
+if_some : {A : Type 0} (P Q : A → Type 0) (told : Option A) → ((one : A) → P one → Q one) → IfSome told P → IfSome told Q
+if_some P Q None turns is = tt
+if_some P Q (Some one) turns is = turns one is
+
+-- a word that isn't fine is counted where the disk's faults rose
+few_of : (broken : Bool) → 0 + cond broken 1 0 ≤ 1
+few_of true = omega arith
+few_of false = omega arith
+
+word_faults : (event : Event) (word : Word) (before after : ℕ) → before ≤ after → (word ≡ Fine) ⊎ Rose before after → RoseBy (faulted ((event, word) ∷ [])) before after
+word_faults event word before after le cause =
+    ⊎_elim (λ (fine : word ≡ Fine). subst (λ (these : Word). RoseBy (faulted ((event, these) ∷ [])) before after) (sym fine) (omega arith))
+    (λ rose. let few : faulted ((event, word) ∷ []) ≤ 1 = few_of (not (is_fine word)) in omega (arith, rose, few)) cause
+
+module _ {D W : Type 0} (S : desk.Ghosts D) (G : Ghosts W) (fewer_later : FewerLater G) (programs : List Program) (number : ℕ) where
+  -- nothing was run yet
+  pub ran_nothing : (stands_law : (s : D) (held : List ℕ) (desk : Desk) → S.shows s held desk → stands held ≡ standing_of (S.opened s) desk) (open_law : (s : D) (held : List ℕ) (desk : Desk) → S.shows s held desk → desk.closed ≡ false) (closed_law : (s : D) (held : List ℕ) (desk : Desk) → S.shows s held desk → S.closed s ≡ false) (order_law : (s : D) (held : List ℕ) (desk : Desk) → S.shows s held desk → S.order s ≡ desk.order)
+      (start : Desk) (new : D) (w : W) → S.opened new ≡ number → IsSure G w → S.shows new (held_of G w) start → (ran : RanQuietly S G programs number [] start new w w) × (event_lines [] programs number ran.taken start ≡ [])
+  ran_nothing stands_law open_law closed_law order_law start new w opened sure shows =
+      let ran : RanQuietly S G programs number [] start new w w = record {
+        taken = [];
+        events_taken = refl;
+        each_open = tt;
+        closes = closed_law new (held_of G w) start shows ∙ sym (open_law new (held_of G w) start shows);
+        ordered = order_law new (held_of G w) start shows;
+        still = λ still. (sure, shows);
+        records = λ still. omega arith;
+        faults = omega arith;
+        calm = λ none. refl;
+        writes = writes_same (G.writes w);
+        left = λ image seen left.
+            left_none programs number start [] [] image [] 0 (open_law new (held_of G w) start shows) (ap stands (leaves_held G w sure image seen left) ∙ stands_law new (held_of G w) start shows ∙ ap (λ n. standing_of n start) opened) refl refl;
+        doubt = λ shut front last is. absurd (none_last front (last, Doubt) is);
+      } in
+      (ran, refl)
+    where
+      none_last : (front : List (Event × Word)) (last : Event × Word) → [] ≡ front ++ last ∷ [] → ⊥
+      none_last [] last is = cc
+      none_last (first ∷ front) last is = cc
+
+  -- some events were run, and then one more
+  pub ran_one_more : (xs : List Event) (event : Event) (start : Desk) (mid new : D) (before between after : W) (old_last new_last : List ℕ) (tally : Option Tally) → S.closed mid ≡ false → CallsDisk G before between → CallsDisk G between after → (one : RanQuietly S G programs number xs start mid before between)
+      → (two : WentQuietly S G programs number event (run programs one.taken start) new between after old_last new_last tally)
+      → (ran : RanQuietly S G programs number (xs ++ event ∷ []) start new before after) × (event_lines [] programs number ran.taken start ≡ event_lines [] programs number one.taken start ++ happening_lines [] (number_after number two.did.next) two.told)
+  ran_one_more xs event start mid new before between after old_last new_last tally was_open calls_one calls_two one two =
+      let middle : Desk = run programs one.taken start in
+      let word : Word = two.did.word in
+      let last_one : List (Event × Word) = (event, word) ∷ [] in
+      let next : Step = record { desk = two.did.next; happening = two.told } in
+      let first : List Line = event_lines [] programs number one.taken start in
+      let second : List Line = happening_lines [] (number_after number two.did.next) two.told in
+      let still_open : middle.closed ≡ false = sym one.closes ∙ was_open in
+      let next_is : (step programs event word middle).desk ≡ two.did.next = ap (λ (after : Step). after.desk) two.did.stepped in
+      let same : run programs (one.taken ++ last_one) start ≡ two.did.next = run_on programs one.taken last_one start ∙ next_is in
+      let lines : event_lines [] programs number (one.taken ++ last_one) start ≡ first ++ second = lines_on programs [] number one.taken last_one start ∙ ap (λ (back : List Line). first ++ back) (one_event [] programs number event word middle next two.did.stepped) in
+      let steps : Stepped word middle.order [] (step programs event word middle) = step_by programs event word [] middle still_open in
+      let grew : Grew programs [] number one.taken start = run_grew programs [] number one.taken start one.each_open in
+      let ran : RanQuietly S G programs number (xs ++ event ∷ []) start new before after = record {
+        taken = one.taken ++ last_one;
+        events_taken = map-append (λ (each : Event × Word). each.0) one.taken last_one ∙ ap (λ (front : List Event). front ++ event ∷ []) one.events_taken;
+        each_open = open_on programs one.taken last_one start one.each_open (ap not still_open, tt);
+        closes = two.did.closes ∙ ap (λ (desk : Desk). desk.closed) (sym same);
+        ordered = two.did.ordered ∙ ap (λ (desk : Desk). desk.order) (sym same);
+        still = λ still.
+            let kept = two.did.still (ap (λ (desk : Desk). desk.closed) (sym same) ∙ still) in
+            (kept.0, subst (λ (desk : Desk). S.shows new (unwrap_or (G.held after) []) desk) (sym same) kept.1);
+        records = λ still.
+            let kept = one.records still_open in
+            let later = two.did.records (ap (λ (desk : Desk). desk.closed) (sym same) ∙ still) in
+            let told = happened_keep [] (number_after number two.did.next) two.told (records_in (held_of G between)) in
+            let grown = most_le second (records_in (held_of G between)) (most_records first (records_in (held_of G before))) kept in
+            let split = ap (λ (these : List Line). most_records these (records_in (held_of G before))) lines ∙ most_on first second (records_in (held_of G before)) in
+            omega (arith, later, told, grown, split);
+        faults = let rose = word_faults event word (G.disk_faults between) (G.disk_faults after) calls_two.disk two.did.why in omega (arith, one.faults, rose, faulted_on one.taken last_one);
+        calm = λ none.
+            let both : faults_in (first ++ second) ≡ 0 = ap faults_in (sym lines) ∙ none in
+            two.calm (faults_behind first second both) ∙ one.calm (faults_front first second both);
+        writes =
+            let split = ap commits_in lines ∙ commits_on first second in
+            subst (λ (n : ℕ). WritesMore (G.writes before) (G.writes after) n)
+            (let twice : 2 * commits_in first + 2 * commits_in second ≡ 2 * commits_in (event_lines [] programs number (one.taken ++ last_one) start) = omega (arith, split) in twice)
+            (writes_on (G.writes before) (G.writes between) (G.writes after) (2 * commits_in first) (2 * commits_in second) one.writes two.writes);
+        left =
+            leaves_on G fewer_later before between after calls_one.time calls_two.time (λ (image seen : List ℕ). IsLeft programs number start (one.taken ++ last_one) [] [] image [])
+            (λ image seen left. left_more programs number start one.taken last_one [] [] [] image [] steps.more steps.order_is (one.left image seen left))
+            (λ image seen left.
+            left_behind programs number start one.taken last_one [] [] [] image [] one.each_open
+            (let longer = ap (λ (order : List (ℕ × ℕ)). length order) grew.order_is in omega (arith, longer, length-append start.order grew.more)) (λ rest. omega arith)
+            (left_quiet programs number event word [] middle still_open [] [] image [] 0 (subst (λ (desk : Desk). IsEitherOf programs number event middle desk image) (sym next_is) (two.did.crash image seen left)) refl refl));
+        doubt = λ shut front last is.
+            let ends = last_is one.taken front (event, word) (last, Doubt) is in
+            let doubted : word ≡ Doubt = ap (λ (pair : Event × Word). pair.1) ends.1 in
+            let that : event ≡ last = ap (λ (pair : Event × Word). pair.0) ends.1 in
+            let place = two.did.doubt doubted (ap (λ (desk : Desk). desk.closed) (sym same) ∙ shut) in
+            let here : InDoubt G programs number start one.taken event after = (place.0 ∙ ap (λ (desk : Desk). desk.order) (sym same) ∙ ap (λ (w : Word). (run programs (one.taken ++ (event, w) ∷ []) start).order) doubted, place.1) in
+            subst (λ (these : List (Event × Word)). InDoubt G programs number start these last after) ends.0 (subst (λ (e : Event). InDoubt G programs number start one.taken e after) that here);
+      } in
+      (ran, lines)
+
+  -- the next event is run from where the run is, and tallied
+  pub ran_next_quietly : (events : List Event) (i : ℕ) (event : Event) → i < length events → (start : Desk) (mid new : D) (before between after : W) (old_last new_last : List ℕ) (so_far : Tally) (tally : Option Tally) → S.closed mid ≡ false → S.programs mid ≡ programs → S.opened mid ≡ number → CallsDisk G before between → CallsDisk G between after
+      → (one : RanQuietly S G programs number (take i events) start mid before between) → Tells so_far [] old_last (event_lines [] programs number one.taken start)
+      → ((desk : Desk) → IsSure G between → S.shows mid (held_of G between) desk → WentQuietly S G (S.programs mid) (S.opened mid) (get_or events i event) desk new between after old_last new_last tally)
+      → (ran : RanQuietly S G programs number (take (i + 1) events) start new before after) × IfSome tally (λ more. Tells (record { commits = so_far.commits + more.commits; rollbacks = so_far.rollbacks + more.rollbacks }) [] new_last (event_lines [] programs number ran.taken start))
+  ran_next_quietly events i event lt start mid new before between after old_last new_last so_far tally was_open same_programs same_number calls_one calls_two one tells next =
+      let kept = one.still (sym one.closes ∙ was_open) in
+      let told = next (run programs one.taken start) kept.0 kept.1 in
+      let two : WentQuietly S G programs number (get_or events i event) (run programs one.taken start) new between after old_last new_last tally =
+      subst (λ (n : ℕ). WentQuietly S G programs n (get_or events i event) (run programs one.taken start) new between after old_last new_last tally) same_number
+      (subst (λ (these : List Program). WentQuietly S G these (S.opened mid) (get_or events i event) (run programs one.taken start) new between after old_last new_last tally) same_programs told) in
+      let more = ran_one_more (take i events) (get_or events i event) start mid new before between after old_last new_last tally was_open calls_one calls_two one two in
+      subst (λ (these : List Event). (ran : RanQuietly S G programs number these start new before after) × IfSome tally (λ more. Tells (record { commits = so_far.commits + more.commits; rollbacks = so_far.rollbacks + more.rollbacks }) [] new_last (event_lines [] programs number ran.taken start))) (sym (take_more events i event lt)) (
+        more.0,
+        if_some (λ one_more. Tells one_more old_last new_last (happening_lines [] (number_after number two.did.next) two.told)) _ tally
+            (λ one_more here. tells_on so_far one_more (record { commits = so_far.commits + one_more.commits; rollbacks = so_far.rollbacks + one_more.rollbacks }) [] old_last new_last (event_lines [] programs number one.taken start) (happening_lines [] (number_after number two.did.next) two.told) (event_lines [] programs number more.0.taken start) more.1 refl refl tells here) two.tells,
+      )

@@ -1,0 +1,92 @@
+use Rattle.std.proofs.Common.{[], ◌+◌, take, drop, refl, arith, append-nil, ◌∙◌}
+use Rattle.std.specs.Prelude.{Ok, Some, None}
+use Rattle.std.proofs.lemmas.List.{take-append-drop, take_all}
+use Rattle.outside.proofs.Runs.{calls_on}
+use Rattle.desk.specs.declared.event.Event.TheVariants.{Begin}
+use Rattle.desk.specs.Report.{event_lines}
+use Rattle.schedule_replay.proofs.AnsweredLemmas.{answered_none, answered_more}
+use Rattle.schedule_replay.proofs.EventLemmas.{calls_none}
+use Rattle.schedule_replay.proofs.QuietLemmas.{ran_nothing, ran_next_quietly, tells_nothing}
+use Rattle.schedule_replay.proofs.quietly.run_quiet.Goals as goal
+
+pub loop-event-init : goal.loop-event-init
+loop-event-init g c =
+    let S = g.S.Supervisor in
+    let G = g.W.Outside in
+    let L = g.met.S.Supervisor in
+    let M = g.met.W.Outside in
+    let old = c.args.desk.now in
+    let w = c.args.outside.now in
+    record {
+      answered = answered_none S G M.fewer_later old w c.requires.ready.sound c.requires.ready.bytes;
+      calls = calls_none G w;
+      still = λ was_open. was_open;
+      few = omega arith;
+      few_back = omega arith;
+      ran = λ start sure shows.
+          let it = ran_nothing S G M.fewer_later (S.programs old) (S.opened old) L.shown_stands L.shown_open L.open_shown L.order_shown start old w refl sure shows in
+          (it.0, tells_nothing c.clear.new.self.items (event_lines [] (S.programs old) (S.opened old) it.0.taken start) c.clear.ensures it.1);
+    }
+
+pub loop-event-preserved : goal.loop-event-preserved
+loop-event-preserved g c =
+    let S = g.S.Supervisor in
+    let G = g.W.Outside in
+    let L = g.met.S.Supervisor in
+    let M = g.met.W.Outside in
+    let now = c.loop-event.invariant in
+    let old = c.args.desk.now in
+    let mid = c.loop-event.desk in
+    let new = c.answer.new.desk in
+    let before = c.args.outside.now in
+    let between = c.loop-event.outside in
+    let after = c.answer.new.outside in
+    record {
+      answered = answered_more S G M.fewer_later c.args.events.now c.loop-event.event-index (Begin 0 []) c.loop-event-test.true old mid before between new after (Ok 0) now.answered c.answer.ensures.answered;
+      calls = calls_on G M.fewer_later before between after now.calls.time c.answer.ensures.calls.time now.calls c.answer.ensures.calls;
+      still = λ was_open. c.in-Some.ensures.closed;
+      few = omega (arith, now.few, c.in-Some.ensures.small.0);
+      few_back = omega (arith, now.few_back, c.in-Some.ensures.small.1);
+      ran = λ start sure shows.
+          let so_far = now.ran start sure shows in
+          ran_next_quietly S G M.fewer_later (S.programs old) (S.opened old) c.args.events.now c.loop-event.event-index (Begin 0 []) c.loop-event-test.true start mid new before between after c.loop-event.last.items c.answer.new.last.items (record { commits = c.loop-event.commits; rollbacks = c.loop-event.rollbacks }) (Some c.in-Some.tally)
+          (now.still (L.open_shown old _ start shows)) now.answered.programs now.answered.opened now.calls c.answer.ensures.calls so_far.0 so_far.1 c.in-Some.ensures.went;
+    }
+
+pub returns-in-None-clause-runs : goal.returns-in-None-clause-runs
+returns-in-None-clause-runs g c =
+    λ start sure shows.
+    let S = g.S.Supervisor in
+    let G = g.W.Outside in
+    let L = g.met.S.Supervisor in
+    let M = g.met.W.Outside in
+    let now = c.loop-event.invariant in
+    let old = c.args.desk.now in
+    let so_far = now.ran start sure shows in
+    let it = ran_next_quietly S G M.fewer_later (S.programs old) (S.opened old) c.args.events.now c.loop-event.event-index (Begin 0 []) c.loop-event-test.true start c.loop-event.desk c.answer.new.desk c.args.outside.now c.loop-event.outside c.answer.new.outside c.loop-event.last.items c.answer.new.last.items (record { commits = c.loop-event.commits; rollbacks = c.loop-event.rollbacks }) None
+    (now.still (L.open_shown old _ start shows)) now.answered.programs now.answered.opened now.calls c.answer.ensures.calls so_far.0 so_far.1 c.in-None.ensures.went in
+    record {
+      front = take (c.loop-event.event-index + 1) c.args.events.now;
+      rest = drop (c.loop-event.event-index + 1) c.args.events.now;
+      whole = take-append-drop (c.loop-event.event-index + 1) c.args.events.now;
+      ran = it.0;
+      tells = tt;
+      closed = c.in-None.ensures.closed;
+      all = λ no. absurd (cc);
+    }
+
+pub returns-clause-runs : goal.returns-clause-runs
+returns-clause-runs g c =
+    λ start sure shows.
+    let L = g.met.S.Supervisor in
+    let now = c.loop-event.invariant in
+    let it = now.ran start sure shows in
+    record {
+      front = take c.loop-event.event-index c.args.events.now;
+      rest = [];
+      whole = append-nil (take c.loop-event.event-index c.args.events.now) ∙ take_all c.loop-event.event-index c.args.events.now c.loop-event-test.false;
+      ran = it.0;
+      tells = it.1;
+      closed = now.still (L.open_shown c.args.desk.now _ start shows);
+      all = λ still. refl;
+    }

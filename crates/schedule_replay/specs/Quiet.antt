@@ -1,0 +1,148 @@
+-- What running events without a report did.
+use Rattle.std.specs.Prelude.{◌≡◌, ℕ, ◌+◌, ◌*◌, ◌≤◌, count_by, Bool, true, false, List, [], ◌∷◌, ◌++◌, map, Option, None, Some, IfSome, Result, Ok}
+use Rattle.std.specs.List.{fold}
+use Rattle.outside.specs.declared.world.Outside.{Ghosts}
+use Rattle.outside.specs.declared.failed.Failed.{Failed}
+use Rattle.outside.specs.Causes.{RoseBy}
+use Rattle.outside.specs.Durable.{IsSure}
+use Rattle.outside.specs.Runs.{Leaves, held_of}
+use Rattle.flat_machine.specs.declared.machine.Program.{Program}
+use Rattle.desk.specs.declared.answers.Begun.{Begun}
+use Rattle.desk.specs.declared.answers.Begun.TheVariants as begun
+use Rattle.desk.specs.declared.answers.Stored.{Stored}
+use Rattle.desk.specs.declared.answers.Stored.TheVariants as stored
+use Rattle.desk.specs.declared.answers.TurnEnd.{TurnEnd}
+use Rattle.desk.specs.declared.answers.TurnEnd.TheVariants as end
+use Rattle.desk.specs.declared.event.Event.{Event}
+use Rattle.desk.specs.declared.event.Event.TheVariants.{Crash}
+use Rattle.desk.specs.declared.supervisor.Supervisor as desk
+use Rattle.desk.specs.Commits.{is_commit}
+use Rattle.desk.specs.Crash.{Did}
+use Rattle.desk.specs.Desk.{Desk}
+use Rattle.desk.specs.Kept.{WritesMore, records_in, most_records, tells_fault}
+use Rattle.desk.specs.Instruction.{Word, Doubt}
+use Rattle.desk.specs.Run.{Happening, run, faulted, OpenBeforeEach}
+use Rattle.desk.specs.Lines.{Line}
+use Rattle.desk.specs.Lines as line
+use Rattle.desk.specs.Report.{number_after, event_lines, happening_lines}
+use Rattle.run_law.specs.Left.{IsLeft}
+use Rattle.schedule_replay.specs.declared.events.Going.{Going}
+use Rattle.schedule_replay.specs.declared.events.Going.TheVariants as going
+use Rattle.schedule_replay.specs.declared.quietly.Quiet.{Quiet}
+use Rattle.schedule_replay.specs.declared.quietly.Quiet.TheVariants as quiet
+use Rattle.schedule_replay.specs.declared.quietly.Tally.{Tally}
+use Rattle.schedule_replay.specs.Ran.{InDoubt}
+
+-- no put failed
+abbrev pub unput : Result ℕ Failed
+unput = Ok 0
+
+-- an event that is no crash
+abbrev pub IsLasting : Event → Type 0
+IsLasting Crash = ⊥
+IsLasting _ = Unit {0}
+
+-- whether a line tells of a rollback: of a check, of a record without room, of a page that can't be read, or of a victim
+abbrev pub is_rollback : Line → Bool
+is_rollback (line.Check activation code address) = true
+is_rollback (line.Journal activation lines limit) = true
+is_rollback (line.Disk activation) = true
+is_rollback (line.Victim activation) = true
+is_rollback _ = false
+
+-- what the last commit printed after one line more
+abbrev pub out_after : List ℕ → Line → List ℕ
+out_after last (line.Commit activation number steps out) = out
+out_after last _ = last
+
+-- a tally is that of lines: how many commits and how many rollbacks they tell of, and what the last commit printed, after what one before had
+pub record Tells (tally : Tally) (old new : List ℕ) (lines : List Line) : Type 0 where
+  pub commits : tally.commits ≡ count_by is_commit lines
+  pub rollbacks : tally.rollbacks ≡ count_by is_rollback lines
+  pub last : new ≡ fold out_after old lines
+
+-- the tally of a turn that ended so, behind the victims of so many cycles; none where the desk is closed
+abbrev pub tally_by : TurnEnd → (victims : ℕ) → Option Tally
+tally_by end.Idle victims = Some (record { commits = 0; rollbacks = 0 })
+tally_by end.Limit victims = Some (record { commits = 0; rollbacks = victims })
+tally_by (end.Committed number steps) victims = Some (record { commits = 1; rollbacks = victims })
+tally_by (end.Checked code address) victims = Some (record { commits = 0; rollbacks = victims + 1 })
+tally_by (end.Waits activation holders) victims = Some (record { commits = 0; rollbacks = victims })
+tally_by end.Victim victims = Some (record { commits = 0; rollbacks = victims })
+tally_by (end.Journal lines limit) victims = Some (record { commits = 0; rollbacks = victims + 1 })
+tally_by end.Disk victims = Some (record { commits = 0; rollbacks = victims + 1 })
+tally_by (end.Closed doubt number) victims = None
+tally_by end.Shut victims = None
+
+-- the tally of a begin, and that of a checkpoint
+abbrev pub tally_begun : Begun → Option Tally
+tally_begun begun.Shut = None
+tally_begun _ = Some (record { commits = 0; rollbacks = 0 })
+
+abbrev pub tally_stored : Stored → Option Tally
+tally_stored (stored.Number number) = Some (record { commits = 0; rollbacks = 0 })
+tally_stored _ = None
+
+-- what the last commit printed after a turn that ended so
+abbrev pub last_by : TurnEnd → (printed last : List ℕ) → List ℕ
+last_by (end.Committed number steps) printed last = printed
+last_by _ printed last = last
+
+-- one event makes few of both
+abbrev pub IsSmall : Tally → Type 0
+IsSmall tally = (tally.commits ≤ 1) × (tally.rollbacks ≤ 17)
+
+-- how it goes on by whether there is a tally
+abbrev pub going_told : Option Tally → Going
+going_told None = going.Closed
+going_told (Some tally) = going.On
+
+-- how it went on in the end
+abbrev pub going_of : Quiet → Going
+going_of (quiet.Ended commits rollbacks) = going.On
+going_of quiet.Closed = going.Closed
+
+-- an event was a step of the desk, and what it came to is told, where it left the desk open
+pub record WentQuietly {D W : Type 0} (S : desk.Ghosts D) (G : Ghosts W) (programs : List Program) (number : ℕ) (event : Event) (start : Desk) (new : D) (before after : W) (old_last new_last : List ℕ) (tally : Option Tally) : Type 0 where
+  pub told : Happening
+  pub did : Did G programs number event told (S.closed new) (S.order new) (S.shows new) start before after
+  pub writes : WritesMore (G.writes before) (G.writes after) (2 * count_by is_commit (happening_lines [] (number_after number did.next) told))
+  pub calm : count_by tells_fault (happening_lines [] (number_after number did.next) told) ≡ 0 → G.disk_faults after ≡ G.disk_faults before
+  pub tells : IfSome tally (λ tally. Tells tally old_last new_last (happening_lines [] (number_after number did.next) told))
+
+-- Events were run from a desk, each with a word, and nothing was put: what `Ran` says but for its lines, which nobody sees. The image that
+-- a crash since the start left is one of the run, whatever was printed before.
+pub record RanQuietly {D W : Type 0} (S : desk.Ghosts D) (G : Ghosts W) (programs : List Program) (number : ℕ) (events : List Event) (start : Desk) (new : D) (before after : W) : Type 0 where
+  pub taken : List (Event × Word)
+  pub events_taken : map (λ event. event.0) taken ≡ events
+  pub each_open : OpenBeforeEach programs taken start
+  pub closes : S.closed new ≡ (run programs taken start).closed
+  pub ordered : S.order new ≡ (run programs taken start).order
+  pub still : (run programs taken start).closed ≡ false → IsSure G after × S.shows new (held_of G after) (run programs taken start)
+  pub records : (run programs taken start).closed ≡ false → records_in (held_of G after) ≤ most_records (event_lines [] programs number taken start) (records_in (held_of G before))
+  pub faults : RoseBy (faulted taken) (G.disk_faults before) (G.disk_faults after)
+  pub calm : count_by tells_fault (event_lines [] programs number taken start) ≡ 0 → G.disk_faults after ≡ G.disk_faults before
+  pub writes : WritesMore (G.writes before) (G.writes after) (2 * count_by is_commit (event_lines [] programs number taken start))
+  pub left : Leaves G (λ image seen. IsLeft programs number start taken [] [] image []) before after
+  pub doubt : (run programs taken start).closed ≡ true → (front : List (Event × Word)) (event : Event) → taken ≡ front ++ (event, Doubt) ∷ [] → InDoubt G programs number start front event after
+
+-- the counts of a run that ended, and what its last commit printed, are those of its lines
+abbrev pub TellsAll : Quiet → (last : List ℕ) → List Line → Type 0
+TellsAll (quiet.Ended commits rollbacks) last lines = Tells (record { commits = commits; rollbacks = rollbacks }) [] last lines
+TellsAll quiet.Closed last lines = Unit {0}
+
+-- whether the desk is closed in the end
+abbrev pub is_shut : Quiet → Bool
+is_shut (quiet.Ended commits rollbacks) = false
+is_shut quiet.Closed = true
+
+-- There is one run of the first of the events from the desk that was shown, and all events were run where it is open in the end. Its
+-- counts are those of its lines.
+pub record RunsQuietly {D W : Type 0} (S : desk.Ghosts D) (G : Ghosts W) (programs : List Program) (number : ℕ) (events : List Event) (start : Desk) (new : D) (before after : W) (last : List ℕ) (quiet : Quiet) : Type 0 where
+  pub front : List Event
+  pub rest : List Event
+  pub whole : front ++ rest ≡ events
+  pub ran : RanQuietly S G programs number front start new before after
+  pub tells : TellsAll quiet last (event_lines [] programs number ran.taken start)
+  pub closed : S.closed new ≡ is_shut quiet
+  pub all : is_shut quiet ≡ false → rest ≡ []

@@ -1,0 +1,160 @@
+// The events of a schedule, one after another, without a report.
+ghost use Rattle.std.specs.Prelude.{◌≡◌, ◌≤◌, ℕ, List, [], ◌∷◌, All, false, length, IfSome};
+ghost use Rattle.outside.specs.Durable.{IsSure};
+ghost use Rattle.outside.specs.Runs.{CallsDisk, held_of};
+ghost use Rattle.desk.specs.declared.event.Event.TheVariants as event;
+ghost use Rattle.desk.specs.Desk.{Desk};
+ghost use Rattle.desk.specs.Kept.{HoldsStore, StillTold};
+ghost use Rattle.schedule_replay.specs.Answered.{IsReady, Answered, GoesBy};
+ghost use Rattle.schedule_replay.specs.Replays.{is_closed};
+ghost use Rattle.schedule_replay.specs.Quiet.{IsLasting, IsSmall, RunsQuietly, WentQuietly, going_of, going_told, last_by, tally_begun, tally_by, tally_stored, unput};
+
+use arrayvec::ArrayVec;
+use desk::{Begun, Event, Stored, Supervisor, Turn, TurnEnd};
+use outside::Outside;
+
+/// What an activation has printed.
+pub type Printed = ArrayVec<u8, 4096>;
+
+/// How events went without a report.
+#[derive(Debug, Clone, Copy, PartialEq, Eq)]
+pub enum Quiet {
+    /// All of them, with so many commits and so many rollbacks.
+    Ended { commits: u32, rollbacks: u32 },
+    /// To the one that closed the desk.
+    Closed,
+}
+
+/// How many commits and rollbacks there were.
+#[derive(Debug, Clone, Copy, PartialEq, Eq)]
+struct Tally {
+    commits: u32,
+    rollbacks: u32,
+}
+
+/// Nothing was committed or rolled back.
+const NOTHING: Tally = Tally {
+    commits: 0,
+    rollbacks: 0,
+};
+
+/// Runs the events and puts nothing; what the last commit printed is left in the room for it. It takes no memory.
+///
+/// A rollback is that of a victim, of an activation that a check ends, of one whose record has no room, and of one whose
+/// page can't be read.
+pub fn run_quiet<S: Supervisor, W: Outside>(
+    desk: &mut S,
+    events: &[Event],
+    last: &mut Printed,
+    outside: &mut W,
+) -> Quiet
+    requires ready { IsReady S.Supervisor W.Outside events.now desk.old outside.old }
+    requires few { length events.now ≤ 10000 }
+    requires lasting { All IsLasting events.now }
+
+    // From bytes that are sure, over which a desk is shown: what was run, its counts, and what a crash left at any moment.
+    ensures runs { (start : Desk) → IsSure W.Outside outside.old → S.shows desk.old (held_of W.Outside outside.old) start → RunsQuietly S.Supervisor W.Outside (S.programs desk.old) (S.opened desk.old) events.now start desk.new outside.old outside.new last.new.items result }
+    ensures goes { GoesBy S.Supervisor W.Outside desk.old desk.new outside.old outside.new (going_of result) }
+    ensures calls { CallsDisk W.Outside outside.old outside.new }
+    ensures sound { S.sound desk.new }
+    ensures told { StillTold W.Outside outside.old outside.new }
+    ensures bytes { HoldsStore W.Outside (S.header desk.new) outside.new }
+    ensures opened { S.opened desk.new ≡ S.opened desk.old }
+    ensures header { S.header desk.new ≡ S.header desk.old }
+    ensures begins { S.begins desk.new ≡ S.begins desk.old }
+{
+    let mut commits = 0;
+    let mut rollbacks = 0;
+    last.clear();
+    for event in events {
+        match answer(desk, *event, last, outside) {
+            Some(tally) => {
+                commits += tally.commits;
+                rollbacks += tally.rollbacks;
+            }
+            None => return Quiet::Closed,
+        }
+    }
+    Quiet::Ended { commits, rollbacks }
+}
+
+/// One event; none where it closed the desk.
+fn answer<S: Supervisor, W: Outside>(
+    desk: &mut S,
+    event: Event,
+    last: &mut Printed,
+    outside: &mut W,
+) -> Option<Tally>
+    requires ready { IsReady S.Supervisor W.Outside (event ∷ []) desk.old outside.old }
+    requires lasting { IsLasting event }
+    ensures answered { Answered S.Supervisor W.Outside (event ∷ []) desk.old desk.new outside.old outside.new unput }
+    ensures goes { GoesBy S.Supervisor W.Outside desk.old desk.new outside.old outside.new (going_told result) }
+    ensures calls { CallsDisk W.Outside outside.old outside.new }
+    ensures closed { S.closed desk.new ≡ is_closed (going_told result) }
+    ensures small { IfSome result IsSmall }
+    ensures went { (start : Desk) → IsSure W.Outside outside.old → S.shows desk.old (held_of W.Outside outside.old) start → WentQuietly S.Supervisor W.Outside (S.programs desk.old) (S.opened desk.old) event start desk.new outside.old outside.new last.old.items last.new.items result }
+{
+    match event {
+        Event::Begin { program, args } => tally_of_begin(desk.begin(program, args)),
+        Event::Turn { activation, limit } => {
+            let turn = desk.turn(outside, activation, limit);
+            keep_printed(desk, &turn.end, last);
+            tally_of_turn(&turn)
+        }
+        Event::Checkpoint => tally_of_checkpoint(desk.checkpoint(outside)),
+        Event::Crash => unreachable!(),
+    }
+}
+
+/// What an activation printed that has just committed, in place of what the one before did.
+fn keep_printed<S: Supervisor>(desk: &S, end: &TurnEnd, last: &mut Printed)
+    ensures { last.new.items ≡ last_by end.now (S.printed desk.now) last.old.items }
+{
+    if let TurnEnd::Committed(..) = end {
+        last.clear();
+        let _ = last.try_extend_from_slice(desk.printed());
+    }
+}
+
+/// The tally of a begin; none where the desk is closed.
+fn tally_of_begin(begun: Begun) -> Option<Tally>
+    ensures { result ≡ tally_begun begun }
+{
+    match begun {
+        Begun::Shut => None,
+        _ => Some(NOTHING),
+    }
+}
+
+/// The tally of a turn; none where the desk is closed.
+fn tally_of_turn(turn: &Turn) -> Option<Tally>
+    ensures { result ≡ tally_by turn.now.end (length turn.now.cycles.items) }
+{
+    let victims = turn.cycles.len() as u32;
+    match turn.end {
+        TurnEnd::Idle => Some(NOTHING),
+        TurnEnd::Limit | TurnEnd::Waits(..) | TurnEnd::Victim => Some(Tally {
+            commits: 0,
+            rollbacks: victims,
+        }),
+        TurnEnd::Committed(..) => Some(Tally {
+            commits: 1,
+            rollbacks: victims,
+        }),
+        TurnEnd::Checked(..) | TurnEnd::Journal(..) | TurnEnd::Disk => Some(Tally {
+            commits: 0,
+            rollbacks: victims + 1,
+        }),
+        TurnEnd::Closed { .. } | TurnEnd::Shut => None,
+    }
+}
+
+/// The tally of a checkpoint; none where the desk is closed.
+fn tally_of_checkpoint(stored: Stored) -> Option<Tally>
+    ensures { result ≡ tally_stored stored }
+{
+    match stored {
+        Stored::Number(_) => Some(NOTHING),
+        Stored::Closed | Stored::Shut => None,
+    }
+}
