@@ -88,7 +88,7 @@ const PLAIN: Case = Case {
     record: [0; 19],
 };
 
-const CASES: [Case; 13] = [
+const CASES: [Case; 26] = [
     Case {
         name: "one add",
         printed: b"open 0\nbegin 1 add5\nturn 1 ran 5 page 1 lock 2\ncommit 1 number 1 steps 5 out -\nend 1\n",
@@ -174,6 +174,86 @@ const CASES: [Case; 13] = [
         failing_put: Some(4),
         status: Status::PutFault,
         printed: b"open 0\nbegin 1 add5\nturn 1 ran 5 page 1 lock 2\n",
+        order: &[COMMIT],
+        record: RECORD,
+        ..PLAIN
+    },
+    Case {
+        name: "no lines",
+        text: Text::Bytes(b""),
+        status: Status::Job(1, 10),
+        ..PLAIN
+    },
+    Case {
+        name: "one frame",
+        text: Text::Bytes(b"frames 1\n"),
+        status: Status::Job(1, 11),
+        ..PLAIN
+    },
+    Case {
+        name: "a program that isn't there",
+        text: Text::Bytes(b"frames 2\nschedule\nbegin p\n"),
+        status: Status::Job(3, 12),
+        ..PLAIN
+    },
+    Case {
+        name: "a program that stands twice",
+        text: Text::Bytes(b"frames 2\nprogram p\nend\nprogram p\n"),
+        status: Status::Job(4, 13),
+        ..PLAIN
+    },
+    Case {
+        name: "an image of a byte too many",
+        text: Text::Bytes(b"frames 2\nprogram p\n.space 16385\nend\n"),
+        status: Status::Job(3, 8),
+        ..PLAIN
+    },
+    Case {
+        name: "a window too many",
+        text: Text::Bytes(b"frames 2\nprogram p\n.window 16, 1, r\nend\n"),
+        status: Status::Job(3, 9),
+        ..PLAIN
+    },
+    Case {
+        name: "an unknown mnemonic",
+        text: Text::Bytes(b"frames 2\nprogram p\nq r1, r2\n"),
+        status: Status::Job(3, 2),
+        ..PLAIN
+    },
+    Case {
+        name: "a byte of no text",
+        text: Text::Bytes(b"frames 2\nprogram p\n\xff\n"),
+        status: Status::Job(3, 1),
+        ..PLAIN
+    },
+    Case {
+        name: "a turn of no rows",
+        text: Text::Bytes(b"frames 2\nprogram p\nend\nschedule\nbegin p\nturn 1 0\n"),
+        status: Status::Job(6, 11),
+        ..PLAIN
+    },
+    Case {
+        name: "drains of too many turns",
+        text: Text::Bytes(b"frames 2\nprogram p\nend\nschedule\nbegin p\nbegin p\ndrain 5001 1\n"),
+        status: Status::Job(7, 11),
+        ..PLAIN
+    },
+    Case {
+        name: "a store with another byte 0",
+        other_byte: Some(0),
+        status: Status::Store(0),
+        ..PLAIN
+    },
+    Case {
+        name: "a store with another byte 100",
+        other_byte: Some(100),
+        status: Status::Store(100),
+        ..PLAIN
+    },
+    Case {
+        name: "a selector that chooses the first bank all the same",
+        other_byte: Some(128),
+        printed: b"open 0\nbegin 1 add5\nturn 1 ran 5 page 1 lock 2\ncommit 1 number 1 steps 5 out -\nend 1\n",
         order: &[COMMIT],
         record: RECORD,
         ..PLAIN
