@@ -2,7 +2,7 @@
 //! those of docs/FORMATS.md, worked out by hand.
 use super::*;
 use line_geometry::{Directory, PageSize};
-use outside::{Joint, MemoryDisk, MemoryScreen, MemorySource};
+use outside::{Call, Joint, MemoryDisk, MemoryScreen, MemorySource, Refusal};
 use std::alloc::{AllocError, Global};
 use std::process::Abort;
 use std::test::Fail;
@@ -140,10 +140,99 @@ const STOPS: [Stop; 14] = [
     },
 ];
 
+/// A call of the disk that fails, after so many that overlap the range; a put that fails after so many bytes; and what is left.
+struct Device {
+    running: Running,
+    refusal: Option<(Call, u64, u64, u32)>,
+    put: Option<(u32, u32)>,
+    status: Status,
+    commits: usize,
+    printed: &'static str,
+}
+
+const DEVICES: [Device; 8] = [
+    Device {
+        running: Running::OneAdd,
+        refusal: Some((Call::Length, 0, 0, 0)),
+        put: None,
+        status: Status::DiskFault,
+        commits: 0,
+        printed: "",
+    },
+    Device {
+        running: Running::OneAdd,
+        refusal: Some((Call::Read, 0, 128, 0)),
+        put: None,
+        status: Status::DiskFault,
+        commits: 0,
+        printed: "",
+    },
+    // the body of a record, and its gate
+    Device {
+        running: Running::OneAdd,
+        refusal: Some((Call::Write, 265, 408, 0)),
+        put: None,
+        status: Status::DiskFault,
+        commits: 0,
+        printed: "open 0\nbegin 1 add\nturn 1 ran 4 page 1 lock 2\nclosed\n",
+    },
+    Device {
+        running: Running::OneAdd,
+        refusal: Some((Call::Write, 264, 265, 0)),
+        put: None,
+        status: Status::DiskFault,
+        commits: 1,
+        printed: "open 0\nbegin 1 add\nturn 1 ran 4 page 1 lock 2\ndoubt 1 number 1\nclosed\n",
+    },
+    Device {
+        running: Running::OneAdd,
+        refusal: None,
+        put: Some((1, 3)),
+        status: Status::PutFault,
+        commits: 0,
+        printed: "ope",
+    },
+    Device {
+        running: Running::OneAdd,
+        refusal: None,
+        put: Some((4, 10)),
+        status: Status::PutFault,
+        commits: 1,
+        printed: "open 0\nbegin 1 add\nturn 1 ran 5 page 1 lock 2\ncommit 1 n",
+    },
+    // the sync of the gate, and the put of what it leaves
+    Device {
+        running: Running::OneAdd,
+        refusal: Some((Call::Sync, 0, 0, 2)),
+        put: Some((5, 0)),
+        status: Status::PutFault,
+        commits: 1,
+        printed: "open 0\nbegin 1 add\nturn 1 ran 4 page 1 lock 2\ndoubt 1 number 1\n",
+    },
+    // a home line at a checkpoint
+    Device {
+        running: Running::Filled,
+        refusal: Some((Call::Write, 8864, 8992, 0)),
+        put: None,
+        status: Status::DiskFault,
+        commits: 1,
+        printed: "open 0\nbegin 1 fill\nturn 1 ran 126 page 2 lock 31\ncommit 1 number 1 steps 126 out -\nbegin 2 null\n\
+            turn 2 ran 0 page 0 lock 0\nclosed\n",
+    },
+];
+
 /// Changes of the store that one add leaves, and where it doesn't stand then: its length, and bytes from an offset on.
-const DAMAGES: [(usize, usize, &[u8], u64); 4] = [
+const DAMAGES: [(usize, usize, &[u8], u64); 12] = [
+    (0, 0, &[], 0),
     (100, 0, &[], 100),
+    (143_631, 0, &[], 143_631),
+    (143_633, 0, &[], 143_632),
+    (143_632, 9, &[0], 8),
     (143_632, 9, &[3], 8),
+    (143_632, 10, &[0, 0], 10),
+    (143_632, 12, &[0, 0, 15, 255], 12),
+    (143_632, 18, &[0, 0], 18),
+    (143_632, 20, &[0, 1], 20),
     (143_632, 274, &[2], 267),
     // two lines, both with the number 5
     (
@@ -216,11 +305,52 @@ fn a_disk_that_stopped_opens_as_the_commits_before(rt: HostRuntime) -> Result<()
 }
 
 #[test]
+fn a_failed_call_ends_the_run(rt: HostRuntime) -> Result<(), Fail> {
+    let alloc = rt.alloc();
+    for device in &DEVICES {
+        let (held, job) = match device.running {
+            Running::OneAdd => (try_store(alloc)?, ONE_ADD),
+            Running::Filled => (small_store(alloc)?, FILLED),
+            Running::SideBySide => (try_store(alloc)?, SIDE_BY_SIDE),
+        };
+        let mut refusals = Vec::new(alloc);
+        if let Some((call, from, to, skip)) = device.refusal {
+            refusals.push(Refusal {
+                call,
+                from,
+                to,
+                skip,
+            })?;
+        }
+        let mut fails = Vec::new(alloc);
+        if let Some(put) = device.put {
+            fails.push(put)?;
+        }
+        let disk = MemoryDisk::new(alloc, held, refusals);
+        let mut outside = Joint::new(disk, MemoryScreen::new(alloc, fails));
+        let mut words = Vec::new(alloc);
+        words.push(String::from_str(alloc, "try")?)?;
+        let text = Vec::from_slice(alloc, job.as_bytes())?;
+        let ended = console(
+            alloc,
+            &words,
+            &mut MemorySource::new(text, Vec::new(alloc)),
+            &mut outside,
+        );
+        let (_, screen) = outside.into_parts();
+        assert_eq!(rt; ended.status, device.status, "{}", device.printed);
+        assert_eq!(rt; ended.order.len(), device.commits, "{}", device.printed);
+        assert!(rt; screen.printed() == device.printed.as_bytes(), "{}", device.printed);
+    }
+    Ok(())
+}
+
+#[test]
 fn a_damaged_store_is_told_and_left_alone(rt: HostRuntime) -> Result<(), Fail> {
     let alloc = rt.alloc();
     for (length, at, bytes, offset) in &DAMAGES {
         let mut held = run(alloc, try_store(alloc)?, None, ONE_ADD)?.held;
-        held.truncate(*length);
+        held.resize(*length, 0)?;
         if let Some(place) = held.as_mut_slice().get_mut(*at..at + bytes.len()) {
             place.copy_from_slice(bytes);
         }
