@@ -340,7 +340,11 @@ fn a_failed_call_ends_the_run(rt: HostRuntime) -> Result<(), Fail> {
         let (_, screen) = outside.into_parts();
         assert_eq!(rt; ended.status, device.status, "{}", device.printed);
         assert_eq!(rt; ended.order.len(), device.commits, "{}", device.printed);
-        assert!(rt; screen.printed() == device.printed.as_bytes(), "{}", device.printed);
+        assert!(rt;
+            screen.printed() == device.printed.as_bytes(),
+            "{}",
+            device.printed
+        );
     }
     Ok(())
 }
