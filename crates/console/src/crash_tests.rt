@@ -222,8 +222,10 @@ const DEVICES: [Device; 8] = [
 ];
 
 /// Changes of the store that one add leaves, and where it doesn't stand then: its length, and bytes from an offset on.
-const DAMAGES: [(usize, usize, &[u8], u64); 12] = [
+const DAMAGES: [(usize, usize, &[u8], u64); 14] = [
     (0, 0, &[], 0),
+    (143_632, 0, &[0], 0),
+    (143_632, 100, &[1], 100),
     (100, 0, &[], 100),
     (143_631, 0, &[], 143_631),
     (143_633, 0, &[], 143_632),

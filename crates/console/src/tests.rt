@@ -88,7 +88,7 @@ const PLAIN: Case = Case {
     record: [0; 19],
 };
 
-const CASES: [Case; 26] = [
+const CASES: [Case; 14] = [
     Case {
         name: "one add",
         printed: b"open 0\nbegin 1 add5\nturn 1 ran 5 page 1 lock 2\ncommit 1 number 1 steps 5 out -\nend 1\n",
@@ -176,78 +176,6 @@ const CASES: [Case; 26] = [
         printed: b"open 0\nbegin 1 add5\nturn 1 ran 5 page 1 lock 2\n",
         order: &[COMMIT],
         record: RECORD,
-        ..PLAIN
-    },
-    Case {
-        name: "no lines",
-        text: Text::Bytes(b""),
-        status: Status::Job(1, 10),
-        ..PLAIN
-    },
-    Case {
-        name: "one frame",
-        text: Text::Bytes(b"frames 1\n"),
-        status: Status::Job(1, 11),
-        ..PLAIN
-    },
-    Case {
-        name: "a program that isn't there",
-        text: Text::Bytes(b"frames 2\nschedule\nbegin p\n"),
-        status: Status::Job(3, 12),
-        ..PLAIN
-    },
-    Case {
-        name: "a program that stands twice",
-        text: Text::Bytes(b"frames 2\nprogram p\nend\nprogram p\n"),
-        status: Status::Job(4, 13),
-        ..PLAIN
-    },
-    Case {
-        name: "an image of a byte too many",
-        text: Text::Bytes(b"frames 2\nprogram p\n.space 16385\nend\n"),
-        status: Status::Job(3, 8),
-        ..PLAIN
-    },
-    Case {
-        name: "a window too many",
-        text: Text::Bytes(b"frames 2\nprogram p\n.window 16, 1, r\nend\n"),
-        status: Status::Job(3, 9),
-        ..PLAIN
-    },
-    Case {
-        name: "an unknown mnemonic",
-        text: Text::Bytes(b"frames 2\nprogram p\nq r1, r2\n"),
-        status: Status::Job(3, 2),
-        ..PLAIN
-    },
-    Case {
-        name: "a byte of no text",
-        text: Text::Bytes(b"frames 2\nprogram p\n\xff\n"),
-        status: Status::Job(3, 1),
-        ..PLAIN
-    },
-    Case {
-        name: "a turn of no rows",
-        text: Text::Bytes(b"frames 2\nprogram p\nend\nschedule\nbegin p\nturn 1 0\n"),
-        status: Status::Job(6, 11),
-        ..PLAIN
-    },
-    Case {
-        name: "drains of too many turns",
-        text: Text::Bytes(b"frames 2\nprogram p\nend\nschedule\nbegin p\nbegin p\ndrain 5001 1\n"),
-        status: Status::Job(7, 11),
-        ..PLAIN
-    },
-    Case {
-        name: "a store with another byte 0",
-        other_byte: Some(0),
-        status: Status::Store(0),
-        ..PLAIN
-    },
-    Case {
-        name: "a store with another byte 100",
-        other_byte: Some(100),
-        status: Status::Store(100),
         ..PLAIN
     },
     Case {
@@ -424,6 +352,28 @@ const SCHEDULES: [(&str, &str); 13] = [
     ),
 ];
 
+/// Texts that are no job: the line and the kind of the first fault of each.
+const HOSTILE: [(&[u8], u32, u8); 10] = [
+    (b"", 1, 10),
+    (b"frames 1\n", 1, 11),
+    (b"frames 2\nschedule\nbegin p\n", 3, 12),
+    (b"frames 2\nprogram p\nend\nprogram p\n", 4, 13),
+    (b"frames 2\nprogram p\n.space 16385\nend\n", 3, 8),
+    (b"frames 2\nprogram p\n.window 16, 1, r\nend\n", 3, 9),
+    (b"frames 2\nprogram p\nq r1, r2\n", 3, 2),
+    (b"frames 2\nprogram p\n\xff\n", 3, 1),
+    (
+        b"frames 2\nprogram p\nend\nschedule\nbegin p\nturn 1 0\n",
+        6,
+        11,
+    ),
+    (
+        b"frames 2\nprogram p\nend\nschedule\nbegin p\nbegin p\ndrain 5001 1\n",
+        7,
+        11,
+    ),
+];
+
 /// The words of a command line.
 pub(super) fn words_of(alloc: Global, listed: &[&str]) -> Result<Vec<String>, AllocError> {
     let mut words = Vec::new(alloc);
@@ -478,8 +428,9 @@ fn outside_of(alloc: Global, case: &Case) -> Result<Joint<MemoryDisk, MemoryScre
 struct Ran {
     status: Status,
     order: Vec<Committed>,
-    disk: MemoryDisk,
-    screen: MemoryScreen,
+    printed: Vec<u8>,
+    held: Vec<u8>,
+    calls: u64,
 }
 
 /// Runs a case.
@@ -492,23 +443,45 @@ fn run_case(alloc: Global, case: &Case) -> Result<Ran, AllocError> {
     Ok(Ran {
         status: ended.status,
         order: ended.order,
-        disk,
-        screen,
+        printed: screen.into_bytes(),
+        calls: disk.moment(),
+        held: disk.into_image(),
     })
+}
+
+/// Runs a case, and looks whether it left what it should.
+fn assert_case(rt: &impl Abort, alloc: Global, case: &Case) -> Result<(), Fail> {
+    let order = Vec::from_slice(alloc, case.order)?;
+    let store = store_of(alloc, case, &case.record)?;
+    let left = run_case(alloc, case)?;
+    assert_eq!(rt; left.status, case.status, "{}", case.name);
+    assert_eq!(rt; left.order, order, "{}", case.name);
+    assert!(rt; left.printed.as_slice() == case.printed, "{}", case.name);
+    assert_eq!(rt; left.held.len(), 143_632, "{}", case.name);
+    assert!(rt; left.held == store, "{}", case.name);
+    Ok(())
 }
 
 #[test]
 fn a_job_ends_as_its_parts_let_it(rt: HostRuntime) -> Result<(), Fail> {
-    let alloc = rt.alloc();
     for case in &CASES {
-        let order = Vec::from_slice(alloc, case.order)?;
-        let store = store_of(alloc, case, &case.record)?;
-        let left = run_case(alloc, case)?;
-        assert_eq!(rt; left.status, case.status, "{}", case.name);
-        assert_eq!(rt; left.order, order, "{}", case.name);
-        assert!(rt; left.screen.printed() == case.printed, "{}", case.name);
-        assert_eq!(rt; left.disk.bytes().len(), 143_632, "{}", case.name);
-        assert!(rt; left.disk.bytes() == store.as_slice(), "{}", case.name);
+        assert_case(&rt, rt.alloc(), case)?;
+    }
+    Ok(())
+}
+
+#[test]
+fn a_text_that_is_no_job_is_told(rt: HostRuntime) -> Result<(), Fail> {
+    for (text, line, kind) in &HOSTILE {
+        let left = run_case(
+            rt.alloc(),
+            &Case {
+                text: Text::Bytes(text),
+                ..PLAIN
+            },
+        )?;
+        assert_eq!(rt; left.status, Status::Job(*line, *kind));
+        assert!(rt; left.printed.is_empty());
     }
     Ok(())
 }
@@ -520,8 +493,8 @@ fn a_listing_and_a_drill_leave_the_disk_alone(rt: HostRuntime) -> Result<(), Fai
         let left = run_case(alloc, case)?;
         assert_eq!(rt; left.status, case.status, "{}", case.name);
         assert!(rt; left.order.is_empty(), "{}", case.name);
-        assert!(rt; left.screen.printed() == case.printed, "{}", case.name);
-        assert_eq!(rt; left.disk.moment(), 0, "{}", case.name);
+        assert!(rt; left.printed.as_slice() == case.printed, "{}", case.name);
+        assert_eq!(rt; left.calls, 0, "{}", case.name);
     }
     Ok(())
 }
