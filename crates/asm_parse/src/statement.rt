@@ -43,6 +43,11 @@ pub enum Operand {
 }
 
 impl Default for Operand {
+    ghost use Rattle.std.specs.Prelude.{◌≡◌};
+    ghost use Rattle.asm_parse.specs.declared.statement.Operand.TheVariants.{Register};
+
+    ghost is_default = { λ operand. operand ≡ Register 0 };
+
     fn default() -> Self {
         Operand::Register(0)
     }

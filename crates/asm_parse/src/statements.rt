@@ -1,4 +1,4 @@
-ghost use Rattle.std.specs.Prelude.{◌≡◌, ◌+◌, ◌≤◌, ◌<◌, ◌^◌, [], ◌∷◌, ◌++◌, length, slice_index_or, Some, OnOk};
+ghost use Rattle.std.specs.Prelude.{◌≡◌, ◌+◌, ◌≤◌, ◌<◌, ◌^◌, [], ◌∷◌, ◌++◌, length, slice_index_or, Some, OnOk, OnErr};
 ghost use Rattle.asm_parse.specs.Kept.{stated};
 ghost use Rattle.asm_parse.specs.declared.statement.Body.TheVariants.{Nothing};
 
@@ -56,11 +56,11 @@ impl Statements {
         self.wholes.clear();
     }
 
-    /// Appends a statement.
+    /// Appends a statement. Where there is no memory, the statements stay as they were.
     pub fn push(&mut self, statement: Statement) -> Result<(), AllocError>
         requires { length self.old < 2 ^ 31 }
         ensures pushed { OnOk result (self.new ≡ self.old ++ statement ∷ []) }
-        ensures longer { length self.new ≤ length self.old + 1 }
+        ensures kept { OnErr result (self.new ≡ self.old) }
     {
         let Statement { line, label, body } = statement;
         match (label, body) {
@@ -72,7 +72,7 @@ impl Statements {
     /// Appends a statement that is a label alone.
     fn push_bare(&mut self, line: u32, label: Word) -> Result<(), AllocError>
         ensures pushed { OnOk result (self.new ≡ self.old ++ (record { line = line; label = Some label; body = Nothing }) ∷ []) }
-        ensures longer { length self.new ≤ length self.old + 1 }
+        ensures kept { OnErr result (self.new ≡ self.old) }
     {
         self.heads.push(Head::Bare(line, label))?;
         Ok(())
@@ -82,7 +82,7 @@ impl Statements {
     fn push_whole(&mut self, statement: Statement) -> Result<(), AllocError>
         requires { length self.old < 2 ^ 31 }
         ensures pushed { OnOk result (self.new ≡ self.old ++ statement ∷ []) }
-        ensures longer { length self.new ≤ length self.old + 1 }
+        ensures kept { OnErr result (self.new ≡ self.old) }
     {
         let place = self.wholes.len() as u32;
         self.wholes.push(statement)?;

@@ -4,9 +4,10 @@ use Rattle.std.specs.Prelude.{Option, None, Some, unwrap_or, IsSome, ◌==◌}
 use Rattle.std.specs.Option.{option_map}
 use Rattle.std.proofs.lemmas.List.{drop-drop, take_all, take-set-le, drop-set-lt, length-set, get_or-set_same, length-take-le}
 use Rattle.line_geometry.specs.Lines.{line_count}
+use Rattle.line_geometry.specs.declared.directory.PageSize.TheVariants.{Two}
 use Rattle.store_format.specs.declared.header.Which.{Which}
 use Rattle.store_format.specs.declared.header.Which.TheVariants.{A, B}
-use Rattle.store_format.specs.Header.{Header, number_at, home_at, bank_at}
+use Rattle.store_format.specs.Header.{Header, number_at, home_at, bank_at, entry_bytes}
 use Rattle.store_format.specs.Bank.{RecordLine, lines_from, wrong_line, record_bytes, area_of}
 use Rattle.store_format.specs.Stands.{IsStore, stands, one_more}
 use Rattle.store_format.specs.Body.{IsBody}
@@ -39,26 +40,26 @@ place_is header A bytes same = refl
 place_is header B bytes same = omega (arith, same)
 
 -- the body that was filled in is one
-body_of : (bound due gate count : ℕ) (old new : List ℕ) → 11 + 132 * count ≤ length old → length new ≡ length old → number_at new 0 2 ≡ count → number_at new 2 8 ≡ due
-    → take (132 * count) (drop 10 new) ≡ take (132 * count) (drop 10 old) → slice_index new (10 + 132 * count) ≡ 0
+body_of : (bound due gate count : ℕ) (old new : List ℕ) → 11 + entry_bytes Two * count ≤ length old → length new ≡ length old → number_at new 0 2 ≡ count → number_at new 2 8 ≡ due
+    → take (entry_bytes Two * count) (drop 10 new) ≡ take (entry_bytes Two * count) (drop 10 old) → slice_index new (10 + entry_bytes Two * count) ≡ 0
     → wrong_line bound 0 (lines_from count (gate + 11) (drop 10 old)) ≡ None
-    → IsBody bound due gate count (lines_from count (gate + 11) (drop 10 old)) (take (11 + 132 * count) new)
+    → IsBody bound due gate count (lines_from count (gate + 11) (drop 10 old)) (take (11 + entry_bytes Two * count) new)
 body_of bound due gate count old new room long counted numbered lines closed ordered =
-    let front : take (11 + 132 * count) (take (11 + 132 * count) new) ≡ take (11 + 132 * count) new = take_all (11 + 132 * count) (take (11 + 132 * count) new) (omega (arith, length-take-le (11 + 132 * count) new (omega (arith, long, room)))) in
+    let front : take (11 + entry_bytes Two * count) (take (11 + entry_bytes Two * count) new) ≡ take (11 + entry_bytes Two * count) new = take_all (11 + entry_bytes Two * count) (take (11 + entry_bytes Two * count) new) (omega (arith, length-take-le (11 + entry_bytes Two * count) new (omega (arith, long, room)))) in
     record {
-      bytes = length-take-le (11 + 132 * count) new (omega (arith, long, room));
-      counted = same_number_at 0 2 (11 + 132 * count) (take (11 + 132 * count) new) new front (omega arith) ∙ counted;
-      numbered = same_number_at 2 8 (11 + 132 * count) (take (11 + 132 * count) new) new front (omega arith) ∙ numbered;
+      bytes = length-take-le (11 + entry_bytes Two * count) new (omega (arith, long, room));
+      counted = same_number_at 0 2 (11 + entry_bytes Two * count) (take (11 + entry_bytes Two * count) new) new front (omega arith) ∙ counted;
+      numbered = same_number_at 2 8 (11 + entry_bytes Two * count) (take (11 + entry_bytes Two * count) new) new front (omega arith) ∙ numbered;
       lined =
-          same_lines count (gate + 11) (132 * count) (drop 10 (take (11 + 132 * count) new)) (drop 10 new) (later_front 10 (132 * count) (take (11 + 132 * count) new) new (shorter_front (10 + 132 * count) (11 + 132 * count) (take (11 + 132 * count) new) new front (omega arith))) (omega arith)
-          ∙ same_lines count (gate + 11) (132 * count) (drop 10 new) (drop 10 old) lines (omega arith);
+          same_lines count (gate + 11) (entry_bytes Two * count) (drop 10 (take (11 + entry_bytes Two * count) new)) (drop 10 new) (later_front 10 (entry_bytes Two * count) (take (11 + entry_bytes Two * count) new) new (shorter_front (10 + entry_bytes Two * count) (11 + entry_bytes Two * count) (take (11 + entry_bytes Two * count) new) new front (omega arith))) (omega arith)
+          ∙ same_lines count (gate + 11) (entry_bytes Two * count) (drop 10 new) (drop 10 old) lines (omega arith);
       sound = ordered;
-      closed = same_byte (10 + 132 * count) (11 + 132 * count) (take (11 + 132 * count) new) new front (omega arith) ∙ closed;
+      closed = same_byte (10 + entry_bytes Two * count) (11 + entry_bytes Two * count) (take (11 + entry_bytes Two * count) new) new front (omega arith) ∙ closed;
     }
 
 pub make_ready : {W : Type 0} (G : Ghosts W) (bank : Inside) (outside : W) (tracks : Tracks G (kept_of bank) outside) → IsWhole bank
     → (filled body : List ℕ) (due : ℕ) → body ≡ take (record_bytes (begun_count bank)) filled → length filled ≡ length bank.body → number_at filled 0 2 ≡ (begun_count bank) → number_at filled 2 8 ≡ due
-    → take (132 * begun_count bank) (drop 10 filled) ≡ take (132 * begun_count bank) (drop 10 bank.body) → slice_index filled (10 + 132 * begun_count bank) ≡ 0
+    → take (entry_bytes Two * begun_count bank) (drop 10 filled) ≡ take (entry_bytes Two * begun_count bank) (drop 10 bank.body) → slice_index filled (10 + entry_bytes Two * begun_count bank) ≡ 0
     → due ≡ ((bank.base + bank.count) % 2 ^ 64 + 1) % 2 ^ 64 → bank.gate + record_bytes (begun_count bank) + 1 ≤ end_of bank.which bank.bank_bytes
     → Ready (held_of G outside) tracks.header bank.which bank.base bank.gate tracks.records (begun_count bank) (begun_lines bank) body
 make_ready G bank outside tracks whole filled body due is long counted numbered lines closed due_is fits =
@@ -134,15 +135,15 @@ module _ (held : List ℕ) (header : Header) (which : Which) (base gate : ℕ) (
       (ap (λ (n : ℕ). n == 0xA5) (get_or-set_same image gate 0xA5 0 within))
 
 -- the lines that were filled in around are those that were begun
-pub filled_lines : (bank : Inside) (filled those : List ℕ) → take (132 * begun_count bank) (drop 10 filled) ≡ take (132 * begun_count bank) (drop 10 bank.body) → those ≡ filled
+pub filled_lines : (bank : Inside) (filled those : List ℕ) → take (entry_bytes Two * begun_count bank) (drop 10 filled) ≡ take (entry_bytes Two * begun_count bank) (drop 10 bank.body) → those ≡ filled
     → lines_from (begun_count bank) (bank.gate + 11) (drop 10 those) ≡ begun_lines bank
 filled_lines bank filled those lines is =
     ap (λ (these : List ℕ). lines_from (begun_count bank) (bank.gate + 11) (drop 10 these)) is
-    ∙ same_lines (begun_count bank) (bank.gate + 11) (132 * begun_count bank) (drop 10 filled) (drop 10 bank.body) lines (omega arith)
+    ∙ same_lines (begun_count bank) (bank.gate + 11) (entry_bytes Two * begun_count bank) (drop 10 filled) (drop 10 bank.body) lines (omega arith)
 
 pub length-lines_from : (count at : ℕ) (bytes : List ℕ) → length (lines_from count at bytes) ≡ count
 length-lines_from zero at bytes = refl
-length-lines_from (suc count) at bytes = omega (arith, length-lines_from count (at + 132) (drop 132 bytes))
+length-lines_from (suc count) at bytes = omega (arith, length-lines_from count (at + entry_bytes Two) (drop (entry_bytes Two) bytes))
 
 -- the lines that are begun are those of the buffer
 begun_by : (begun : Option ℕ) (bank : Inside) → unwrap_or (option_map (buffered bank) begun) [] ≡ buffered bank (unwrap_or begun 0)

@@ -9,8 +9,9 @@ use Rattle.owned_list.specs.Overlay.{overlaid}
 use Rattle.std.specs.Prelude.{◌%◌, ◌^◌, ◌==◌, slice_index}
 use Rattle.byteorder.specs.Endian.{big_number}
 use Rattle.line_geometry.specs.Lines.{line_count}
+use Rattle.line_geometry.specs.declared.directory.PageSize.TheVariants.{Two}
 use Rattle.store_format.specs.declared.header.Which.{Which}
-use Rattle.store_format.specs.Header.{Header, home_at, bank_at, number_at}
+use Rattle.store_format.specs.Header.{Header, home_at, bank_at, number_at, line_bytes, entry_bytes}
 use Rattle.store_format.specs.Bank.{RecordLine, lines_from, wrong_line, lines_of, count_of, Area, Gate, Closed, Wrong, Sound, Holds, gate_at, holds_from, bank_held}
 use Rattle.store_format.proofs.Stores.{area_within}
 use Rattle.store_format.specs.Stands.{laid, home_of, IsStore}
@@ -23,61 +24,61 @@ use Rattle.redo_journal.specs.Noted.{place_in, newest_place}
 use Rattle.redo_journal.proofs.Places.{or_assoc, or_none, last_of, if_some, AreBelow, AllBelow}
 
 -- the bytes of a line in a list of lines
-abbrev pub line_bytes : ℕ → List ℕ → List ℕ
-line_bytes k bytes = take 128 (drop (k * 128) bytes)
+abbrev pub bytes_of_line : ℕ → List ℕ → List ℕ
+bytes_of_line k bytes = take (line_bytes Two) (drop (k * line_bytes Two) bytes)
 
-pub same_line : (bytes part : List ℕ) (j : ℕ) → length part ≡ 128 → j * 128 + 128 ≤ length bytes → line_bytes j (overlaid bytes (j * 128) part) ≡ part
+pub same_line : (bytes part : List ℕ) (j : ℕ) → length part ≡ line_bytes Two → j * line_bytes Two + line_bytes Two ≤ length bytes → bytes_of_line j (overlaid bytes (j * line_bytes Two) part) ≡ part
 same_line bytes part j long within =
-    ap (λ (these : List ℕ). take 128 these) (drop-overlaid bytes (j * 128) part (omega (arith, long)))
-    ∙ take_at part (drop (j * 128 + length part) bytes) 128 long
+    ap (λ (these : List ℕ). take (line_bytes Two) these) (drop-overlaid bytes (j * line_bytes Two) part (omega (arith, long)))
+    ∙ take_at part (drop (j * line_bytes Two + length part) bytes) (line_bytes Two) long
 
-pub other_line : (bytes part : List ℕ) (j k : ℕ) → length part ≡ 128 → j * 128 + 128 ≤ length bytes → (k ≡ j → ⊥) → line_bytes k (overlaid bytes (j * 128) part) ≡ line_bytes k bytes
+pub other_line : (bytes part : List ℕ) (j k : ℕ) → length part ≡ line_bytes Two → j * line_bytes Two + line_bytes Two ≤ length bytes → (k ≡ j → ⊥) → bytes_of_line k (overlaid bytes (j * line_bytes Two) part) ≡ bytes_of_line k bytes
 other_line bytes part j k long within other = elim (cases_lt k j) [
   | inl before ↦
-      shorter_front 128 (j * 128 - k * 128) (drop (k * 128) (overlaid bytes (j * 128) part)) (drop (k * 128) bytes)
-      (rest_front (k * 128) (j * 128) (overlaid bytes (j * 128) part) bytes (take-overlaid bytes (j * 128) part (omega (arith, long))) (omega arith)) (omega arith)
+      shorter_front (line_bytes Two) (j * line_bytes Two - k * line_bytes Two) (drop (k * line_bytes Two) (overlaid bytes (j * line_bytes Two) part)) (drop (k * line_bytes Two) bytes)
+      (rest_front (k * line_bytes Two) (j * line_bytes Two) (overlaid bytes (j * line_bytes Two) part) bytes (take-overlaid bytes (j * line_bytes Two) part (omega (arith, long))) (omega arith)) (omega arith)
   | inr behind ↦
       let more : k ≡ j → ⊥ = other in
-      let whole : j * 128 + length part + (k * 128 - (j * 128 + 128)) ≡ k * 128 = later k j behind more in
-      ap (λ (n : ℕ). take 128 (drop n (overlaid bytes (j * 128) part))) (sym whole)
-      ∙ ap (λ (these : List ℕ). take 128 these) (sym (drop-drop (k * 128 - (j * 128 + 128)) (j * 128 + length part) (overlaid bytes (j * 128) part)))
-      ∙ ap (λ (these : List ℕ). take 128 (drop (k * 128 - (j * 128 + 128)) these)) (behind-overlaid bytes (j * 128) part (omega (arith, long)))
-      ∙ ap (λ (these : List ℕ). take 128 these) (drop-drop (k * 128 - (j * 128 + 128)) (j * 128 + length part) bytes)
-      ∙ ap (λ (n : ℕ). take 128 (drop n bytes)) whole
+      let whole : j * line_bytes Two + length part + (k * line_bytes Two - (j * line_bytes Two + line_bytes Two)) ≡ k * line_bytes Two = later k j behind more in
+      ap (λ (n : ℕ). take (line_bytes Two) (drop n (overlaid bytes (j * line_bytes Two) part))) (sym whole)
+      ∙ ap (λ (these : List ℕ). take (line_bytes Two) these) (sym (drop-drop (k * line_bytes Two - (j * line_bytes Two + line_bytes Two)) (j * line_bytes Two + length part) (overlaid bytes (j * line_bytes Two) part)))
+      ∙ ap (λ (these : List ℕ). take (line_bytes Two) (drop (k * line_bytes Two - (j * line_bytes Two + line_bytes Two)) these)) (behind-overlaid bytes (j * line_bytes Two) part (omega (arith, long)))
+      ∙ ap (λ (these : List ℕ). take (line_bytes Two) these) (drop-drop (k * line_bytes Two - (j * line_bytes Two + line_bytes Two)) (j * line_bytes Two + length part) bytes)
+      ∙ ap (λ (n : ℕ). take (line_bytes Two) (drop n bytes)) whole
 ]
   where
-    later : (k j : ℕ) → j ≤ k → (k ≡ j → ⊥) → j * 128 + length part + (k * 128 - (j * 128 + 128)) ≡ k * 128
+    later : (k j : ℕ) → j ≤ k → (k ≡ j → ⊥) → j * line_bytes Two + length part + (k * line_bytes Two - (j * line_bytes Two + line_bytes Two)) ≡ k * line_bytes Two
     later k j le more = omega (arith, long, more)
 
 -- the bytes of a line by its newest place in an image, or by its home
 abbrev pub newest_bytes : List ℕ → List ℕ → ℕ → Option ℕ → List ℕ
-newest_bytes image home k None = line_bytes k home
-newest_bytes image home k (Some place) = take 128 (drop place image)
+newest_bytes image home k None = bytes_of_line k home
+newest_bytes image home k (Some place) = take (line_bytes Two) (drop place image)
 
 -- each line of the bytes is where the newest places say
 pub record Agree (bound : ℕ) (image home bytes : List ℕ) (newest : ℕ → Option ℕ) : Type 0 where
-  pub long : length bytes ≡ bound * 128
-  pub each : (k : ℕ) → k < bound → line_bytes k bytes ≡ newest_bytes image home k (newest k)
+  pub long : length bytes ≡ bound * line_bytes Two
+  pub each : (k : ℕ) → k < bound → bytes_of_line k bytes ≡ newest_bytes image home k (newest k)
 
 -- a line of a record of an image, in front of an end
 pub record IsLine (bound end : ℕ) (image : List ℕ) (line : RecordLine) : Type 0 where
   pub below : line.line < bound
-  pub has : line.bytes ≡ take 128 (drop (line.at + 4) image)
-  pub whole : length line.bytes ≡ 128
-  pub within : line.at + 132 ≤ end
+  pub has : line.bytes ≡ take (line_bytes Two) (drop (line.at + 4) image)
+  pub whole : length line.bytes ≡ line_bytes Two
+  pub within : line.at + entry_bytes Two ≤ end
 
 -- the newest places with a record more
 abbrev pub newer : List RecordLine → (ℕ → Option ℕ) → ℕ → Option ℕ
 newer lines newest k = option_or (place_in k lines) (newest k)
 
 agree_line : (bound end : ℕ) (image home bytes : List ℕ) (newest : ℕ → Option ℕ) (line : RecordLine) → IsLine bound end image line → Agree bound image home bytes newest
-    → Agree bound image home (overlaid bytes (line.line * 128) line.bytes) (newer (line ∷ []) newest)
+    → Agree bound image home (overlaid bytes (line.line * line_bytes Two) line.bytes) (newer (line ∷ []) newest)
 agree_line bound end image home bytes newest line is agree = record {
-  long = length-overlaid bytes (line.line * 128) line.bytes (omega (arith, is.below, is.whole, agree.long)) ∙ agree.long;
+  long = length-overlaid bytes (line.line * line_bytes Two) line.bytes (omega (arith, is.below, is.whole, agree.long)) ∙ agree.long;
   each = λ k within. elim (cases_eq k line.line) [
     | inl same ↦
         let here : (line.line == k) ≡ true = grind (arith, nat_tests) in
-        ap (λ (n : ℕ). line_bytes n (overlaid bytes (line.line * 128) line.bytes)) same
+        ap (λ (n : ℕ). bytes_of_line n (overlaid bytes (line.line * line_bytes Two) line.bytes)) same
         ∙ same_line bytes line.bytes line.line is.whole (omega (arith, is.below, agree.long))
         ∙ is.has
         ∙ ap (λ (b : Bool). newest_bytes image home k (option_or (if b then Some (line.at + 4) else None) (newest k))) (sym here)
@@ -101,7 +102,7 @@ agree_lines : (bound end : ℕ) (image home bytes : List ℕ) (newest : ℕ → 
     → Agree bound image home (laid bytes lines) (newer lines newest)
 agree_lines bound end image home bytes newest [] are agree = agree
 agree_lines bound end image home bytes newest (line ∷ lines) are agree =
-    let rest = agree_lines bound end image home (overlaid bytes (line.line * 128) line.bytes) (newer (line ∷ []) newest) lines are.1 (agree_line bound end image home bytes newest line are.0 agree) in
+    let rest = agree_lines bound end image home (overlaid bytes (line.line * line_bytes Two) line.bytes) (newer (line ∷ []) newest) lines are.1 (agree_line bound end image home bytes newest line are.0 agree) in
     record {
       long = rest.long;
       each = λ k within. rest.each k within ∙ ap (newest_bytes image home k) (or_assoc (place_in k lines) (if line.line == k then Some (line.at + 4) else None) (newest k));
@@ -127,17 +128,17 @@ all_below bound end image [] are = tt
 all_below bound end image (lines ∷ records) are = (lines_below bound end image lines are.0, all_below bound end image records are.1)
 
 -- lines in order that lie in an image
-lines_are : (bound least count at end : ℕ) (image : List ℕ) → at + 132 * count ≤ end → end ≤ length image → wrong_line bound least (lines_from count at (drop at image)) ≡ None → AreLines bound end image (lines_from count at (drop at image))
+lines_are : (bound least count at end : ℕ) (image : List ℕ) → at + entry_bytes Two * count ≤ end → end ≤ length image → wrong_line bound least (lines_from count at (drop at image)) ≡ None → AreLines bound end image (lines_from count at (drop at image))
 lines_are bound least zero at end image fits whole none = tt
 lines_are bound least (suc count) at end image fits whole none =
-    let here : RecordLine = record { line = big_number 4 (drop at image); at = at; bytes = take 128 (drop 4 (drop at image)) } in
-    let rest : lines_from count (at + 132) (drop 132 (drop at image)) ≡ lines_from count (at + 132) (drop (at + 132) image) = ap (λ (these : List ℕ). lines_from count (at + 132) these) (drop-drop 132 at image) in
-    let first = first_in_order bound least here (lines_from count (at + 132) (drop 132 (drop at image))) none in
-    let others = lines_are bound (here.line + 1) count (at + 132) end image (omega arith) whole (ap (wrong_line bound (here.line + 1)) (sym rest) ∙ first.rest) in (
+    let here : RecordLine = record { line = big_number 4 (drop at image); at = at; bytes = take (line_bytes Two) (drop 4 (drop at image)) } in
+    let rest : lines_from count (at + entry_bytes Two) (drop (entry_bytes Two) (drop at image)) ≡ lines_from count (at + entry_bytes Two) (drop (at + entry_bytes Two) image) = ap (λ (these : List ℕ). lines_from count (at + entry_bytes Two) these) (drop-drop (entry_bytes Two) at image) in
+    let first = first_in_order bound least here (lines_from count (at + entry_bytes Two) (drop (entry_bytes Two) (drop at image))) none in
+    let others = lines_are bound (here.line + 1) count (at + entry_bytes Two) end image (omega arith) whole (ap (wrong_line bound (here.line + 1)) (sym rest) ∙ first.rest) in (
       record {
         below = first.below;
-        has = ap (λ (these : List ℕ). take 128 these) (drop-drop 4 at image);
-        whole = length-take-le 128 (drop 4 (drop at image)) (omega (arith, length-drop 4 (drop at image), length-drop at image));
+        has = ap (λ (these : List ℕ). take (line_bytes Two) these) (drop-drop 4 at image);
+        whole = length-take-le (line_bytes Two) (drop 4 (drop at image)) (omega (arith, length-drop 4 (drop at image), length-drop at image));
         within = omega arith;
       },
       subst (λ (these : List RecordLine). AreLines bound end image these) (sym rest) others,
@@ -160,14 +161,14 @@ records_are image area (suc most) number from gate records (Sound lines next) wh
     subst (λ (these : List (List RecordLine)). AreRecords area.bound area.end image these) (sym parts.2) (here, rest)
 
 -- where a line has its newest bytes there are as many before the end
-place_within : (bound end : ℕ) (image : List ℕ) (k place : ℕ) (lines : List RecordLine) → AreLines bound end image lines → place_in k lines ≡ Some place → place + 128 ≤ end
+place_within : (bound end : ℕ) (image : List ℕ) (k place : ℕ) (lines : List RecordLine) → AreLines bound end image lines → place_in k lines ≡ Some place → place + line_bytes Two ≤ end
 place_within bound end image k place [] are is = cc
 place_within bound end image k place (line ∷ lines) are is = elim (last_of (place_in k lines) (if line.line == k then Some (line.at + 4) else None) place is) [
   | inl later ↦ place_within bound end image k place lines are.1 later
   | inr here ↦ let at = if_some (line.line == k) (line.at + 4) place here in omega (arith, at, are.0.within)
 ]
 
-pub newest_within : (bound end : ℕ) (image : List ℕ) (k place : ℕ) (records : List (List RecordLine)) → AreRecords bound end image records → newest_place k records ≡ Some place → place + 128 ≤ end
+pub newest_within : (bound end : ℕ) (image : List ℕ) (k place : ℕ) (records : List (List RecordLine)) → AreRecords bound end image records → newest_place k records ≡ Some place → place + line_bytes Two ≤ end
 newest_within bound end image k place [] are is = cc
 newest_within bound end image k place (lines ∷ records) are is = elim (last_of (newest_place k records) (place_in k lines) place is) [
   | inl later ↦ newest_within bound end image k place records are.1 later
@@ -190,19 +191,19 @@ store_agrees image header which base gate records is =
     record { long = all.long; each = λ k within. all.each k within ∙ ap (newest_bytes image (home_of image header) k) (or_none (newest_place k records)) }
 
 -- lists of as many lines that have the same lines
-pub same_lines : (n : ℕ) (xs ys : List ℕ) → length xs ≡ n * 128 → length ys ≡ n * 128 → ((k : ℕ) → k < n → line_bytes k xs ≡ line_bytes k ys) → xs ≡ ys
+pub same_lines : (n : ℕ) (xs ys : List ℕ) → length xs ≡ n * line_bytes Two → length ys ≡ n * line_bytes Two → ((k : ℕ) → k < n → bytes_of_line k xs ≡ bytes_of_line k ys) → xs ≡ ys
 same_lines zero xs ys long long' each = empty xs (omega arith) ∙ sym (empty ys (omega arith))
   where
     empty : (zs : List ℕ) → length zs ≡ 0 → zs ≡ []
     empty [] none = refl
     empty (z ∷ zs) none = absurd (omega arith)
 same_lines (suc n) xs ys long long' each =
-    sym (take-append-drop 128 xs)
-    ∙ ap (λ (these : List ℕ). these ++ drop 128 xs) (each 0 (omega arith))
-    ∙ ap (λ (these : List ℕ). take 128 ys ++ these)
-    (same_lines n (drop 128 xs) (drop 128 ys) (omega (arith, length-drop 128 xs)) (omega (arith, length-drop 128 ys))
-    (λ k few. ap (λ (these : List ℕ). take 128 these) (moved xs k) ∙ each (suc k) (omega arith) ∙ ap (λ (these : List ℕ). take 128 these) (sym (moved ys k))))
-    ∙ take-append-drop 128 ys
+    sym (take-append-drop (line_bytes Two) xs)
+    ∙ ap (λ (these : List ℕ). these ++ drop (line_bytes Two) xs) (each 0 (omega arith))
+    ∙ ap (λ (these : List ℕ). take (line_bytes Two) ys ++ these)
+    (same_lines n (drop (line_bytes Two) xs) (drop (line_bytes Two) ys) (omega (arith, length-drop (line_bytes Two) xs)) (omega (arith, length-drop (line_bytes Two) ys))
+    (λ k few. ap (λ (these : List ℕ). take (line_bytes Two) these) (moved xs k) ∙ each (suc k) (omega arith) ∙ ap (λ (these : List ℕ). take (line_bytes Two) these) (sym (moved ys k))))
+    ∙ take-append-drop (line_bytes Two) ys
   where
-    moved : (zs : List ℕ) (k : ℕ) → drop (k * 128) (drop 128 zs) ≡ drop (suc k * 128) zs
-    moved zs k = let place : 128 + k * 128 ≡ suc k * 128 = omega arith in drop-drop (k * 128) 128 zs ∙ ap (λ (n : ℕ). drop n zs) place
+    moved : (zs : List ℕ) (k : ℕ) → drop (k * line_bytes Two) (drop (line_bytes Two) zs) ≡ drop (suc k * line_bytes Two) zs
+    moved zs k = let place : (line_bytes Two) + k * line_bytes Two ≡ suc k * line_bytes Two = omega arith in drop-drop (k * line_bytes Two) (line_bytes Two) zs ∙ ap (λ (n : ℕ). drop n zs) place

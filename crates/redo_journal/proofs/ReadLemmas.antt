@@ -6,6 +6,8 @@ use Rattle.std.proofs.lemmas.List.{drop-drop, take-take, get_or-take, get_or-dro
 use Rattle.byteorder.specs.Endian.{big_number}
 use Rattle.byteorder.specs.Numbers.{big_from-take}
 use Rattle.owned_list.specs.Overlay.{overlaid}
+use Rattle.line_geometry.specs.declared.directory.PageSize.TheVariants.{Two}
+use Rattle.store_format.specs.Header.{line_bytes, entry_bytes}
 use Rattle.store_format.specs.Bank.{RecordLine, lines_from, wrong_line, count_of, number_of, lines_of, record_bytes, head_fault, lined_gate, headed_gate, gate_if}
 use Rattle.store_format.proofs.Fronts.{same_number_at}
 use Rattle.store_format.proofs.Stores.{fault_none}
@@ -15,30 +17,30 @@ use Rattle.redo_journal.specs.Noted.{noted}
 
 -- the lines from one on
 abbrev pub lines_after : (count i at : ℕ) → List ℕ → List RecordLine
-lines_after count i at held = lines_from (count - i) (at + 132 * i) (drop (at + 132 * i) held)
+lines_after count i at held = lines_from (count - i) (at + entry_bytes Two * i) (drop (at + entry_bytes Two * i) held)
 
 abbrev line_here : (i at : ℕ) → List ℕ → ℕ → RecordLine
-line_here i at held line = record { line = line; at = at + 132 * i; bytes = take 128 (drop 4 (drop (at + 132 * i) held)) }
+line_here i at held line = record { line = line; at = at + entry_bytes Two * i; bytes = take (line_bytes Two) (drop 4 (drop (at + entry_bytes Two * i) held)) }
 
-module _ (count i at : ℕ) (held number : List ℕ) (line : ℕ) (more : i < count) (read : number ≡ bytes_at held (at + 132 * i) 4) (is : line ≡ big_number 4 number) where
+module _ (count i at : ℕ) (held number : List ℕ) (line : ℕ) (more : i < count) (read : number ≡ bytes_at held (at + entry_bytes Two * i) 4) (is : line ≡ big_number 4 number) where
   begins : lines_after count i at held ≡ line_here i at held line ∷ lines_after count (i + 1) at held
   begins =
       let fuel : count - i ≡ suc (count - (i + 1)) = omega arith in
-      let place : at + 132 * i + 132 ≡ at + 132 * (i + 1) = omega arith in
-      let rest : drop 132 (drop (at + 132 * i) held) ≡ drop (at + 132 * (i + 1)) held = drop-drop 132 (at + 132 * i) held ∙ ap (λ (n : ℕ). drop n held) place in
-      let line_is : big_number 4 (drop (at + 132 * i) held) ≡ line = sym (is ∙ ap (λ (these : List ℕ). big_number 4 these) read ∙ big_from-take 0 4 4 (drop (at + 132 * i) held) (omega arith)) in
-      ap (λ (n : ℕ). lines_from n (at + 132 * i) (drop (at + 132 * i) held)) fuel
-      ∙ ap (λ (n : ℕ). line_here i at held n ∷ lines_from (count - (i + 1)) (at + 132 * i + 132) (drop 132 (drop (at + 132 * i) held))) line_is
-      ∙ ap (λ (n : ℕ). line_here i at held line ∷ lines_from (count - (i + 1)) n (drop 132 (drop (at + 132 * i) held))) place
-      ∙ ap (λ (these : List ℕ). line_here i at held line ∷ lines_from (count - (i + 1)) (at + 132 * (i + 1)) these) rest
+      let place : at + entry_bytes Two * i + entry_bytes Two ≡ at + entry_bytes Two * (i + 1) = omega arith in
+      let rest : drop (entry_bytes Two) (drop (at + entry_bytes Two * i) held) ≡ drop (at + entry_bytes Two * (i + 1)) held = drop-drop (entry_bytes Two) (at + entry_bytes Two * i) held ∙ ap (λ (n : ℕ). drop n held) place in
+      let line_is : big_number 4 (drop (at + entry_bytes Two * i) held) ≡ line = sym (is ∙ ap (λ (these : List ℕ). big_number 4 these) read ∙ big_from-take 0 4 4 (drop (at + entry_bytes Two * i) held) (omega arith)) in
+      ap (λ (n : ℕ). lines_from n (at + entry_bytes Two * i) (drop (at + entry_bytes Two * i) held)) fuel
+      ∙ ap (λ (n : ℕ). line_here i at held n ∷ lines_from (count - (i + 1)) (at + entry_bytes Two * i + entry_bytes Two) (drop (entry_bytes Two) (drop (at + entry_bytes Two * i) held))) line_is
+      ∙ ap (λ (n : ℕ). line_here i at held line ∷ lines_from (count - (i + 1)) n (drop (entry_bytes Two) (drop (at + entry_bytes Two * i) held))) place
+      ∙ ap (λ (these : List ℕ). line_here i at held line ∷ lines_from (count - (i + 1)) (at + entry_bytes Two * (i + 1)) these) rest
 
-  pub wrong_here : (bound least : ℕ) → nat_le least line && nat_lt line bound ≡ false → wrong_line bound least (lines_after count i at held) ≡ Some (at + 132 * i)
+  pub wrong_here : (bound least : ℕ) → nat_le least line && nat_lt line bound ≡ false → wrong_line bound least (lines_after count i at held) ≡ Some (at + entry_bytes Two * i)
   wrong_here bound least wrong = ap (wrong_line bound least) begins ∙ rw wrong refl
 
   pub right_here : (bound least : ℕ) → nat_le least line && nat_lt line bound ≡ true → wrong_line bound least (lines_after count i at held) ≡ wrong_line bound (line + 1) (lines_after count (i + 1) at held)
   right_here bound least right = ap (wrong_line bound least) begins ∙ rw right refl
 
-  pub noted_here : (newest : List (Option ℕ)) → noted newest (lines_after count i at held) ≡ noted (overlaid newest line (Some (at + 132 * i + 4) ∷ [])) (lines_after count (i + 1) at held)
+  pub noted_here : (newest : List (Option ℕ)) → noted newest (lines_after count i at held) ≡ noted (overlaid newest line (Some (at + entry_bytes Two * i + 4) ∷ [])) (lines_after count (i + 1) at held)
   noted_here newest = ap (noted newest) begins
 
 pub is_low : (bound least line : ℕ) → line < least → nat_le least line && nat_lt line bound ≡ false
@@ -49,9 +51,9 @@ is_high bound least line high = grind (arith, nat_tests)
 
 -- a record whose head was read
 pub gate_read : (held head : List ℕ) (bound end due gate count number : ℕ) → head ≡ bytes_at held (gate + 1) 10 → count ≡ big_number 2 head → number ≡ big_number 8 (take 8 (drop 2 head)) → number ≡ due
-    → (slice_index held gate == 0xA5) ≡ true → gate + 11 + 132 * count + 1 ≤ end
+    → (slice_index held gate == 0xA5) ≡ true → gate + 11 + entry_bytes Two * count + 1 ≤ end
     → gate_if (slice_index held gate == 0xA5) bound end due gate (drop gate held)
-    ≡ lined_gate (wrong_line bound 0 (lines_from count (gate + 11) (drop (gate + 11) held))) (lines_from count (gate + 11) (drop (gate + 11) held)) (gate + 11 + 132 * count)
+    ≡ lined_gate (wrong_line bound 0 (lines_from count (gate + 11) (drop (gate + 11) held))) (lines_from count (gate + 11) (drop (gate + 11) held)) (gate + 11 + entry_bytes Two * count)
 gate_read held head bound end due gate count number read counted numbered due_is shown fits =
     let bytes = drop gate held in
     let behind : drop 1 bytes ≡ drop (gate + 1) held = drop-drop 1 gate held in
@@ -66,7 +68,7 @@ gate_read held head bound end due gate count number read counted numbered due_is
     let none : head_fault end due gate bytes ≡ None = fault_none end due gate bytes number_is (omega (arith, count_is, fits)) in
     let lines : lines_of gate bytes ≡ lines_from count (gate + 11) (drop (gate + 11) held) =
     ap (λ (n : ℕ). lines_from n (gate + 11) (drop 11 bytes)) count_is ∙ ap (λ (these : List ℕ). lines_from count (gate + 11) these) (drop-drop 11 gate held) in
-    let next : gate + record_bytes (count_of bytes) ≡ gate + 11 + 132 * count = omega (arith, count_is) in
+    let next : gate + record_bytes (count_of bytes) ≡ gate + 11 + entry_bytes Two * count = omega (arith, count_is) in
     ap (λ (b : Bool). gate_if b bound end due gate bytes) shown
     ∙ ap (λ (fault : Option ℕ). headed_gate fault bound gate bytes) none
     ∙ ap (λ (these : List RecordLine). lined_gate (wrong_line bound 0 these) these (gate + record_bytes (count_of bytes))) lines

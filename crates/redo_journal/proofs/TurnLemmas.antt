@@ -5,7 +5,9 @@ use Rattle.std.specs.Option.{option_map}
 use Rattle.std.proofs.lemmas.List.Elements.{All-replicate}
 use Rattle.byteorder.specs.Endian.{big_number}
 use Rattle.owned_list.specs.Overlay.{overlaid}
+use Rattle.line_geometry.specs.declared.directory.PageSize.TheVariants.{Two}
 use Rattle.store_format.specs.declared.header.Which.{Which}
+use Rattle.store_format.specs.Header.{line_bytes, entry_bytes}
 use Rattle.store_format.proofs.Lines.{in_order}
 use Rattle.redo_journal.proofs.NoteLemmas.{first_in_order, low_of}
 use Rattle.store_format.specs.Bank.{RecordLine, lines_from, wrong_line}
@@ -20,24 +22,24 @@ use Rattle.redo_journal.specs.Turned.{placed, turned}
 -- the same bytes read from another offset are the lines placed there
 pub lines_placed : (count at from : ℕ) (bytes : List ℕ) → lines_from count at bytes ≡ placed at (lines_from count from bytes)
 lines_placed zero at from bytes = refl
-lines_placed (suc count) at from bytes = ap (λ (these : List RecordLine). record { line = big_number 4 bytes; at = at; bytes = take 128 (drop 4 bytes) } ∷ these) (lines_placed count (at + 132) (from + 132) (drop 132 bytes))
+lines_placed (suc count) at from bytes = ap (λ (these : List RecordLine). record { line = big_number 4 bytes; at = at; bytes = take (line_bytes Two) (drop 4 bytes) } ∷ these) (lines_placed count (at + entry_bytes Two) (from + entry_bytes Two) (drop (entry_bytes Two) bytes))
 
 pub length-placed : (at : ℕ) (lines : List RecordLine) → length (placed at lines) ≡ length lines
 length-placed at [] = refl
-length-placed at (line ∷ lines) = omega (arith, length-placed (at + 132) lines)
+length-placed at (line ∷ lines) = omega (arith, length-placed (at + entry_bytes Two) lines)
 
 -- they are in order where they were
 pub placed_order : (bound least at : ℕ) (lines : List RecordLine) → wrong_line bound least lines ≡ None → wrong_line bound least (placed at lines) ≡ None
 placed_order bound least at [] none = refl
 placed_order bound least at (line ∷ lines) none =
     let first = first_in_order bound least line lines none in
-    let rest = placed_order bound (line.line + 1) (at + 132) lines first.rest in
+    let rest = placed_order bound (line.line + 1) (at + entry_bytes Two) lines first.rest in
     rw (in_order bound least line.line (low_of bound least line lines none) first.below) rest
 
 -- they are laid over a store as they were
 laid_placed : (at : ℕ) (lines : List RecordLine) (bytes : List ℕ) → laid bytes (placed at lines) ≡ laid bytes lines
 laid_placed at [] bytes = refl
-laid_placed at (line ∷ lines) bytes = laid_placed (at + 132) lines (overlaid bytes (line.line * 128) line.bytes)
+laid_placed at (line ∷ lines) bytes = laid_placed (at + entry_bytes Two) lines (overlaid bytes (line.line * line_bytes Two) line.bytes)
 
 pub one_more_placed : (at : ℕ) (lines : List RecordLine) (standing : Standing) → one_more (placed at lines) standing ≡ one_more lines standing
 one_more_placed at lines (Stands number store) = ap (λ (bytes : List ℕ). Stands ((number + 1) % 2 ^ 64) (let flat : FlatStore = record { directory = store.directory; bytes = bytes } in flat)) (laid_placed at lines store.bytes)
@@ -46,7 +48,7 @@ one_more_placed at lines (Damaged offset) = refl
 
 -- no place lies behind an end
 pub none_within : (end count : ℕ) → AreWithin end (replicate count None)
-none_within end count = All-replicate (λ (place : Option ℕ). IfSome place (λ at. at + 128 ≤ end)) count None tt
+none_within end count = All-replicate (λ (place : Option ℕ). IfSome place (λ at. at + line_bytes Two ≤ end)) count None tt
 
 -- the begun lines behind another gate
 begun_placed : (begun : Option ℕ) (bank : Inside) (at : ℕ) → option_map (λ count. lines_from count (at + 8 + 11) (drop 10 bank.body)) begun ≡ option_map (placed (at + 19)) (option_map (buffered bank) begun)

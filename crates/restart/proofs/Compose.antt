@@ -5,12 +5,13 @@ use Rattle.std.proofs.lemmas.Bool.{cases_eq}
 use Rattle.std.proofs.lemmas.List.{drop-drop, drop-take, take-take, length-drop, length-take-le}
 use Rattle.line_geometry.specs.Directory.{page_count}
 use Rattle.line_geometry.specs.Lines.{line_count}
-use Rattle.store_format.specs.Header.{Header, home_at}
+use Rattle.line_geometry.specs.declared.directory.PageSize.TheVariants.{Two}
+use Rattle.store_format.specs.Header.{Header, home_at, line_bytes}
 use Rattle.store_format.specs.Stands.{Standing, laid, home_of, stands}
 use Rattle.store_format.proofs.Stores.{stands_is}
 use Rattle.outside.specs.Bytes.{bytes_at}
 use Rattle.redo_journal.specs.Noted.{newest_place}
-use Rattle.redo_journal.proofs.Newest.{line_bytes, newest_bytes, same_line, other_line, same_lines, Agree, store_agrees}
+use Rattle.redo_journal.proofs.Newest.{bytes_of_line, newest_bytes, same_line, other_line, same_lines, Agree, store_agrees}
 use Rattle.restart.specs.Kept.{KeptStore}
 use Rattle.restart.specs.Shows.{Shows, page_in}
 use Rattle.restart.proofs.ShowLemmas.{shown_store}
@@ -18,42 +19,42 @@ use Rattle.restart.specs.Page.{newest_over}
 
 -- the lines up to one are the newest, and those from it on are at home
 pub record Composed (image home : List ℕ) (newest : List (Option ℕ)) (first i : ℕ) (page : List ℕ) : Type 0 where
-  pub done : (k : ℕ) → k < i → line_bytes k page ≡ newest_bytes image home (first + k) (get_or newest (first + k) None)
-  pub left : (k : ℕ) → i ≤ k → k < 16 → line_bytes k page ≡ line_bytes (first + k) home
+  pub done : (k : ℕ) → k < i → bytes_of_line k page ≡ newest_bytes image home (first + k) (get_or newest (first + k) None)
+  pub left : (k : ℕ) → i ≤ k → k < 16 → bytes_of_line k page ≡ bytes_of_line (first + k) home
 
 -- a line of a part of a list
-line_of_part : (bytes : List ℕ) (at k : ℕ) → k < 16 → line_bytes k (take 2048 (drop at bytes)) ≡ take 128 (drop (at + k * 128) bytes)
+line_of_part : (bytes : List ℕ) (at k : ℕ) → k < 16 → bytes_of_line k (take 2048 (drop at bytes)) ≡ take (line_bytes Two) (drop (at + k * line_bytes Two) bytes)
 line_of_part bytes at k few =
-    let whole : 2048 ≡ k * 128 + (2048 - k * 128) = omega arith in
-    ap (λ (n : ℕ). take 128 (drop (k * 128) (take n (drop at bytes)))) whole
-    ∙ ap (λ (these : List ℕ). take 128 these) (drop-take (k * 128) (2048 - k * 128) (drop at bytes))
-    ∙ take-take 128 (2048 - k * 128) (drop (k * 128) (drop at bytes)) (omega arith)
-    ∙ ap (λ (these : List ℕ). take 128 these) (drop-drop (k * 128) at bytes)
+    let whole : 2048 ≡ k * line_bytes Two + (2048 - k * line_bytes Two) = omega arith in
+    ap (λ (n : ℕ). take (line_bytes Two) (drop (k * line_bytes Two) (take n (drop at bytes)))) whole
+    ∙ ap (λ (these : List ℕ). take (line_bytes Two) these) (drop-take (k * line_bytes Two) (2048 - k * line_bytes Two) (drop at bytes))
+    ∙ take-take (line_bytes Two) (2048 - k * line_bytes Two) (drop (k * line_bytes Two) (drop at bytes)) (omega arith)
+    ∙ ap (λ (these : List ℕ). take (line_bytes Two) these) (drop-drop (k * line_bytes Two) at bytes)
 
 pub composed_none : (image : List ℕ) (header : Header) (newest : List (Option ℕ)) (first : ℕ) (page : List ℕ) → page ≡ bytes_at image (home_at header first) 2048 → Composed image (home_of image header) newest first 0 page
 composed_none image header newest first page is = record {
   done = λ k few. absurd (omega arith);
   left = λ k more few.
-      let place : home_at header first + k * 128 ≡ home_at header 0 + (first + k) * 128 = omega arith in
-      ap (line_bytes k) is
+      let place : home_at header first + k * line_bytes Two ≡ home_at header 0 + (first + k) * line_bytes Two = omega arith in
+      ap (bytes_of_line k) is
       ∙ line_of_part image (home_at header first) k few
-      ∙ ap (λ (n : ℕ). take 128 (drop n image)) place
-      ∙ ap (λ (these : List ℕ). take 128 these) (sym (drop-drop ((first + k) * 128) (home_at header 0) image));
+      ∙ ap (λ (n : ℕ). take (line_bytes Two) (drop n image)) place
+      ∙ ap (λ (these : List ℕ). take (line_bytes Two) these) (sym (drop-drop ((first + k) * line_bytes Two) (home_at header 0) image));
 }
 
 pub composed_more : (image home : List ℕ) (newest : List (Option ℕ)) (first i : ℕ) (page new : List ℕ) (place : Option ℕ) → i < 16 → length page ≡ 2048 → place ≡ get_or newest (first + i) None
-    → ((at : ℕ) → place ≡ Some at → at + 128 ≤ length image) → new ≡ newest_over 128 image place page (i * 128) → Composed image home newest first i page → Composed image home newest first (i + 1) new
+    → ((at : ℕ) → place ≡ Some at → at + line_bytes Two ≤ length image) → new ≡ newest_over (line_bytes Two) image place page (i * line_bytes Two) → Composed image home newest first i page → Composed image home newest first (i + 1) new
 composed_more image home newest first i page new None more long place_is within is composed = record {
   done = λ k few. elim (cases_eq k i) [
     | inl same ↦
-        ap (λ (n : ℕ). line_bytes n new) same
-        ∙ ap (line_bytes i) is
+        ap (λ (n : ℕ). bytes_of_line n new) same
+        ∙ ap (bytes_of_line i) is
         ∙ composed.left i (omega arith) more
         ∙ ap (newest_bytes image home (first + i)) place_is
         ∙ ap (λ (n : ℕ). newest_bytes image home (first + n) (get_or newest (first + n) None)) (sym same)
-    | inr other ↦ ap (line_bytes k) is ∙ composed.done k (below k i few other)
+    | inr other ↦ ap (bytes_of_line k) is ∙ composed.done k (below k i few other)
   ];
-  left = λ k past few. ap (line_bytes k) is ∙ composed.left k (omega arith) few;
+  left = λ k past few. ap (bytes_of_line k) is ∙ composed.left k (omega arith) few;
 }
   where
     below : (k i : ℕ) → k < i + 1 → (k ≡ i → ⊥) → k < i
@@ -61,18 +62,18 @@ composed_more image home newest first i page new None more long place_is within 
 composed_more image home newest first i page new (Some at) more long place_is within is composed = record {
   done = λ k few. elim (cases_eq k i) [
     | inl same ↦
-        ap (λ (n : ℕ). line_bytes n new) same
-        ∙ ap (line_bytes i) is
-        ∙ same_line page (bytes_at image at 128) i whole (omega (arith, long))
+        ap (λ (n : ℕ). bytes_of_line n new) same
+        ∙ ap (bytes_of_line i) is
+        ∙ same_line page (bytes_at image at (line_bytes Two)) i whole (omega (arith, long))
         ∙ ap (newest_bytes image home (first + i)) place_is
         ∙ ap (λ (n : ℕ). newest_bytes image home (first + n) (get_or newest (first + n) None)) (sym same)
-    | inr other ↦ ap (line_bytes k) is ∙ other_line page (bytes_at image at 128) i k whole (omega (arith, long)) other ∙ composed.done k (below k i few other)
+    | inr other ↦ ap (bytes_of_line k) is ∙ other_line page (bytes_at image at (line_bytes Two)) i k whole (omega (arith, long)) other ∙ composed.done k (below k i few other)
   ];
-  left = λ k past few. ap (line_bytes k) is ∙ other_line page (bytes_at image at 128) i k whole (omega (arith, long)) (behind k i past) ∙ composed.left k (omega arith) few;
+  left = λ k past few. ap (bytes_of_line k) is ∙ other_line page (bytes_at image at (line_bytes Two)) i k whole (omega (arith, long)) (behind k i past) ∙ composed.left k (omega arith) few;
 }
   where
-    whole : length (bytes_at image at 128) ≡ 128
-    whole = length-take-le 128 (drop at image) (omega (arith, length-drop at image, within at refl))
+    whole : length (bytes_at image at (line_bytes Two)) ≡ line_bytes Two
+    whole = length-take-le (line_bytes Two) (drop at image) (omega (arith, length-drop at image, within at refl))
 
     below : (k i : ℕ) → k < i + 1 → (k ≡ i → ⊥) → k < i
     below k i few other = omega (arith, other)
@@ -86,11 +87,11 @@ pub composed_all : (image home bytes : List ℕ) (newest : List (Option ℕ)) (p
 composed_all image home bytes newest places bound page_number page agree same within long composed =
     same_lines 16 page (take 2048 (drop (page_number * 2048) bytes)) long (length-take-le 2048 (drop (page_number * 2048) bytes) (omega (arith, length-drop (page_number * 2048) bytes, agree.long, within)))
     (λ k few.
-    let place : page_number * 2048 + k * 128 ≡ (page_number * 16 + k) * 128 = omega arith in
+    let place : page_number * 2048 + k * line_bytes Two ≡ (page_number * 16 + k) * line_bytes Two = omega arith in
     composed.done k few
     ∙ ap (newest_bytes image home (page_number * 16 + k)) (same (page_number * 16 + k) (omega (arith, within)))
     ∙ sym (agree.each (page_number * 16 + k) (omega (arith, within)))
-    ∙ ap (λ (n : ℕ). take 128 (drop n bytes)) (sym place)
+    ∙ ap (λ (n : ℕ). take (line_bytes Two) (drop n bytes)) (sym place)
     ∙ sym (line_of_part bytes (page_number * 2048) k few))
 
 -- the page of a store that shows the bytes
@@ -103,6 +104,6 @@ shown_page held store shows page page_number within long composed =
     (λ k below. shows.read.newest k (omega (arith, below, shows.fits.lines))) (omega (arith, within)) long composed
     ∙ ap (λ (standing : Standing). page_in standing page_number) (sym (stands_is held store.header store.bank.which store.bank.base store.bank.gate shows.read.records is))
 
-pub placed_at : (place : Option ℕ) (at end : ℕ) → place ≡ Some at → IfSome place (λ those. those + 128 ≤ end) → at + 128 ≤ end
+pub placed_at : (place : Option ℕ) (at end : ℕ) → place ≡ Some at → IfSome place (λ those. those + line_bytes Two ≤ end) → at + line_bytes Two ≤ end
 placed_at None at end is within = cc
 placed_at (Some those) at end is within = let same : those ≡ at = cc in omega (arith, same, within)

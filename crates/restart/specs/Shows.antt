@@ -1,5 +1,5 @@
 -- What a store that is kept says of the bytes on the disk.
-use Rattle.std.specs.Prelude.{◌≡◌, ℕ, ◌*◌, List, [], take, drop}
+use Rattle.std.specs.Prelude.{◌≡◌, ℕ, ◌*◌, List, [], take, drop, IsSome}
 use Rattle.line_geometry.specs.FlatStore.{FlatStore}
 use Rattle.store_format.specs.declared.header.Which.{Which}
 use Rattle.line_geometry.specs.Directory.{Layout}
@@ -35,6 +35,11 @@ pub record IsIntact (header : Header) (held : List ℕ) : Type 0 where
   pub gate : ℕ
   pub records : List (List RecordLine)
   pub store : IsStore held header which base gate records
+
+-- The outside tells its bytes, and the store is what they show.
+pub record IsShown {W : Type 0} (G : Ghosts W) (store : KeptStore) (outside : W) : Type 0 where
+  pub told : IsSome (G.held outside)
+  pub shows : Shows (held_of G outside) store
 
 -- The outside is honest and tells its bytes, a crash leaves them, and the store is what they show.
 pub record Tracks {W : Type 0} (G : Ghosts W) (store : KeptStore) (outside : W) : Type 0 where

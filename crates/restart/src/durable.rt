@@ -10,7 +10,7 @@ ghost use Rattle.redo_journal.specs.Kept.{KeptBank, area_end, begun_of, needed_e
 ghost use Rattle.redo_journal.specs.Tracks.{IsEither};
 ghost use Rattle.restart.specs.Kept.{KeptStore, number_of};
 ghost use Rattle.checkpoint.specs.Moved.{IsSame, kept_after};
-ghost use Rattle.restart.specs.Shows.{Shows, IsIntact, IsReopened, Tracks, IsCommitted, IsEmptied, page_bytes, page_in};
+ghost use Rattle.restart.specs.Shows.{Shows, IsShown, IsIntact, IsReopened, Tracks, IsCommitted, IsEmptied, page_bytes, page_in};
 ghost use Rattle.restart.specs.Committed.{roomy, number_after, IsKeptAfter, HoldsCommitted};
 ghost use Rattle.restart.specs.Faults.{IsOpenFault, IsReopenFault};
 
@@ -194,7 +194,7 @@ impl Durable {
         requires page { page < page_count self.now.header.directory }
         requires whole { length into.old ≡ page_bytes self.now.header.directory }
         ensures asks { OnlyAsks W.Outside outside.old outside.new }
-        ensures read { OnOk result (Tracks W.Outside self.now outside.old → into.new ≡ page_in (stands (held_of W.Outside outside.old)) page) }
+        ensures read { OnOk result (IsShown W.Outside self.now outside.old → into.new ≡ page_in (stands (held_of W.Outside outside.old)) page) }
         ensures cause { HasCause (W.disk_faults outside.old) (W.disk_faults outside.new) result }
     {
         let first = u32::from(page) * 16;

@@ -51,6 +51,10 @@ pub(crate) enum Known {
 }
 
 impl Default for Known {
+    ghost use Rattle.romp_asm.specs.declared.value.Known.TheVariants.{Register};
+
+    ghost is_default = { λ known. known ≡ Register 0 };
+
     fn default() -> Self {
         Known::Register(0)
     }

@@ -5,17 +5,20 @@ use Rattle.lock_rules.specs.Lines.{Lines, page_of_line}
 use Rattle.line_geometry.specs.Directory.{byte_count}
 use Rattle.flat_machine.specs.declared.machine.Plain.{Plain}
 use Rattle.flat_machine.specs.declared.machine.Program.{Program}
-use Rattle.flat_machine.specs.Row.{On, Commit, Check, row}
+use Rattle.flat_machine.specs.Row.{On, Commit, Check, plan, row}
 use Rattle.flat_machine.specs.Touched.{touched}
 use Rattle.romp_cpu.specs.declared.cpu.Attempt.{Attempt}
 use Rattle.romp_cpu.specs.declared.cpu.Cpu.{Cpu}
 use Rattle.romp_cpu.specs.declared.storage.Access.{Access}
+use Rattle.romp_cpu.specs.Answers.{answer_in}
 use Rattle.romp_cpu.specs.Attempts.{lines_of_access}
 use Rattle.romp_cpu.specs.Segments.{registers_of_program}
+use Rattle.romp_cpu.specs.Shown.{halfword_of}
+use Rattle.romp_cpu.specs.Tried.{Tried, seen_in, tried}
 use Rattle.frame_pool.specs.declared.model.Pool.{Pool}
 use Rattle.storage_unit.specs.declared.model.Reach.{Reach}
 use Rattle.storage_unit.specs.Places.{private_segment}
-use Rattle.storage_unit.specs.Reach.{seat_of, is_refused}
+use Rattle.storage_unit.specs.Reach.{seat_of, is_refused, byte_at, is_in_frame, refuses, stored}
 use Rattle.storage_unit.specs.Bytes.{bytes_over, private_bytes, is_line_marked, IsClean}
 
 -- the plain state of a processor over a unit and these committed bytes, that printed these bytes
@@ -88,6 +91,12 @@ GivesRows attempt before after old new =
     (program : Program) (committed out : List ℕ) → HasWindows old program
     → length committed ≡ byte_count old.directory → length out ≡ before.printed → length out ≤ 4096
     → IsRow program committed out attempt before after old new
+
+-- an attempt's answer, and the processor and the unit after it: what the plan of the instruction does, by what the unit shows and answers
+abbrev pub tried_over : Reach → Cpu → Tried Reach
+tried_over state cpu =
+    tried (seen_in byte_at (answer_in (λ state. state.registers) is_in_frame refuses) stored state) cpu
+    (plan (halfword_of (byte_at state)) cpu.regs cpu.cs cpu.iar)
 
 -- an attempt changes bytes of frames and marks alone
 abbrev pub ChangesBytes : (old new : Reach) → Type 0

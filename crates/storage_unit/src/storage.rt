@@ -10,7 +10,7 @@ ghost use Rattle.romp_cpu.specs.Attempts.{IsOfFewBytes};
 ghost use Rattle.romp_cpu.specs.declared.storage.Access.{Access};
 ghost use Rattle.storage_unit.specs.Places.{place_of, on};
 ghost use Rattle.storage_unit.specs.Reach.{is_there, is_kept_from, is_in_frame, refuses, is_refused, put_at};
-ghost use Rattle.storage_unit.specs.Rows.{GivesRows, ChangesBytes, StaysClean, LeavesSeats};
+ghost use Rattle.storage_unit.specs.Rows.{tried_over, GivesRows, ChangesBytes, StaysClean, LeavesSeats};
 ghost use Rattle.storage_unit.specs.Reached.{Lies, AreThere, bytes_shown, is_absent};
 ghost use Rattle.storage_unit.specs.Held.{table_of};
 ghost use Rattle.inverted_table.specs.Keys.{key_of};
@@ -284,10 +284,12 @@ impl Storage for Unit {
 impl Unit {
     ghost use Rattle.storage_unit.specs.View.{reach_of};
 
-    /// One attempt of the next instruction of a processor over this unit. Whatever bytes are committed, it is the program's
+    /// One attempt of the next instruction of a processor over this unit. What comes follows from the instruction's plan and
+    /// the unit's answer to its access alone. Whatever bytes are committed, it is the program's
     /// row on the private bytes of the seat and the bytes of the store that the unit shows over them (docs/MODEL.md).
     #[inline(always)]
     pub fn attempt(&mut self, cpu: &mut Cpu) -> Attempt
+        ensures tried { record { attempt = result; cpu = cpu.new; state = reach_of self.new } ≡ tried_over (reach_of self.old) cpu.old }
         ensures row { GivesRows result cpu.old cpu.new (reach_of self.old) (reach_of self.new) }
         ensures kept { ChangesBytes (reach_of self.old) (reach_of self.new) }
         ensures clean { StaysClean (reach_of self.old) (reach_of self.new) }

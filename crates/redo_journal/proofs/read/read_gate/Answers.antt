@@ -1,5 +1,7 @@
 use Rattle.std.proofs.Common.{◌≡◌, ℕ, ◌+◌, ◌*◌, List, [], length, drop, sym, subst, ◌∙◌, ap, arith, IsSome}
 use Rattle.std.specs.Prelude.{Option, None, Some, unwrap_or, slice_index, ◌==◌}
+use Rattle.line_geometry.specs.declared.directory.PageSize.TheVariants.{Two}
+use Rattle.store_format.specs.Header.{entry_bytes}
 use Rattle.store_format.specs.Bank.{RecordLine, lines_from, wrong_line, gate_if, lined_gate}
 use Rattle.outside.specs.Bytes.{bytes_at}
 use Rattle.outside.specs.Runs.{held_of, OnlyAsks}
@@ -17,7 +19,7 @@ lines g c = lines_from c.read_u16-count.result (c.args.gate + 11) (drop (c.args.
 
 gate_is : (g : Over) (c : goal.After-read_lines g) → IsSome (g.W.Outside.held c.args.outside.now)
     → gate_if (slice_index (held_of g.W.Outside c.args.outside.now) c.args.gate == 0xA5) (length c.args.newest.now) c.args.end c.args.due c.args.gate (drop c.args.gate (held_of g.W.Outside c.args.outside.now))
-    ≡ lined_gate (wrong_line (length c.args.newest.now) 0 (lines g c)) (lines g c) (c.args.gate + 11 + 132 * c.read_u16-count.result)
+    ≡ lined_gate (wrong_line (length c.args.newest.now) 0 (lines g c)) (lines g c) (c.args.gate + 11 + entry_bytes Two * c.read_u16-count.result)
 unfolding lines
 gate_is g c some =
     let G = g.W.Outside in
@@ -56,7 +58,7 @@ pub returns-in-Some-clause-found : goal.returns-in-Some-clause-found
 returns-in-Some-clause-found g c some =
     let at = (goal.at.returns-in-Some-clause-found g c).After-read_lines in
     let fault : wrong_line (length c.args.newest.now) 0 (lines g at) ≡ Some c.in-Some.offset = ap (wrong_line (length c.args.newest.now) 0) (sym (same g at)) ∙ sym (c.in_ok-offset.ensures.fault (still g at some)) ∙ c.in-Some.is in
-    gate_is g at some ∙ ap (λ (those : Option ℕ). lined_gate those (lines g at) (c.args.gate + 11 + 132 * c.read_u16-count.result)) fault
+    gate_is g at some ∙ ap (λ (those : Option ℕ). lined_gate those (lines g at) (c.args.gate + 11 + entry_bytes Two * c.read_u16-count.result)) fault
 
 pub returns-in-None-clause-found : goal.returns-in-None-clause-found
 returns-in-None-clause-found g c some =
@@ -64,8 +66,8 @@ returns-in-None-clause-found g c some =
     let fault : wrong_line (length c.args.newest.now) 0 (lines g at) ≡ None = ap (wrong_line (length c.args.newest.now) 0) (sym (same g at)) ∙ sym (c.in_ok-offset.ensures.fault (still g at some)) ∙ c.in-None.is in (
       lines g at,
       gate_is g at some
-          ∙ ap (λ (those : Option ℕ). lined_gate those (lines g at) (c.args.gate + 11 + 132 * c.read_u16-count.result)) fault
-          ∙ ap (λ (n : ℕ). lined_gate None (lines g at) (c.args.gate + 11 + 132 * n)) (sym c.from.ensures),
+          ∙ ap (λ (those : Option ℕ). lined_gate those (lines g at) (c.args.gate + 11 + entry_bytes Two * c.read_u16-count.result)) fault
+          ∙ ap (λ (n : ℕ). lined_gate None (lines g at) (c.args.gate + 11 + entry_bytes Two * n)) (sym c.from.ensures),
       c.in_ok-offset.ensures.noted (still g at some) c.in-None.is ∙ ap (noted c.args.newest.now) (same g at),
     )
 

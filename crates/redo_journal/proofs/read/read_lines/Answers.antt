@@ -2,6 +2,8 @@ use Rattle.std.proofs.Common.{◌≡◌, ℕ, ◌+◌, ◌*◌, ◌≤◌, List,
 use Rattle.std.specs.Option.{ForSome}
 use Rattle.std.specs.Prelude.{Option, Some, unwrap_or, nat_le, nat_lt, ◌&&◌}
 use Rattle.owned_list.specs.Overlay.{overlaid}
+use Rattle.line_geometry.specs.declared.directory.PageSize.TheVariants.{Two}
+use Rattle.store_format.specs.Header.{entry_bytes}
 use Rattle.store_format.specs.Bank.{wrong_line}
 use Rattle.outside.specs.Bytes.{bytes_at}
 use Rattle.outside.specs.Runs.{OnlyAsks, held_of}
@@ -15,13 +17,13 @@ use Rattle.redo_journal.proofs.read.read_lines.Given.{Over}
 use Rattle.redo_journal.proofs.read.read_lines.Goals as goal
 use Rattle.redo_journal.proofs.read.read_lines.Goals.{After-read_u32-line, then-from-least-via-then-from-least, then-from-least-via-else-from-least+then-len-line}
 
-read : (g : Over) (c : goal.After-read_u32-line g) → IsSome (g.W.Outside.held c.args.outside.now) → c.read_at.new.into ≡ bytes_at (held_of g.W.Outside c.args.outside.now) (c.args.at + 132 * c.loop-i.i) 4
+read : (g : Over) (c : goal.After-read_u32-line g) → IsSome (g.W.Outside.held c.args.outside.now) → c.read_at.new.into ≡ bytes_at (held_of g.W.Outside c.args.outside.now) (c.args.at + entry_bytes Two * c.loop-i.i) 4
 read g c some =
     let same = c.loop-i.invariant.asks.held in
     let told = subst (λ (those : Option (List ℕ)). IsSome those) (sym same) some in
     read_is (g.W.Outside.held c.loop-i.outside) c.read_at.new.into _ 4 told c.in_ok-read_at.ensures.read
-    ∙ ap (λ (those : Option (List ℕ)). bytes_at (unwrap_or those []) (c.args.at + 132 * c.from.result) 4) same
-    ∙ ap (λ (n : ℕ). bytes_at (held_of g.W.Outside c.args.outside.now) (c.args.at + 132 * n) 4) c.from.ensures
+    ∙ ap (λ (those : Option (List ℕ)). bytes_at (unwrap_or those []) (c.args.at + entry_bytes Two * c.from.result) 4) same
+    ∙ ap (λ (n : ℕ). bytes_at (held_of g.W.Outside c.args.outside.now) (c.args.at + entry_bytes Two * n) 4) c.from.ensures
 
 -- the reads so far and this one
 asked : (g : Over) (c : goal.After-read_u32-line g) → OnlyAsks g.W.Outside c.args.outside.now c.read_at.new.self
@@ -36,7 +38,7 @@ returns-then-from-least-clause-fault g c some =
     let at = (goal.at.returns-then-from-least-clause-fault g c).After-read_u32-line in
     let held = held_of g.W.Outside c.args.outside.now in
     let bound = length c.loop-i.newest in
-    let place : Some (c.args.at + 132 * c.from.result) ≡ Some (c.args.at + 132 * c.loop-i.i) = ap (λ (n : ℕ). Some (c.args.at + 132 * n)) c.from.ensures in
+    let place : Some (c.args.at + entry_bytes Two * c.from.result) ≡ Some (c.args.at + entry_bytes Two * c.loop-i.i) = ap (λ (n : ℕ). Some (c.args.at + entry_bytes Two * n)) c.from.ensures in
     let wrong : nat_le c.loop-i.least c.read_u32-line.result && nat_lt c.read_u32-line.result bound ≡ false = elim c.then-from-least.branch [
       | then-from-least-via-then-from-least w ↦ is_low bound c.loop-i.least c.read_u32-line.result (omega (arith, w.if-from-least.true, c.from-in-loop-i.ensures))
       | then-from-least-via-else-from-least+then-len-line w ↦ is_high bound c.loop-i.least c.read_u32-line.result (omega (arith, w.if-len-line.true, w.len.ensures))
@@ -52,13 +54,13 @@ loop-i-preserved g c =
     let bound = length c.loop-i.newest in
     let line = c.read_u32-line.result in
     let right = in_order bound c.loop-i.least line (omega (arith, c.if-from-least.false, c.from-in-loop-i.ensures)) (omega (arith, c.if-len-line.false, c.len.ensures)) in
-    let place : c.args.at + 132 * c.from.result + 4 ≡ c.args.at + 132 * c.loop-i.i + 4 = omega (arith, c.from.ensures) in
+    let place : c.args.at + entry_bytes Two * c.from.result + 4 ≡ c.args.at + entry_bytes Two * c.loop-i.i + 4 = omega (arith, c.from.ensures) in
     record {
       asks = asked g at;
       no_fault = c.in_ok-read_at.ensures.cause.done ∙ c.loop-i.invariant.no_fault;
       placed = λ end few are.
           subst (λ (these : List (Option ℕ)). AreWithin end these) (sym c.write.ensures.value)
-          (within-overlaid end line (c.args.at + 132 * c.from.result + 4) c.loop-i.newest (omega (arith, few, c.from.ensures, c.loop-i-test.true)) (c.loop-i.invariant.placed end few are));
+          (within-overlaid end line (c.args.at + entry_bytes Two * c.from.result + 4) c.loop-i.newest (omega (arith, few, c.from.ensures, c.loop-i-test.true)) (c.loop-i.invariant.placed end few are));
       len = c.write.ensures.len ∙ c.loop-i.invariant.len;
       fault = λ some.
           ap (λ (n : ℕ). wrong_line n (c.from-least.result + 1) (lines_after c.args.count (c.loop-i.i + 1) c.args.at held)) c.write.ensures.len
@@ -74,5 +76,5 @@ loop-i-preserved g c =
 
 pub read_at-requires : goal.read_at-requires
 read_at-requires g c =
-    reads_within (g.W.Outside.held c.loop-i.outside) (c.args.at + 132 * c.from.result + 4) (c.args.at + 132 * c.args.count) (omega (arith, c.from.ensures, c.loop-i-test.true))
-    (subst (λ (those : Option (List ℕ)). ForSome those (λ bytes. c.args.at + 132 * c.args.count ≤ length bytes)) (sym c.loop-i.invariant.asks.held) c.requires.room)
+    reads_within (g.W.Outside.held c.loop-i.outside) (c.args.at + entry_bytes Two * c.from.result + 4) (c.args.at + entry_bytes Two * c.args.count) (omega (arith, c.from.ensures, c.loop-i-test.true))
+    (subst (λ (those : Option (List ℕ)). ForSome those (λ bytes. c.args.at + entry_bytes Two * c.args.count ≤ length bytes)) (sym c.loop-i.invariant.asks.held) c.requires.room)

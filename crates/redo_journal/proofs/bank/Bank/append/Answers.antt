@@ -1,5 +1,7 @@
 use Rattle.std.proofs.Common.{◌≡◌, ℕ, ◌+◌, ◌*◌, ◌<◌, List, [], ◌∷◌, ◌++◌, length, drop, slice_set, refl, sym, subst, ◌∙◌, ap, arith, length-append}
 use Rattle.std.specs.Prelude.{Option}
+use Rattle.line_geometry.specs.declared.directory.PageSize.TheVariants.{Two}
+use Rattle.store_format.specs.Header.{entry_bytes}
 use Rattle.store_format.specs.Bank.{RecordLine, lines_from, wrong_line}
 use Rattle.store_format.specs.Stands.{IsStore, stands, one_more}
 use Rattle.outside.specs.Runs.{held_of}
@@ -150,7 +152,7 @@ pub returns-in-Done-clause-kept : goal.returns-in-Done-clause-kept
 returns-in-Done-clause-kept g c =
     let n = count g (goal.at.returns-in-Done-clause-kept g c).After-record_of in
     let bank = c.self.inside in
-    with_record_is bank c.args.self.now (bank.gate + (11 + 132 * c.from.result)) c.note.new.newest c.self.view_is (omega (arith, n, c.from.ensures)) (noted_lines g (goal.at.returns-in-Done-clause-kept g c).After-note)
+    with_record_is bank c.args.self.now (bank.gate + (11 + entry_bytes Two * c.from.result)) c.note.new.newest c.self.view_is (omega (arith, n, c.from.ensures)) (noted_lines g (goal.at.returns-in-Done-clause-kept g c).After-note)
 
 pub returns-in-Done-clause-done : goal.returns-in-Done-clause-done
 returns-in-Done-clause-done g c is tracks =
@@ -160,7 +162,7 @@ returns-in-Done-clause-done g c is tracks =
     let bank = c.self.inside in
     let kept = c.keep_body.ensures.done c.in-Done.is (shut_gate g at tracks) in
     let held = held_of g.W.Outside c.keep_body.new.outside in
-    let gate : bank.gate + length c.record_of.result.now ≡ bank.gate + (11 + 132 * c.from.result) = omega (arith, n, now.ready.good.bytes, c.from.ensures) in
+    let gate : bank.gate + length c.record_of.result.now ≡ bank.gate + (11 + entry_bytes Two * c.from.result) = omega (arith, n, now.ready.good.bytes, c.from.ensures) in
     let store = after _ _ _ _ _ _ _ _ _ now.ready held kept.safe kept.shown in
     let noted_is = noted_lines g (goal.at.returns-in-Done-clause-done g c).After-note in
     record {

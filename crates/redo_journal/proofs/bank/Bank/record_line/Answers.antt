@@ -2,6 +2,8 @@ use Rattle.std.proofs.Common.{◌≡◌, ℕ, ◌+◌, ◌*◌, ◌<◌, ◌≤�
 use Rattle.std.specs.Prelude.{All, Some}
 use Rattle.byteorder.specs.Endian.{big_bytes}
 use Rattle.owned_list.specs.Overlay.{overlaid}
+use Rattle.line_geometry.specs.declared.directory.PageSize.TheVariants.{Two}
+use Rattle.store_format.specs.Header.{entry_bytes}
 use Rattle.store_format.specs.Bank.{RecordLine, lines_from, wrong_line, record_bytes}
 use Rattle.store_format.proofs.Lines.{wrong_line-push}
 use Rattle.redo_journal.specs.Kept.{KeptBank, begun_of, with_line}
@@ -17,7 +19,7 @@ unwrap-begun-requires c = is_begun c.self.inside c.args.self.now c.self.view_is 
 count : (c : goal.After-from) → begun_count c.self.inside ≡ c.unwrap-begun.result
 count c = unwrapped c.self.inside.begun c.unwrap-begun.result c.unwrap-begun.ensures
 
-room : (c : goal.After-from) → 12 + 132 * (c.unwrap-begun.result + 1) ≤ c.self.inside.bank_bytes
+room : (c : goal.After-from) → 12 + entry_bytes Two * (c.unwrap-begun.result + 1) ≤ c.self.inside.bank_bytes
 room c = omega (arith, count c, c.requires.room, ap (λ (bank : KeptBank). bank.bank_bytes) c.self.view_is, length-begun c.self.inside c.args.self.now c.self.view_is)
 
 pub write-requires : goal.write-requires
@@ -27,16 +29,16 @@ pub write-requires-2 : goal.write-requires-2
 write-requires-2 c = omega (arith, room (goal.at.write-requires-2 c).After-from, c.self.invariant.buffer, c.from.ensures, c.requires.whole, c.write.ensures.len)
 
 -- the begun lines with one more
-lines : (c : goal.After-write-2) → 12 + 132 * (c.unwrap-begun.result + 1) ≤ c.self.inside.bank_bytes → begun_count c.self.inside ≡ c.unwrap-begun.result
+lines : (c : goal.After-write-2) → 12 + entry_bytes Two * (c.unwrap-begun.result + 1) ≤ c.self.inside.bank_bytes → begun_count c.self.inside ≡ c.unwrap-begun.result
     → lines_from (c.unwrap-begun.result + 1) (c.self.inside.gate + 11) (drop 10 c.write-2.new.self)
     ≡ begun_lines c.self.inside ++ record { line = c.args.line; at = c.self.inside.gate + record_bytes c.unwrap-begun.result; bytes = c.args.bytes.now } ∷ []
 lines c fits n =
     let bank = c.self.inside in
     let count = c.unwrap-begun.result in
-    let at : 10 + 132 * c.from.result ≡ 10 + 132 * count = omega (arith, c.from.ensures) in
-    let body : c.write-2.new.self ≡ overlaid (overlaid bank.body (10 + 132 * count) (big_bytes 4 c.args.line)) (10 + 132 * count + 4) c.args.bytes.now =
+    let at : 10 + entry_bytes Two * c.from.result ≡ 10 + entry_bytes Two * count = omega (arith, c.from.ensures) in
+    let body : c.write-2.new.self ≡ overlaid (overlaid bank.body (10 + entry_bytes Two * count) (big_bytes 4 c.args.line)) (10 + entry_bytes Two * count + 4) c.args.bytes.now =
     c.write-2.ensures.value
-    ∙ ap (λ (these : List ℕ). overlaid these (10 + 132 * c.from.result + 4) c.args.bytes.now) (c.write.ensures.value ∙ ap (overlaid bank.body (10 + 132 * c.from.result)) c.word.ensures)
+    ∙ ap (λ (these : List ℕ). overlaid these (10 + entry_bytes Two * c.from.result + 4) c.args.bytes.now) (c.write.ensures.value ∙ ap (overlaid bank.body (10 + entry_bytes Two * c.from.result)) c.word.ensures)
     ∙ ap (λ (n : ℕ). overlaid (overlaid bank.body n (big_bytes 4 c.args.line)) (n + 4) c.args.bytes.now) at in
     ap (λ (these : List ℕ). lines_from (count + 1) (bank.gate + 11) (drop 10 these)) body
     ∙ line_added bank.body c.args.bytes.now count bank.gate c.args.line c.requires.whole c.ranges.line.fits (omega (arith, c.self.invariant.buffer, fits))

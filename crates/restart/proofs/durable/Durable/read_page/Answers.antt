@@ -1,7 +1,8 @@
 use Rattle.std.proofs.Common.{◌≡◌, ℕ, ◌+◌, ◌*◌, ◌≤◌, List, [], length, get_or, ap, subst, sym, IsSome, ◌∙◌, arith, refl, ◌<◌}
 use Rattle.std.specs.Prelude.{Option, None, unwrap_or}
 use Rattle.line_geometry.specs.Directory.{page_count}
-use Rattle.store_format.specs.Header.{home_at, total}
+use Rattle.line_geometry.specs.declared.directory.PageSize.TheVariants.{Two}
+use Rattle.store_format.specs.Header.{home_at, total, line_bytes}
 use Rattle.store_format.specs.Stands.{home_of}
 use Rattle.outside.specs.Bytes.{bytes_at}
 use Rattle.outside.specs.Runs.{held_of}
@@ -53,18 +54,18 @@ loop-i-preserved g c =
           let header : total c.self.inside.header ≡ total c.args.self.now.header = ap (λ (store : KeptStore). total store.header) c.self.view_is in
           composed_more held (home_of held c.self.inside.header) bank.newest (c.from-first.result * 16) c.loop-i.i c.loop-i.into c.read_newest.new.page place c.loop-i-test.true so_far.len refl
           (λ at is. let fits = placed_at place at (area_end bank) is read.placed in omega (arith, fits, end, header, room))
-          (read.read still ∙ ap (λ (image : List ℕ). newest_over 128 image place c.loop-i.into (c.loop-i.i * 128)) same)
+          (read.read still ∙ ap (λ (image : List ℕ). newest_over (line_bytes Two) image place c.loop-i.into (c.loop-i.i * line_bytes Two)) same)
           (so_far.composed told);
     }
 
 pub returns-clause-read : goal.returns-clause-read
-returns-clause-read g c tracks =
+returns-clause-read g c shown =
     let held = held_of g.W.Outside c.args.outside.now in
-    let shows : Shows held (record { header = c.self.inside.header; bank = c.self.inside.banks }) = subst (λ (store : KeptStore). Shows held store) (sym c.self.view_is) tracks.shows in
+    let shows : Shows held (record { header = c.self.inside.header; bank = c.self.inside.banks }) = subst (λ (store : KeptStore). Shows held store) (sym c.self.view_is) shown.shows in
     let first : c.from-first.result * 16 ≡ c.args.page * 16 = omega (arith, c.from-first.ensures) in
     let all : c.loop-i.i ≡ 16 = omega (arith, c.loop-i-test.false, c.loop-i.auto.i-end) in
     let within : c.args.page < page_count c.self.inside.header.directory = subst (λ (store : KeptStore). c.args.page < page_count store.header.directory) (sym c.self.view_is) c.requires.page in
     let composed : Composed held (home_of held c.self.inside.header) c.self.inside.banks.newest (c.args.page * 16) 16 c.loop-i.into =
     subst (λ (n : ℕ). Composed held (home_of held c.self.inside.header) c.self.inside.banks.newest n 16 c.loop-i.into) first
-    (subst (λ (n : ℕ). Composed held (home_of held c.self.inside.header) c.self.inside.banks.newest (c.from-first.result * 16) n c.loop-i.into) all (c.loop-i.invariant.composed tracks.sure.told)) in
+    (subst (λ (n : ℕ). Composed held (home_of held c.self.inside.header) c.self.inside.banks.newest (c.from-first.result * 16) n c.loop-i.into) all (c.loop-i.invariant.composed shown.told)) in
     shown_page held (record { header = c.self.inside.header; bank = c.self.inside.banks }) shows c.loop-i.into c.args.page within c.loop-i.invariant.len composed
