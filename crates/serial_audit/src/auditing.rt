@@ -1,9 +1,9 @@
-ghost use Rattle.std.specs.Prelude.{◌≡◌, ◌-◌, ◌<◌, ◌^◌, ◌↔◌, IsTrue, List, [], length, IfOk};
+ghost use Rattle.std.specs.Prelude.{◌≡◌, ◌+◌, ◌-◌, ◌%◌, ◌<◌, ◌≤◌, ◌^◌, ◌↔◌, IsTrue, List, [], length, IfOk, MatchResult};
 ghost use Rattle.std.specs.List.{Contains};
 ghost use Rattle.line_geometry.specs.Directory.{byte_count};
 ghost use Rattle.job_text.specs.declared.job.Job.{Job};
 ghost use Rattle.serial_audit.specs.declared.auditing.KeptStore.{KeptStore};
-ghost use Rattle.serial_audit.specs.Audit.{IsTaken, IsVerdict, Stands, Told, report_told};
+ghost use Rattle.serial_audit.specs.Audit.{AreSound, IsFirstUnsound, IsTaken, IsVerdict, Stands, Told, report_told};
 ghost use Rattle.serial_audit.specs.Commit.{told_of};
 
 use super::replay::Commit;
@@ -49,32 +49,61 @@ pub fn audit(
     requires few { length report.now < 2 ^ 32 - 1 }
     ensures { IfOk result (IsVerdict job.now opening.now closing.now (report_told report.now)) }
 {
+    match audit_lines(alloc, job, report, opening)? {
+        Err(place) => Ok(Verdict::NotSerial(place)),
+        Ok(progress) => {
+            if progress.is_at(&opening.directory, closing) {
+                Ok(Verdict::Serial)
+            } else {
+                Ok(Verdict::NotSerial(progress.next_place()))
+            }
+        }
+    }
+}
+
+/// How far a check comes on an opening store where all commit lines among these are sound, or else the number of the first
+/// that isn't, counted from 1 (docs/MODEL.md, "An audit").
+///
+/// # Errors
+///
+/// [`AllocError`] where there is no memory.
+pub fn audit_lines(
+    alloc: Global,
+    job: &Job,
+    lines: &[OwnedLine],
+    opening: &KeptStore,
+) -> Result<Result<Progress, u32>, AllocError>
+    requires store { length opening.now.store.items ≡ byte_count opening.now.directory }
+    requires few { length lines.now < 2 ^ 32 - 1 }
+    ensures sound { IfOk result (λ found. MatchResult found
+        (λ progress. AreSound job.now opening.now (report_told lines.now) × Stands job.now opening.now (report_told lines.now) progress.number progress.seen.items progress.store)
+        (λ place. IsFirstUnsound job.now opening.now (report_told lines.now) place)) }
+    ensures few { IfOk result (λ found. IfOk found (λ progress. length progress.seen.items ≤ length lines.now)) }
+    ensures whole { IfOk result (λ found. IfOk found (λ progress. length progress.store ≡ byte_count opening.now.directory)) }
+{
     let mut progress = Progress::new(alloc, opening)?;
     let mut place: u32 = 1;
-    for line in report {
+    for line in lines {
         match Commit::of(line) {
             Some(commit) => {
                 if !progress.take(alloc, job, &opening.directory, &commit)? {
-                    return Ok(Verdict::NotSerial(place));
+                    return Ok(Err(place));
                 }
                 place += 1;
             }
             None => {}
         }
     }
-    if progress.is_at(&opening.directory, closing) {
-        Ok(Verdict::Serial)
-    } else {
-        Ok(Verdict::NotSerial(place))
-    }
+    Ok(Ok(progress))
 }
 
-/// How far a check has come: the number and the activations of the commit lines so far, and the store that they leave.
+/// How far a check has come: the last number and the activations of the commit lines so far, and the bytes of the store
+/// that they leave (docs/MODEL.md, "An audit").
 #[derive(Drop)]
-struct Progress {
-    number: u64,
-    seen: Vec<u32>,
-    store: OwnedList<u8>,
+pub struct Progress {
+    pub number: u64,
+    pub seen: Vec<u32>,
+    pub store: OwnedList<u8>,
 }
 
 impl Progress {
@@ -105,19 +134,34 @@ impl Progress {
             → IsTaken sound job.now opening before (told_of commit.now) self.new.number self.new.seen.items self.new.store) }
         ensures whole { length self.new.store ≡ byte_count directory.now }
     {
-        let number = self.number.wrapping_add(1);
-        if commit.number != number || has(self.seen.as_slice(), commit.activation) {
+        if !self.is_followed_by(commit) {
             return Ok(false);
         }
         match commit.replayed(alloc, job, directory, self.store.as_slice())? {
             Some(store) => {
                 self.seen.push(commit.activation)?;
-                self.number = number;
+                self.number = commit.number;
                 self.store = store;
                 Ok(true)
             }
             None => Ok(false),
         }
+    }
+
+    /// Whether a commit line has the number that follows, and is the first of its activation (docs/MODEL.md, "An audit").
+    pub fn is_followed_by(&self, commit: &Commit) -> bool
+        ensures { IsTrue result ↔ ((commit.now.number ≡ (self.now.number + 1) % 2 ^ 64) × (¬ (Contains self.now.seen.items commit.now.activation))) }
+    {
+        commit.number == self.number.wrapping_add(1)
+            && !has(self.seen.as_slice(), commit.activation)
+    }
+
+    /// The number of the next commit line, counted from 1 (docs/MODEL.md, "An audit").
+    pub fn next_place(&self) -> u32
+        requires { length self.now.seen.items < 2 ^ 32 - 1 }
+        ensures { result ≡ length self.now.seen.items + 1 }
+    {
+        self.seen.len() as u32 + 1
     }
 
     /// Whether a store is the one that the commits so far leave, under their number.

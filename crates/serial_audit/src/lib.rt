@@ -8,5 +8,6 @@ mod replay;
 #[cfg(test)]
 mod tests;
 
-pub use auditing::{KeptStore, Verdict, audit};
+pub use auditing::{KeptStore, Progress, Verdict, audit, audit_lines};
 pub use bundle::{Bundle, Span, split_bundle};
+pub use replay::Commit;

@@ -4,7 +4,7 @@ ghost use Rattle.line_geometry.specs.Directory.{byte_count};
 ghost use Rattle.flat_machine.specs.Serial.{before_commit, numbered};
 ghost use Rattle.desk.specs.Commits.{begun};
 ghost use Rattle.report_text.specs.ReadLines.{owned_told};
-ghost use Rattle.serial_audit.specs.Audit.{Replays, Told, limit_of, told_before};
+ghost use Rattle.serial_audit.specs.Audit.{Replays, Told, activations_of, limit_of, steps_allowed, told_before};
 ghost use Rattle.serial_audit.specs.Commit.{told_of};
 
 use desk::Event;
@@ -15,9 +15,9 @@ use owned_list::OwnedList;
 use report_text::OwnedLine;
 use std::alloc::{AllocError, Global};
 
-/// What a commit line tells.
+/// What a commit line tells (docs/MODEL.md, "An audit").
 #[derive(Clone, Copy)]
-pub(crate) struct Commit<'a> {
+pub struct Commit<'a> {
     pub activation: u32,
     pub number: u64,
     pub steps: u64,
@@ -25,7 +25,7 @@ pub(crate) struct Commit<'a> {
 }
 
 impl<'a> Commit<'a> {
-    /// What a line tells, if it is that of a commit.
+    /// What a line tells, if it is that of a commit (docs/MODEL.md, "An audit").
     pub fn of(line: &'a OwnedLine) -> Option<Self>
         ensures { MatchOption result ((others : List Told) → told_before (owned_told line.now) others ≡ others)
             (λ commit. (others : List Told) → told_before (owned_told line.now) others ≡ told_of commit ∷ others) }
@@ -46,8 +46,25 @@ impl<'a> Commit<'a> {
         }
     }
 
+    /// The program and the arguments of its activation, if the job begins it and its turns allow so many steps
+    /// (docs/MODEL.md, "An audit").
+    pub fn begun<'j>(&self, job: &'j Job) -> Option<(&'j Program, [u32; 4])>
+        ensures { MatchOption result
+            (self.now.steps ≤ steps_allowed job.now self.now.activation → numbered (activations_of job.now) self.now.activation ≡ None)
+            (λ found. (self.now.steps ≤ steps_allowed job.now self.now.activation) × (numbered (activations_of job.now) self.now.activation ≡ Some (record { program = found.0.now; args = found.1 }))) }
+    {
+        if !are_allowed(job.events.as_slice(), self.activation, self.steps) {
+            return None;
+        }
+        begun_as(
+            job.programs.as_slice(),
+            job.events.as_slice(),
+            self.activation,
+        )
+    }
+
     /// What the commit leaves when it runs again on a store as it is told; none where it doesn't.
-    pub fn replayed(
+    pub(crate) fn replayed(
         &self,
         alloc: Global,
         job: &Job,
@@ -60,14 +77,7 @@ impl<'a> Commit<'a> {
             (λ bytes. Replays job.now (record { directory = directory.now; bytes = store.now }) (told_of self.now) bytes)) }
         ensures whole { IfOk result (λ found. IfSome found (λ bytes. length bytes ≡ byte_count directory.now)) }
     {
-        if !are_allowed(job.events.as_slice(), self.activation, self.steps) {
-            return Ok(None);
-        }
-        match begun_as(
-            job.programs.as_slice(),
-            job.events.as_slice(),
-            self.activation,
-        ) {
+        match self.begun(job) {
             Some(begun) => {
                 let args = begun.1;
                 match run_to_commit(alloc, begun.0, args, directory, store, self.steps)? {

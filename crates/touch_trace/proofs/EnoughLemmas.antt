@@ -1,0 +1,110 @@
+-- The lines of a trace are those that the agreement law asks for.
+use Rattle.std.proofs.Common.{◌≡◌, ℕ, zero, suc, ◌+◌, ◌<◌, ◌||◌, Bool, true, false, List, [], ◌∷◌, ◌++◌, map, Some, refl, sym, ◌∙◌, ap, arith}
+use Rattle.std.proofs.lemmas.List.{map-append}
+use Rattle.std.proofs.lemmas.Option.{same_Some, option_and_then_some, none-some}
+use Rattle.line_geometry.specs.FlatStore.{FlatStore}
+use Rattle.lock_rules.specs.Lines.{Lines, both}
+use Rattle.lock_rules.specs.Sets.{has}
+use Rattle.lock_rules.proofs.Sets.{has-append}
+use Rattle.flat_machine.specs.declared.machine.Plain.{Plain}
+use Rattle.flat_machine.specs.After.{after}
+use Rattle.flat_machine.specs.Agreement.{AgreeOn, SameWay, all_of}
+use Rattle.flat_machine.specs.Due.{touched_next, touched_within}
+use Rattle.flat_machine.specs.Row.{Outcome, On, Commit, Check, row}
+use Rattle.flat_machine.specs.Serial.{Activation, if_commit}
+use Rattle.flat_machine.proofs.Agreement.{agreement-enough}
+use Rattle.touch_trace.specs.declared.touch.Touch.{Touch}
+use Rattle.touch_trace.specs.Laws.{TraceIsEnough, lines_touched}
+use Rattle.touch_trace.specs.Trace.{touch_at, touches, touches_of_step}
+use Rattle.touch_trace.proofs.StepLemmas.{touches_more}
+
+-- the lines of a step's touches are all that it touches
+lines_of_kind : (step : ℕ) (store : Bool) (lines : List ℕ) → lines_touched (map (touch_at step store) lines) ≡ lines
+lines_of_kind step store [] = refl
+lines_of_kind step store (line ∷ lines) = ap (λ (rest : List ℕ). line ∷ rest) (lines_of_kind step store lines)
+
+lines_of_step : (step : ℕ) (lines : Lines) → lines_touched (touches_of_step step lines) ≡ all_of lines
+lines_of_step step lines =
+    map-append (λ (touch : Touch). touch.line) (map (touch_at step false) lines.reads) (map (touch_at step true) lines.writes)
+    ∙ rw (lines_of_kind step false lines.reads, lines_of_kind step true lines.writes) refl
+
+swapped : (a b c d : Bool) → ((a || b) || (c || d)) ≡ ((a || c) || (b || d))
+swapped true b true d = refl
+swapped true b false d = refl
+swapped false true true d = refl
+swapped false true false d = refl
+swapped false false c d = refl
+
+in_both : (first second : Lines) (x : ℕ) → (has (all_of first) x || has (all_of second) x) ≡ has (all_of (both first second)) x
+in_both first second x =
+    rw (
+      has-append first.reads first.writes x,
+      has-append second.reads second.writes x,
+      has-append (first.reads ++ second.reads) (first.writes ++ second.writes) x,
+      has-append first.reads second.reads x,
+      has-append first.writes second.writes x,
+    )
+    (swapped (has first.reads x) (has first.writes x) (has second.reads x) (has second.writes x))
+
+-- whether a line is in the trace, one step more
+in_more : (activation : Activation) (store : FlatStore) (n x : ℕ)
+    → has (lines_touched (touches activation store (suc n))) x
+    ≡ (has (lines_touched (touches activation store n)) x || has (all_of (touched_next activation.program activation.args store n)) x)
+in_more activation store n x =
+    let new = touches_of_step (n + 1) (touched_next activation.program activation.args store n) in
+    ap (λ (list : List Touch). has (lines_touched list) x) (touches_more activation store n)
+    ∙ ap (λ (lines : List ℕ). has lines x) (map-append (λ (touch : Touch). touch.line) (touches activation store n) new)
+    ∙ has-append (lines_touched (touches activation store n)) (lines_touched new) x
+    ∙ ap (λ (lines : List ℕ). has (lines_touched (touches activation store n)) x || has lines x)
+    (lines_of_step (n + 1) (touched_next activation.program activation.args store n))
+
+-- a trace has just the lines that its rows touch
+in_trace : (activation : Activation) (store : FlatStore) (n x : ℕ)
+    → has (lines_touched (touches activation store n)) x ≡ has (all_of (touched_within activation.program activation.args store n)) x
+in_trace activation store zero x = refl
+in_trace activation store (suc n) x =
+    let new = touched_next activation.program activation.args store n in
+    in_more activation store n x
+    ∙ ap (λ (earlier : Bool). earlier || has (all_of new) x) (in_trace activation store n x)
+    ∙ in_both (touched_within activation.program activation.args store n) new x
+
+agree_within : (activation : Activation) (store other : FlatStore) (n : ℕ)
+    → AgreeOn store.directory (lines_touched (touches activation store (suc n))) store.bytes other.bytes
+    → AgreeOn store.directory (all_of (touched_within activation.program activation.args store n)) store.bytes other.bytes
+agree_within activation store other n agree line inside =
+    agree line (in_more activation store n line ∙ rw (in_trace activation store n line ∙ inside) refl)
+
+-- rows that touch the same lines have the same trace
+touches_alike : (activation : Activation) (store other : FlatStore) (n : ℕ)
+    → ((k : ℕ) → k < n → touched_next activation.program activation.args other k ≡ touched_next activation.program activation.args store k)
+    → touches activation other n ≡ touches activation store n
+touches_alike activation store other zero alike = refl
+touches_alike activation store other (suc n) alike =
+    touches_more activation other n
+    ∙ rw (touches_alike activation store other n (λ k below. alike k (omega arith)), alike n (omega arith)) refl
+    ∙ sym (touches_more activation store n)
+
+-- the row of a commit, and its state
+committed : (outcome : Outcome) (reached state : Plain) → if_commit outcome reached ≡ Some state → (outcome ≡ Commit) × (reached ≡ state)
+committed (On next) reached state is = absurd (none-some state is)
+committed Commit reached state is = (refl, same_Some reached state is)
+committed (Check code) reached state is = absurd (none-some state is)
+
+also_commits : (outcome : Outcome) → SameWay Commit outcome → outcome ≡ Commit
+also_commits (On next) same = absurd same
+also_commits Commit same = refl
+also_commits (Check code) same = absurd same
+
+pub trace-enough : TraceIsEnough
+trace-enough activation zero store other state whole whole_other one commits agree = absurd (none-some state commits)
+trace-enough activation (suc n) store other state whole whole_other one commits agree =
+    option_and_then_some (λ reached. if_commit (row activation.program store.directory reached) reached)
+    (after activation.program activation.args store n) state commits
+    (λ reached before went.
+    let ends = committed (row activation.program store.directory reached) reached state went in
+    let (bytes, same) = agreement-enough activation.program activation.args store other n reached whole whole_other one before (agree_within activation store other n agree) in
+    let last = also_commits _ (rw ends.0 at same.next_row) in (
+      bytes,
+      rw (same.state_on_other, last) (ap (λ (s : Plain). Some (record s { store = bytes })) ends.1),
+      touches_alike activation store other (suc n) (λ k below. same.touches k (omega arith)),
+    ))

@@ -1,0 +1,3 @@
+pub mod EnoughLemmas
+pub mod LineLemmas
+pub mod StepLemmas

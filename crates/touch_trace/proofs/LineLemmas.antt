@@ -1,0 +1,67 @@
+-- Commit lines up to one of them, and that one.
+use Rattle.std.proofs.Common.{◌≡◌, ◌≢◌, ℕ, zero, suc, ◌+◌, ◌%◌, ◌^◌, ◌≤◌, List, [], ◌∷◌, ◌++◌, map, Some, inl, inr, refl, ◌∙◌, ap, append_assoc, arith}
+use Rattle.std.specs.List.{Contains}
+use Rattle.std.proofs.lemmas.List.{map-append}
+use Rattle.std.proofs.lemmas.List.Elements.{Contains-append_cases}
+use Rattle.line_geometry.specs.Directory.{Layout}
+use Rattle.flat_machine.specs.declared.machine.Plain.{Plain}
+use Rattle.flat_machine.specs.Serial.{Activation, before_commit, numbered}
+use Rattle.job_text.specs.declared.job.Job.{Job}
+use Rattle.serial_audit.specs.declared.auditing.KeptStore.{KeptStore}
+use Rattle.serial_audit.specs.Audit.{IsFirstUnsound, IsSound, Stands, Told, activations_of, steps_allowed}
+use Rattle.serial_audit.proofs.VerdictLemmas.{taken}
+use Rattle.touch_trace.specs.declared.touch.Touch.{Touch}
+use Rattle.touch_trace.specs.Trace.{AreTouches, touches}
+
+-- a line of another activation more
+pub none_more : (lines : List Told) (told : Told) (activation : ℕ) → ¬ (Contains (map (λ (line : Told). line.activation) lines) activation)
+    → told.activation ≢ activation → ¬ (Contains (map (λ (line : Told). line.activation) (lines ++ told ∷ [])) activation)
+none_more lines told activation none other has =
+    elim (Contains-append_cases (map (λ (line : Told). line.activation) lines) (told.activation ∷ []) activation (rw map-append at has)) [
+      | inl earlier ↦ none earlier
+      | inr last ↦ other (one told.activation last)
+    ]
+  where
+    one : (x : ℕ) → Contains (x ∷ []) activation → x ≡ activation
+    one x (zero, within, is) = is
+    one x (suc k, within, is) = absurd (omega arith)
+
+-- the first unsound line is so with others behind
+pub unsound_among : (job : Job) (opening : KeptStore) (lines behind : List Told) (place : ℕ)
+    → IsFirstUnsound job opening lines place → IsFirstUnsound job opening (lines ++ behind) place
+unsound_among job opening lines behind place unsound = record {
+  before = unsound.before;
+  told = unsound.told;
+  behind = unsound.behind ++ behind;
+  lines_are = ap (λ (first : List Told). first ++ behind) unsound.lines_are ∙ append_assoc unsound.before (unsound.told ∷ unsound.behind) behind;
+  place = unsound.place;
+  sound = unsound.sound;
+  unsound = unsound.unsound;
+}
+
+-- a line whose activation commits as it tells is sound, and has these touches
+pub traced_sound : (job : Job) (opening : KeptStore) (before : List Told) (number : ℕ) (seen bytes : List ℕ) (told : Told) (directory : Layout)
+    → (activation : Activation) (state : Plain) (list : List Touch) → opening.directory ≡ directory → Stands job opening before number seen bytes
+    → (told.number ≡ (number + 1) % 2 ^ 64) × (¬ (Contains seen told.activation))
+    → (told.steps ≤ steps_allowed job told.activation) × (numbered (activations_of job) told.activation ≡ Some activation)
+    → (before_commit activation told.steps (record { directory = directory; bytes = bytes }) ≡ Some state)
+    × (list ≡ touches activation (record { directory = directory; bytes = bytes }) told.steps)
+    → told.out ≡ state.out → IsSound job opening before told × AreTouches job opening before told list
+traced_sound job opening before number seen bytes told directory activation state list same stands follows begun traced prints =
+    let sound = taken job opening before number seen bytes told state.store directory same stands follows.0 follows.1
+    (record {
+      allowed = begun.0;
+      state = state;
+      commits = rw begun.1 traced.0;
+      prints = prints;
+      leaves = refl;
+    }) in (
+      sound.0,
+      record {
+        activation = activation;
+        begun = begun.1;
+        left = record { directory = opening.directory; bytes = bytes };
+        leaves = stands.leaves;
+        list_is = rw same traced.1;
+      },
+    )

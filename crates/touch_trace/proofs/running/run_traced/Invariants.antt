@@ -1,0 +1,13 @@
+use Rattle.std.proofs.Common.{◌≡◌, ◌-◌, length, Some}
+use Rattle.line_geometry.specs.Directory.{byte_count}
+use Rattle.flat_machine.specs.After.{after}
+use Rattle.touch_trace.specs.Trace.{touches}
+use Rattle.touch_trace.proofs.running.run_traced.Given as goal
+
+abbrev pub invariant-loop-step : goal.invariant-loop-step
+invariant-loop-step l = record {
+  state : after l.program l.fn.args (record { directory = l.directory; bytes = l.store }) (l.step - 1) ≡ Some l.plain;
+  private : length l.plain.private ≡ 16384;
+  store : length l.plain.store ≡ byte_count l.directory;
+  touches : l.touches.items ≡ touches (record { program = l.program; args = l.fn.args }) (record { directory = l.directory; bytes = l.store }) (l.step - 1);
+}

@@ -1,0 +1,3 @@
+pub mod Laws
+pub mod Stretch
+pub mod Trace

@@ -1,0 +1,106 @@
+ghost use Rattle.std.specs.Prelude.{◌≡◌, ◌-◌, ◌<◌, ◌^◌, List, length, map, take, IfOk, MatchOption};
+ghost use Rattle.std.specs.List.{Contains};
+ghost use Rattle.line_geometry.specs.Directory.{byte_count};
+ghost use Rattle.serial_audit.specs.declared.auditing.KeptStore.{KeptStore};
+ghost use Rattle.serial_audit.specs.Audit.{IsSound, Stands, Told, report_told};
+ghost use Rattle.serial_audit.specs.Commit.{told_of};
+ghost use Rattle.touch_trace.specs.Trace.{AreTouches, IsAnswer, IsFirstOf};
+
+use super::answer::{Trace, TraceFault};
+use super::running::run_traced;
+use super::touch::Touch;
+use job_text::Job;
+use line_geometry::Directory;
+use report_text::OwnedLine;
+use serial_audit::{Commit, KeptStore, Progress, audit_lines};
+use std::alloc::{AllocError, Global};
+
+/// The lines that an activation touches up to its first commit line, as it runs after the commits before it (docs/MODEL.md,
+/// "A trace").
+///
+/// Each of these programs runs once from its start, on the store that those before it left.
+///
+/// # Errors
+///
+/// As [`TraceFault`] says.
+pub fn trace(
+    alloc: Global,
+    job: &Job,
+    report: &[OwnedLine],
+    opening: &KeptStore,
+    activation: u32,
+) -> Result<Trace, TraceFault>
+    requires store { length opening.now.store.items ≡ byte_count opening.now.directory }
+    requires few { length report.now < 2 ^ 32 - 1 }
+    ensures { IsAnswer job.now opening.now (report_told report.now) activation result }
+{
+    let (before, commit) = match first_commit(report, activation) {
+        Some(found) => found,
+        None => return Err(TraceFault::NoCommit),
+    };
+    let progress = match audit_lines(alloc, job, &report[..before], opening)? {
+        Ok(progress) => progress,
+        Err(place) => return Err(TraceFault::NotSerial(place)),
+    };
+    match touches_of(alloc, job, &opening.directory, &progress, &commit)? {
+        Some(touches) => Ok(Trace {
+            steps: commit.steps,
+            touches,
+        }),
+        None => Err(TraceFault::NotSerial(progress.next_place())),
+    }
+}
+
+/// The first commit line of an activation, and how many lines are before it.
+fn first_commit<'a>(report: &'a [OwnedLine], activation: u32) -> Option<(usize, Commit<'a>)>
+    ensures { MatchOption result (¬ (Contains (map (λ (line : Told). line.activation) (report_told report.now)) activation))
+        (λ found. (found.0 < length report.now) × IsFirstOf (report_told report.now) activation (report_told (take found.0 report.now)) (told_of found.1)) }
+{
+    for (place, line) in report.iter().enumerate() {
+        match Commit::of(line) {
+            Some(commit) => {
+                if commit.activation == activation {
+                    return Some((place, commit));
+                }
+            }
+            None => {}
+        }
+    }
+    None
+}
+
+/// The touches of a commit line behind others, if it is sound.
+fn touches_of(
+    alloc: Global,
+    job: &Job,
+    directory: &Directory,
+    progress: &Progress,
+    commit: &Commit,
+) -> Result<Option<Vec<Touch>>, AllocError>
+    requires { length progress.now.store ≡ byte_count directory.now }
+    ensures { IfOk result (λ found. (opening : KeptStore) (before : List Told) → opening.directory ≡ directory.now
+        → Stands job.now opening before progress.now.number progress.now.seen.items progress.now.store
+        → MatchOption found (¬ (IsSound job.now opening before (told_of commit.now)))
+        (λ touches. IsSound job.now opening before (told_of commit.now) × AreTouches job.now opening before (told_of commit.now) touches.items)) }
+{
+    if !progress.is_followed_by(commit) {
+        return Ok(None);
+    }
+    match commit.begun(job) {
+        Some(begun) => {
+            let args = begun.1;
+            let store = progress.store.as_slice();
+            match run_traced(alloc, begun.0, args, directory, store, commit.steps)? {
+                Some((state, touches)) => {
+                    if state.out.as_slice() == commit.out {
+                        Ok(Some(touches))
+                    } else {
+                        Ok(None)
+                    }
+                }
+                None => Ok(None),
+            }
+        }
+        None => Ok(None),
+    }
+}
