@@ -264,12 +264,12 @@ module _ (unit brought_in now : Unit) (page : ℕ) (keep : Option ℕ) (frame : 
 
   -- it was read
   pub now-keeps : {W : Type 0} (G : Ghosts W) (store : KeptStore) (outside : W) → store.header.directory ≡ unit.directory → page < page_count unit.directory → has unit.pool.places.resident.items page ≡ false
-      → (restart.Tracks G store outside → part ≡ restart.page_in (stands (held_of G outside)) page)
+      → (restart.IsShown G store outside → part ≡ restart.page_in (stands (held_of G outside)) page)
       → (committed : List ℕ) → IsStoreOf G store outside committed → IsClean unit.directory (reach_of unit).pool committed → Keeps unit.directory (reach_of unit).pool (reach_of now).pool committed
   now-keeps G store outside same below absent reads committed is clean =
       let two : store.header.directory.page ≡ Two = ap (λ (d : Layout). d.page) same ∙ unit.two in
       let was : part ≡ page_in unit.directory committed page =
-      reads is.tracks ∙ page-read (stands (held_of G outside)) is.number store.header.directory committed page is.stood two ∙ ap (λ (d : Layout). page_in d committed page) same in
+      reads (record { told = is.tracks.sure.told; shows = is.tracks.shows }) ∙ page-read (stands (held_of G outside)) is.number store.header.directory committed page is.stood two ∙ ap (λ (d : Layout). page_in d committed page) same in
       subst (λ (pool : Pool). Keeps unit.directory (reach_of unit).pool pool committed)
       (sym (pool-filled ∙ ap (filled (reach_of brought_in).pool page frame) was))
       (bring-keeps unit.directory (reach_of unit).pool (reach_of brought_in).pool committed page keep frame before there

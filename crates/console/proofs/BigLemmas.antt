@@ -1,6 +1,6 @@
 -- A load on the store that a disk stands for.
-use Rattle.std.proofs.Common.{◌≡◌, ℕ, ◌*◌, ◌≤◌, inl, ⊎_elim, true, false, List, [], ◌∷◌, ◌++◌, length, take, refl, sym, ◌∙◌, ap, subst, arith, append-nil, append_assoc, Option}
-use Rattle.std.specs.Prelude.{codes, decimal, All, Bool, Result, Ok, Err, IsSome, IsTrue, unwrap_or, count_by}
+use Rattle.std.proofs.Common.{◌≡◌, ℕ, ◌*◌, ◌≤◌, ⊎_elim, true, false, List, [], ◌∷◌, ◌++◌, length, take, refl, sym, ◌∙◌, ap, subst, arith, append-nil, append_assoc, Option}
+use Rattle.std.specs.Prelude.{codes, decimal, All, Bool, Some, Result, Ok, Err, IsSome, IsTrue, unwrap_or, count_by}
 use Rattle.std.specs.List.{fold}
 use Rattle.outside.specs.declared.world.Outside.{Ghosts}
 use Rattle.outside.specs.declared.failed.Failed.{Failed}
@@ -44,12 +44,12 @@ use Rattle.job_text.proofs.BigLemmas.{events_all}
 use Rattle.console.specs.declared.status.Status.{Status}
 use Rattle.console.specs.declared.status.Status.TheVariants as status
 use Rattle.console.specs.Big.{HasBigRun, IsToldBy, Loaded, LoadedBy, RanBig, big_line, last_out, line_for}
-use Rattle.console.specs.Causes.{IsOfBig, IsPastOpening, OpensBy}
+use Rattle.console.specs.Causes.{IsOfEvents, IsPastOpening, OpensBy}
 use Rattle.console.specs.Listed.{put_of}
 use Rattle.console.specs.Show.{PrintsBy}
 use Rattle.console.specs.Headline.{job_desk}
 use Rattle.console.specs.Opening.{IsStanding, StandsAt}
-use Rattle.console.proofs.RunLemmas.{RanFrom, Facts, first_desk, has-opened, number-small, given, wanted, these, is_run, ordered, closes, serial_run, rose, all-fine, calm-now, writes-now, leaves-now, records-now, doubt-leaves}
+use Rattle.console.proofs.RunLemmas.{RanFrom, Facts, first_desk, has-opened, number-small, given, wanted, these, is_run, ordered, closes, serial_run, rose, all-fine, calm-now, writes-now, leaves-now, records-now, shown-now, doubt-leaves}
 
 -- only the commit lines tell what was printed last
 out_filtered : (last : List ℕ) (lines : List Line) → fold out_after last lines ≡ fold out_after last (commit_lines lines)
@@ -168,12 +168,19 @@ module _ {W : Type 0} (G : Ghosts W) (fewer_later : FewerLater G) (printed_now :
 
   -- the run of a load, by its status
   pub has_big_run : (now : Status) → (IsPastOpening now → (is_shut quiet ≡ false) × PrintsBy (G.printed before) (G.printed after) (line_for transfers (event_lines [] (activity desk).programs desk.opened runs.ran.taken (first_desk G job.frames before start desk opens asks))) now) → (now ≡ Status.DiskFault → is_shut quiet ≡ true)
-      → HasBigRun G transfers job number store before after (order_of new) now
+      → HasBigRun G transfers job number store before after (order_of new) (Some new) now
   has_big_run now past shut = record {
     taken = runs.ran.taken;
     rest = runs.rest;
     is_run = runs_are;
     order_is = orders_are;
+    ends = record {
+      session = new;
+      answered = refl;
+      ordered = refl;
+      closes = closes_are;
+      shows = λ still. (shown-now G fewer_later printed_now job before start after desk new number store standing opens asks programs_are same_opened same_honest time asks-calm [] half still).1;
+    };
     all = λ opened. runs.all (past opened).0;
     still_open = λ opened. sym closes_are ∙ runs.closed ∙ (past opened).0;
     shut = λ is. sym closes_are ∙ runs.closed ∙ shut is;
@@ -203,10 +210,10 @@ opens_past G before after now other stood = record {
   never = λ honest told standing offset same. other offset same;
 }
 
-loaded_past : {W : Type 0} (G : Ghosts W) (transfers : ℕ) (before after : W) (order : List (ℕ × ℕ)) (now : Status) → IsPastOpening now → RanBig G transfers before after order now → PutsTimes G 1 before after (put_of now) → LoadedBy G transfers before after order now
-loaded_past G transfers before after order status.Done past ran times = (ran, times)
-loaded_past G transfers before after order status.PutFault past ran times = ran
-loaded_past G transfers before after order _ past ran times = absurd past
+loaded_past : {W : Type 0} (G : Ghosts W) (transfers : ℕ) (before after : W) (order : List (ℕ × ℕ)) (session : Option Session) (now : Status) → IsPastOpening now → RanBig G transfers before after order session now → PutsTimes G 1 before after (put_of now) → LoadedBy G transfers before after order session now
+loaded_past G transfers before after order session status.Done past ran times = (ran, times)
+loaded_past G transfers before after order session status.PutFault past ran times = ran
+loaded_past G transfers before after order session _ past ran times = absurd past
 
 times_since : {W T : Type 0} (G : Ghosts W) (before start between after : W) (result : Result T Failed) → OnlyAsks G before start → CallsDisk G start between → PutsTimes G 1 between after result → PutsTimes G 1 before after result
 times_since G before start between after (Ok value) asks calls times = λ told.
@@ -222,7 +229,7 @@ module _ {W : Type 0} (G : Ghosts W) (fewer_later : FewerLater G) (printed_now :
   abbrev Ran : Quiet → Type 0
   Ran quiet = (first : Desk) → IsSure G start → ghosts.shows desk (held_of G start) first → RunsQuietly ghosts G (activity desk).programs desk.opened job.events.items first new start between last quiet
 
-  pub loaded : (quiet : Quiet) → Ran quiet → (after : W) (now : Status) → IsToldBy G transfers quiet last between after now → Loaded G transfers before after (order_of new) now
+  pub loaded : (quiet : Quiet) → Ran quiet → (after : W) (now : Status) → IsToldBy G transfers quiet last between after now → Loaded G transfers before after (order_of new) (Some new) now
   loaded (quiet.Ended commits rollbacks) runs after now (past, puts, times) =
       let later : Elapses G.moment G.left_since start after = elapses-trans G fewer_later start between after calls.time puts.only.time in
       let honest : G.is_honest after ≡ G.is_honest start = puts.only.honest ∙ calls.honest in
@@ -230,7 +237,7 @@ module _ {W : Type 0} (G : Ghosts W) (fewer_later : FewerLater G) (printed_now :
         honest = honest ∙ asks.calls.honest;
         time = elapses-trans G fewer_later before start after asks.calls.time later;
         opens = opens_past G before after now (λ offset is. subst IsPastOpening is past) (λ opened told. stood told);
-        by_status = loaded_past G transfers before after (order_of new) now past
+        by_status = loaded_past G transfers before after (order_of new) (Some new) now past
             (record {
               job = job;
               is_load = is_load;
@@ -254,13 +261,13 @@ module _ {W : Type 0} (G : Ghosts W) (fewer_later : FewerLater G) (printed_now :
             (times_since G before start between after (put_of now) asks calls times);
       }
   loaded quiet.Closed runs after now (shut, same) =
-      subst (λ (status : Status). Loaded G transfers before after (order_of new) status) (sym shut)
-      (subst (λ (w : W). Loaded G transfers before w (order_of new) Status.DiskFault) (sym same) (record {
+      subst (λ (status : Status). Loaded G transfers before after (order_of new) (Some new) status) (sym shut)
+      (subst (λ (w : W). Loaded G transfers before w (order_of new) (Some new) Status.DiskFault) (sym same) (record {
         honest = calls.honest ∙ asks.calls.honest;
         time = elapses-trans G fewer_later before start between asks.calls.time calls.time;
         opens = opens_past G before between Status.DiskFault (λ offset is. cc) (λ opened told. stood told);
         by_status = (
-          inl (record {
+          record {
             job = job;
             is_load = is_load;
             has_run = λ number store standing.
@@ -268,7 +275,7 @@ module _ {W : Type 0} (G : Ghosts W) (fewer_later : FewerLater G) (printed_now :
                 let begins = has-opened G job.frames before start desk opened asks in
                 has_big_run G fewer_later printed_now transfers job before start between between desk new number store standing opened asks programs_are same_opened calls.honest calls.time asks-calm last quiet.Closed (runs (first_desk G job.frames before start desk opened asks) begins.sure begins.shows) refl refl refl
                 (λ sure. sure) (λ shut front event is. is) (λ image seen left. (seen, left)) Status.DiskFault (λ opened. absurd opened) (λ is. refl);
-          }),
+          },
           calls.quiet.same ∙ asks.calls.quiet.same,
         );
       }))
@@ -287,14 +294,14 @@ module _ {W : Type 0} (G : Ghosts W) (transfers : ℕ) (last : List ℕ) (betwee
   told_shut (quiet.Ended commits rollbacks) now (past, puts, times) is = absurd (subst IsPastOpening is past)
   told_shut quiet.Closed now (shut, same) is = (refl, same)
 
-  pub told_only : (quiet : Quiet) (now : Status) → IsToldBy G transfers quiet last between after now → IsOfBig now
+  pub told_only : (quiet : Quiet) (now : Status) → IsToldBy G transfers quiet last between after now → IsOfEvents now
   told_only (quiet.Ended commits rollbacks) now (past, puts, times) = of_past now past
     where
-      of_past : (now : Status) → IsPastOpening now → IsOfBig now
+      of_past : (now : Status) → IsPastOpening now → IsOfEvents now
       of_past status.Done past = tt
       of_past status.PutFault past = tt
       of_past _ past = absurd past
-  told_only quiet.Closed now (shut, same) = subst IsOfBig (sym shut) tt
+  told_only quiet.Closed now (shut, same) = subst IsOfEvents (sym shut) tt
 
 -- the events of a load have no crash
 pub lasting : (transfers : ℕ) → All IsLasting (big_events transfers)

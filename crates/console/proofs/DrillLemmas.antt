@@ -1,6 +1,6 @@
 -- What a drill's stops come to, and what is put of them.
-use Rattle.std.proofs.Common.{◌≡◌, ◌⊎◌, inl, inr, ℕ, zero, suc, ◌+◌, ◌*◌, ◌%◌, ◌<◌, ◌≤◌, Bool, true, false, List, [], ◌∷◌, ◌++◌, length, take, get_or, refl, sym, ◌∙◌, ap, subst, rules, arith, append_assoc, append-nil, length-append}
-use Rattle.std.specs.Prelude.{◌^◌, min, All, IfOk, Result, Ok, Err, Vec}
+use Rattle.std.proofs.Common.{◌≡◌, ◌⊎◌, inl, inr, ℕ, zero, suc, ◌+◌, ◌*◌, ◌%◌, ◌<◌, ◌≤◌, Bool, true, false, List, [], ◌∷◌, ◌++◌, length, refl, sym, ◌∙◌, ap, subst, rules, arith, append_assoc, append-nil, length-append}
+use Rattle.std.specs.Prelude.{◌^◌, min, All, Result, Ok, Err, Vec}
 use Rattle.std.specs.declared.alloc.Global.{Global}
 use Rattle.std.proofs.lemmas.Bool.{cases_lt}
 use Rattle.line_geometry.specs.FlatStore.{FlatStore}
@@ -19,7 +19,6 @@ use Rattle.console.specs.declared.status.Status.TheVariants as status
 use Rattle.console.specs.declared.drill.Pair.{Pair}
 use Rattle.console.specs.declared.stops.Stop.{Stop}
 use Rattle.desk.specs.declared.answers.Committed.{Committed}
-use Rattle.desk.specs.Answers.{order_told}
 use Rattle.std.proofs.lemmas.List.{length-map}
 use Rattle.console.specs.Drill.{IsStop, fine_order}
 use Rattle.outside.specs.Causes.{Rose}
@@ -109,15 +108,7 @@ module _ {W : Type 0} (G : Ghosts W) where
   pub stops-ended : (job : Job) (before after : W) (status : Status) → PutsStops G job before after (Err status) → DrilledTo G job before after status
   stops-ended job before after status.PutFault put = inl put
   stops-ended job before after status.NoMemory put = put
-  stops-ended job before after status.Done put = absurd put
-  stops-ended job before after status.Usage put = absurd put
-  stops-ended job before after (status.Store offset) put = absurd put
-  stops-ended job before after (status.Job line kind) put = absurd put
-  stops-ended job before after status.SourceFault put = absurd put
-  stops-ended job before after status.DiskFault put = absurd put
-  stops-ended job before after status.TooBig put = absurd put
-  stops-ended job before after status.Exists put = absurd put
-  stops-ended job before after status.NoRange put = absurd put
+  stops-ended job before after _ put = absurd put
 
   one-pair : (pairs : List Pair) (pair : Pair) → All IsPair pairs → IsPair pair → All IsPair (pairs ++ pair ∷ [])
   one-pair [] pair each this zero d below = this
@@ -185,54 +176,26 @@ module _ {W : Type 0} (G : Ghosts W) (job : Job) (before after : W) where
   drill-rose status.PutFault (inr whole) is = whole.puts.only.cause.failed
   drill-rose status.Done did is = absurd (cc)
   drill-rose status.NoMemory did is = absurd (cc)
-  drill-rose status.Usage did is = absurd did
-  drill-rose (status.Store offset) did is = absurd did
-  drill-rose (status.Job line kind) did is = absurd did
-  drill-rose status.SourceFault did is = absurd did
-  drill-rose status.DiskFault did is = absurd did
-  drill-rose status.TooBig did is = absurd did
-  drill-rose status.Exists did is = absurd did
-  drill-rose status.NoRange did is = absurd did
+  drill-rose _ did is = absurd did
 
   pub drill-same : (status : Status) → DrilledTo G job before after status → status ≡ Status.Done → G.put_faults after ≡ G.put_faults before
   drill-same status.Done did is = did.puts.only.cause.done
   drill-same status.PutFault did is = absurd (cc)
   drill-same status.NoMemory did is = absurd (cc)
-  drill-same status.Usage did is = absurd did
-  drill-same (status.Store offset) did is = absurd did
-  drill-same (status.Job line kind) did is = absurd did
-  drill-same status.SourceFault did is = absurd did
-  drill-same status.DiskFault did is = absurd did
-  drill-same status.TooBig did is = absurd did
-  drill-same status.Exists did is = absurd did
-  drill-same status.NoRange did is = absurd did
+  drill-same _ did is = absurd did
 
   pub drill-only : (status : Status) → DrilledTo G job before after status → (status ≡ Status.Done) ⊎ (status ≡ Status.PutFault) ⊎ (status ≡ Status.NoMemory)
   drill-only status.Done did = search rules
   drill-only status.PutFault did = search rules
   drill-only status.NoMemory did = search rules
-  drill-only status.Usage did = absurd did
-  drill-only (status.Store offset) did = absurd did
-  drill-only (status.Job line kind) did = absurd did
-  drill-only status.SourceFault did = absurd did
-  drill-only status.DiskFault did = absurd did
-  drill-only status.TooBig did = absurd did
-  drill-only status.Exists did = absurd did
-  drill-only status.NoRange did = absurd did
+  drill-only _ did = absurd did
 
   -- of a text that means the job
   pub drilled-text : (left left_now : Option (List ℕ)) (text : List ℕ) (status : Status) → IsWhole left left_now text → job_of text ≡ Ok (content_of job) → DrilledTo G job before after status → DrilledBy G left left_now before after status
   drilled-text left left_now text status.Done whole means did = record { text = text; whole = whole; job = job; means = means; did = did }
   drilled-text left left_now text status.PutFault whole means did = record { text = text; whole = whole; job = job; means = means; did = did }
   drilled-text left left_now text status.NoMemory whole means did = did
-  drilled-text left left_now text status.Usage whole means did = absurd did
-  drilled-text left left_now text (status.Store offset) whole means did = absurd did
-  drilled-text left left_now text (status.Job line kind) whole means did = absurd did
-  drilled-text left left_now text status.SourceFault whole means did = absurd did
-  drilled-text left left_now text status.DiskFault whole means did = absurd did
-  drilled-text left left_now text status.TooBig whole means did = absurd did
-  drilled-text left left_now text status.Exists whole means did = absurd did
-  drilled-text left left_now text status.NoRange whole means did = absurd did
+  drilled-text left left_now text _ whole means did = absurd did
 
 -- nothing was put of a job that wasn't read
 pub drilled-unread : {W : Type 0} (G : Ghosts W) (left left_now : Option (List ℕ)) (w : W) (status : Status) → IsPut G w w 0 → IsOfReading status → DrilledBy G left left_now w w status
@@ -240,10 +203,4 @@ drilled-unread G left left_now w (status.Job line kind) none is = refl
 drilled-unread G left left_now w status.SourceFault none is = refl
 drilled-unread G left left_now w status.TooBig none is = refl
 drilled-unread G left left_now w status.NoMemory none is = as-first G w w 0 (omega arith) none
-drilled-unread G left left_now w status.Done none is = absurd is
-drilled-unread G left left_now w status.PutFault none is = absurd is
-drilled-unread G left left_now w status.Usage none is = absurd is
-drilled-unread G left left_now w (status.Store offset) none is = absurd is
-drilled-unread G left left_now w status.DiskFault none is = absurd is
-drilled-unread G left left_now w status.Exists none is = absurd is
-drilled-unread G left left_now w status.NoRange none is = absurd is
+drilled-unread G left left_now w _ none is = absurd is

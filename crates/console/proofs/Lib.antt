@@ -1,7 +1,9 @@
 pub mod CauseLemmas
 pub mod RunLemmas
 pub mod BigLemmas
+pub mod BundleLemmas
 pub mod NameLemmas
+pub mod PromiseLemmas
 pub mod WordLemmas
 pub mod ShowLemmas
 pub mod ShownLemmas

@@ -14,7 +14,7 @@ use Rattle.outside.proofs.Prints.{prints_broken, prints_on, prints_stop, prints_
 use Rattle.outside.proofs.Runs.{elapses-trans}
 use Rattle.store_format.specs.Stands.{Standing, Stands, NotAStore, Damaged, stands}
 use Rattle.restart.specs.Kept.{KeptStore}
-use Rattle.restart.specs.Shows.{Tracks, Shows, page_in}
+use Rattle.restart.specs.Shows.{IsShown, Shows, page_in}
 use Rattle.listing.specs.Listing.{row_lines}
 use Rattle.listing.specs.Puts.{Puts, PutsTimes}
 use Rattle.listing.proofs.RowLemmas.{rows_on}
@@ -104,11 +104,11 @@ module _ {W : Type 0} (G : Ghosts W) (fewer_later : FewerLater G) where
   pub held_same : (old new : W) → OnlyShows G old new → held_of G new ≡ held_of G old
   held_same old new shows = ap (λ (these : Option (List ℕ)). unwrap_or these []) shows.held
 
-  -- and a store that is tracked is
-  pub tracks_shows : (store : KeptStore) (old new : W) → Tracks G store old → OnlyShows G old new → Tracks G store new
-  tracks_shows store old new tracks shows = record {
-    sure = sure_shows old new tracks.sure shows;
-    shows = subst (λ (held : List ℕ). Shows held store) (sym (held_same old new shows)) tracks.shows;
+  -- and a store that they show is shown
+  pub still_shown : (store : KeptStore) (old new : W) → IsShown G store old → OnlyShows G old new → IsShown G store new
+  still_shown store old new shown shows = record {
+    told = subst (λ (these : Option (List ℕ)). IsSome these) (sym shows.held) shown.told;
+    shows = subst (λ (held : List ℕ). Shows held store) (sym (held_same old new shows)) shown.shows;
   }
 
 take_shorter : (n m : ℕ) (xs : List ℕ) → n ≤ m → take n (take m xs) ≡ take n xs
@@ -139,48 +139,48 @@ prints_front old new first second prints = prints_stop old new first second brok
 -- a part was printed behind others of whole rows
 module _ {W : Type 0} (G : Ghosts W) (fewer_later : FewerLater G) (store : KeptStore) (at offset done part count : ℕ) (old mid new : W)
     (whole : done % 16 ≡ 0) (inside : done + part ≤ count) (full : done + part < count → part ≡ 2048)
-    (before : PutsBytes G store at offset done old mid (Ok tt)) (long : Tracks G store old → length (bytes_in (stands (held_of G old)) at done) ≡ done) where
+    (before : PutsBytes G store at offset done old mid (Ok tt)) (long : IsShown G store old → length (bytes_in (stands (held_of G old)) at done) ≡ done) where
   rows-are : done ≡ 16 * (done / 16)
   rows-are = omega (arith, whole)
 
   -- the rows of the bytes so far and of others behind them
-  split : Tracks G store old → (more : List ℕ) → row_lines offset (bytes_in (stands (held_of G old)) at done ++ more) ≡ row_lines offset (bytes_in (stands (held_of G old)) at done) ++ row_lines (offset + done) more
-  split tracks more =
-      rows_on (done / 16) offset (bytes_in (stands (held_of G old)) at done) more (long tracks ∙ rows-are)
+  split : IsShown G store old → (more : List ℕ) → row_lines offset (bytes_in (stands (held_of G old)) at done ++ more) ≡ row_lines offset (bytes_in (stands (held_of G old)) at done) ++ row_lines (offset + done) more
+  split shown more =
+      rows_on (done / 16) offset (bytes_in (stands (held_of G old)) at done) more (long shown ∙ rows-are)
       ∙ ap (λ (n : ℕ). row_lines offset (bytes_in (stands (held_of G old)) at done) ++ row_lines (offset + n) more) (sym rows-are)
 
   same-held : held_of G mid ≡ held_of G old
   same-held = held_same G fewer_later old mid before.only
 
-  tracks-mid : Tracks G store old → Tracks G store mid
-  tracks-mid tracks = tracks_shows G fewer_later store old mid tracks before.only
+  shown-mid : IsShown G store old → IsShown G store mid
+  shown-mid shown = still_shown G fewer_later store old mid shown before.only
 
   abbrev bytes_of : ℕ → ℕ → List ℕ
   bytes_of from some = bytes_in (stands (held_of G old)) from some
 
   -- the part's bytes, as the disk held them before
-  part-long : AreRead G store (at + done) part mid → Tracks G store old → length (bytes_of (at + done) part) ≡ part
-  part-long reads tracks = subst (λ (held : List ℕ). length (bytes_in (stands held) (at + done) part) ≡ part) same-held (reads (tracks-mid tracks))
+  part-long : AreRead G store (at + done) part mid → IsShown G store old → length (bytes_of (at + done) part) ≡ part
+  part-long reads shown = subst (λ (held : List ℕ). length (bytes_in (stands held) (at + done) part) ≡ part) same-held (reads (shown-mid shown))
 
-  part-puts : (result : Result (Unit {0}) Status) → PutsBytes G store (at + done) (offset + done) part mid new result → Tracks G store old → PutsDone G (row_lines (offset + done) (bytes_of (at + done) part)) mid new result
-  part-puts result puts tracks = subst (λ (held : List ℕ). PutsDone G (row_lines (offset + done) (bytes_in (stands held) (at + done) part)) mid new result) same-held (puts.printed (tracks-mid tracks))
+  part-puts : (result : Result (Unit {0}) Status) → PutsBytes G store (at + done) (offset + done) part mid new result → IsShown G store old → PutsDone G (row_lines (offset + done) (bytes_of (at + done) part)) mid new result
+  part-puts result puts shown = subst (λ (held : List ℕ). PutsDone G (row_lines (offset + done) (bytes_in (stands held) (at + done) part)) mid new result) same-held (puts.printed (shown-mid shown))
 
   pub parts_on : PutsBytes G store (at + done) (offset + done) part mid new (Ok tt) → HasRead G store (at + done) part mid new (Ok tt) → PutsBytes G store at offset (done + part) old new (Ok tt)
   parts_on puts reads = record {
     only = shows_on G fewer_later old mid new before.only puts.only;
-    printed = λ tracks.
+    printed = λ shown.
         prints_same (G.printed old) (G.printed new) (row_lines offset (bytes_of at done) ++ row_lines (offset + done) (bytes_of (at + done) part)) (row_lines offset (bytes_of at (done + part))) (Ok tt)
-        (sym (split tracks (bytes_of (at + done) part)) ∙ ap (row_lines offset) (sym (bytes_on (stands (held_of G old)) at done part)))
-        (prints_on (G.printed old) (G.printed mid) (G.printed new) (row_lines offset (bytes_of at done)) (row_lines (offset + done) (bytes_of (at + done) part)) tt (Ok tt) (before.printed tracks) (part-puts (Ok tt) puts tracks));
+        (sym (split shown (bytes_of (at + done) part)) ∙ ap (row_lines offset) (sym (bytes_on (stands (held_of G old)) at done part)))
+        (prints_on (G.printed old) (G.printed mid) (G.printed new) (row_lines offset (bytes_of at done)) (row_lines (offset + done) (bytes_of (at + done) part)) tt (Ok tt) (before.printed shown) (part-puts (Ok tt) puts shown));
     times = λ told. omega (arith, whole, before.times told, puts.times (before.only.told told));
     unfailed = puts.unfailed ∙ before.unfailed;
     stops = tt;
   }
 
-  pub parts-long : HasRead G store (at + done) part mid new (Ok tt) → Tracks G store old → length (bytes_in (stands (held_of G old)) at (done + part)) ≡ done + part
-  parts-long reads tracks =
-      let two = part-long reads tracks in
-      let one = long tracks in
+  pub parts-long : HasRead G store (at + done) part mid new (Ok tt) → IsShown G store old → length (bytes_in (stands (held_of G old)) at (done + part)) ≡ done + part
+  parts-long reads shown =
+      let two = part-long reads shown in
+      let one = long shown in
       ap length (bytes_on (stands (held_of G old)) at done part) ∙ omega (arith, one, two, length-append (bytes_of at done) (bytes_of (at + done) part))
 
   -- the bytes of what is left begin with the part's
@@ -204,25 +204,25 @@ module _ {W : Type 0} (G : Ghosts W) (fewer_later : FewerLater G) (store : KeptS
           rw empty (ap (row_lines (offset + done)) (append-nil (bytes_of (at + done) part)) ∙ sym (append-nil (row_lines (offset + done) (bytes_of (at + done) part))))
 
   -- a prefix of the rows of what is left was printed
-  rest-prints : (status : Status) → PutsBytes G store (at + done) (offset + done) part mid new (Err status) → HasRead G store (at + done) part mid new (Err status) → Tracks G store old
+  rest-prints : (status : Status) → PutsBytes G store (at + done) (offset + done) part mid new (Err status) → HasRead G store (at + done) part mid new (Err status) → IsShown G store old
       → Prints (G.printed mid) (G.printed new) (row_lines (offset + done) (bytes_of (at + done) (count - done))) broke
-  rest-prints status puts reads tracks =
+  rest-prints status puts reads shown =
       ⊎_elim
       (λ same. prints_none (G.printed mid) (G.printed new) (row_lines (offset + done) (bytes_of (at + done) (count - done))) same)
       (λ read.
       prints_same (G.printed mid) (G.printed new) (row_lines (offset + done) (bytes_of (at + done) part) ++ row_lines (offset + done + 2048) (bytes_of (at + done + part) (count - done - part))) (row_lines (offset + done) (bytes_of (at + done) (count - done))) broke
-      (sym (rest-rows (part-long read tracks)))
-      (prints_front (G.printed mid) (G.printed new) (row_lines (offset + done) (bytes_of (at + done) part)) (row_lines (offset + done + 2048) (bytes_of (at + done + part) (count - done - part))) (part-puts (Err status) puts tracks)))
+      (sym (rest-rows (part-long read shown)))
+      (prints_front (G.printed mid) (G.printed new) (row_lines (offset + done) (bytes_of (at + done) part)) (row_lines (offset + done + 2048) (bytes_of (at + done + part) (count - done - part))) (part-puts (Err status) puts shown)))
       reads
 
   pub parts_stop : (why : Status) → PutsBytes G store (at + done) (offset + done) part mid new (Err why) → HasRead G store (at + done) part mid new (Err why) → PutsBytes G store at offset count old new (Err why)
   parts_stop why puts reads = record {
     only = shows_on G fewer_later old mid new before.only puts.only;
-    printed = λ tracks.
+    printed = λ shown.
         let all : count ≡ done + (count - done) = omega (arith, inside) in
         prints_same (G.printed old) (G.printed new) (row_lines offset (bytes_of at done) ++ row_lines (offset + done) (bytes_of (at + done) (count - done))) (row_lines offset (bytes_of at count)) broke
-        (sym (split tracks (bytes_of (at + done) (count - done))) ∙ ap (row_lines offset) (sym (ap (bytes_of at) all ∙ bytes_on (stands (held_of G old)) at done (count - done))))
-        (prints_on (G.printed old) (G.printed mid) (G.printed new) (row_lines offset (bytes_of at done)) (row_lines (offset + done) (bytes_of (at + done) (count - done))) tt broke (before.printed tracks) (rest-prints why puts reads tracks));
+        (sym (split shown (bytes_of (at + done) (count - done))) ∙ ap (row_lines offset) (sym (ap (bytes_of at) all ∙ bytes_on (stands (held_of G old)) at done (count - done))))
+        (prints_on (G.printed old) (G.printed mid) (G.printed new) (row_lines offset (bytes_of at done)) (row_lines (offset + done) (bytes_of (at + done) (count - done))) tt broke (before.printed shown) (rest-prints why puts reads shown));
     times = tt;
     unfailed = tt;
     stops = stops why before.unfailed before.only puts.stops;
@@ -231,21 +231,13 @@ module _ {W : Type 0} (G : Ghosts W) (fewer_later : FewerLater G) (store : KeptS
       stops : (now : Status) → G.put_faults mid ≡ G.put_faults old → OnlyShows G old mid → StopsBy G mid new now → StopsBy G old new now
       stops status.DiskFault same only why = omega (arith, why, only.disk)
       stops status.PutFault same only why = omega (arith, why, same)
-      stops status.Done same only why = absurd why
-      stops status.Usage same only why = absurd why
-      stops (status.Store offset) same only why = absurd why
-      stops (status.Job line kind) same only why = absurd why
-      stops status.SourceFault same only why = absurd why
-      stops status.NoMemory same only why = absurd why
-      stops status.TooBig same only why = absurd why
-      stops status.Exists same only why = absurd why
-      stops status.NoRange same only why = absurd why
+      stops _ same only why = absurd why
 
 -- nothing was printed yet
 pub nothing_put : {W : Type 0} (G : Ghosts W) (fewer_later : FewerLater G) (store : KeptStore) (at offset : ℕ) (now : W) → PutsBytes G store at offset 0 now now (Ok tt)
 nothing_put G fewer_later store at offset now = record {
   only = shows_none G fewer_later now;
-  printed = λ tracks. prints_nothing (G.printed now) (row_lines offset (bytes_in (stands (held_of G now)) at 0)) (ap (row_lines offset) (none_in (stands (held_of G now)) at));
+  printed = λ shown. prints_nothing (G.printed now) (row_lines offset (bytes_in (stands (held_of G now)) at 0)) (ap (row_lines offset) (none_in (stands (held_of G now)) at));
   times = λ told. omega arith;
   unfailed = refl;
   stops = tt;
@@ -257,13 +249,13 @@ nothing_put G fewer_later store at offset now = record {
 
 -- a part was read and its rows were put
 module _ {W : Type 0} (G : Ghosts W) (fewer_later : FewerLater G) (store : KeptStore) (at offset count some : ℕ) (bytes : List ℕ) (old mid new : W)
-    (asks : OnlyAsks G old mid) (many : some ≡ count) (long : length bytes ≡ count) (read : Tracks G store old → bytes ≡ bytes_in (stands (held_of G old)) at some) where
-  these-bytes : Tracks G store old → bytes ≡ bytes_in (stands (held_of G old)) at count
-  these-bytes tracks = read tracks ∙ ap (bytes_in (stands (held_of G old)) at) many
+    (asks : OnlyAsks G old mid) (many : some ≡ count) (long : length bytes ≡ count) (read : IsShown G store old → bytes ≡ bytes_in (stands (held_of G old)) at some) where
+  these-bytes : IsShown G store old → bytes ≡ bytes_in (stands (held_of G old)) at count
+  these-bytes shown = read shown ∙ ap (bytes_in (stands (held_of G old)) at) many
 
-  put-rows : {T : Type 0} (result : Result T Failed) → Prints (G.printed mid) (G.printed new) (row_lines offset bytes) result → Tracks G store old → Prints (G.printed old) (G.printed new) (row_lines offset (bytes_in (stands (held_of G old)) at count)) result
-  put-rows result prints tracks =
-      prints_same (G.printed old) (G.printed new) (row_lines offset bytes) (row_lines offset (bytes_in (stands (held_of G old)) at count)) result (ap (row_lines offset) (these-bytes tracks))
+  put-rows : {T : Type 0} (result : Result T Failed) → Prints (G.printed mid) (G.printed new) (row_lines offset bytes) result → IsShown G store old → Prints (G.printed old) (G.printed new) (row_lines offset (bytes_in (stands (held_of G old)) at count)) result
+  put-rows result prints shown =
+      prints_same (G.printed old) (G.printed new) (row_lines offset bytes) (row_lines offset (bytes_in (stands (held_of G old)) at count)) result (ap (row_lines offset) (these-bytes shown))
       (subst (λ (told : Option (List ℕ)). Prints told (G.printed new) (row_lines offset bytes) result) asks.calls.quiet.same prints)
 
   pub part_put : Puts G (row_lines offset bytes) mid new went → PutsTimes G (div_ceil (length bytes) 16) mid new went → PutsBytes G store at offset count old new (Ok tt)
@@ -280,7 +272,7 @@ module _ {W : Type 0} (G : Ghosts W) (fewer_later : FewerLater G) (store : KeptS
   pub part_failed : (failed : Failed) → Puts G (row_lines offset bytes) mid new (stopped failed) → PutsBytes G store at offset count old new (Err status.PutFault)
   part_failed failed puts = record {
     only = shows_on G fewer_later old mid new (shows_asks G fewer_later old mid asks) (shows_puts G fewer_later (row_lines offset bytes) mid new (stopped failed) puts);
-    printed = λ tracks. prints_broken (stopped failed) broke refl refl (G.printed old) (G.printed new) (row_lines offset (bytes_in (stands (held_of G old)) at count)) (put-rows (Err failed) puts.printed tracks);
+    printed = λ shown. prints_broken (stopped failed) broke refl refl (G.printed old) (G.printed new) (row_lines offset (bytes_in (stands (held_of G old)) at count)) (put-rows (Err failed) puts.printed shown);
     times = tt;
     unfailed = tt;
     stops = let rose = puts.only.cause.failed in omega (arith, rose, asks.calls.put);

@@ -1,6 +1,6 @@
 -- What printing a range of a store did.
 use Rattle.std.proofs.Common.{◌≡◌, ◌+◌, ℕ, List, [], refl, sym, ◌∙◌, ap, subst}
-use Rattle.std.specs.Prelude.{Option, IsSome, IsTrue, Result, Ok, Err}
+use Rattle.std.specs.Prelude.{Option, IsSome, Result, Ok, Err}
 use Rattle.std.specs.Int.{div_ceil}
 use Rattle.outside.specs.declared.world.Outside.{Ghosts}
 use Rattle.outside.specs.Bytes.{Prints, bytes_at}
@@ -10,7 +10,7 @@ use Rattle.line_geometry.specs.FlatStore.{FlatStore}
 use Rattle.store_format.specs.Stands.{Stands, stands}
 use Rattle.store_format.proofs.Stores.{stands_is}
 use Rattle.restart.specs.Kept.{KeptStore}
-use Rattle.restart.specs.Shows.{Shows, Tracks}
+use Rattle.restart.specs.Shows.{Shows, IsShown}
 use Rattle.restart.proofs.ShowLemmas.{shown_store}
 use Rattle.listing.specs.Listing.{row_lines}
 use Rattle.console.specs.declared.status.Status.{Status}
@@ -44,21 +44,25 @@ module _ {W : Type 0} (G : Ghosts W) (fewer_later : FewerLater G) (range : Range
       );
     }
 
-    module _ (tracks : IsTrue (G.is_honest before) → IsSome (G.held before) → Tracks G store start) (at : ℕ) (inside : IsInside store.header.directory range) (is_at : at ≡ start_of store.header.directory range.segment + range.from) (after : W) where
+    module _ (at : ℕ) (inside : IsInside store.header.directory range) (is_at : at ≡ start_of store.header.directory range.segment + range.from) (after : W) where
       has-range : HasRange G range before
       has-range told =
           let (number, flat, is, has) = stood (held_of G before) store (shows told) in
           (number, flat, is, subst (λ (directory : Layout). IsInside directory range) (sym has) inside)
 
       -- the rows that were put are those of the range
-      rows-put : (result : Result (Unit {0}) Status) → PutsBytes G store at range.from range.count start after result → IsTrue (G.is_honest before) → (told : IsSome (G.held before)) → (number : ℕ) (flat : FlatStore) → stands (held_of G before) ≡ Stands number flat
+      rows-put : (result : Result (Unit {0}) Status) → PutsBytes G store at range.from range.count start after result → (told : IsSome (G.held before)) → (number : ℕ) (flat : FlatStore) → stands (held_of G before) ≡ Stands number flat
           → PutsDone G (rows_of flat range) before after result
-      rows-put result puts honest told number flat is =
+      rows-put result puts told number flat is =
           let same : held_of G start ≡ held_of G before = held_same G fewer_later before start (shows_asks G fewer_later before start asks) in
+          let shown : IsShown G store start = record {
+            told = subst (λ (those : Option (List ℕ)). IsSome those) (sym asks.held) told;
+            shows = subst (λ (held : List ℕ). Shows held store) (sym same) (shows told);
+          } in
           let place : at ≡ start_of flat.directory range.segment + range.from = is_at ∙ ap (λ (directory : Layout). start_of directory range.segment + range.from) (sym (same_directory (held_of G before) store (shows told) number flat is)) in
           let bytes : bytes_in (stands (held_of G start)) at range.count ≡ bytes_at flat.bytes (start_of flat.directory range.segment + range.from) range.count =
           ap (λ (held : List ℕ). bytes_in (stands held) at range.count) same ∙ ap (λ that. bytes_in that at range.count) is ∙ ap (λ (n : ℕ). bytes_at flat.bytes n range.count) place in
-          from_start result (subst (λ (these : List ℕ). PutsDone G (row_lines range.from these) start after result) bytes (puts.printed (tracks honest told)))
+          from_start result (subst (λ (these : List ℕ). PutsDone G (row_lines range.from these) start after result) bytes (puts.printed shown))
         where
           from_start : (result : Result (Unit {0}) Status) → PutsDone G (rows_of flat range) start after result → PutsDone G (rows_of flat range) before after result
           from_start (Ok done) prints = subst (λ (these : Option (List ℕ)). Prints {T = Unit {0}} these (G.printed after) (rows_of flat range) (Ok tt)) asks.calls.quiet.same prints
@@ -80,12 +84,4 @@ module _ {W : Type 0} (G : Ghosts W) (fewer_later : FewerLater G) (range : Range
           by : (why : Status) → PutsBytes G store at range.from range.count start after (Err why) → StopsBy G start after why → ShownBy G range before after why
           by status.DiskFault puts stops = rows-put (Err status.DiskFault) puts
           by status.PutFault puts stops = (has-range, rows-put (Err status.PutFault) puts)
-          by status.Done puts stops = absurd stops
-          by status.Usage puts stops = absurd stops
-          by (status.Store offset) puts stops = absurd stops
-          by (status.Job line kind) puts stops = absurd stops
-          by status.SourceFault puts stops = absurd stops
-          by status.NoMemory puts stops = absurd stops
-          by status.TooBig puts stops = absurd stops
-          by status.Exists puts stops = absurd stops
-          by status.NoRange puts stops = absurd stops
+          by _ puts stops = absurd stops

@@ -1,13 +1,13 @@
 -- What a run leaves on a disk that stops.
 use Rattle.std.proofs.Common.{◌≡◌, ℕ, ◌+◌, ◌*◌, ◌%◌, ◌≤◌, ◌<◌, ◌⊎◌, inl, inr, Bool, true, false, List, [], ◌∷◌, ◌++◌, length, map, take, rules, cond, refl, sym, ◌∙◌, ap, subst, arith, append-nil, Option, Some, None}
-use Rattle.std.specs.Prelude.{◌↔◌, ◌^◌, min, IfOk, OnOk, Result, Ok, Err, IsSome, unwrap_or, count_by, filter, not, nat_lt, if◌then◌else◌}
+use Rattle.std.specs.Prelude.{◌↔◌, ◌^◌, IfOk, OnOk, Result, Ok, Err, IsSome, unwrap_or, count_by, not, nat_lt, if◌then◌else◌}
 use Rattle.std.specs.Option.{option_and_then}
 use Rattle.std.proofs.lemmas.List.{length-map, take_all}
 use Rattle.std.proofs.lemmas.List.Sums.{length-filter, sum_by-append}
 use Rattle.outside.specs.declared.world.Outside.{Ghosts}
 use Rattle.outside.specs.Bytes.{AreTold}
 use Rattle.outside.specs.Causes.{Rose}
-use Rattle.outside.specs.Runs.{OnlyAsks, FewerLater, held_of}
+use Rattle.outside.specs.Runs.{FewerLater, held_of}
 use Rattle.outside.specs.MemoryDisk.{disk_calls, disk_first, disk_images, disk_moment}
 use Rattle.outside.specs.Record.{images_at}
 use Rattle.outside.specs.declared.memory_disk.MemoryDisk.{MemoryDisk}
@@ -33,7 +33,6 @@ use Rattle.desk.specs.Run.{run, faulted, is_fine}
 use Rattle.desk.specs.Seen.{commits_seen}
 use Rattle.run_law.specs.Headline.{IsPrefix}
 use Rattle.schedule_replay.proofs.PutsLemmas.{PrintedNow}
-use Rattle.schedule_replay.specs.Puts.{shown_of}
 use Rattle.job_text.specs.declared.job.Job.{Job}
 use Rattle.supervisor.specs.declared.session.Session.{Session}
 use Rattle.console.specs.declared.status.Status.{Status}
@@ -184,13 +183,7 @@ module _ {W : Type 0} (G : Ghosts W) (job : Job) (number : ℕ) (store : FlatSto
       by-opening session
       (λ (none : StoodForNone G before). let that : IsLeft G job number store before after order (status.Store offset) = absurd (none number store standing) in that)
       (λ (refused : Refused G before after order). untouched-left (status.Store offset) (λ is. cc) refused.untouched standing) did
-  happened-left status.Usage fewer_later printed_now held_now standing refused = untouched-left status.Usage (λ is. cc) refused.untouched standing
-  happened-left (status.Job line kind) fewer_later printed_now held_now standing refused = untouched-left (status.Job line kind) (λ is. cc) refused.untouched standing
-  happened-left status.SourceFault fewer_later printed_now held_now standing refused = untouched-left status.SourceFault (λ is. cc) refused.untouched standing
-  happened-left status.NoMemory fewer_later printed_now held_now standing refused = untouched-left status.NoMemory (λ is. cc) refused.untouched standing
-  happened-left status.TooBig fewer_later printed_now held_now standing refused = untouched-left status.TooBig (λ is. cc) refused.untouched standing
-  happened-left status.Exists fewer_later printed_now held_now standing refused = untouched-left status.Exists (λ is. cc) refused.untouched standing
-  happened-left status.NoRange fewer_later printed_now held_now standing refused = untouched-left status.NoRange (λ is. cc) refused.untouched standing
+  happened-left other fewer_later printed_now held_now standing refused = untouched-left other (λ is. cc) refused.untouched standing
 
 -- the same of a job that says as much
 record Parts : Type 0 where

@@ -6,7 +6,7 @@ use Rattle.std.specs.Str.Parse.{ParsesUnsigned, IsNumeral, digits_value, without
 use Rattle.std.specs.Result.{OkIff}
 use Rattle.std.proofs.lemmas.Bool.{le-leb}
 use Rattle.std.proofs.lemmas.Bool.Decides.{nat_tests}
-use Rattle.std.proofs.lemmas.List.{length-map, take_all}
+use Rattle.std.proofs.lemmas.List.{take_all}
 use Rattle.asm_parse.specs.Number.{number_in}
 use Rattle.asm_parse.proofs.NumberLemmas.{as_number}
 use Rattle.line_geometry.specs.Legal.{IsInRange}
@@ -14,7 +14,7 @@ use Rattle.store_format.specs.Header.{Header}
 use Rattle.console.specs.declared.show.Range.{Range}
 use Rattle.console.specs.declared.words.Command.{Command}
 use Rattle.console.specs.declared.words.Command.TheVariants as command
-use Rattle.console.specs.Words.{AreNumbers, AreWithin, IsAlone, IsForm, IsNoForm, IsOnStore, NamesStore, number_of, numbers_of, spread, word_of}
+use Rattle.console.specs.Words.{AreNumbers, AreWithin, IsAlone, IsForm, IsNoForm, IsNumbered, IsOnStore, NamesStore, SaysNumber, number_of, number_said, numbers_of, spread, word_of}
 
 -- a word of at most ten bytes
 short : (word : List ℕ) → length word ≤ 10 → number_of word ≡ number_in 10 word
@@ -93,17 +93,21 @@ alone (first ∷ []) word bytes None some one is same given = no
     no command.Try form = let says = form.says in given command.Try tt (cc)
     no command.List form = let says = form.says in given command.List tt (cc)
     no command.Drill form = let says = form.says in given command.Drill tt (cc)
+    no command.Audit form = let says = form.says in given command.Audit tt (cc)
     no command.Run form = let are = form.says.are in cc
     no (command.Show range) form = let are = form.says.are in cc
     no (command.New header) form = let are = form.says.are in cc
     no (command.Big transfers) form = let are = form.says.are in cc
+    no (command.Trace activation) form = let are = form.says.are in cc
 alone (first ∷ []) word bytes (Some command.Try) some one is same given = let said = given.1 in record { says = cc; within = tt }
 alone (first ∷ []) word bytes (Some command.List) some one is same given = let said = given.1 in record { says = cc; within = tt }
 alone (first ∷ []) word bytes (Some command.Drill) some one is same given = let said = given.1 in record { says = cc; within = tt }
+alone (first ∷ []) word bytes (Some command.Audit) some one is same given = let said = given.1 in record { says = cc; within = tt }
 alone (first ∷ []) word bytes (Some command.Run) some one is same given = absurd given.0
 alone (first ∷ []) word bytes (Some (command.Show range)) some one is same given = absurd given.0
 alone (first ∷ []) word bytes (Some (command.New header)) some one is same given = absurd given.0
 alone (first ∷ []) word bytes (Some (command.Big transfers)) some one is same given = absurd given.0
+alone (first ∷ []) word bytes (Some (command.Trace activation)) some one is same given = absurd given.0
 
 -- a word that isn't empty
 pub not_empty : (bytes : List ℕ) (empty : Bool) → empty ≡ (length bytes == 0) → empty ≡ false → bytes ≢ []
@@ -114,13 +118,13 @@ not_empty (byte ∷ bytes) empty is not none = cc
 pub with_store : (words : List (String Global)) (word store : String Global) (bytes : List ℕ) (numbers : List ℕ) (result : Option Command) → 2 ≤ length words
     → word ≡ get_or words 0 word → store ≡ get_or words 1 store → bytes ≡ string_bytes word → string_bytes store ≢ []
     → AreNumbers (map string_bytes (take (length words - 2) (drop 2 words))) numbers
-    → ((transfers : ℕ) → IsForm (command.Big transfers) words → ⊥)
+    → ((form : Command) → IsNumbered form → IsForm form words → ⊥)
     → MatchOption result ((form : Command) → IsOnStore form → bytes ≡ word_of form → numbers ≡ numbers_of form → AreWithin form → ⊥)
     (λ command. IsOnStore command × (bytes ≡ word_of command) × (numbers ≡ numbers_of command) × AreWithin command)
     → MatchOption result (IsNoForm words) (λ command. IsForm command words)
-with_store [] word store bytes numbers result two is there same some are none_big given = absurd (omega arith)
-with_store (first ∷ []) word store bytes numbers result two is there same some are none_big given = absurd (omega arith)
-with_store (first ∷ second ∷ rest) word store bytes numbers result two is there same some are none_big given = answered result given
+with_store [] word store bytes numbers result two is there same some are no_number_said given = absurd (omega arith)
+with_store (first ∷ []) word store bytes numbers result two is there same some are no_number_said given = absurd (omega arith)
+with_store (first ∷ second ∷ rest) word store bytes numbers result two is there same some are no_number_said given = answered result given
   where
     these : AreNumbers (map string_bytes rest) numbers
     these = subst (λ (behind : List (String Global)). AreNumbers (map string_bytes behind) numbers) (behind_two first second rest) are
@@ -144,10 +148,12 @@ with_store (first ∷ second ∷ rest) word store bytes numbers result two is th
     no none command.Try form = let says = form.says in cc
     no none command.List form = let says = form.says in cc
     no none command.Drill form = let says = form.says in cc
+    no none command.Audit form = let says = form.says in cc
     no none command.Run form = unnamed command.Run none tt form.within form.says
     no none (command.Show range) form = unnamed (command.Show range) none tt form.within form.says
     no none (command.New header) form = unnamed (command.New header) none tt form.within form.says
-    no none (command.Big transfers) form = none_big transfers form
+    no none (command.Big transfers) form = no_number_said (command.Big transfers) tt form
+    no none (command.Trace activation) form = no_number_said (command.Trace activation) tt form
 
     answered : (result : Option Command)
         → MatchOption result ((form : Command) → IsOnStore form → bytes ≡ word_of form → numbers ≡ numbers_of form → AreWithin form → ⊥)
@@ -157,16 +163,18 @@ with_store (first ∷ second ∷ rest) word store bytes numbers result two is th
     answered (Some command.Try) given = absurd given.0
     answered (Some command.List) given = absurd given.0
     answered (Some command.Drill) given = absurd given.0
+    answered (Some command.Audit) given = absurd given.0
     answered (Some (command.Big transfers)) given = absurd given.0
+    answered (Some (command.Trace activation)) given = absurd given.0
     answered (Some command.Run) given = record { says = named command.Run given.1 given.2; within = given.3 }
     answered (Some (command.Show range)) given = record { says = named (command.Show range) given.1 given.2; within = given.3 }
     answered (Some (command.New header)) given = record { says = named (command.New header) given.1 given.2; within = given.3 }
 
 -- behind a store there are words that aren't numbers, or too many
-pub without_numbers : (words : List (String Global)) → 2 ≤ length words → ((numbers : List ℕ) → length numbers ≤ 31 → AreNumbers (map string_bytes (take (length words - 2) (drop 2 words))) numbers → ⊥) → ((transfers : ℕ) → IsForm (command.Big transfers) words → ⊥) → IsNoForm words
-without_numbers [] two none none_big form is = omega arith
-without_numbers (first ∷ []) two none none_big form is = omega arith
-without_numbers (first ∷ second ∷ rest) two none none_big form is = no form is
+pub without_numbers : (words : List (String Global)) → 2 ≤ length words → ((numbers : List ℕ) → length numbers ≤ 31 → AreNumbers (map string_bytes (take (length words - 2) (drop 2 words))) numbers → ⊥) → ((form : Command) → IsNumbered form → IsForm form words → ⊥) → IsNoForm words
+without_numbers [] two none no_number_said form is = omega arith
+without_numbers (first ∷ []) two none no_number_said form is = omega arith
+without_numbers (first ∷ second ∷ rest) two none no_number_said form is = no form is
   where
     unnamed : (form : Command) → length (numbers_of form) ≤ 31 → NamesStore form (map string_bytes (first ∷ second ∷ rest)) → ⊥
     unnamed form few names =
@@ -177,10 +185,12 @@ without_numbers (first ∷ second ∷ rest) two none none_big form is = no form 
     no command.Try form = let says = form.says in cc
     no command.List form = let says = form.says in cc
     no command.Drill form = let says = form.says in cc
+    no command.Audit form = let says = form.says in cc
     no command.Run form = unnamed command.Run (omega arith) form.says
     no (command.Show range) form = unnamed (command.Show range) (omega arith) form.says
     no (command.New header) form = unnamed (command.New header) (let few = form.within.1.few in omega (arith, few, length-spread header.directory.segments)) form.says
-    no (command.Big transfers) form = none_big transfers form
+    no (command.Big transfers) form = no_number_said (command.Big transfers) tt form
+    no (command.Trace activation) form = no_number_said (command.Trace activation) tt form
 
 -- words that name a store have one list of numbers
 same_words : (one two : Command) (words : List (List ℕ)) → NamesStore one words → NamesStore two words → numbers_of one ≡ numbers_of two
@@ -188,37 +198,23 @@ same_words one two words first second =
     let behind : second.numbers ≡ first.numbers = let here = first.are in let there = second.are in cc in
     one_list first.numbers (numbers_of one) (numbers_of two) first.say (subst (λ (those : List (List ℕ)). AreNumbers those (numbers_of two)) behind second.say)
 
--- a word and a number
-pub loaded : (words : List (String Global)) (word number : String Global) (bytes digits : List ℕ) (result : Option ℕ) → 2 ≤ length words → length words < 3 → word ≡ get_or words 0 word → number ≡ get_or words 1 number → bytes ≡ string_bytes word → digits ≡ string_bytes number
-    → MatchOption result ((transfers : ℕ) → bytes ≡ word_of (command.Big transfers) → number_of digits ≡ Some transfers → AreWithin (command.Big transfers) → ⊥)
-    (λ transfers. (bytes ≡ word_of (command.Big transfers)) × (number_of digits ≡ Some transfers) × AreWithin (command.Big transfers))
-    → MatchOption result ((transfers : ℕ) → IsForm (command.Big transfers) words → ⊥) (λ transfers. IsForm (command.Big transfers) words)
-loaded [] word number bytes digits result two few is there same told given = absurd (omega arith)
-loaded (first ∷ []) word number bytes digits result two few is there same told given = absurd (omega arith)
-loaded (first ∷ second ∷ third ∷ more) word number bytes digits result two few is there same told given = absurd (omega arith)
-loaded (first ∷ second ∷ []) word number bytes digits None two few is there same told given = λ transfers form.
-    let are = form.says.are in
-    let that : form.says.number ≡ digits = cc in
-    let said : bytes ≡ word_of (command.Big transfers) = cc in
-    given transfers said (ap number_of (sym that) ∙ form.says.say) form.within
-loaded (first ∷ second ∷ []) word number bytes digits (Some transfers) two few is there same told given =
-    let said = given.0 in
-    record { says = record { number = digits; are = cc; say = given.1 }; within = given.2 }
-
--- no other number of words is
-pub unloaded : (words : List (String Global)) → (length words ≡ 2 → ⊥) → (transfers : ℕ) → IsForm (command.Big transfers) words → ⊥
-unloaded words other transfers form = other (sym (length-map words string_bytes) ∙ ap (λ (these : List (List ℕ)). length these) form.says.are)
-
--- words name one load
-pub one_load : (words : List (String Global)) (one two : ℕ) → IsForm (command.Big one) words → IsForm (command.Big two) words → one ≡ two
-one_load words one two first second =
-    let here = first.says.are in
-    let there = second.says.are in
-    let same : first.says.number ≡ second.says.number = cc in
-    same_some one two (sym first.says.say ∙ ap number_of same ∙ second.says.say)
+-- words with a number have one
+same_number : (one two : Command) (words : List (List ℕ)) → SaysNumber one words → SaysNumber two words → number_said one ≡ number_said two
+same_number one two words first second =
+    let here = first.are in
+    let there = second.are in
+    let same : first.number ≡ second.number = cc in
+    same_some (number_said one) (number_said two) (sym first.say ∙ ap number_of same ∙ second.say)
   where
     same_some : (one two : ℕ) → Some one ≡ Some two → one ≡ two
     same_some one two is = cc
+
+-- words name one load, or one activation to trace
+pub one_load : (words : List (String Global)) (one two : ℕ) → IsForm (command.Big one) words → IsForm (command.Big two) words → one ≡ two
+one_load words one two first second = same_number (command.Big one) (command.Big two) (map string_bytes words) first.says second.says
+
+pub one_trace : (words : List (String Global)) (one two : ℕ) → IsForm (command.Trace one) words → IsForm (command.Trace two) words → one ≡ two
+one_trace words one two first second = same_number (command.Trace one) (command.Trace two) (map string_bytes words) first.says second.says
 
 -- and so one range, or one header
 pub one_range : (words : List (String Global)) (one two : Range) → IsForm (command.Show one) words → IsForm (command.Show two) words → one ≡ two

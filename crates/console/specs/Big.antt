@@ -1,5 +1,5 @@
 -- What a load of transfers did: one run of the desk over its events, with one line in place of a report.
-use Rattle.std.specs.Prelude.{◌≡◌, ℕ, ◌≤◌, ◌+◌, ◌*◌, ◌%◌, ◌^◌, ◌⊎◌, true, false, List, [], ◌∷◌, ◌++◌, codes, decimal, length, count_by, Some}
+use Rattle.std.specs.Prelude.{◌≡◌, ℕ, ◌≤◌, ◌+◌, ◌*◌, ◌%◌, ◌^◌, true, false, List, [], ◌∷◌, ◌++◌, codes, decimal, length, count_by, Option, Some}
 use Rattle.std.specs.List.{fold}
 use Rattle.outside.specs.declared.world.Outside.{Ghosts}
 use Rattle.outside.specs.Causes.{Rose, RoseBy}
@@ -17,6 +17,7 @@ use Rattle.desk.specs.Report.{event_lines}
 use Rattle.desk.specs.Commits.{begun, is_commit, serial_lines, IsSerial}
 use Rattle.desk.specs.Kept.{WritesMore, records_in, most_records, tells_fault}
 use Rattle.run_law.specs.Headline.{IsPrefix}
+use Rattle.supervisor.specs.declared.session.Session.{Session}
 use Rattle.schedule_replay.specs.declared.quietly.Quiet.{Quiet}
 use Rattle.schedule_replay.specs.declared.quietly.Quiet.TheVariants as quiet
 use Rattle.schedule_replay.specs.Quiet.{is_rollback, out_after}
@@ -26,7 +27,7 @@ use Rattle.job_text.specs.Big.{IsBigJob}
 use Rattle.console.specs.declared.status.Status.{Status}
 use Rattle.console.specs.declared.status.Status.TheVariants as status
 use Rattle.console.specs.Causes.{IsPastOpening, OpensBy}
-use Rattle.console.specs.Headline.{DoubtStands, Refused, Untouched, job_desk}
+use Rattle.console.specs.Headline.{ByOpening, DoubtStands, IsSessionAt, Refused, Untouched, job_desk}
 use Rattle.console.specs.Listed.{put_of}
 use Rattle.console.specs.New.{PutsOnce}
 use Rattle.console.specs.Opening.{StandsAt}
@@ -49,14 +50,16 @@ line_for transfers lines = big_line transfers (count_by is_commit lines) (count_
 abbrev pub lines_of : Job → ℕ → FlatStore → (held : List ℕ) → List (Event × Word) → List Line
 lines_of job number store held taken = event_lines [] job.programs.items number taken (job_desk job held store)
 
--- One run of the desk over the first of the events, from the store that the disk stood for. Its order is the answered one. At Done and at
+-- One run of the desk over the first of the events, from the store that the disk stood for. Its order is the answered one, and the session
+-- that is answered ends where it does. At Done and at
 -- PutFault all events were run, and its line was put, or a prefix of it; what it tells of the last commit is what the last commit prints
 -- where the programs run one after another.
-pub record HasBigRun {W : Type 0} (G : Ghosts W) (transfers : ℕ) (job : Job) (number : ℕ) (store : FlatStore) (before after : W) (order : List (ℕ × ℕ)) (status : Status) : Type 0 where
+pub record HasBigRun {W : Type 0} (G : Ghosts W) (transfers : ℕ) (job : Job) (number : ℕ) (store : FlatStore) (before after : W) (order : List (ℕ × ℕ)) (session : Option Session) (status : Status) : Type 0 where
   pub taken : List (Event × Word)
   pub rest : List Event
   pub is_run : IsRunOf job.programs.items job.events.items (job_desk job (held_of G before) store) taken rest
   pub order_is : order ≡ (run job.programs.items taken (job_desk job (held_of G before) store)).order
+  pub ends : IsSessionAt G session after order (run job.programs.items taken (job_desk job (held_of G before) store))
   pub all : IsPastOpening status → rest ≡ []
   pub still_open : IsPastOpening status → (run job.programs.items taken (job_desk job (held_of G before) store)).closed ≡ false
   pub shut : status ≡ Status.DiskFault → (run job.programs.items taken (job_desk job (held_of G before) store)).closed ≡ true
@@ -88,23 +91,23 @@ IsToldBy G transfers (quiet.Ended commits rollbacks) last before after now =
 IsToldBy G transfers quiet.Closed last before after now = (now ≡ Status.DiskFault) × (after ≡ before)
 
 -- the events of the load were run, from whatever number and store the disk stood for
-pub record RanBig {W : Type 0} (G : Ghosts W) (transfers : ℕ) (before after : W) (order : List (ℕ × ℕ)) (status : Status) : Type 0 where
+pub record RanBig {W : Type 0} (G : Ghosts W) (transfers : ℕ) (before after : W) (order : List (ℕ × ℕ)) (session : Option Session) (status : Status) : Type 0 where
   pub job : Job
   pub is_load : IsBigJob transfers job
-  pub has_run : (number : ℕ) (store : FlatStore) → StandsAt G before number store → HasBigRun G transfers job number store before after order status
+  pub has_run : (number : ℕ) (store : FlatStore) → StandsAt G before number store → HasBigRun G transfers job number store before after order session status
 
 -- what a load did, by its status; a disk fault comes in the opening or in an event, and other statuses don't come
-abbrev pub LoadedBy : {W : Type 0} → Ghosts W → ℕ → W → W → List (ℕ × ℕ) → Status → Type 0
-LoadedBy G transfers before after order status.Done = RanBig G transfers before after order status.Done × PutsOnce G before after
-LoadedBy G transfers before after order status.PutFault = RanBig G transfers before after order status.PutFault
-LoadedBy G transfers before after order status.DiskFault = (RanBig G transfers before after order status.DiskFault ⊎ Untouched G before after order) × (G.printed after ≡ G.printed before)
-LoadedBy G transfers before after order (status.Store offset) = Refused G before after order
-LoadedBy G transfers before after order status.NoMemory = Refused G before after order
-LoadedBy G transfers before after order _ = ⊥
+abbrev pub LoadedBy : {W : Type 0} → Ghosts W → ℕ → W → W → List (ℕ × ℕ) → Option Session → Status → Type 0
+LoadedBy G transfers before after order session status.Done = RanBig G transfers before after order session status.Done × PutsOnce G before after
+LoadedBy G transfers before after order session status.PutFault = RanBig G transfers before after order session status.PutFault
+LoadedBy G transfers before after order session status.DiskFault = ByOpening session (RanBig G transfers before after order session status.DiskFault) (Untouched G before after order) × (G.printed after ≡ G.printed before)
+LoadedBy G transfers before after order session (status.Store offset) = Refused G before after order
+LoadedBy G transfers before after order session status.NoMemory = Refused G before after order
+LoadedBy G transfers before after order session _ = ⊥
 
 -- what a load did, and what the bytes of the disk tell of its status
-pub record Loaded {W : Type 0} (G : Ghosts W) (transfers : ℕ) (before after : W) (order : List (ℕ × ℕ)) (status : Status) : Type 0 where
+pub record Loaded {W : Type 0} (G : Ghosts W) (transfers : ℕ) (before after : W) (order : List (ℕ × ℕ)) (session : Option Session) (status : Status) : Type 0 where
   pub honest : G.is_honest after ≡ G.is_honest before
   pub time : Elapses G.moment G.left_since before after
   pub opens : OpensBy G before after status
-  pub by_status : LoadedBy G transfers before after order status
+  pub by_status : LoadedBy G transfers before after order session status

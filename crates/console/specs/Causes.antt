@@ -83,7 +83,7 @@ abbrev pub HasStore : {W : Type 0} → Ghosts W → W → Type 0
 HasStore G outside = IsTrue (G.is_honest outside) × IsSome (G.held outside) × IsStanding (held_of G outside)
 
 -- what a command needs: the text of a job and a store to run it on, to list it or to drill it; bytes that stand for a store with a range; an empty disk; a store to
--- run a load on
+-- run a load on. Of a bundle's two commands nothing is promised: their statuses name the part that is wrong.
 abbrev pub HasAll : {W : Type 0} → Ghosts W → Command → Option (List ℕ) → W → Type 0
 HasAll G command.Try left outside = HasJob left × HasStore G outside
 HasAll G command.Run left outside = HasJob left × HasStore G outside
@@ -92,6 +92,8 @@ HasAll G command.Drill left outside = HasJob left
 HasAll G (command.Show range) left outside = IsSome (G.held outside) × HasRange G range outside
 HasAll G (command.New header) left outside = G.held outside ≡ Some []
 HasAll G (command.Big transfers) left outside = HasStore G outside
+HasAll G command.Audit left outside = ⊥
+HasAll G (command.Trace activation) left outside = ⊥
 
 -- the words are a command that has what it needs
 pub record IsComplete {W : Type 0} (G : Ghosts W) (words : List (String Global)) (left : Option (List ℕ)) (outside : W) : Type 0 where
@@ -99,12 +101,18 @@ pub record IsComplete {W : Type 0} (G : Ghosts W) (words : List (String Global))
   pub asks : IsForm form words
   pub has : HasAll G form left outside
 
+-- a status of events that run on a disk's store
+abbrev pub IsOfEvents : Status → Type 0
+IsOfEvents status.Done = Unit {0}
+IsOfEvents status.PutFault = Unit {0}
+IsOfEvents other = IsOfOpening other
+
 -- a status of a command that runs a job
 abbrev pub IsOfRun : Status → Type 0
-IsOfRun status.Usage = ⊥
-IsOfRun status.Exists = ⊥
-IsOfRun status.NoRange = ⊥
-IsOfRun _ = Unit {0}
+IsOfRun (status.Job line kind) = Unit {0}
+IsOfRun status.SourceFault = Unit {0}
+IsOfRun status.TooBig = Unit {0}
+IsOfRun other = IsOfEvents other
 
 -- a status of a listing, or of a drill
 abbrev pub IsOfList : Status → Type 0
@@ -128,11 +136,16 @@ IsOfNew status.Exists = Unit {0}
 IsOfNew status.NoMemory = Unit {0}
 IsOfNew _ = ⊥
 
--- a status of a load
-abbrev pub IsOfBig : Status → Type 0
-IsOfBig status.Done = Unit {0}
-IsOfBig status.PutFault = Unit {0}
-IsOfBig other = IsOfOpening other
+-- a status of an audit
+abbrev pub IsOfAudit : Status → Type 0
+IsOfAudit (status.Bundle part at) = Unit {0}
+IsOfAudit other = IsOfList other
+
+-- a status of a trace
+abbrev pub IsOfTrace : Status → Type 0
+IsOfTrace status.NoCommit = Unit {0}
+IsOfTrace (status.NotSerial place) = Unit {0}
+IsOfTrace other = IsOfAudit other
 
 -- a status of a command, by its own list
 abbrev pub IsOf : Command → Status → Type 0
@@ -142,4 +155,6 @@ IsOf command.List = IsOfList
 IsOf command.Drill = IsOfList
 IsOf (command.Show range) = IsOfShow
 IsOf (command.New header) = IsOfNew
-IsOf (command.Big transfers) = IsOfBig
+IsOf (command.Big transfers) = IsOfEvents
+IsOf command.Audit = IsOfAudit
+IsOf (command.Trace activation) = IsOfTrace

@@ -11,3 +11,7 @@ pub mod New
 pub mod Drill
 pub mod Drilled
 pub mod Big
+pub mod Kept
+pub mod Bundled
+pub mod Audited
+pub mod Traced

@@ -1,5 +1,5 @@
 -- What printing bytes of a store did.
-use Rattle.std.specs.Prelude.{◌≡◌, ◌⊎◌, ℕ, ◌+◌, ◌≤◌, List, [], length, Option, Some, IsSome, IsTrue, Result, Ok, Err, OnOk, IfErr}
+use Rattle.std.specs.Prelude.{◌≡◌, ◌⊎◌, ℕ, ◌+◌, ◌≤◌, List, [], length, Option, Some, IsSome, Result, Ok, Err, OnOk, IfErr}
 use Rattle.std.specs.Int.{div_ceil}
 use Rattle.outside.specs.declared.world.Outside.{Ghosts}
 use Rattle.outside.specs.Bytes.{Prints, bytes_at}
@@ -10,7 +10,7 @@ use Rattle.line_geometry.specs.Directory.{Layout, length_of, start_of}
 use Rattle.line_geometry.specs.FlatStore.{FlatStore}
 use Rattle.store_format.specs.Stands.{Standing, Stands, NotAStore, Damaged, stands}
 use Rattle.restart.specs.Kept.{KeptStore}
-use Rattle.restart.specs.Shows.{Tracks}
+use Rattle.restart.specs.Shows.{IsShown}
 use Rattle.listing.specs.Listing.{row_lines}
 use Rattle.console.specs.declared.status.Status.{Status}
 use Rattle.console.specs.declared.status.Status.TheVariants as status
@@ -58,18 +58,18 @@ StopsBy G old new status.DiskFault = Rose (G.disk_faults old) (G.disk_faults new
 StopsBy G old new status.PutFault = Rose (G.put_faults old) (G.put_faults new)
 StopsBy G old new _ = ⊥
 
--- What printing so many bytes of a kept store from a place on did, in rows that begin with this offset: of a store that is tracked the
+-- What printing so many bytes of a kept store from a place on did, in rows that begin with this offset: of a store that told bytes show the
 -- rows of its bytes are printed, each by one put, or a prefix of them.
 pub record PutsBytes {W : Type 0} (G : Ghosts W) (store : KeptStore) (at offset count : ℕ) (old new : W) (result : Result (Unit {0}) Status) : Type 0 where
   pub only : OnlyShows G old new
-  pub printed : Tracks G store old → PutsDone G (row_lines offset (bytes_in (stands (held_of G old)) at count)) old new result
+  pub printed : IsShown G store old → PutsDone G (row_lines offset (bytes_in (stands (held_of G old)) at count)) old new result
   pub times : OnOk result (IsSome (G.printed old) → (G.moment new).puts ≡ (G.moment old).puts + div_ceil count 16)
   pub unfailed : OnOk result (G.put_faults new ≡ G.put_faults old)
   pub stops : IfErr result (StopsBy G old new)
 
 -- so many bytes were read
 abbrev pub AreRead : {W : Type 0} → Ghosts W → KeptStore → ℕ → ℕ → W → Type 0
-AreRead G store at count old = Tracks G store old → length (bytes_in (stands (held_of G old)) at count) ≡ count
+AreRead G store at count old = IsShown G store old → length (bytes_in (stands (held_of G old)) at count) ≡ count
 
 -- and they were put, or nothing was
 abbrev pub HasRead : {W : Type 0} → Ghosts W → KeptStore → ℕ → ℕ → W → W → Result (Unit {0}) Status → Type 0
@@ -84,10 +84,10 @@ HasRange G range before = IsSome (G.held before) → (number : ℕ) × (store : 
 abbrev pub HasNoRange : {W : Type 0} → Ghosts W → Range → W → Type 0
 HasNoRange G range before = IsSome (G.held before) → (number : ℕ) × (store : FlatStore) × (stands (held_of G before) ≡ Stands number store) × (IsInside store.directory range → ⊥)
 
--- of an honest disk whose told bytes stand for a store: its rows are printed, or a prefix of them
+-- where the told bytes stand for a store: its rows are printed, or a prefix of them
 abbrev pub PrintsRows : {W : Type 0} → Ghosts W → Range → W → W → Status → Type 0
 PrintsRows G range before after status =
-    IsTrue (G.is_honest before) → IsSome (G.held before) → (number : ℕ) (store : FlatStore) → stands (held_of G before) ≡ Stands number store → PrintsBy (G.printed before) (G.printed after) (rows_of store range) status
+    IsSome (G.held before) → (number : ℕ) (store : FlatStore) → stands (held_of G before) ≡ Stands number store → PrintsBy (G.printed before) (G.printed after) (rows_of store range) status
 
 -- each row by one put
 abbrev pub PutsRows : {W : Type 0} → Ghosts W → Range → W → W → Type 0

@@ -8,6 +8,8 @@ use Rattle.console.specs.declared.status.Status.{Status}
 use Rattle.console.specs.declared.status.Status.TheVariants as status
 use Rattle.schedule_replay.specs.declared.events.Replayed.{Replayed}
 use Rattle.schedule_replay.specs.declared.events.Replayed.TheVariants as replayed
+use Rattle.touch_trace.specs.declared.answer.TraceFault.{TraceFault}
+use Rattle.touch_trace.specs.declared.answer.TraceFault.TheVariants as trace
 use Rattle.job_text.specs.declared.job.JobFault.{JobFault}
 use Rattle.job_text.specs.declared.job.JobFault.TheVariants as job_fault
 
@@ -29,6 +31,12 @@ status_of_open (open_fault.Damaged offset) = Status.Store offset
 status_of_open open_fault.DiskFault = Status.DiskFault
 status_of_open open_fault.Memory = Status.NoMemory
 
+-- of a trace that isn't had
+abbrev pub status_of_trace : TraceFault → Status
+status_of_trace trace.NoCommit = Status.NoCommit
+status_of_trace (trace.NotSerial place) = Status.NotSerial place
+status_of_trace trace.Memory = Status.NoMemory
+
 -- of a replay
 abbrev pub status_of_replay : Replayed → Status
 status_of_replay replayed.Ended = Status.Done
@@ -49,6 +57,9 @@ number_of status.NoMemory = 7
 number_of status.TooBig = 8
 number_of status.Exists = 9
 number_of status.NoRange = 10
+number_of (status.Bundle part at) = 11
+number_of status.NoCommit = 14
+number_of (status.NotSerial place) = 15
 
 -- the text that it prints on standard error; none where all is done
 abbrev pub text_of : Status → List ℕ
@@ -63,3 +74,6 @@ text_of status.NoMemory = codes "memory"
 text_of status.TooBig = codes "big"
 text_of status.Exists = codes "exists"
 text_of status.NoRange = codes "range"
+text_of (status.Bundle part at) = (codes "bundle " ++ decimal part) ++ (codes " " ++ decimal at)
+text_of status.NoCommit = codes "commit"
+text_of (status.NotSerial place) = codes "serial " ++ decimal place

@@ -17,6 +17,8 @@ word_of command.Drill = codes "drill"
 word_of (command.Show range) = codes "show"
 word_of (command.New header) = codes "new"
 word_of (command.Big transfers) = codes "big"
+word_of command.Audit = codes "audit"
+word_of (command.Trace activation) = codes "trace"
 
 -- the number of a word: one to ten decimal digits, which write at most 4,294,967,295
 abbrev pub number_of : List ℕ → Option ℕ
@@ -48,7 +50,20 @@ abbrev pub IsAlone : Command → Type 0
 IsAlone command.Try = Unit {0}
 IsAlone command.List = Unit {0}
 IsAlone command.Drill = Unit {0}
+IsAlone command.Audit = Unit {0}
 IsAlone _ = ⊥
+
+-- a command whose word stands with a number
+abbrev pub IsNumbered : Command → Type 0
+IsNumbered (command.Big transfers) = Unit {0}
+IsNumbered (command.Trace activation) = Unit {0}
+IsNumbered _ = ⊥
+
+-- that number: the transfers of a load, or the activation whose trace is asked for
+abbrev pub number_said : Command → ℕ
+number_said (command.Big transfers) = transfers
+number_said (command.Trace activation) = activation
+number_said _ = 0
 
 -- a command that names a store
 abbrev pub IsOnStore : Command → Type 0
@@ -65,18 +80,20 @@ pub record NamesStore (form : Command) (words : List (List ℕ)) : Type 0 where
   pub are : words ≡ word_of form ∷ store ∷ numbers
   pub say : AreNumbers numbers (numbers_of form)
 
--- the words are a word and a number
-pub record SaysLoad (word : List ℕ) (transfers : ℕ) (words : List (List ℕ)) : Type 0 where
+-- the words are a command's word and its number
+pub record SaysNumber (form : Command) (words : List (List ℕ)) : Type 0 where
   pub number : List ℕ
-  pub are : words ≡ word ∷ number ∷ []
-  pub say : number_of number ≡ Some transfers
+  pub are : words ≡ word_of form ∷ number ∷ []
+  pub say : number_of number ≡ Some (number_said form)
 
 -- the words say a command: its word alone, with a number, or with a store and its numbers
 abbrev pub Says : Command → List (List ℕ) → Type 0
 Says command.Try words = words ≡ word_of command.Try ∷ []
 Says command.List words = words ≡ word_of command.List ∷ []
 Says command.Drill words = words ≡ word_of command.Drill ∷ []
-Says (command.Big transfers) words = SaysLoad (word_of (command.Big transfers)) transfers words
+Says command.Audit words = words ≡ word_of command.Audit ∷ []
+Says (command.Big transfers) words = SaysNumber (command.Big transfers) words
+Says (command.Trace activation) words = SaysNumber (command.Trace activation) words
 Says form words = NamesStore form words
 
 -- the words are a command
@@ -95,3 +112,11 @@ RunsJob words = IsForm command.Try words ⊎ IsForm command.Run words
 -- and for one to be read: those, `list` or `drill`
 abbrev pub ReadsJob : List (String Global) → Type 0
 ReadsJob words = RunsJob words ⊎ IsForm command.List words ⊎ IsForm command.Drill words
+
+-- the words ask for a session: those that run a job, or a load
+abbrev pub OpensSession : List (String Global) → Type 0
+OpensSession words = RunsJob words ⊎ ((transfers : ℕ) × IsForm (command.Big transfers) words)
+
+-- the words ask for a bundle to be read: `audit`, or `trace` with an activation
+abbrev pub ReadsBundle : List (String Global) → Type 0
+ReadsBundle words = IsForm command.Audit words ⊎ ((activation : ℕ) × IsForm (command.Trace activation) words)

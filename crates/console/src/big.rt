@@ -1,5 +1,5 @@
 // A load with waits and victims, run without a report.
-ghost use Rattle.std.specs.Prelude.{◌≡◌, ◌≤◌, [], ◌∷◌, ◌++◌, length, vec_capacity, None};
+ghost use Rattle.std.specs.Prelude.{◌≡◌, ◌≤◌, [], ◌∷◌, ◌++◌, length, vec_capacity};
 ghost use Rattle.outside.specs.Causes.{Rose};
 ghost use Rattle.desk.specs.Answers.{order_told};
 ghost use Rattle.schedule_replay.specs.Asked.{begins_in};
@@ -7,7 +7,8 @@ ghost use Rattle.job_text.specs.Big.{IsBigJob};
 ghost use Rattle.job_text.specs.Ready.{IsReady};
 ghost use Rattle.listing.specs.Puts.{Puts, PutsTimes};
 ghost use Rattle.console.specs.Big.{IsToldBy, Loaded, big_line};
-ghost use Rattle.console.specs.Causes.{IsOfBig};
+ghost use Rattle.console.specs.Causes.{IsOfEvents};
+ghost use Rattle.console.specs.Handed.{HandsOn};
 
 use super::commands::{begins_in, filled};
 use super::status::{Ended, Status};
@@ -22,12 +23,12 @@ use text_line::TextLine;
 /// Runs a load of so many transfers on the disk's store, and prints its one line.
 pub fn run_load<W: Outside>(alloc: Global, transfers: u32, outside: &mut W) -> Ended
     requires { transfers ≤ 512 }
-    ensures loaded { Loaded W.Outside transfers outside.old outside.new (order_told result.order.items) result.status }
-    ensures session { result.session ≡ None }
+    ensures loaded { Loaded W.Outside transfers outside.old outside.new (order_told result.order.items) result.session result.status }
+    ensures handed { HandsOn (order_told result.order.items) result.session result.status }
     ensures unfailed { result.status ≡ Status.Done → W.put_faults outside.new ≡ W.put_faults outside.old }
     ensures put { result.status ≡ Status.PutFault → Rose (W.put_faults outside.old) (W.put_faults outside.new) }
     ensures disk { result.status ≡ Status.DiskFault → Rose (W.disk_faults outside.old) (W.disk_faults outside.new) }
-    ensures only { IsOfBig result.status }
+    ensures only { IsOfEvents result.status }
 {
     match big_job(alloc, transfers) {
         Ok(job) => run_with_order(alloc, transfers, job, outside),
@@ -39,12 +40,12 @@ pub fn run_load<W: Outside>(alloc: Global, transfers: u32, outside: &mut W) -> E
 fn run_with_order<W: Outside>(alloc: Global, transfers: u32, job: Job, outside: &mut W) -> Ended
     requires load { IsBigJob transfers job }
     requires ready { IsReady job }
-    ensures loaded { Loaded W.Outside transfers outside.old outside.new (order_told result.order.items) result.status }
-    ensures session { result.session ≡ None }
+    ensures loaded { Loaded W.Outside transfers outside.old outside.new (order_told result.order.items) result.session result.status }
+    ensures handed { HandsOn (order_told result.order.items) result.session result.status }
     ensures unfailed { result.status ≡ Status.Done → W.put_faults outside.new ≡ W.put_faults outside.old }
     ensures put { result.status ≡ Status.PutFault → Rose (W.put_faults outside.old) (W.put_faults outside.new) }
     ensures disk { result.status ≡ Status.DiskFault → Rose (W.disk_faults outside.old) (W.disk_faults outside.new) }
-    ensures only { IsOfBig result.status }
+    ensures only { IsOfEvents result.status }
 {
     let begins = begins_in(&job.events);
     match Vec::with_capacity(alloc, begins as usize) {
@@ -67,12 +68,12 @@ fn open_and_run<W: Outside>(
     requires begins { begins ≡ begins_in job.events.items }
     requires none { order.items ≡ [] }
     requires room { begins ≤ vec_capacity order }
-    ensures loaded { Loaded W.Outside transfers outside.old outside.new (order_told result.order.items) result.status }
-    ensures session { result.session ≡ None }
+    ensures loaded { Loaded W.Outside transfers outside.old outside.new (order_told result.order.items) result.session result.status }
+    ensures handed { HandsOn (order_told result.order.items) result.session result.status }
     ensures unfailed { result.status ≡ Status.Done → W.put_faults outside.new ≡ W.put_faults outside.old }
     ensures put { result.status ≡ Status.PutFault → Rose (W.put_faults outside.old) (W.put_faults outside.new) }
     ensures disk { result.status ≡ Status.DiskFault → Rose (W.disk_faults outside.old) (W.disk_faults outside.new) }
-    ensures only { IsOfBig result.status }
+    ensures only { IsOfEvents result.status }
 {
     let mut session = match Session::open(alloc, outside, job.programs, job.frames, begins) {
         Ok(session) => session,
@@ -83,7 +84,7 @@ fn open_and_run<W: Outside>(
     Ended {
         status: tell(transfers, quiet, last.as_slice(), outside),
         order: filled(order, session.order()),
-        session: None,
+        session: Some(session),
     }
 }
 

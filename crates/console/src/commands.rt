@@ -1,4 +1,4 @@
-ghost use Rattle.std.specs.Prelude.{◌≡◌, ◌≢◌, ◌≤◌, ◌⊎◌, ◌↔◌, ℕ, List, [], length, vec_capacity, IfOk, IfErr, OnOk, Ok, None};
+ghost use Rattle.std.specs.Prelude.{◌≡◌, ◌≤◌, ◌⊎◌, ◌↔◌, ℕ, List, [], length, vec_capacity, IfOk, IfErr, OnOk, Ok, None};
 ghost use Rattle.outside.specs.Causes.{Rose};
 ghost use Rattle.desk.specs.Answers.{order_told};
 ghost use Rattle.job_text.specs.Grammar.{job_of, content_of};
@@ -6,7 +6,8 @@ ghost use Rattle.job_text.specs.Ready.{IsReady};
 ghost use Rattle.schedule_replay.specs.Asked.{begins_in};
 ghost use Rattle.console.specs.SourceText.{IsWhole};
 ghost use Rattle.store_format.specs.Header.{Header};
-ghost use Rattle.console.specs.Causes.{IsComplete, ReadsBy, OpensBy, IsOf, IsPastJob, IsOfReading, status_of};
+ghost use Rattle.console.specs.Audited.{Audited};
+ghost use Rattle.console.specs.Causes.{IsComplete, ReadsBy, OpensBy, IsOf, IsOfEvents, IsOfReading, status_of};
 ghost use Rattle.console.specs.Handed.{HandsOn};
 ghost use Rattle.console.specs.Headline.{Happened, HappenedTo};
 ghost use Rattle.console.specs.Drilled.{Drilled};
@@ -14,15 +15,18 @@ ghost use Rattle.console.specs.Listed.{Listed};
 ghost use Rattle.console.specs.New.{Made};
 ghost use Rattle.console.specs.Show.{Shown};
 ghost use Rattle.console.specs.Big.{Loaded};
-ghost use Rattle.console.specs.Words.{IsForm, IsNoForm, ReadsJob, RunsJob};
+ghost use Rattle.console.specs.Traced.{TracedFrom};
+ghost use Rattle.console.specs.Words.{IsForm, IsNoForm, OpensSession, ReadsBundle, ReadsJob, RunsJob};
 
+use super::audit::audit_source;
 use super::big::run_load;
 use super::drill::drill_job;
 use super::list::list_job;
 use super::new::make;
 use super::show::{Range, show};
-use super::source_text::read_text;
+use super::source_text::{MOST_OF_JOB, read_text};
 use super::status::{Ended, Status};
+use super::trace::trace_source;
 use super::words::{Command, command_of};
 use desk::{Committed, Event};
 use job_text::{Job, read_job};
@@ -39,7 +43,9 @@ use supervisor::Session;
 /// `drill`: the job is stopped at each of its writes in turn, in memory, and a line is put for each stop. The words
 /// `show STORE S FROM COUNT`: bytes of the disk's store are put, a row at a time. The words `new STORE BANK S P ..`: an
 /// empty disk becomes a store with nothing in it. The words `big N`: a load of N transfers, with waits and victims, runs on
-/// the disk's store, and one line tells what came of it. A file that the word STORE names is opened by whoever makes the disk.
+/// the disk's store, and one line tells what came of it. The word `audit`: the bundle of the source is checked, and one line
+/// tells its verdict. The words `trace A`: the lines that activation A of a bundle touched are put. A file that the word STORE
+/// names is opened by whoever makes the disk.
 pub fn console<S: Source, W: Outside>(
     alloc: Global,
     words: &[String],
@@ -50,19 +56,21 @@ pub fn console<S: Source, W: Outside>(
     ensures unasked { result.status ≡ Status.Usage → (job.new ≡ job.old) × (outside.new ≡ outside.old) × (order_told result.order.items ≡ []) }
     ensures only { (form : Command) → IsForm form words.now → IsOf form result.status }
     ensures read { ReadsJob words.now → ReadsBy (S.left job.old) (S.left job.new) (S.faults job.old) (S.faults job.new) result.status }
-    ensures unread { (ReadsJob words.now → ⊥) → job.new ≡ job.old }
+    ensures unread { (ReadsJob words.now ⊎ ReadsBundle words.now → ⊥) → job.new ≡ job.old }
     ensures unfailed { result.status ≡ Status.Done → (S.faults job.new ≡ S.faults job.old) × (W.put_faults outside.new ≡ W.put_faults outside.old) }
     ensures opened { RunsJob words.now → OpensBy W.Outside outside.old outside.new result.status }
     ensures put { result.status ≡ Status.PutFault → Rose (W.put_faults outside.old) (W.put_faults outside.new) }
     ensures disk { result.status ≡ Status.DiskFault → Rose (W.disk_faults outside.old) (W.disk_faults outside.new) }
     ensures happened { RunsJob words.now → Happened W.Outside (S.left job.old) (S.left job.new) outside.old outside.new (order_told result.order.items) result.session result.status }
-    ensures handed { RunsJob words.now → HandsOn (order_told result.order.items) result.session result.status }
-    ensures no_session { (RunsJob words.now → ⊥) → result.session ≡ None }
+    ensures handed { OpensSession words.now → HandsOn (order_told result.order.items) result.session result.status }
+    ensures no_session { (OpensSession words.now → ⊥) → result.session ≡ None }
     ensures listed { IsForm Command.List words.now → Listed W.Outside (S.left job.old) (S.left job.new) outside.old outside.new (order_told result.order.items) result.status }
     ensures drilled { IsForm Command.Drill words.now → Drilled W.Outside (S.left job.old) (S.left job.new) outside.old outside.new (order_told result.order.items) result.status }
     ensures shown { (range : Range) → IsForm (Command.Show range) words.now → Shown W.Outside range outside.old outside.new (order_told result.order.items) result.status }
     ensures made { (header : Header) → IsForm (Command.New header) words.now → Made W.Outside header outside.old outside.new (order_told result.order.items) result.status }
-    ensures loaded { (transfers : ℕ) → IsForm (Command.Big transfers) words.now → Loaded W.Outside transfers outside.old outside.new (order_told result.order.items) result.status }
+    ensures loaded { (transfers : ℕ) → IsForm (Command.Big transfers) words.now → Loaded W.Outside transfers outside.old outside.new (order_told result.order.items) result.session result.status }
+    ensures audited { IsForm Command.Audit words.now → Audited W.Outside (S.left job.old) (S.left job.new) (S.faults job.old) (S.faults job.new) outside.old outside.new (order_told result.order.items) result.status }
+    ensures traced { (activation : ℕ) → IsForm (Command.Trace activation) words.now → TracedFrom W.Outside activation (S.left job.old) (S.left job.new) (S.faults job.old) (S.faults job.new) outside.old outside.new (order_told result.order.items) result.status }
     ensures complete { IsComplete W.Outside words.now (S.left job.old) outside.old → (Rose (S.faults job.old) (S.faults job.new) → ⊥) → (Rose (W.disk_faults outside.old) (W.disk_faults outside.new) → ⊥) → (Rose (W.put_faults outside.old) (W.put_faults outside.new) → ⊥) → (result.status ≡ Status.Done) ⊎ (result.status ≡ Status.NoMemory) }
 {
     let Some(command) = command_of(words) else {
@@ -84,6 +92,10 @@ pub fn console<S: Source, W: Outside>(
         Command::Show(range) => Ended::without_events(alloc, show(alloc, range, outside)),
         Command::New(header) => Ended::without_events(alloc, make(alloc, &header, outside)),
         Command::Big(transfers) => run_load(alloc, transfers, outside),
+        Command::Audit => Ended::without_events(alloc, audit_source(alloc, job, outside)),
+        Command::Trace(activation) => {
+            Ended::without_events(alloc, trace_source(alloc, job, activation, outside))
+        }
     }
 }
 
@@ -95,7 +107,7 @@ fn read<S: Source>(alloc: Global, source: &mut S) -> Result<Job, Status>
     ensures means { IfOk result (λ job. (text : List ℕ) × IsWhole (S.left source.old) (S.left source.new) text × (job_of text ≡ Ok (content_of job))) }
     ensures ready { IfOk result IsReady }
 {
-    let text = read_text(alloc, source)?;
+    let text = read_text(alloc, source, MOST_OF_JOB)?;
     Ok(read_job(alloc, &text)?)
 }
 
@@ -108,8 +120,7 @@ pub fn try_job<W: Outside>(alloc: Global, job: Job, outside: &mut W) -> Ended
     ensures disk { result.status ≡ Status.DiskFault → Rose (W.disk_faults outside.old) (W.disk_faults outside.new) }
     ensures happened { HappenedTo W.Outside job outside.old outside.new (order_told result.order.items) result.session result.status }
     ensures handed { HandsOn (order_told result.order.items) result.session result.status }
-    ensures only { IsPastJob result.status ⊎ (result.status ≡ Status.NoMemory) }
-    ensures never { (result.status ≢ Status.Exists) × (result.status ≢ Status.NoRange) }
+    ensures only { IsOfEvents result.status }
 {
     let begins = begins_in(&job.events);
     match Vec::with_capacity(alloc, begins as usize) {
@@ -136,8 +147,7 @@ fn run_job<W: Outside>(
     ensures disk { result.status ≡ Status.DiskFault → Rose (W.disk_faults outside.old) (W.disk_faults outside.new) }
     ensures happened { HappenedTo W.Outside job outside.old outside.new (order_told result.order.items) result.session result.status }
     ensures handed { HandsOn (order_told result.order.items) result.session result.status }
-    ensures only { IsPastJob result.status ⊎ (result.status ≡ Status.NoMemory) }
-    ensures never { (result.status ≢ Status.Exists) × (result.status ≢ Status.NoRange) }
+    ensures only { IsOfEvents result.status }
 {
     let mut session = match Session::open(alloc, outside, job.programs, job.frames, begins) {
         Ok(session) => session,

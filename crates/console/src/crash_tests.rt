@@ -1,5 +1,6 @@
-//! What a disk that stopped within a write holds, opened again; and stores that are damaged. The places and numbers are
-//! those of docs/FORMATS.md, worked out by hand.
+//! What a disk that stopped within a write holds, opened again; calls that fail; and stores that are damaged. The places and
+//! numbers are those of docs/FORMATS.md, worked out by hand.
+use super::side_by_side_tests::{AFTER_NOON, BEFORE_NOON, DAY, SIDE_BY_SIDE as PROGRAMS};
 use super::*;
 use line_geometry::{Directory, PageSize};
 use outside::{Call, Joint, MemoryDisk, MemoryScreen, MemorySource, Refusal};
@@ -41,6 +42,7 @@ enum Running {
     OneAdd,
     Filled,
     SideBySide,
+    Day,
 }
 
 /// A disk that stops at a write with some bytes in its range, and what opens then.
@@ -140,24 +142,31 @@ const STOPS: [Stop; 14] = [
     },
 ];
 
-/// A call of the disk that fails, after so many that overlap the range; a put that fails after so many bytes; and what is left.
+/// A schedule of nothing, which tells the number that a store opens with.
+const NOTHING: &str = "frames 2\nschedule\nend\n";
+
+/// A call of the disk that fails, after so many that overlap the range; a put that fails after so many bytes; and what is left:
+/// the status, how many commits are in the order, the parts of what is printed, and the least and the greatest number with
+/// which the store may open then.
 struct Device {
     running: Running,
     refusal: Option<(Call, u64, u64, u32)>,
     put: Option<(u32, u32)>,
     status: Status,
     commits: usize,
-    printed: &'static str,
+    printed: &'static [&'static str],
+    found: (u64, u64),
 }
 
-const DEVICES: [Device; 8] = [
+const DEVICES: [Device; 10] = [
     Device {
         running: Running::OneAdd,
         refusal: Some((Call::Length, 0, 0, 0)),
         put: None,
         status: Status::DiskFault,
         commits: 0,
-        printed: "",
+        printed: &[],
+        found: (0, 0),
     },
     Device {
         running: Running::OneAdd,
@@ -165,7 +174,8 @@ const DEVICES: [Device; 8] = [
         put: None,
         status: Status::DiskFault,
         commits: 0,
-        printed: "",
+        printed: &[],
+        found: (0, 0),
     },
     // the body of a record, and its gate
     Device {
@@ -174,7 +184,8 @@ const DEVICES: [Device; 8] = [
         put: None,
         status: Status::DiskFault,
         commits: 0,
-        printed: "open 0\nbegin 1 add\nturn 1 ran 4 page 1 lock 2\nclosed\n",
+        printed: &["open 0\nbegin 1 add\nturn 1 ran 4 page 1 lock 2\nclosed\n"],
+        found: (0, 0),
     },
     Device {
         running: Running::OneAdd,
@@ -182,7 +193,8 @@ const DEVICES: [Device; 8] = [
         put: None,
         status: Status::DiskFault,
         commits: 1,
-        printed: "open 0\nbegin 1 add\nturn 1 ran 4 page 1 lock 2\ndoubt 1 number 1\nclosed\n",
+        printed: &["open 0\nbegin 1 add\nturn 1 ran 4 page 1 lock 2\ndoubt 1 number 1\nclosed\n"],
+        found: (0, 1),
     },
     Device {
         running: Running::OneAdd,
@@ -190,7 +202,8 @@ const DEVICES: [Device; 8] = [
         put: Some((1, 3)),
         status: Status::PutFault,
         commits: 0,
-        printed: "ope",
+        printed: &["ope"],
+        found: (0, 0),
     },
     Device {
         running: Running::OneAdd,
@@ -198,7 +211,8 @@ const DEVICES: [Device; 8] = [
         put: Some((4, 10)),
         status: Status::PutFault,
         commits: 1,
-        printed: "open 0\nbegin 1 add\nturn 1 ran 5 page 1 lock 2\ncommit 1 n",
+        printed: &["open 0\nbegin 1 add\nturn 1 ran 5 page 1 lock 2\ncommit 1 n"],
+        found: (1, 1),
     },
     // the sync of the gate, and the put of what it leaves
     Device {
@@ -207,7 +221,8 @@ const DEVICES: [Device; 8] = [
         put: Some((5, 0)),
         status: Status::PutFault,
         commits: 1,
-        printed: "open 0\nbegin 1 add\nturn 1 ran 4 page 1 lock 2\ndoubt 1 number 1\n",
+        printed: &["open 0\nbegin 1 add\nturn 1 ran 4 page 1 lock 2\ndoubt 1 number 1\n"],
+        found: (0, 1),
     },
     // a home line at a checkpoint
     Device {
@@ -216,8 +231,30 @@ const DEVICES: [Device; 8] = [
         put: None,
         status: Status::DiskFault,
         commits: 1,
-        printed: "open 0\nbegin 1 fill\nturn 1 ran 126 page 2 lock 31\ncommit 1 number 1 steps 126 out -\nbegin 2 null\n\
+        printed: &[
+            "open 0\nbegin 1 fill\nturn 1 ran 126 page 2 lock 31\ncommit 1 number 1 steps 126 out -\nbegin 2 null\n\
             turn 2 ran 0 page 0 lock 0\nclosed\n",
+        ],
+        found: (1, 1),
+    },
+    // the checkpoint of a day of accounts, and its crash
+    Device {
+        running: Running::Day,
+        refusal: Some((Call::Sync, 0, 0, 15)),
+        put: None,
+        status: Status::DiskFault,
+        commits: 7,
+        printed: &["open 0\n", BEFORE_NOON, "closed\n"],
+        found: (7, 7),
+    },
+    Device {
+        running: Running::Day,
+        refusal: Some((Call::Sync, 0, 0, 19)),
+        put: None,
+        status: Status::DiskFault,
+        commits: 8,
+        printed: &["open 0\n", BEFORE_NOON, AFTER_NOON, "closed\n"],
+        found: (8, 8),
     },
 ];
 
@@ -245,10 +282,11 @@ const DAMAGES: [(usize, usize, &[u8], u64); 14] = [
     ),
 ];
 
-/// What a call left: its status, what it printed, and the disk's bytes.
+/// What a call left: its status, how many commits are in its order, what it printed, and the disk's bytes.
 #[derive(Drop)]
 struct Left {
     status: Status,
+    commits: usize,
     printed: Vec<u8>,
     held: Vec<u8>,
 }
@@ -260,18 +298,29 @@ fn run(
     stop: Option<(u32, Vec<u8>)>,
     job: &str,
 ) -> Result<Left, AllocError> {
-    let mut words = Vec::new(alloc);
-    words.push(String::from_str(alloc, "try")?)?;
-    let mut source = MemorySource::new(Vec::from_slice(alloc, job.as_bytes())?, Vec::new(alloc));
     let mut disk = MemoryDisk::new(alloc, held, Vec::new(alloc));
     if let Some((write, outcome)) = stop {
         disk.fuse(write, outcome);
     }
-    let mut outside = Joint::new(disk, MemoryScreen::new(alloc, Vec::new(alloc)));
+    run_on(alloc, disk, Vec::new(alloc), job)
+}
+
+/// The job over this disk, and a screen with these puts that fail.
+fn run_on(
+    alloc: Global,
+    disk: MemoryDisk,
+    fails: Vec<(u32, u32)>,
+    job: &str,
+) -> Result<Left, AllocError> {
+    let mut words = Vec::new(alloc);
+    words.push(String::from_str(alloc, "try")?)?;
+    let mut source = MemorySource::new(Vec::from_slice(alloc, job.as_bytes())?, Vec::new(alloc));
+    let mut outside = Joint::new(disk, MemoryScreen::new(alloc, fails));
     let ended = console(alloc, &words, &mut source, &mut outside);
     let (disk, screen) = outside.into_parts();
     Ok(Left {
         status: ended.status,
+        commits: ended.order.len(),
         printed: screen.into_bytes(),
         held: disk.into_image(),
     })
@@ -283,17 +332,32 @@ fn small_store(alloc: Global) -> Result<Vec<u8>, Fail> {
     Ok(Header::new(directory, 4104).fresh(alloc)?)
 }
 
+/// The store on which this runs, and its job.
+fn parts_of(alloc: Global, running: Running) -> Result<(Vec<u8>, String), Fail> {
+    let (held, job) = match running {
+        Running::OneAdd => (try_store(alloc)?, String::from_str(alloc, ONE_ADD)?),
+        Running::Filled => (small_store(alloc)?, String::from_str(alloc, FILLED)?),
+        Running::SideBySide => (try_store(alloc)?, String::from_str(alloc, SIDE_BY_SIDE)?),
+        Running::Day => (
+            try_store(alloc)?,
+            format!(in alloc; "frames 4\n{PROGRAMS}{DAY}end\n")?,
+        ),
+    };
+    Ok((held, job))
+}
+
 #[test]
 fn a_disk_that_stopped_opens_as_the_commits_before(rt: HostRuntime) -> Result<(), Fail> {
     let alloc = rt.alloc();
     for stop in &STOPS {
-        let (held, job, reads) = match stop.running {
-            Running::OneAdd => (try_store(alloc)?, ONE_ADD, FIRST),
-            Running::Filled => (small_store(alloc)?, FILLED, SHOWN),
-            Running::SideBySide => (try_store(alloc)?, SIDE_BY_SIDE, PAGES),
+        let (held, job) = parts_of(alloc, stop.running)?;
+        let reads = match stop.running {
+            Running::OneAdd => FIRST,
+            Running::Filled => SHOWN,
+            Running::SideBySide | Running::Day => PAGES,
         };
         let outcome = vec![in alloc; stop.outcome.0; stop.outcome.1]?;
-        let stopped = run(alloc, held, Some((stop.write, outcome)), job)?;
+        let stopped = run(alloc, held, Some((stop.write, outcome)), &job)?;
         assert_eq!(rt; stopped.status, Status::DiskFault, "write {}", stop.write);
         let opened = run(alloc, stopped.held, None, reads)?;
         assert_eq!(rt; opened.status, Status::Done, "write {}", stop.write);
@@ -306,47 +370,55 @@ fn a_disk_that_stopped_opens_as_the_commits_before(rt: HostRuntime) -> Result<()
     Ok(())
 }
 
+/// Asserts that a device's failure ends its run as it says, and that the store opens then.
+fn assert_device(
+    rt: &impl Abort,
+    alloc: Global,
+    number: usize,
+    device: &Device,
+) -> Result<(), Fail> {
+    let (held, job) = parts_of(alloc, device.running)?;
+    let mut refusals = Vec::new(alloc);
+    if let Some((call, from, to, skip)) = device.refusal {
+        refusals.push(Refusal {
+            call,
+            from,
+            to,
+            skip,
+        })?;
+    }
+    let mut fails = Vec::new(alloc);
+    if let Some(put) = device.put {
+        fails.push(put)?;
+    }
+    let disk = MemoryDisk::new(alloc, held, refusals);
+    let left = run_on(alloc, disk, fails, &job)?;
+    let mut printed = String::new(alloc);
+    for part in device.printed {
+        printed.push_str(part)?;
+    }
+    assert_eq!(rt; left.status, device.status, "device {number}");
+    assert_eq!(rt; left.commits, device.commits, "device {number}");
+    assert!(rt;
+        left.printed.as_slice() == printed.as_bytes(),
+        "device {number}"
+    );
+    let opened = run(alloc, left.held, None, NOTHING)?.printed;
+    let (least, most) = device.found;
+    let old = format!(in alloc; "open {least}\nend {least}\n")?;
+    let new = format!(in alloc; "open {most}\nend {most}\n")?;
+    assert!(rt;
+        opened.as_slice() == old.as_bytes() || opened.as_slice() == new.as_bytes(),
+        "device {number}"
+    );
+    Ok(())
+}
+
 #[test]
 fn a_failed_call_ends_the_run(rt: HostRuntime) -> Result<(), Fail> {
     let alloc = rt.alloc();
-    for device in &DEVICES {
-        let (held, job) = match device.running {
-            Running::OneAdd => (try_store(alloc)?, ONE_ADD),
-            Running::Filled => (small_store(alloc)?, FILLED),
-            Running::SideBySide => (try_store(alloc)?, SIDE_BY_SIDE),
-        };
-        let mut refusals = Vec::new(alloc);
-        if let Some((call, from, to, skip)) = device.refusal {
-            refusals.push(Refusal {
-                call,
-                from,
-                to,
-                skip,
-            })?;
-        }
-        let mut fails = Vec::new(alloc);
-        if let Some(put) = device.put {
-            fails.push(put)?;
-        }
-        let disk = MemoryDisk::new(alloc, held, refusals);
-        let mut outside = Joint::new(disk, MemoryScreen::new(alloc, fails));
-        let mut words = Vec::new(alloc);
-        words.push(String::from_str(alloc, "try")?)?;
-        let text = Vec::from_slice(alloc, job.as_bytes())?;
-        let ended = console(
-            alloc,
-            &words,
-            &mut MemorySource::new(text, Vec::new(alloc)),
-            &mut outside,
-        );
-        let (_, screen) = outside.into_parts();
-        assert_eq!(rt; ended.status, device.status, "{}", device.printed);
-        assert_eq!(rt; ended.order.len(), device.commits, "{}", device.printed);
-        assert!(rt;
-            screen.printed() == device.printed.as_bytes(),
-            "{}",
-            device.printed
-        );
+    for (index, device) in DEVICES.iter().enumerate() {
+        assert_device(&rt, alloc, index + 1, device)?;
     }
     Ok(())
 }

@@ -7,7 +7,7 @@ ghost use Rattle.store_format.specs.Stands.{stands};
 ghost use Rattle.outside.specs.Causes.{Rose, HasCause};
 ghost use Rattle.outside.specs.Runs.{OnlyAsks, held_of};
 ghost use Rattle.redo_journal.specs.Held.{HoldsAtLeast};
-ghost use Rattle.restart.specs.Shows.{Tracks};
+ghost use Rattle.restart.specs.Shows.{IsShown};
 ghost use Rattle.console.specs.Show.{HasRead, IsInside, PutsBytes, Shown, bytes_in};
 
 use super::status::Status;
@@ -19,7 +19,7 @@ use std::alloc::Global;
 use store_format::Header;
 
 /// The bytes of a page, and the most that are read before they are put.
-const PAGE: u32 = 2048;
+pub(crate) const PAGE: u32 = 2048;
 
 /// So many bytes of a segment, from an offset on.
 #[derive(Debug, Clone, Copy, PartialEq, Eq)]
@@ -154,7 +154,7 @@ fn read_bytes<W: Outside>(
     requires some { 0 < length into.old }
     requires few { length into.old ≤ 2048 }
     ensures asks { OnlyAsks W.Outside outside.old outside.new }
-    ensures read { OnOk result (Tracks W.Outside store.now outside.old → into.new ≡ bytes_in (stands (held_of W.Outside outside.old)) at (length into.old)) }
+    ensures read { OnOk result (IsShown W.Outside store.now outside.old → into.new ≡ bytes_in (stands (held_of W.Outside outside.old)) at (length into.old)) }
     ensures cause { HasCause (W.disk_faults outside.old) (W.disk_faults outside.new) result }
 {
     let here = into.len().min((PAGE - at % PAGE) as usize);
@@ -167,7 +167,7 @@ fn read_bytes<W: Outside>(
 }
 
 /// Reads bytes of the store from a place on, which lie in one page.
-fn read_in_page<W: Outside>(
+pub(crate) fn read_in_page<W: Outside>(
     store: &Durable,
     at: u32,
     into: &mut [u8],
@@ -178,7 +178,7 @@ fn read_in_page<W: Outside>(
     requires small { at < 2 ^ 22 }
     requires inside { at % 2048 + length into.old ≤ 2048 }
     ensures asks { OnlyAsks W.Outside outside.old outside.new }
-    ensures read { OnOk result (Tracks W.Outside store.now outside.old → into.new ≡ bytes_in (stands (held_of W.Outside outside.old)) at (length into.old)) }
+    ensures read { OnOk result (IsShown W.Outside store.now outside.old → into.new ≡ bytes_in (stands (held_of W.Outside outside.old)) at (length into.old)) }
     ensures cause { HasCause (W.disk_faults outside.old) (W.disk_faults outside.new) result }
 {
     let mut page = [0; PAGE as usize];

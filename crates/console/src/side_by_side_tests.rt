@@ -8,7 +8,7 @@ use std::test::Fail;
 
 /// The programs of the rows in which several are active. The offsets are in segment 1, whose pages have 2,048 bytes each,
 /// and whose lines have 128.
-const SIDE_BY_SIDE: &str = "\
+pub(super) const SIDE_BY_SIDE: &str = "\
     program add\n.window 1, 1, rw\ncau r6, r0, 0x1000\nl r3, 0(r6)\na r3, r2\nst r3, 0(r6)\nsvc 0\nend\n\
     program wr\n.window 1, 1, rw\ncau r6, r0, 0x1000\nst r2, 128(r6)\nsvc 0\nend\n\
     program rd\n.window 1, 1, r\ncau r6, r0, 0x1000\nl r3, 0(r6)\nl r2, 0(r6)\nsvc 1\nsvc 0\nend\n\
@@ -33,14 +33,14 @@ const SIDE_BY_SIDE: &str = "\
 
 /// A day of four accounts: deposits, two transfers side by side of which one gives up, a sum that waits, two transfers that
 /// wait for each other, and a crash while two are active.
-const DAY: &str =
+pub(super) const DAY: &str =
     "begin dep 0 100\nbegin dep 128 50\nbegin dep 2048 7\nbegin dep 4096 9\ndrain 1 50\nbegin move 0 2048 30\n\
     begin move 128 0 60\nbegin sum 0 2048\nbegin null\nturn 5 7\nturn 7 50\nturn 6 50\ndrain 1 50\ncheckpoint\n\
     begin move 2048 4096 37\nbegin move 4096 2048 9\nturn 9 7\nturn 10 7\nturn 9 50\nturn 10 50\n\
     begin move 4096 2048 9\nbegin dep 0 1\nturn 9 50\nturn 12 5\ncrash\nbegin sum 0 4096\nturn 13 50\n";
 
 /// Its report up to the checkpoint.
-const BEFORE_NOON: &str =
+pub(super) const BEFORE_NOON: &str =
     "begin 1 dep\nbegin 2 dep\nbegin 3 dep\nbegin 4 dep\nturn 1 ran 6 page 1 lock 2\n\
     commit 1 number 1 steps 6 out -\nturn 2 ran 6 page 0 lock 2\ncommit 2 number 2 steps 6 out -\n\
     turn 3 ran 6 page 1 lock 2\ncommit 3 number 3 steps 6 out -\nturn 4 ran 6 page 1 lock 2\n\
@@ -51,7 +51,7 @@ const BEFORE_NOON: &str =
     turn 8 ran 1 page 0 lock 0\ncommit 8 number 7 steps 1 out -\n";
 
 /// And from there up to those that the crash loses.
-const AFTER_NOON: &str =
+pub(super) const AFTER_NOON: &str =
     "stored 7\nbegin 9 move\nbegin 10 move\nturn 9 ran 7 page 0 lock 2\nturn 10 ran 7 page 0 lock 2\n\
     turn 9 ran 0 page 0 lock 1\nwait 9 for 10\nturn 10 ran 0 page 0 lock 1\ncycle 10 9 10\nvictim 10\n\
     begin 11 move\nbegin 12 dep\nturn 9 ran 4 page 1 lock 2\ncommit 9 number 8 steps 11 out -\n\
@@ -79,7 +79,7 @@ const ROW: Row = Row {
     report: &[],
 };
 
-const ROWS: [Row; 22] = [
+const ROWS: [Row; 20] = [
     Row {
         name: "reader and writer of one page",
         events: "begin rd\nbegin wr 9\nturn 1 2\nturn 2 2\nturn 1 9\nturn 2 9\n",
@@ -294,24 +294,6 @@ const ROWS: [Row; 22] = [
             AFTER_NOON,
             "open 8\nbegin 13 sum\nturn 13 ran 8 page 2 lock 2\ncommit 13 number 9 steps 8 out 74\nend 9\n",
         ],
-        ..ROW
-    },
-    Row {
-        name: "a day whose checkpoint fails",
-        frames: 4,
-        refusal: Some((Call::Sync, 0, 0, 15)),
-        status: Status::DiskFault,
-        events: DAY,
-        report: &[BEFORE_NOON, "closed\n"],
-        ..ROW
-    },
-    Row {
-        name: "a day whose crash finds no disk",
-        frames: 4,
-        refusal: Some((Call::Sync, 0, 0, 19)),
-        status: Status::DiskFault,
-        events: DAY,
-        report: &[BEFORE_NOON, AFTER_NOON, "closed\n"],
         ..ROW
     },
 ];

@@ -1,6 +1,6 @@
 ghost use Rattle.std.specs.Prelude.{◌≡◌, ◌+◌, ◌≤◌, [], ◌++◌, length, decimal, None};
 ghost use Rattle.console.specs.declared.status.Status.TheVariants.{NoMemory};
-ghost use Rattle.console.specs.Statuses.{status_of_job, status_of_text, status_of_open, status_of_replay, number_of, text_of};
+ghost use Rattle.console.specs.Statuses.{status_of_job, status_of_text, status_of_open, status_of_replay, status_of_trace, number_of, text_of};
 
 use super::source_text::TextFault;
 use arrayvec::ArrayString;
@@ -11,6 +11,7 @@ use redo_journal::OpenFault;
 use schedule_replay::Replayed;
 use std::alloc::{AllocError, Global};
 use supervisor::Session;
+use touch_trace::TraceFault;
 
 /// How a call of the console ended (docs/FORMATS.md, "Statuses").
 #[derive(Debug, Clone, Copy, PartialEq, Eq)]
@@ -31,12 +32,18 @@ pub enum Status {
     PutFault,
     /// There is no memory.
     NoMemory,
-    /// The source gave more than 1,048,576 bytes.
+    /// The source gave more than 1,048,576 bytes, or more than 33,554,432 of a bundle.
     TooBig,
     /// There is a store already.
     Exists,
     /// The range isn't in the store.
     NoRange,
+    /// The bundle is none: the part with this number is wrong, at this place.
+    Bundle(u8, u64),
+    /// No commit line is the activation's.
+    NoCommit,
+    /// The commit line with this number isn't sound.
+    NotSerial(u64),
 }
 
 /// What a call of the console came to: its status, and the commits whose gate write began, in order. At most the last of
@@ -80,6 +87,9 @@ impl Status {
             Status::TooBig => 8,
             Status::Exists => 9,
             Status::NoRange => 10,
+            Status::Bundle(..) => 11,
+            Status::NoCommit => 14,
+            Status::NotSerial(_) => 15,
         }
     }
 }
@@ -104,6 +114,12 @@ pub fn status_text(status: &Status) -> ArrayString<64>
         Status::TooBig => push(&mut text, "big"),
         Status::Exists => push(&mut text, "exists"),
         Status::NoRange => push(&mut text, "range"),
+        Status::Bundle(part, at) => {
+            push_with(&mut text, "bundle ", u64::from(*part));
+            push_with(&mut text, " ", *at);
+        }
+        Status::NoCommit => push(&mut text, "commit"),
+        Status::NotSerial(place) => push_with(&mut text, "serial ", *place),
     }
     text
 }
@@ -165,6 +181,18 @@ impl From<OpenFault> for Status {
             OpenFault::NotAStore(offset) | OpenFault::Damaged(offset) => Status::Store(offset),
             OpenFault::DiskFault => Status::DiskFault,
             OpenFault::Memory => Status::NoMemory,
+        }
+    }
+}
+
+impl From<TraceFault> for Status {
+    ghost from_gives = { λ fault status. status ≡ status_of_trace fault };
+
+    fn from(fault: TraceFault) -> Self {
+        match fault {
+            TraceFault::NoCommit => Status::NoCommit,
+            TraceFault::NotSerial(place) => Status::NotSerial(u64::from(place)),
+            TraceFault::Memory => Status::NoMemory,
         }
     }
 }

@@ -2,7 +2,7 @@
 ghost use Rattle.std.specs.Prelude.{◌≡◌, ◌≢◌, ◌≤◌, ◌+◌, [], ◌∷◌, ◌++◌, List, ℕ, All, map, length, true, false, MatchOption, Some, string_bytes};
 ghost use Rattle.line_geometry.specs.Legal.{IsLegal, IsInRange};
 ghost use Rattle.store_format.specs.Header.{Header as Layout, HasRanges};
-ghost use Rattle.console.specs.Words.{IsForm, IsNoForm, AreWithin, AreNumbers, IsAlone, IsOnStore, word_of, numbers_of, number_of, spread};
+ghost use Rattle.console.specs.Words.{IsForm, IsNoForm, AreWithin, AreNumbers, IsAlone, IsNumbered, IsOnStore, number_said, word_of, numbers_of, number_of, spread};
 
 use super::show::Range;
 use arrayvec::ArrayVec;
@@ -29,14 +29,18 @@ pub enum Command {
     New(Header),
     /// The load of so many transfers is run, on the disk that is handed in.
     Big(u32),
+    /// A bundle is audited.
+    Audit,
+    /// The lines that an activation touched in the run of a bundle are printed.
+    Trace(u32),
 }
 
 /// The command that the words are, if they are one.
 pub fn command_of(words: &[String]) -> Option<Command>
     ensures { MatchOption result (IsNoForm words.now) (λ command. IsForm command words.now) }
 {
-    if let Some(transfers) = transfers_of(words) {
-        return Some(Command::Big(transfers));
+    if let Some(command) = numbered(words) {
+        return Some(command);
     }
     match words {
         [] => None,
@@ -53,28 +57,29 @@ pub fn command_of(words: &[String]) -> Option<Command>
     }
 }
 
-/// The transfers that `big` and a number ask for, if the words are these.
-fn transfers_of(words: &[String]) -> Option<u32>
-    ensures { MatchOption result ((transfers : ℕ) → IsForm (Command.Big transfers) words.now → ⊥) (λ transfers. IsForm (Command.Big transfers) words.now) }
+/// The command that a word and a number are, if the words are these.
+fn numbered(words: &[String]) -> Option<Command>
+    ensures { MatchOption result ((form : Command) → IsNumbered form → IsForm form words.now → ⊥) (λ command. IsNumbered command × IsForm command words.now) }
 {
     match words {
-        [word, number] => load_of(word.as_str(), number.as_str()),
+        [word, number] => command_with(word.as_str(), number.as_str()),
         _ => None,
     }
 }
 
-/// The transfers that a word and a number ask for.
-fn load_of(word: &str, number: &str) -> Option<u32>
+/// The command that a word is with this number.
+fn command_with(word: &str, number: &str) -> Option<Command>
     ensures { MatchOption result
-        ((transfers : ℕ) → word.now ≡ word_of (Command.Big transfers) → number_of number.now ≡ Some transfers → AreWithin (Command.Big transfers) → ⊥)
-        (λ transfers. (word.now ≡ word_of (Command.Big transfers)) × (number_of number.now ≡ Some transfers) × AreWithin (Command.Big transfers)) }
+        ((form : Command) → IsNumbered form → word.now ≡ word_of form → number_of number.now ≡ Some (number_said form) → AreWithin form → ⊥)
+        (λ command. IsNumbered command × (word.now ≡ word_of command) × (number_of number.now ≡ Some (number_said command)) × AreWithin command) }
 {
-    if word != "big" {
-        return None;
-    }
-    match number_of(number) {
-        Some(transfers) if (1..=512).contains(&transfers) => Some(transfers),
-        _ => None,
+    let number = number_of(number)?;
+    if word == "trace" {
+        Some(Command::Trace(number))
+    } else if word == "big" && (1..=512).contains(&number) {
+        Some(Command::Big(number))
+    } else {
+        None
     }
 }
 
@@ -88,6 +93,8 @@ fn command_alone(word: &str) -> Option<Command>
         Some(Command::List)
     } else if word == "drill" {
         Some(Command::Drill)
+    } else if word == "audit" {
+        Some(Command::Audit)
     } else {
         None
     }

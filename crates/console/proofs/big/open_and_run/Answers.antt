@@ -1,4 +1,4 @@
-use Rattle.std.proofs.Common.{◌≡◌, ◌≤◌, ◌∙◌, ap, sym, subst, arith, length, vec_len, get_or, All, List, ℕ}
+use Rattle.std.proofs.Common.{◌≡◌, ◌≤◌, ◌∙◌, ap, sym, subst, arith, length, vec_len, get_or, All, List, ℕ, Some}
 use Rattle.std.proofs.lemmas.List.{length-map}
 use Rattle.std.proofs.lemmas.List.Sums.{count_by-le-length}
 use Rattle.flat_machine.specs.declared.machine.Program.{Program}
@@ -63,6 +63,6 @@ returns-clause-loaded g c =
     let runs : (first : Desk) → IsSure G start → ghosts.shows desk (held_of G start) first → RunsQuietly ghosts G (activity desk).programs desk.opened job.events.items first new start between last quiet = λ first sure shows.
     subst (λ (bytes : List ℕ). RunsQuietly ghosts G (activity desk).programs desk.opened job.events.items first new start between bytes quiet) (sym c.as_slice.ensures.value)
     (subst (λ (events : List Event). RunsQuietly ghosts G (activity desk).programs desk.opened events first new start between c.run_quiet-quiet.new.last.items quiet) c.deref.ensures.value (c.run_quiet-quiet.ensures.runs first sure shows)) in
-    subst (λ (order : List (ℕ × ℕ)). Loaded G c.args.transfers before c.tell.new.outside order c.tell.result) (sym (ap order_told c.filled.ensures ∙ c.order.ensures))
+    subst (λ (order : List (ℕ × ℕ)). Loaded G c.args.transfers before c.tell.new.outside order (Some new) c.tell.result) (sym (ap order_told c.filled.ensures ∙ c.order.ensures))
     (loaded G g.met.W.Outside.fewer_later g.met.W.Outside.printed_now c.args.transfers job c.requires.load before start between desk new c.in-Ok.ensures.opened c.in-Ok.ensures.asks c.in-Ok.ensures.new.programs_are c.run_quiet-quiet.ensures.opened c.in-Ok.ensures.unfailed
     (λ told. (c.in-Ok.ensures.told told).1) last c.run_quiet-quiet.ensures.calls quiet runs c.tell.new.outside c.tell.result c.tell.ensures)

@@ -1,4 +1,4 @@
-use Rattle.std.proofs.Common.{◌≡◌, ℕ, List, [], ap, subst, sym}
+use Rattle.std.proofs.Common.{◌≡◌, ℕ, List, [], inl, inr, ap, subst, sym}
 use Rattle.desk.specs.Answers.{order_told}
 use Rattle.desk.specs.declared.answers.Committed.{Committed}
 use Rattle.store_format.specs.Header.{Header}
@@ -9,10 +9,12 @@ use Rattle.console.specs.Drilled.{DrilledBy}
 use Rattle.console.specs.Big.{Loaded}
 use Rattle.console.specs.New.{Made}
 use Rattle.console.specs.Show.{Shown}
+use Rattle.console.specs.Traced.{TracedFrom}
 use Rattle.console.specs.Words.{IsForm}
 use Rattle.console.proofs.DrillLemmas.{drilled-text, drilled-unread, none-put}
+use Rattle.console.proofs.PromiseLemmas.{no_promise}
 use Rattle.console.proofs.RunLemmas.{happens}
-use Rattle.console.proofs.WordLemmas.{one_header, one_load, one_range}
+use Rattle.console.proofs.WordLemmas.{one_header, one_load, one_range, one_trace}
 use Rattle.console.proofs.commands.console.Goals as goal
 
 pub returns-in_default-clause-listed : goal.returns-in_default-clause-listed
@@ -27,10 +29,43 @@ returns-in_default-clause-made g c = λ header makes. absurd (c.in_default.ensur
 pub returns-in_default-clause-loaded : goal.returns-in_default-clause-loaded
 returns-in_default-clause-loaded g c = λ transfers loads. absurd (c.in_default.ensures (Command.Big transfers) loads)
 
+pub returns-in_default-clause-audited : goal.returns-in_default-clause-audited
+returns-in_default-clause-audited g c = λ audits. absurd (c.in_default.ensures Command.Audit audits)
+
+pub returns-in_default-clause-traced : goal.returns-in_default-clause-traced
+returns-in_default-clause-traced g c = λ activation traces. absurd (c.in_default.ensures (Command.Trace activation) traces)
+
 pub returns-in-Big-clause-loaded : goal.returns-in-Big-clause-loaded
 returns-in-Big-clause-loaded g c = λ transfers loads.
     let asked : IsForm (Command.Big c.in-Big.transfers) c.args.words.now = subst (λ (form : Command). IsForm form c.args.words.now) c.in-Big.is c.in-Some.ensures in
-    subst (λ (n : ℕ). Loaded g.W.Outside n c.args.outside.now c.run_load.new.outside (order_told c.run_load.result.order.items) c.run_load.result.status) (one_load c.args.words.now c.in-Big.transfers transfers asked loads) c.run_load.ensures.loaded
+    subst (λ (n : ℕ). Loaded g.W.Outside n c.args.outside.now c.run_load.new.outside (order_told c.run_load.result.order.items) c.run_load.result.session c.run_load.result.status) (one_load c.args.words.now c.in-Big.transfers transfers asked loads) c.run_load.ensures.loaded
+
+pub returns-in-Audit-clause-complete : goal.returns-in-Audit-clause-complete
+returns-in-Audit-clause-complete g c = λ complete.
+    let asked : IsForm Command.Audit c.args.words.now = subst (λ (form : Command). IsForm form c.args.words.now) c.in-Audit.is c.in-Some.ensures in
+    absurd (no_promise g.W.Outside (g.S.Source.left c.args.job.now) c.args.outside.now c.args.words.now (inl asked) complete)
+
+pub returns-in-Trace-clause-complete : goal.returns-in-Trace-clause-complete
+returns-in-Trace-clause-complete g c = λ complete.
+    let asked : IsForm (Command.Trace c.in-Trace.activation) c.args.words.now = subst (λ (form : Command). IsForm form c.args.words.now) c.in-Trace.is c.in-Some.ensures in
+    absurd (no_promise g.W.Outside (g.S.Source.left c.args.job.now) c.args.outside.now c.args.words.now (inr (c.in-Trace.activation, asked)) complete)
+
+pub returns-in-Trace-clause-traced : goal.returns-in-Trace-clause-traced
+returns-in-Trace-clause-traced g c = λ activation traces.
+    let G = g.W.Outside in
+    let before = c.args.outside.now in
+    let after = c.trace_source.new.outside in
+    let left = g.S.Source.left c.args.job.now in
+    let left_now = g.S.Source.left c.trace_source.new.source in
+    let faults = g.S.Source.faults c.args.job.now in
+    let faults_now = g.S.Source.faults c.trace_source.new.source in
+    let asked : IsForm (Command.Trace c.in-Trace.activation) c.args.words.now = subst (λ (form : Command). IsForm form c.args.words.now) c.in-Trace.is c.in-Some.ensures in
+    let same : c.in-Trace.activation ≡ activation = one_trace c.args.words.now c.in-Trace.activation activation asked traces in
+    let ended = c.without_events-in-Trace.ensures in
+    subst (λ (status : Status). TracedFrom G activation left left_now faults faults_now before after (order_told c.without_events-in-Trace.result.order.items) status) (sym ended.status)
+    (subst (λ (number : ℕ). TracedFrom G number left left_now faults faults_now before after (order_told c.without_events-in-Trace.result.order.items) c.trace_source.result) same
+    (let done : TracedFrom G c.in-Trace.activation left left_now faults faults_now before after (order_told c.without_events-in-Trace.result.order.items) c.trace_source.result =
+    record { no_order = ap order_told ended.order; by_status = c.trace_source.ensures.traced } in done))
 
 pub returns-in-Ok-clause-happened : goal.returns-in-Ok-clause-happened
 returns-in-Ok-clause-happened g c = λ runs.

@@ -1,7 +1,5 @@
-use Rattle.std.proofs.Common.{sym, subst, ◌∙◌}
-use Rattle.console.specs.Drilled.{DrilledTo}
-use Rattle.console.specs.declared.status.Status.{Status}
-use Rattle.console.proofs.DrillLemmas.{drill-only, drill-rose, drill-same}
+use Rattle.std.proofs.Common.{sym, ◌∙◌}
+use Rattle.console.proofs.DrillLemmas.{drill-rose, drill-same}
 use Rattle.console.proofs.drill.drill_job.Goals as goal
 
 pub returns-clause-unfailed : goal.returns-clause-unfailed

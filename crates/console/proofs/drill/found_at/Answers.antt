@@ -1,4 +1,4 @@
-use Rattle.std.proofs.Common.{◌≡◌, ◌*◌, ◌≤◌, ◌∙◌, true, length, ap, subst, List, ℕ, sym}
+use Rattle.std.proofs.Common.{◌*◌, ◌≤◌, length, ap, subst, List, ℕ, sym}
 use Rattle.console.specs.Drill.{IsStop, fine_order}
 use Rattle.console.specs.Drilled.{try_flat, try_order}
 use Rattle.console.proofs.DrillLemmas.{stop-found, stop-standing, try-standing, try-stands, unreached}

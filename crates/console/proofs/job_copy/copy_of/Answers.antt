@@ -1,7 +1,6 @@
 use Rattle.std.proofs.Common.{◌≡◌, ◌∙◌, ap, refl}
 use Rattle.std.specs.Prelude.{map}
 use Rattle.arrayvec.specs.ArrayVec.{ArrayVec}
-use Rattle.desk.specs.declared.event.Event.{Event}
 use Rattle.console.proofs.CopyLemmas.{is_ready, same_names}
 use Rattle.console.proofs.job_copy.copy_of.Goals as goal
 

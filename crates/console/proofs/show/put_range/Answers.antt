@@ -11,7 +11,7 @@ parts-init g c = record {
   inside = omega arith;
   whole = λ some. omega arith;
   puts = nothing_put g.W.Outside g.met.W.Outside.fewer_later c.args.store.now c.args.at c.args.range.now.from c.args.outside.now;
-  long = λ tracks. ap length (none_in (stands (held_of g.W.Outside c.args.outside.now)) c.args.at);
+  long = λ shown. ap length (none_in (stands (held_of g.W.Outside c.args.outside.now)) c.args.at);
 }
 
 pub returns-in-Err : goal.returns-in-Err

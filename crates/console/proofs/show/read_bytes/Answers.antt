@@ -5,7 +5,7 @@ use Rattle.outside.proofs.Runs.{asks_on}
 use Rattle.outside.specs.Runs.{held_of}
 use Rattle.store_format.specs.Stands.{stands}
 use Rattle.console.specs.Show.{bytes_in}
-use Rattle.console.proofs.ShowLemmas.{held_same, in_two_pages, none_in, shows_asks, tracks_shows}
+use Rattle.console.proofs.ShowLemmas.{held_same, in_two_pages, none_in, shows_asks, still_shown}
 use Rattle.console.proofs.show.read_bytes.Goals as goal
 
 on_ok : {T E P Q : Type 0} (result : Result T E) → (P → Q) → OnOk result P → OnOk result Q
@@ -20,12 +20,12 @@ nothing [] none = refl
 nothing (byte ∷ bytes) none = absurd (omega arith)
 
 pub returns-then-is_empty-clause-read : goal.returns-then-is_empty-clause-read
-returns-then-is_empty-clause-read g c = λ tracks.
+returns-then-is_empty-clause-read g c = λ shown.
     let split = c.split_at_mut-front.ensures in
     let back = c.split_at_mut-front.result.1.now in
     let empty : length back ≡ 0 = no_more back c.is_empty.result c.is_empty.ensures c.if-is_empty.true in
     in_two_pages (stands (held_of g.W.Outside c.args.outside.now)) c.args.at (length c.split_at_mut-front.result.0.now) 0 (length c.args.into.now) c.read_in_page.new.into back
-    (omega (arith, split.front_len, split.back_len, empty)) (c.in_ok-read_in_page.ensures.read tracks)
+    (omega (arith, split.front_len, split.back_len, empty)) (c.in_ok-read_in_page.ensures.read shown)
     (nothing back empty ∙ sym (none_in (stands (held_of g.W.Outside c.args.outside.now)) (c.args.at + length c.split_at_mut-front.result.0.now)))
 
 pub returns-clause-asks : goal.returns-clause-asks
@@ -34,14 +34,14 @@ returns-clause-asks g c = asks_on g.W.Outside g.met.W.Outside.fewer_later c.args
 pub returns-clause-read : goal.returns-clause-read
 returns-clause-read g c =
     on_ok c.read_in_page-2.result
-    (λ reads tracks.
+    (λ reads shown.
     let split = c.split_at_mut-front.ensures in
     let old = c.args.outside.now in
     let mid = c.read_in_page.new.outside in
     let asks = shows_asks g.W.Outside g.met.W.Outside.fewer_later old mid c.in_ok-read_in_page.ensures.asks in
     in_two_pages (stands (held_of g.W.Outside old)) c.args.at (length c.split_at_mut-front.result.0.now) (length c.split_at_mut-front.result.1.now) (length c.args.into.now) c.read_in_page.new.into c.read_in_page-2.new.into
-    (omega (arith, split.front_len, split.back_len)) (c.in_ok-read_in_page.ensures.read tracks)
-    (reads (tracks_shows g.W.Outside g.met.W.Outside.fewer_later c.args.store.now old mid tracks asks)
+    (omega (arith, split.front_len, split.back_len)) (c.in_ok-read_in_page.ensures.read shown)
+    (reads (still_shown g.W.Outside g.met.W.Outside.fewer_later c.args.store.now old mid shown asks)
     ∙ ap (λ (held : List ℕ). bytes_in (stands held) (c.args.at + c.min-here.result) (length c.split_at_mut-front.result.1.now)) (held_same g.W.Outside g.met.W.Outside.fewer_later old mid asks)
     ∙ ap (λ (n : ℕ). bytes_in (stands (held_of g.W.Outside old)) (c.args.at + n) (length c.split_at_mut-front.result.1.now)) (sym split.front_len)))
     c.read_in_page-2.ensures.read

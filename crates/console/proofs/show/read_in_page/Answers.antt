@@ -5,9 +5,9 @@ use Rattle.console.proofs.ShowLemmas.{in_page}
 use Rattle.console.proofs.show.read_in_page.Goals as goal
 
 pub returns-clause-read : goal.returns-clause-read
-returns-clause-read g c = λ tracks.
+returns-clause-read g c = λ shown.
     let behind = c.args.at % 2048 in
     let count = length c.args.into.now in
     c.copy_from_slice.ensures.after
-    ∙ ap (λ (page : List ℕ). take (behind + count - behind) (drop behind page)) (c.in_ok-read_page.ensures.read tracks)
+    ∙ ap (λ (page : List ℕ). take (behind + count - behind) (drop behind page)) (c.in_ok-read_page.ensures.read shown)
     ∙ in_page (stands (held_of g.W.Outside c.args.outside.now)) c.args.at count c.requires.inside

@@ -9,7 +9,7 @@ pub returns-in-Ok-put_range-clause-shown : goal.returns-in-Ok-put_range-clause-s
 returns-in-Ok-put_range-clause-shown g c =
     let opened = c.in-Ok.ensures in
     let range = c.args.range in
-    shown_whole g.W.Outside g.met.W.Outside.fewer_later range c.args.outside.now c.open.new.outside opened.asks c.in-Ok.store opened.shows opened.tracks c.in-Some.at
+    shown_whole g.W.Outside g.met.W.Outside.fewer_later range c.args.outside.now c.open.new.outside opened.asks c.in-Ok.store opened.shows c.in-Some.at
     (subst (λ (header : Header). IsInside header.directory range) c.header.ensures c.in-Some.ensures.0)
     (c.in-Some.ensures.1 ∙ ap (λ (header : Header). start_of header.directory range.segment + range.from) c.header.ensures)
     c.put_range.new.outside c.in-Ok-put_range.ensures.puts
@@ -18,7 +18,7 @@ pub returns-in-Some-clause-shown : goal.returns-in-Some-clause-shown
 returns-in-Some-clause-shown g c =
     let opened = c.in-Ok.ensures in
     let range = c.args.range in
-    shown_part g.W.Outside g.met.W.Outside.fewer_later range c.args.outside.now c.open.new.outside opened.asks c.in-Ok.store opened.shows opened.tracks c.in-Some.at
+    shown_part g.W.Outside g.met.W.Outside.fewer_later range c.args.outside.now c.open.new.outside opened.asks c.in-Ok.store opened.shows c.in-Some.at
     (subst (λ (header : Header). IsInside header.directory range) c.header.ensures c.in-Some.ensures.0)
     (c.in-Some.ensures.1 ∙ ap (λ (header : Header). start_of header.directory range.segment + range.from) c.header.ensures)
     c.put_range.new.outside c.in-Err-put_range.status c.in-Err-put_range.ensures.puts
