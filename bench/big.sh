@@ -1,6 +1,6 @@
 #!/usr/bin/env bash
 # big.sh PROGRAM [SCRATCH]: the load of `big 512` beside the same job through `run` on a store in a file, and through `try`, in turns in
-# one run. Prints the lines of docs/SPEED.md, "A load with waits and victims". Wants gcc. SCRATCH is a folder on the disk to measure.
+# one run; and the audit of that run, with the trace of its first activation. Prints the lines of docs/SPEED.md, "A load with waits and victims". Wants gcc. SCRATCH is a folder on the disk to measure.
 set -eu
 
 here=$(dirname -- "$(readlink -f -- "${BASH_SOURCE[0]}")")
@@ -91,16 +91,26 @@ job >"$scratch/big.job"
 : >"$scratch/big"
 : >"$scratch/try"
 : >"$scratch/run"
+: >"$scratch/audit"
+: >"$scratch/trace"
 for ((round = 0; round < rounds; round++)); do
     times "$program" big "$count" >>"$scratch/big"
     times "$program" try <"$scratch/big.job" >>"$scratch/try"
     rm -f "$scratch/store"
     "$program" new "$scratch/store" 65536 1 4 2 2 >"$scratch/printed"
+    cp "$scratch/store" "$scratch/opening"
     times "$program" run "$scratch/store" <"$scratch/big.job" >>"$scratch/run"
 done
-for kind in big try run; do
+"$program" try <"$scratch/big.job" >"$scratch/report"
+"$here/../examples/bundle.sh" "$scratch/big.job" "$scratch/report" "$scratch/opening" "$scratch/store" >"$scratch/bundle"
+for ((round = 0; round < rounds; round++)); do
+    times "$program" audit <"$scratch/bundle" >>"$scratch/audit"
+    times "$program" trace 1 <"$scratch/bundle" >>"$scratch/trace"
+done
+for kind in big try run audit trace; do
     awk -v kind="$kind" -v wall="$(cut -d' ' -f1 "$scratch/$kind" | least)" -v spent="$(cut -d' ' -f2 "$scratch/$kind" | least)" 'BEGIN {
         name["big"] = "`big 512`"; name["try"] = "its job through `try`"; name["run"] = "its job through `run` on a file"
+        name["audit"] = "the audit of its bundle"; name["trace"] = "the trace of its first activation, of 1,026 rows"
         printf "| %s | %.1f | %.1f |\n", name[kind], wall / 1000, spent / 1000
     }'
 done
