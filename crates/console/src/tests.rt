@@ -548,6 +548,31 @@ fn a_program_prints_4096_bytes_and_no_more(rt: HostRuntime) -> Result<(), Fail> 
     assert_report(&rt, alloc, job, &report, "printing")
 }
 
+/// Loads, and the lines that they print.
+const LOADS: [(&str, &str); 2] = [
+    ("1", "big 1 commits 3 rollbacks 0 out 0003e800\n"),
+    ("2", "big 2 commits 3 rollbacks 1 out 0003e800\n"),
+];
+
+#[test]
+fn a_load_prints_its_line(rt: HostRuntime) -> Result<(), Fail> {
+    let alloc = rt.alloc();
+    for (transfers, line) in &LOADS {
+        let words = words_of(alloc, &["big", *transfers])?;
+        let mut source = MemorySource::new(Vec::new(alloc), Vec::new(alloc));
+        let mut outside = Joint::new(
+            MemoryDisk::new(alloc, try_store(alloc)?, Vec::new(alloc)),
+            MemoryScreen::new(alloc, Vec::new(alloc)),
+        );
+        let ended = console(alloc, &words, &mut source, &mut outside);
+        let (_disk, screen) = outside.into_parts();
+        assert_eq!(rt; ended.status, Status::Done);
+        assert!(rt; ended.session.is_some());
+        assert!(rt; screen.printed() == line.as_bytes());
+    }
+    Ok(())
+}
+
 #[test]
 fn a_status_says_itself(rt: HostRuntime) {
     assert_eq!(rt; status_text(&Status::Job(4, 5)).as_str(), "job 4 5");
