@@ -2,7 +2,7 @@
 use Rattle.std.proofs.Common.{◌≡◌, ℕ, zero, suc, ◌+◌, ◌<◌, ◌≤◌, List, [], ◌∷◌, ◌++◌, length, get_or, take, drop, cond, refl, sym, ◌∙◌, ap, subst, arith, rules, IsSome}
 use Rattle.std.specs.Prelude.{false, Option, Result, Ok, Err, IsErr, All}
 use Rattle.std.specs.Option.{ForSome}
-use Rattle.std.proofs.lemmas.List.{take_more, take-append-drop}
+use Rattle.std.proofs.lemmas.List.{take_all, take_more, take-append-drop}
 use Rattle.std.proofs.lemmas.List.Sums.{sum_by-append}
 use Rattle.outside.specs.declared.failed.Failed.{Failed}
 use Rattle.outside.specs.declared.world.Outside.{Ghosts}
@@ -22,7 +22,7 @@ use Rattle.desk.specs.Lines.{Line}
 use Rattle.schedule_replay.specs.declared.events.Going.{Going}
 use Rattle.schedule_replay.specs.declared.events.Going.TheVariants as going
 use Rattle.schedule_replay.specs.Asked.{IsAsked, is_begin, is_turn, begins_in, turns_in}
-use Rattle.schedule_replay.specs.Answered.{IsReady, Answered, GoesBy}
+use Rattle.schedule_replay.specs.Answered.{IsReady, Answered, GoesBy, GoesShut}
 use Rattle.schedule_replay.specs.Puts.{Puts}
 use Rattle.schedule_replay.proofs.PutsLemmas.{done, no_time}
 
@@ -169,3 +169,11 @@ goes_until S G (going.Damaged offset) old new before middle after disk held goes
   goes.0,
   subst (λ (those : Option (List ℕ)). IsSome those → bank_of (unwrap_or those []) (S.header old) (chosen (unwrap_or those [])) ≡ Faulty offset) (sym held) goes.1,
 )
+
+-- a supervisor that was closed before: an event was asked of it
+pub shut_asked : (events : List Event) (i : ℕ) (how : Going) → i < length events → how ≡ going.Closed → GoesShut events how
+shut_asked events i how lt is = subst (GoesShut events) (sym is) (omega (arith, lt))
+
+-- or there is none
+pub shut_unasked : (events : List Event) (i : ℕ) → i ≡ 0 → length events ≤ i → events ≡ []
+shut_unasked events i none all = sym (take_all 0 events (omega (arith, none, all)))

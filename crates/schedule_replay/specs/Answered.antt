@@ -1,5 +1,5 @@
 -- What a supervisor and an outside are before and after events.
-use Rattle.std.specs.Prelude.{◌≡◌, ◌+◌, ◌^◌, ◌≤◌, true, false, List, length, All, Result, IsSome}
+use Rattle.std.specs.Prelude.{◌≡◌, ◌+◌, ◌^◌, ◌<◌, ◌≤◌, true, false, List, [], length, All, Result, IsSome}
 use Rattle.outside.specs.declared.world.Outside.{Ghosts}
 use Rattle.outside.specs.declared.failed.Failed.{Failed}
 use Rattle.outside.specs.Causes.{Rose, HasCause}
@@ -44,3 +44,9 @@ abbrev pub GoesBy : {D W : Type 0} → desk.Ghosts D → Ghosts W → D → D �
 GoesBy S G old new before after going.On = S.closed old ≡ false → S.closed new ≡ false
 GoesBy S G old new before after going.Closed = (S.closed new ≡ true) × (S.closed old ≡ false → Rose (G.disk_faults before) (G.disk_faults after))
 GoesBy S G old new before after (going.Damaged offset) = (S.closed new ≡ true) × (IsSome (G.held after) → bank_of (held_of G after) (S.header old) (chosen (held_of G after)) ≡ Faulty offset)
+
+-- how a supervisor goes on that was closed before: it is closed where there is an event, and nothing was asked of it where there is none
+abbrev pub GoesShut : List Event → Going → Type 0
+GoesShut events going.On = events ≡ []
+GoesShut events going.Closed = 0 < length events
+GoesShut events (going.Damaged offset) = ⊥

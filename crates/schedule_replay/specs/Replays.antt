@@ -1,5 +1,5 @@
 -- What replaying a schedule did.
-use Rattle.std.specs.Prelude.{◌≡◌, ℕ, ◌*◌, ◌≤◌, count_by, length, Bool, true, false, List, [], ◌∷◌, ◌++◌, Result, Ok, Err, IfOk, IsSome}
+use Rattle.std.specs.Prelude.{◌≡◌, ℕ, ◌*◌, ◌<◌, ◌≤◌, count_by, length, Bool, true, false, List, [], ◌∷◌, ◌++◌, Result, Ok, Err, IfOk, IsSome}
 use Rattle.outside.specs.declared.world.Outside.{Ghosts}
 use Rattle.outside.specs.declared.failed.Failed.{Failed}
 use Rattle.outside.specs.Bytes.{Prints}
@@ -107,3 +107,10 @@ EndsBy S G old new before after replayed.Ended = (S.closed old ≡ false → S.c
 EndsBy S G old new before after replayed.Closed = (S.closed new ≡ true) × (S.closed old ≡ false → Rose (G.disk_faults before) (G.disk_faults after)) × (G.put_faults after ≡ G.put_faults before)
 EndsBy S G old new before after (replayed.Damaged offset) = (S.closed new ≡ true) × (IsSome (G.held after) → bank_of (held_of G after) (S.header old) (chosen (held_of G after)) ≡ Faulty offset) × (G.put_faults after ≡ G.put_faults before)
 EndsBy S G old new before after replayed.PutFault = Rose (G.put_faults before) (G.put_faults after)
+
+-- What becomes of a supervisor that was closed before, unless a put fails: it ends where there is no event, and is closed where there is one.
+abbrev pub EndsShut : List Event → Replayed → Type 0
+EndsShut events replayed.Ended = events ≡ []
+EndsShut events replayed.Closed = 0 < length events
+EndsShut events (replayed.Damaged offset) = ⊥
+EndsShut events replayed.PutFault = Unit {0}

@@ -1,5 +1,5 @@
 // The events of a schedule, one after another, and their report.
-ghost use Rattle.std.specs.Prelude.{◌≡◌, ◌≤◌, ℕ, List, [], ◌∷◌, All, false, length, map, take, IfOk};
+ghost use Rattle.std.specs.Prelude.{◌≡◌, ◌≤◌, ℕ, List, [], ◌∷◌, All, true, false, length, map, take, IfOk};
 ghost use Rattle.outside.specs.Causes.{Rose, HasCause};
 ghost use Rattle.outside.specs.Durable.{IsSure};
 ghost use Rattle.outside.specs.Moments.{Elapses};
@@ -10,11 +10,11 @@ ghost use Rattle.desk.specs.Desk.{Desk};
 ghost use Rattle.desk.specs.Kept.{HoldsStore, StillTold};
 ghost use Rattle.desk.specs.Report.{closing_lines};
 ghost use Rattle.desk.specs.Seen.{IsUnbroken};
-ghost use Rattle.schedule_replay.specs.Answered.{IsReady, Answered, GoesBy};
+ghost use Rattle.schedule_replay.specs.Answered.{IsReady, Answered, GoesBy, GoesShut};
 ghost use Rattle.schedule_replay.specs.Puts.{Puts};
 ghost use Rattle.outside.specs.Runs.{OnlyPuts};
 ghost use Rattle.schedule_replay.specs.Ran.{Ran, HasOpened};
-ghost use Rattle.schedule_replay.specs.Replays.{Replays, Reports, RanSome, EndsBy, is_closed, is_damaged, going_if, going_begun, going_by};
+ghost use Rattle.schedule_replay.specs.Replays.{Replays, Reports, RanSome, EndsBy, EndsShut, is_closed, is_damaged, going_if, going_begun, going_by};
 
 use super::lines::{put_begun, put_left, put_one, put_reopened, put_stored, put_turn};
 use desk::{Begun, Event, Reopened, Stored, Supervisor, TurnEnd};
@@ -58,6 +58,7 @@ pub fn replay<S: Supervisor, W: Outside>(
     // it after a failed put, and what a crash left at any moment.
     ensures replays { (start : Desk) → HasOpened S.Supervisor W.Outside desk.old outside.old start → Replays S.Supervisor W.Outside (map (λ name. name.items) names.now) (S.programs desk.old) (S.opened desk.old) events.now start desk.new outside.old outside.new result }
     ensures ends { EndsBy S.Supervisor W.Outside desk.old desk.new outside.old outside.new result }
+    ensures shut { S.closed desk.old ≡ true → EndsShut events.now result }
     ensures sound { S.sound desk.new }
     ensures honest { W.is_honest outside.new ≡ W.is_honest outside.old }
     ensures told { StillTold W.Outside outside.old outside.new }
@@ -91,6 +92,7 @@ fn put_report<S: Supervisor, W: Outside>(
     ensures reports { (start : Desk) → HasOpened S.Supervisor W.Outside desk.old outside.old start → Reports S.Supervisor W.Outside (map (λ name. name.items) names.now) (S.programs desk.old) (S.opened desk.old) events.now start desk.new outside.old outside.new is_closed result }
     ensures undamaged { (start : Desk) → HasOpened S.Supervisor W.Outside desk.old outside.old start → IfOk result (λ going. is_damaged going ≡ false) }
     ensures goes { IfOk result (λ going. GoesBy S.Supervisor W.Outside desk.old desk.new outside.old outside.new going) }
+    ensures shut { S.closed desk.old ≡ true → IfOk result (GoesShut events.now) }
     ensures answered { (count : ℕ) × Answered S.Supervisor W.Outside (take count events.now) desk.old desk.new outside.old outside.new result }
 {
     put_one(&Line::Open(desk.number()), reporter, outside)?;
@@ -130,6 +132,7 @@ fn put_events<S: Supervisor, W: Outside>(
     requires unbroken { All (λ name. IsUnbroken name.items) names.now }
     ensures answered { (count : ℕ) × Answered S.Supervisor W.Outside (take count events.now) desk.old desk.new outside.old outside.new result }
     ensures goes { IfOk result (λ going. GoesBy S.Supervisor W.Outside desk.old desk.new outside.old outside.new going) }
+    ensures shut { S.closed desk.old ≡ true → IfOk result (GoesShut events.now) }
     ensures ran { (start : Desk) → IsSure W.Outside outside.old → S.shows desk.old (held_of W.Outside outside.old) start → RanSome S.Supervisor W.Outside (map (λ name. name.items) names.now) (S.programs desk.old) (S.opened desk.old) events.now start desk.new outside.old outside.new result }
 {
     for event in events {
@@ -154,6 +157,7 @@ fn answer<S: Supervisor, W: Outside>(
     requires unbroken { All (λ name. IsUnbroken name.items) names.now }
     ensures answered { Answered S.Supervisor W.Outside (event ∷ []) desk.old desk.new outside.old outside.new result }
     ensures goes { IfOk result (λ going. GoesBy S.Supervisor W.Outside desk.old desk.new outside.old outside.new going) }
+    ensures shut { S.closed desk.old ≡ true → IfOk result (λ going. going ≡ Going.Closed) }
     ensures ran { (start : Desk) → IsSure W.Outside outside.old → S.shows desk.old (held_of W.Outside outside.old) start → Ran S.Supervisor W.Outside (map (λ name. name.items) names.now) (S.programs desk.old) (S.opened desk.old) (event ∷ []) start desk.new outside.old outside.new result }
     ensures closed { IfOk result (λ going. S.closed desk.new ≡ is_closed going) }
     ensures undamaged { (start : Desk) → IsSure W.Outside outside.old → S.shows desk.old (held_of W.Outside outside.old) start → IfOk result (λ going. is_damaged going ≡ false) }
@@ -182,6 +186,7 @@ fn begin<S: Supervisor, W: Outside>(
     requires unbroken { All (λ name. IsUnbroken name.items) names.now }
     ensures answered { Answered S.Supervisor W.Outside (event.Begin program args ∷ []) desk.old desk.new outside.old outside.new result }
     ensures goes { IfOk result (λ going. GoesBy S.Supervisor W.Outside desk.old desk.new outside.old outside.new going) }
+    ensures shut { S.closed desk.old ≡ true → IfOk result (λ going. going ≡ Going.Closed) }
     ensures ran { (start : Desk) → IsSure W.Outside outside.old → S.shows desk.old (held_of W.Outside outside.old) start → Ran S.Supervisor W.Outside (map (λ name. name.items) names.now) (S.programs desk.old) (S.opened desk.old) (event.Begin program args ∷ []) start desk.new outside.old outside.new result }
     ensures closed { IfOk result (λ going. S.closed desk.new ≡ is_closed going) }
     ensures undamaged { IfOk result (λ going. is_damaged going ≡ false) }
@@ -204,6 +209,7 @@ fn turn<S: Supervisor, W: Outside>(
     requires unbroken { All (λ name. IsUnbroken name.items) names.now }
     ensures answered { Answered S.Supervisor W.Outside (event.Turn activation limit ∷ []) desk.old desk.new outside.old outside.new result }
     ensures goes { IfOk result (λ going. GoesBy S.Supervisor W.Outside desk.old desk.new outside.old outside.new going) }
+    ensures shut { S.closed desk.old ≡ true → IfOk result (λ going. going ≡ Going.Closed) }
     ensures ran { (start : Desk) → IsSure W.Outside outside.old → S.shows desk.old (held_of W.Outside outside.old) start → Ran S.Supervisor W.Outside (map (λ name. name.items) names.now) (S.programs desk.old) (S.opened desk.old) (event.Turn activation limit ∷ []) start desk.new outside.old outside.new result }
     ensures closed { IfOk result (λ going. S.closed desk.new ≡ is_closed going) }
     ensures undamaged { IfOk result (λ going. is_damaged going ≡ false) }
@@ -224,6 +230,7 @@ fn checkpoint<S: Supervisor, W: Outside>(
     requires unbroken { All (λ name. IsUnbroken name.items) names.now }
     ensures answered { Answered S.Supervisor W.Outside (event.Checkpoint ∷ []) desk.old desk.new outside.old outside.new result }
     ensures goes { IfOk result (λ going. GoesBy S.Supervisor W.Outside desk.old desk.new outside.old outside.new going) }
+    ensures shut { S.closed desk.old ≡ true → IfOk result (λ going. going ≡ Going.Closed) }
     ensures ran { (start : Desk) → IsSure W.Outside outside.old → S.shows desk.old (held_of W.Outside outside.old) start → Ran S.Supervisor W.Outside (map (λ name. name.items) names.now) (S.programs desk.old) (S.opened desk.old) (event.Checkpoint ∷ []) start desk.new outside.old outside.new result }
     ensures closed { IfOk result (λ going. S.closed desk.new ≡ is_closed going) }
     ensures undamaged { IfOk result (λ going. is_damaged going ≡ false) }
@@ -244,6 +251,7 @@ fn crash<S: Supervisor, W: Outside>(
     requires unbroken { All (λ name. IsUnbroken name.items) names.now }
     ensures answered { Answered S.Supervisor W.Outside (event.Crash ∷ []) desk.old desk.new outside.old outside.new result }
     ensures goes { IfOk result (λ going. GoesBy S.Supervisor W.Outside desk.old desk.new outside.old outside.new going) }
+    ensures shut { S.closed desk.old ≡ true → IfOk result (λ going. going ≡ Going.Closed) }
     ensures ran { (start : Desk) → IsSure W.Outside outside.old → S.shows desk.old (held_of W.Outside outside.old) start → Ran S.Supervisor W.Outside (map (λ name. name.items) names.now) (S.programs desk.old) (S.opened desk.old) (event.Crash ∷ []) start desk.new outside.old outside.new result }
     ensures closed { IfOk result (λ going. S.closed desk.new ≡ is_closed going) }
     ensures undamaged { (start : Desk) → IsSure W.Outside outside.old → S.shows desk.old (held_of W.Outside outside.old) start → IfOk result (λ going. is_damaged going ≡ false) }

@@ -1,11 +1,11 @@
 // The events of a schedule, one after another, without a report.
-ghost use Rattle.std.specs.Prelude.{◌≡◌, ◌≤◌, ℕ, List, [], ◌∷◌, All, false, length, IfSome};
+ghost use Rattle.std.specs.Prelude.{◌≡◌, ◌≤◌, ℕ, List, [], ◌∷◌, All, true, false, length, None, IfSome};
 ghost use Rattle.outside.specs.Durable.{IsSure};
 ghost use Rattle.outside.specs.Runs.{CallsDisk, held_of};
 ghost use Rattle.desk.specs.declared.event.Event.TheVariants as event;
 ghost use Rattle.desk.specs.Desk.{Desk};
 ghost use Rattle.desk.specs.Kept.{HoldsStore, StillTold};
-ghost use Rattle.schedule_replay.specs.Answered.{IsReady, Answered, GoesBy};
+ghost use Rattle.schedule_replay.specs.Answered.{IsReady, Answered, GoesBy, GoesShut};
 ghost use Rattle.schedule_replay.specs.Replays.{is_closed};
 ghost use Rattle.schedule_replay.specs.Quiet.{IsLasting, IsSmall, RunsQuietly, WentQuietly, going_of, going_told, last_by, tally_begun, tally_by, tally_stored, unput};
 
@@ -55,6 +55,7 @@ pub fn run_quiet<S: Supervisor, W: Outside>(
     // From bytes that are sure, over which a desk is shown: what was run, its counts, and what a crash left at any moment.
     ensures runs { (start : Desk) → IsSure W.Outside outside.old → S.shows desk.old (held_of W.Outside outside.old) start → RunsQuietly S.Supervisor W.Outside (S.programs desk.old) (S.opened desk.old) events.now start desk.new outside.old outside.new last.new.items result }
     ensures goes { GoesBy S.Supervisor W.Outside desk.old desk.new outside.old outside.new (going_of result) }
+    ensures shut { S.closed desk.old ≡ true → GoesShut events.now (going_of result) }
     ensures calls { CallsDisk W.Outside outside.old outside.new }
     ensures sound { S.sound desk.new }
     ensures told { StillTold W.Outside outside.old outside.new }
@@ -89,6 +90,7 @@ fn answer<S: Supervisor, W: Outside>(
     requires lasting { IsLasting event }
     ensures answered { Answered S.Supervisor W.Outside (event ∷ []) desk.old desk.new outside.old outside.new unput }
     ensures goes { GoesBy S.Supervisor W.Outside desk.old desk.new outside.old outside.new (going_told result) }
+    ensures shut { S.closed desk.old ≡ true → result ≡ None }
     ensures calls { CallsDisk W.Outside outside.old outside.new }
     ensures closed { S.closed desk.new ≡ is_closed (going_told result) }
     ensures small { IfSome result IsSmall }

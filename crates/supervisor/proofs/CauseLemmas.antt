@@ -1,15 +1,29 @@
--- Why a begin is answered so.
+-- Why a begin is answered so, and where a turn closes.
 use Rattle.std.proofs.Common.{◌≡◌, ◌≤◌, ℕ, length, arith, sym, ap, ◌∙◌, subst, List, Option, Some, None, refl}
+use Rattle.std.specs.Prelude.{true}
+use Rattle.lock_rules.specs.Sets.{has}
+use Rattle.outside.specs.declared.world.Outside.{Ghosts}
+use Rattle.outside.specs.Runs.{FewerLater, OnlyAsks}
+use Rattle.outside.proofs.Runs.{asks_on}
+use Rattle.redo_journal.specs.declared.keep.Kept.{Kept}
+use Rattle.redo_journal.specs.Kept.{begun_of}
+use Rattle.restart.specs.Kept.{KeptStore}
 use Rattle.seats.specs.Seating.{next_seat, number_in}
 use Rattle.seats.proofs.Ascending.{none-free}
 use Rattle.seats.proofs.Kept.{few-taken}
 use Rattle.desk.specs.declared.answers.Begun.{Begun}
 use Rattle.desk.specs.declared.answers.Begun.TheVariants as begun
+use Rattle.desk.specs.declared.answers.TurnEnd.{TurnEnd}
+use Rattle.desk.specs.declared.answers.TurnEnd.TheVariants as end
 use Rattle.activations.specs.Activity.{Activity}
 use Rattle.activations.specs.Begins.{begins, begins_by}
 use Rattle.activations.specs.Follows as running
+use Rattle.activations.specs.Recorded.{IsRecordOf, with_begun}
 use Rattle.activations.proofs.BeginLemmas.{some-next}
-use Rattle.supervisor.specs.Causes.{IsFull, HasPlace, lacking}
+use Rattle.activations.proofs.TurnLemmas.{asks-none}
+use Rattle.supervisor.specs.declared.session.Session.{Session}
+use Rattle.supervisor.specs.Session.{activity}
+use Rattle.supervisor.specs.Causes.{IsFull, HasPlace, lacking, IsFailedCommit, ClosesInCommit, ClosesBy}
 
 -- the number that the answer to a begin tells, and the segment
 abbrev number_told : Begun → ℕ
@@ -71,3 +85,47 @@ module _ (a : Activity) (program : ℕ) (args : List ℕ) (sound : running.IsSou
 
   pub answered : (answer : Begun) → answer ≡ (begins a program args).0 → IsAnswered a program answer
   answered answer is = subst (IsAnswered a program) (sym is) (answered-by (next_seat a.seating) (lacking a program) refl refl)
+
+-- the commit of who sits in a seat failed, from this very moment on
+pub closes-now : {W : Type 0} (G : Ghosts W) (s n : Session) (seat : ℕ) (answer : Kept) (store : KeptStore) (before after : W) → has (activity s).seating.taken seat ≡ true → activity n ≡ activity s
+    → store ≡ with_begun s.store (begun_of store.bank) → IsRecordOf (activity s) seat (begun_of store.bank) → IsFailedCommit G answer store n.store before after
+    → ClosesInCommit G (number_in (activity s).seating seat) answer s.store n before after
+closes-now G s n seat answer store before after taken same begun recorded failed = record {
+  seat = seat;
+  taken = ap (λ (a : Activity). has a.seating.taken seat) same ∙ taken;
+  number = ap (λ (a : Activity). number_in a.seating seat) same;
+  lines = begun_of store.bank;
+  recorded = subst (λ (a : Activity). IsRecordOf a seat (begun_of store.bank)) (sym same) recorded;
+  begun = before;
+  asks = asks-none G before;
+  calm = refl;
+  failed = subst (λ (that : KeptStore). IsFailedCommit G answer that n.store before after) begun failed;
+}
+
+-- and the disk was only asked before it
+module _ {W : Type 0} (G : Ghosts W) (fewer_later : FewerLater G) (activation : ℕ) (store : KeptStore) (new : Session) (before between after : W) (asks : OnlyAsks G before between) (calm : G.disk_faults between ≡ G.disk_faults before) where
+  closes-later : (answer : Kept) → ClosesInCommit G activation answer store new between after → ClosesInCommit G activation answer store new before after
+  closes-later answer closes = record {
+    seat = closes.seat;
+    taken = closes.taken;
+    number = closes.number;
+    lines = closes.lines;
+    recorded = closes.recorded;
+    begun = closes.begun;
+    asks = asks_on G fewer_later before between closes.begun asks closes.asks;
+    calm = closes.calm ∙ calm;
+    failed = closes.failed;
+  }
+
+  pub closes-since : (ends : TurnEnd) → ClosesBy G activation ends store new between after → ClosesBy G activation ends store new before after
+  closes-since end.Idle closes = tt
+  closes-since end.Limit closes = tt
+  closes-since (end.Committed number steps) closes = tt
+  closes-since (end.Checked code address) closes = tt
+  closes-since (end.Waits waiter holders) closes = tt
+  closes-since end.Victim closes = tt
+  closes-since (end.Journal lines most) closes = tt
+  closes-since end.Disk closes = tt
+  closes-since (end.Closed None number) closes = closes-later _ closes
+  closes-since (end.Closed (Some doubt) number) closes = closes-later _ closes
+  closes-since end.Shut closes = tt

@@ -1,11 +1,29 @@
 -- Why the answers of a session come.
-use Rattle.std.specs.Prelude.{◌≡◌, ℕ, ◌+◌, ◌%◌, ◌<◌, ◌^◌, ◌++◌, ◌∷◌, [], List, length, Option, Some, None}
+use Rattle.std.specs.Prelude.{◌≡◌, ℕ, ◌+◌, ◌%◌, ◌<◌, ◌^◌, ◌++◌, ◌∷◌, [], true, List, length, slice_set, Option, Some, None}
+use Rattle.lock_rules.specs.Sets.{has}
+use Rattle.outside.specs.declared.world.Outside.{Ghosts}
+use Rattle.outside.specs.Causes.{Rose}
+use Rattle.outside.specs.Runs.{Leaves, OnlyAsks, held_of}
+use Rattle.store_format.specs.Bank.{RecordLine}
+use Rattle.store_format.specs.Stands.{stands, one_more}
+use Rattle.redo_journal.specs.declared.keep.Kept.{Kept}
+use Rattle.redo_journal.specs.declared.keep.Kept.TheVariants as kept
+use Rattle.redo_journal.specs.Held.{OnlyWrites}
+use Rattle.redo_journal.specs.Kept.{begun_of}
+use Rattle.redo_journal.specs.Tracks.{IsEither}
+use Rattle.restart.specs.Committed.{roomy, IsKeptAfter}
+use Rattle.restart.specs.Kept.{KeptStore}
+use Rattle.restart.specs.Shows.{Tracks}
 use Rattle.desk.specs.declared.answers.Reopened.{Reopened}
 use Rattle.desk.specs.declared.answers.Reopened.TheVariants as reopened
 use Rattle.desk.specs.declared.answers.TurnEnd.{TurnEnd}
 use Rattle.desk.specs.declared.answers.TurnEnd.TheVariants as end
 use Rattle.desk.specs.Run.{absent_segment}
+use Rattle.seats.specs.Seating.{number_in}
 use Rattle.activations.specs.Activity.{Activity, program_at}
+use Rattle.activations.specs.Recorded.{IsRecordOf, with_begun}
+use Rattle.supervisor.specs.declared.session.Session.{Session}
+use Rattle.supervisor.specs.Session.{activity, store_told}
 
 -- sixteen are active
 abbrev pub IsFull : Activity → Type 0
@@ -36,3 +54,36 @@ EntersOrder activation _ old new = new ≡ old
 abbrev pub ReopenedNumber : Reopened → (number : ℕ) → Type 0
 ReopenedNumber (reopened.Number told) number = told ≡ number
 ReopenedNumber _ number = Unit {0}
+
+-- what a commit that failed leaves of a store with a begun record: what stood, and after a doubt what stands with the record, once the gate's byte is on
+abbrev pub FailedLeaves : {W : Type 0} → Ghosts W → Kept → KeptStore → W → W → Type 0
+FailedLeaves G kept.Unwritten store before after = Leaves G (λ image seen. stands image ≡ stands (held_of G before)) before after
+FailedLeaves G kept.Doubt store before after = Leaves G (λ image seen. stands (slice_set image (roomy store.bank).gate 165) ≡ one_more (begun_of store.bank) (stands (held_of G before))) after after
+FailedLeaves G kept.Done store before after = ⊥
+
+-- What `Durable::commit` promises of a store with a begun record where it answers so, Unwritten or Doubt: the disk's count rose in it.
+pub record IsFailedCommit {W : Type 0} (G : Ghosts W) (answer : Kept) (old new : KeptStore) (before after : W) : Type 0 where
+  pub only : OnlyWrites G before after
+  pub rose : Rose (G.disk_faults before) (G.disk_faults after)
+  pub kept : IsKeptAfter answer (roomy old.bank) old.bank new.bank
+  pub crash : Tracks G old before → Leaves G (IsEither (begun_of old.bank) (held_of G before)) before after
+  pub left : Tracks G old before → FailedLeaves G answer old before after
+
+-- It failed in the commit of an activation and not before: up to a moment the disk was only asked, and its count stayed. Then came `Durable::commit` of
+-- a record of the lines that the activation holds to write, which answered so. It sits there still.
+pub record ClosesInCommit {W : Type 0} (G : Ghosts W) (activation : ℕ) (answer : Kept) (store : KeptStore) (new : Session) (before after : W) : Type 0 where
+  pub seat : ℕ
+  pub taken : has (activity new).seating.taken seat ≡ true
+  pub number : number_in (activity new).seating seat ≡ activation
+  pub lines : List RecordLine
+  pub recorded : IsRecordOf (activity new) seat lines
+  pub begun : W
+  pub asks : OnlyAsks G before begun
+  pub calm : G.disk_faults begun ≡ G.disk_faults before
+  pub failed : IsFailedCommit G answer (with_begun store lines) (store_told new) begun after
+
+-- a turn that closes did so in its commit, whose answer was Doubt exactly where the close is in doubt
+abbrev pub ClosesBy : {W : Type 0} → Ghosts W → (activation : ℕ) → TurnEnd → KeptStore → Session → W → W → Type 0
+ClosesBy G activation (end.Closed (Some doubted) told) store new before after = ClosesInCommit G activation kept.Doubt store new before after
+ClosesBy G activation (end.Closed None told) store new before after = ClosesInCommit G activation kept.Unwritten store new before after
+ClosesBy G activation _ store new before after = Unit {0}

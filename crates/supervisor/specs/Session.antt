@@ -1,7 +1,7 @@
 -- A session, the desk that it is over committed bytes, and what holds of it at every moment.
 use Rattle.std.specs.Prelude.{◌≡◌, ℕ, Bool, ◌+◌, ◌*◌, ◌<◌, ◌≤◌, ◌^◌, false, List, length, vec_len, vec_capacity}
 use Rattle.store_format.specs.Header.{Header, HasRanges, most_lines}
-use Rattle.restart.specs.Kept.{number_of}
+use Rattle.restart.specs.Kept.{KeptStore, number_of}
 use Rattle.desk.specs.Answers.{order_told}
 use Rattle.desk.specs.Desk.{Desk}
 use Rattle.activations.specs.Activity.{Activity, desk_over}
@@ -33,6 +33,10 @@ opened_at s = s.opened
 -- the number of its store
 abbrev pub number_told : Session → ℕ
 number_told s = number_of s.store
+
+-- its store, as it is kept
+abbrev pub store_told : Session → KeptStore
+store_told s = s.store
 
 -- how many begins it has room for
 abbrev pub begins_of : Session → ℕ

@@ -1,5 +1,5 @@
 // The calls of a session: what each does, and why each answer comes.
-ghost use Rattle.std.specs.Prelude.{◌≡◌, ◌≢◌, ◌↔◌, ◌+◌, ◌-◌, ◌≤◌, ◌<◌, ◌^◌, true, false, List, ℕ, length, map, Some, None};
+ghost use Rattle.std.specs.Prelude.{◌≡◌, ◌≢◌, ◌↔◌, ◌+◌, ◌-◌, ◌≤◌, ◌<◌, ◌^◌, true, false, List, ℕ, length, map, Some, None, IsSome};
 ghost use Rattle.outside.specs.Causes.{Rose};
 ghost use Rattle.outside.specs.Durable.{IsSure};
 ghost use Rattle.outside.specs.Runs.{CallsDisk, OnlyAsks, held_of};
@@ -38,9 +38,9 @@ fn told(tally: Tally, end: TurnEnd) -> Turn
 }
 
 impl Session {
-    ghost use Rattle.supervisor.specs.Session.{IsSound, activity, order_of, records_told, is_closed, opened_at, begins_of, turns_of, printed_of, header_of_session, number_told};
+    ghost use Rattle.supervisor.specs.Session.{IsSound, activity, order_of, records_told, is_closed, opened_at, begins_of, turns_of, printed_of, header_of_session, number_told, store_told};
     ghost use Rattle.supervisor.specs.Shown.{Shown};
-    ghost use Rattle.supervisor.specs.Causes.{IsFull, HasPlace, lacking, TellsNumber, EntersOrder, ReopenedNumber};
+    ghost use Rattle.supervisor.specs.Causes.{IsFull, HasPlace, lacking, TellsNumber, EntersOrder, ReopenedNumber, ClosesBy};
     ghost use Rattle.activations.specs.Instructed.{IsWaiter};
     ghost use Rattle.activations.specs.Causes.{IsJournal, IsLimit, IsVictim};
     ghost use Rattle.store_format.specs.Header.{most_lines};
@@ -92,6 +92,7 @@ impl Session {
         ensures ordered { EntersOrder activation result.end (order_of self.old) (order_of self.new) }
         ensures unchanged { is_closed self.old ≡ true → (self.new ≡ self.old) × (outside.new ≡ outside.old) }
         ensures closed { is_closed self.new ≡ turn_closes result.end }
+        ensures committing { ClosesBy W.Outside activation result.end (store_told self.old) self.new outside.old outside.new }
         ensures cause { is_closed self.old ≡ false → is_closed self.new ≡ true → Rose (W.disk_faults outside.old) (W.disk_faults outside.new) }
         ensures disk { result.end ≡ TurnEnd.Disk → Rose (W.disk_faults outside.old) (W.disk_faults outside.new) }
         ensures calm { turn_fails result.end ≡ false → W.disk_faults outside.new ≡ W.disk_faults outside.old }
@@ -164,6 +165,7 @@ impl Session {
         ensures cause { result ≡ Reopened.DiskFault → Rose (W.disk_faults outside.old) (W.disk_faults outside.new) }
         ensures calm { result ≢ Reopened.DiskFault → W.disk_faults outside.new ≡ W.disk_faults outside.old }
         ensures damage { IsDamage W.Outside (header_of_session self.old) outside.old result }
+        ensures undamaged { (desk : Desk) (offset : ℕ) → IsSome (W.held outside.old) → Shown self.old (held_of W.Outside outside.old) desk → result ≢ Reopened.Damaged offset }
         ensures asks { OnlyAsks W.Outside outside.old outside.new }
         ensures sound { IsSound self.new }
         ensures programs { (activity self.new).programs ≡ (activity self.old).programs }

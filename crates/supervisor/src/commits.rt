@@ -23,7 +23,7 @@ impl Session {
     ghost use Rattle.store_format.specs.Header.{most_lines};
     ghost use Rattle.supervisor.specs.Session.{IsSound, KeepsParts, activity, order_of, records_told};
     ghost use Rattle.supervisor.specs.Shown.{IsOver};
-    ghost use Rattle.supervisor.specs.Causes.{TellsNumber, EntersOrder};
+    ghost use Rattle.supervisor.specs.Causes.{TellsNumber, EntersOrder, ClosesBy};
     ghost use Rattle.restart.specs.Kept.{number_of};
     ghost use Rattle.supervisor.specs.Went.{HasCommitted, IsCommitEnd, most_kept};
 
@@ -48,6 +48,7 @@ impl Session {
         ensures numbered { TellsNumber (number_in (activity self.old).seating seat) (number_of self.old.store) result }
         ensures ordered { EntersOrder (number_in (activity self.old).seating seat) result (order_of self.old) (order_of self.new) }
         ensures closed { self.new.closed ≡ turn_closes result }
+        ensures committing { ClosesBy W.Outside (number_in (activity self.old).seating seat) result self.old.store self.new outside.old outside.new }
         ensures cause { turn_closes result ≡ true → Rose (W.disk_faults outside.old) (W.disk_faults outside.new) }
         ensures calm { turn_fails result ≡ false → W.disk_faults outside.new ≡ W.disk_faults outside.old }
         ensures records { turn_fails result ≡ false → records_told self.new ≤ most_kept result (records_told self.old) }

@@ -17,7 +17,7 @@ impl Session {
     ghost use Rattle.activations.specs.Kept.{AreRowsWithin};
     ghost use Rattle.supervisor.specs.Session.{IsSound, KeepsParts, activity, order_of, records_told};
     ghost use Rattle.supervisor.specs.Shown.{IsOver};
-    ghost use Rattle.supervisor.specs.Causes.{TellsNumber, EntersOrder};
+    ghost use Rattle.supervisor.specs.Causes.{TellsNumber, EntersOrder, ClosesBy};
     ghost use Rattle.activations.specs.Instructed.{IsWaiter};
     ghost use Rattle.activations.specs.Causes.{IsJournal, IsLimit, IsVictim};
     ghost use Rattle.store_format.specs.Header.{most_lines};
@@ -55,6 +55,7 @@ impl Session {
         ensures numbered { TellsNumber activation (number_of self.old.store) result }
         ensures ordered { EntersOrder activation result (order_of self.old) (order_of self.new) }
         ensures closed { self.new.closed ≡ turn_closes result }
+        ensures committing { ClosesBy W.Outside activation result self.old.store self.new outside.old outside.new }
         ensures cause { turn_closes result ≡ true → Rose (W.disk_faults outside.old) (W.disk_faults outside.new) }
         ensures disk { result ≡ end.Disk → Rose (W.disk_faults outside.old) (W.disk_faults outside.new) }
         ensures calm { turn_fails result ≡ false → W.disk_faults outside.new ≡ W.disk_faults outside.old }

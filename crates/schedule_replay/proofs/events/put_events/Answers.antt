@@ -6,7 +6,7 @@ use Rattle.desk.specs.declared.event.Event.TheVariants.{Begin}
 use Rattle.schedule_replay.specs.declared.events.Going.TheVariants as going
 use Rattle.schedule_replay.specs.Replays.{is_closed, is_damaged}
 use Rattle.outside.proofs.Prints.{prints_broken, prints_well}
-use Rattle.schedule_replay.proofs.AnsweredLemmas.{answered_none, ready_next, answered_more, answered_well, answered_broken, goes_since}
+use Rattle.schedule_replay.proofs.AnsweredLemmas.{answered_none, ready_next, answered_more, answered_well, answered_broken, goes_since, shut_asked, shut_unasked}
 use Rattle.schedule_replay.proofs.WentLemmas.{names_are}
 use Rattle.schedule_replay.proofs.RanLemmas.{ran_as, ran_next, ran_none}
 use Rattle.schedule_replay.proofs.ReportLemmas.{if_ok_broken, not_on}
@@ -19,6 +19,7 @@ loop-event-init g c =
     record {
       answered = answered_none S g.W.Outside g.met.W.Outside.fewer_later c.args.desk.now c.args.outside.now c.requires.ready.sound c.requires.ready.bytes;
       still = λ was_open. was_open;
+      shut = λ was. (refl, was);
       ran = λ start sure shows. ran_none S g.W.Outside g.met.W.Outside.printed_now L.shown_stands L.shown_open L.open_shown L.order_shown (map (λ name. name.items) c.args.names.now) (S.programs c.args.desk.now) start c.args.desk.now c.args.outside.now sure shows;
     }
 
@@ -72,6 +73,7 @@ returns-in_default g c =
             (answered_more S G g.met.W.Outside.fewer_later c.args.events.now c.loop-event.event-index (Begin 0 []) c.loop-event-test.true c.args.desk.now c.loop-event.desk c.args.outside.now c.loop-event.outside c.answer.new.desk c.answer.new.outside (Ok c.in_ok-going.going) now.answered c.in_ok-going.ensures.answered),
       );
       goes = goes_since S G c.in_ok-going.going c.args.desk.now c.loop-event.desk c.answer.new.desk c.args.outside.now c.loop-event.outside c.answer.new.outside now.answered.header now.still now.answered.disk c.in_ok-going.ensures.goes;
+      shut = λ was. shut_asked c.args.events.now c.loop-event.event-index c.in_ok-going.going c.loop-event-test.true (c.in_ok-going.ensures.shut (now.shut was).1);
       ran = λ start sure shows.
           let still = now.still (g.met.S.Supervisor.open_shown c.args.desk.now _ start shows) in
           let before = (now.ran start sure shows).still (sym (now.ran start sure shows).closes ∙ still) in
@@ -98,6 +100,7 @@ loop-event-preserved g c =
       answered = answered_well S G g.met.W.Outside.fewer_later _ c.args.desk.now c.answer.new.desk c.args.outside.now c.answer.new.outside c.in_ok-going.going 0
           (answered_more S G g.met.W.Outside.fewer_later c.args.events.now c.loop-event.event-index (Begin 0 []) c.loop-event-test.true c.args.desk.now c.loop-event.desk c.args.outside.now c.loop-event.outside c.answer.new.desk c.answer.new.outside (Ok c.in_ok-going.going) now.answered c.in_ok-going.ensures.answered);
       still = λ was_open. c.in_ok-going.ensures.closed ∙ ap is_closed c.in-On.is;
+      shut = λ was. absurd (let no : going.On ≡ going.Closed = sym c.in-On.is ∙ c.in_ok-going.ensures.shut (now.shut was).1 in cc (no));
       ran = λ start sure shows.
           let still = now.still (g.met.S.Supervisor.open_shown c.args.desk.now _ start shows) in
           ran_as S G g.met.W.Outside.fewer_later names are (S.programs c.args.desk.now) (S.opened c.args.desk.now) _ start c.answer.new.desk c.args.outside.now c.answer.new.outside (Ok c.in_ok-going.going) (Ok 0) (λ one two bytes prints. prints_well one two bytes c.in_ok-going.going 0 prints) (λ is. is)
@@ -121,3 +124,6 @@ returns-clause-ran g c =
       sound = refl;
       all = λ still. refl;
     }
+
+pub returns-clause-shut : goal.returns-clause-shut
+returns-clause-shut g c = λ was. shut_unasked c.args.events.now c.loop-event.event-index (c.loop-event.invariant.shut was).0 c.loop-event-test.false

@@ -1,5 +1,5 @@
 use Rattle.std.proofs.Common.{◌≡◌, map, take}
-use Rattle.std.specs.Prelude.{false}
+use Rattle.std.specs.Prelude.{true, false}
 use Rattle.outside.specs.Durable.{IsSure}
 use Rattle.outside.specs.Runs.{held_of}
 use Rattle.desk.specs.Desk.{Desk}
@@ -8,10 +8,11 @@ use Rattle.schedule_replay.specs.Ran.{Ran}
 use Rattle.schedule_replay.proofs.PutsLemmas.{done}
 use Rattle.schedule_replay.proofs.events.put_events.Given as goal
 
--- the events so far were asked, and their lines put; they were run from where the bytes are sure and a desk is shown
+-- the events so far were asked, and their lines put; none of one that was closed before; they were run from where the bytes are sure and a desk is shown
 abbrev pub invariant-loop-event : goal.invariant-loop-event
 invariant-loop-event g l = record {
   answered : Answered g.S.Supervisor g.W.Outside (take l.event-index l.events) l.initial.desk l.desk l.initial.outside l.outside done;
   still : g.S.Supervisor.closed l.initial.desk ≡ false → g.S.Supervisor.closed l.desk ≡ false;
+  shut : g.S.Supervisor.closed l.initial.desk ≡ true → (l.event-index ≡ 0) × (g.S.Supervisor.closed l.desk ≡ true);
   ran : (start : Desk) → IsSure g.W.Outside l.initial.outside → g.S.Supervisor.shows l.initial.desk (held_of g.W.Outside l.initial.outside) start → Ran g.S.Supervisor g.W.Outside (map (λ name. name.items) l.names) (g.S.Supervisor.programs l.initial.desk) (g.S.Supervisor.opened l.initial.desk) (take l.event-index l.events) start l.desk l.initial.outside l.outside done;
 }

@@ -131,6 +131,7 @@ returns-in_default g c =
           run.closed run.all;
       undamaged = λ start opened. (some start opened).sound;
       goes = goes_since S G how old old new before between middle refl (λ was_open. was_open) (omega (arith, c.in_ok-put_one.ensures.only.disk)) c.in_ok-going.ensures.goes;
+      shut = c.in_ok-going.ensures.shut;
       answered = (
         c.in_ok-going.ensures.answered.0,
         answered_on S G M.fewer_later [] (take c.in_ok-going.ensures.answered.0 c.args.events.now) old old new before between middle c.in_ok-put_one.field-0 (Ok how)

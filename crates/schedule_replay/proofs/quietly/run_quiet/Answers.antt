@@ -1,10 +1,11 @@
-use Rattle.std.proofs.Common.{[], ◌+◌, take, drop, refl, arith, append-nil, ◌∙◌}
+use Rattle.std.proofs.Common.{◌≡◌, [], ◌+◌, take, drop, refl, arith, append-nil, ◌∙◌}
 use Rattle.std.specs.Prelude.{Ok, Some, None}
 use Rattle.std.proofs.lemmas.List.{take-append-drop, take_all}
 use Rattle.outside.proofs.Runs.{calls_on}
 use Rattle.desk.specs.declared.event.Event.TheVariants.{Begin}
 use Rattle.desk.specs.Report.{event_lines}
-use Rattle.schedule_replay.proofs.AnsweredLemmas.{answered_none, answered_more}
+use Rattle.schedule_replay.specs.declared.events.Going.TheVariants as going
+use Rattle.schedule_replay.proofs.AnsweredLemmas.{answered_none, answered_more, shut_asked, shut_unasked}
 use Rattle.schedule_replay.proofs.EventLemmas.{calls_none}
 use Rattle.schedule_replay.proofs.QuietLemmas.{ran_nothing, ran_next_quietly, tells_nothing}
 use Rattle.schedule_replay.proofs.quietly.run_quiet.Goals as goal
@@ -21,6 +22,7 @@ loop-event-init g c =
       answered = answered_none S G M.fewer_later old w c.requires.ready.sound c.requires.ready.bytes;
       calls = calls_none G w;
       still = λ was_open. was_open;
+      shut = λ was. (refl, was);
       few = omega arith;
       few_back = omega arith;
       ran = λ start sure shows.
@@ -45,6 +47,7 @@ loop-event-preserved g c =
       answered = answered_more S G M.fewer_later c.args.events.now c.loop-event.event-index (Begin 0 []) c.loop-event-test.true old mid before between new after (Ok 0) now.answered c.answer.ensures.answered;
       calls = calls_on G M.fewer_later before between after now.calls.time c.answer.ensures.calls.time now.calls c.answer.ensures.calls;
       still = λ was_open. c.in-Some.ensures.closed;
+      shut = λ was. absurd (let no : Some c.in-Some.tally ≡ None = c.in-Some.ensures.shut (now.shut was).1 in cc (no));
       few = omega (arith, now.few, c.in-Some.ensures.small.0);
       few_back = omega (arith, now.few_back, c.in-Some.ensures.small.1);
       ran = λ start sure shows.
@@ -90,3 +93,9 @@ returns-clause-runs g c =
       closed = now.still (L.open_shown c.args.desk.now _ start shows);
       all = λ still. refl;
     }
+
+pub returns-in-None-clause-shut : goal.returns-in-None-clause-shut
+returns-in-None-clause-shut g c = λ was. shut_asked c.args.events.now c.loop-event.event-index going.Closed c.loop-event-test.true refl
+
+pub returns-clause-shut : goal.returns-clause-shut
+returns-clause-shut g c = λ was. shut_unasked c.args.events.now c.loop-event.event-index (c.loop-event.invariant.shut was).0 c.loop-event-test.false

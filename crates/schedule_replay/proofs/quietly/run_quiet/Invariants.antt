@@ -1,5 +1,5 @@
 use Rattle.std.proofs.Common.{◌≡◌, [], ◌*◌, ◌≤◌, take}
-use Rattle.std.specs.Prelude.{false}
+use Rattle.std.specs.Prelude.{true, false}
 use Rattle.outside.specs.Durable.{IsSure}
 use Rattle.outside.specs.Runs.{CallsDisk, held_of}
 use Rattle.desk.specs.Desk.{Desk}
@@ -8,12 +8,13 @@ use Rattle.schedule_replay.specs.Answered.{Answered}
 use Rattle.schedule_replay.specs.Quiet.{RanQuietly, Tells, unput}
 use Rattle.schedule_replay.proofs.quietly.run_quiet.Given as goal
 
--- the events so far were asked and nothing was put; from where the bytes are sure and a desk is shown they were run, and the counts are theirs
+-- the events so far were asked and nothing was put; none of one that was closed before; from where the bytes are sure and a desk is shown they were run, and the counts are theirs
 abbrev pub invariant-loop-event : goal.invariant-loop-event
 invariant-loop-event g l = record {
   answered : Answered g.S.Supervisor g.W.Outside (take l.event-index l.events) l.fn.desk l.desk l.fn.outside l.outside unput;
   calls : CallsDisk g.W.Outside l.fn.outside l.outside;
   still : g.S.Supervisor.closed l.fn.desk ≡ false → g.S.Supervisor.closed l.desk ≡ false;
+  shut : g.S.Supervisor.closed l.fn.desk ≡ true → (l.event-index ≡ 0) × (g.S.Supervisor.closed l.desk ≡ true);
   few : l.commits ≤ l.event-index;
   few_back : l.rollbacks ≤ 17 * l.event-index;
   ran : (start : Desk) → IsSure g.W.Outside l.fn.outside → g.S.Supervisor.shows l.fn.desk (held_of g.W.Outside l.fn.outside) start

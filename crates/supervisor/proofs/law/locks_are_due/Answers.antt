@@ -1,4 +1,4 @@
-use Rattle.std.proofs.Common.{◌≡◌, List, ℕ, ap, sym, subst}
+use Rattle.std.proofs.Common.{◌≡◌, ap, sym, subst}
 use Rattle.line_geometry.specs.FlatStore.{FlatStore}
 use Rattle.desk.specs.Desk.{Desk}
 use Rattle.desk_law.specs.Beside.{AreAlike}

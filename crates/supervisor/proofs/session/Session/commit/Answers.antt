@@ -5,9 +5,10 @@ use Rattle.flat_machine.specs.After.{after as after_rows}
 use Rattle.flat_machine.specs.Row.{Commit, row}
 use Rattle.redo_journal.specs.Kept.{begun_of}
 use Rattle.redo_journal.specs.declared.keep.Kept.{Kept}
+use Rattle.redo_journal.specs.declared.keep.Kept.TheVariants.{Unwritten, Doubt}
 use Rattle.restart.specs.Kept.{KeptStore, number_of}
 use Rattle.restart.specs.Shows.{Tracks}
-use Rattle.restart.specs.Committed.{roomy, number_after}
+use Rattle.restart.specs.Committed.{roomy, number_after, IsKeptAfter}
 use Rattle.desk_law.specs.Beside.{over_all}
 use Rattle.desk_law.specs.Changes.{committed_at}
 use Rattle.seats.specs.Seating.{sitter, number_in}
@@ -19,6 +20,7 @@ use Rattle.activations.specs.Ends.{reprinted}
 use Rattle.activations.specs.View.{activity_of}
 use Rattle.supervisor.specs.declared.session.Session.{Session}
 use Rattle.supervisor.specs.Session.{activity}
+use Rattle.supervisor.proofs.CauseLemmas.{closes-now}
 use Rattle.supervisor.proofs.CommitLemmas.{order-more, writes-more, gone, has_place, sound-left, sound-closed, out-is, tracked, went-done, went-doubt, went-unwritten}
 use Rattle.supervisor.proofs.session.Session.commit.Goals as goal
 
@@ -174,3 +176,33 @@ returns-in-Doubt-clause-ordered g c = (
   order-more c.args.self.now.order.items _ c.committed_in-committed.result _ _ c.enter_order-in-Doubt.ensures.order
       (c.committed_in-committed.ensures.activation ∙ ap (λ (a : Activity). number_in a.seating c.args.seat) c.in_default.ensures.kept) refl,
 )
+
+pub returns-in-Doubt-clause-committing : goal.returns-in-Doubt-clause-committing
+returns-in-Doubt-clause-committing g c =
+    let G = g.W.Outside in
+    let s = c.args.self.now in
+    let there = c.record.new.store in
+    let entered = c.enter_order-in-Doubt.new.self in
+    let others = c.enter_order-in-Doubt.ensures.others in
+    closes-now G s (record entered { closed = true }) c.args.seat Doubt there c.args.outside.now c.commit.new.outside c.requires.taken (ap activity others ∙ c.in_default.ensures.kept) c.in_default.ensures.begun c.in_default.ensures.record
+    (record {
+      only = c.commit.ensures.only;
+      rose = c.commit.ensures.doubt_cause c.in-Doubt.is;
+      kept = subst (λ (store : KeptStore). IsKeptAfter Doubt (roomy there.bank) there.bank store.bank) (sym (ap (λ (n : Session). n.store) others)) (subst (λ (answer : Kept). IsKeptAfter answer (roomy there.bank) there.bank c.commit.new.self.bank) c.in-Doubt.is c.commit.ensures.kept);
+      crash = c.commit.ensures.crash;
+      left = c.commit.ensures.doubt c.in-Doubt.is;
+    })
+
+pub returns-in-Unwritten-clause-committing : goal.returns-in-Unwritten-clause-committing
+returns-in-Unwritten-clause-committing g c =
+    let G = g.W.Outside in
+    let s = c.args.self.now in
+    let there = c.record.new.store in
+    closes-now G s _ c.args.seat Unwritten there c.args.outside.now c.commit.new.outside c.requires.taken c.in_default.ensures.kept c.in_default.ensures.begun c.in_default.ensures.record
+    (record {
+      only = c.commit.ensures.only;
+      rose = c.commit.ensures.unwritten_cause c.in-Unwritten.is;
+      kept = subst (λ (answer : Kept). IsKeptAfter answer (roomy there.bank) there.bank c.commit.new.self.bank) c.in-Unwritten.is c.commit.ensures.kept;
+      crash = c.commit.ensures.crash;
+      left = c.commit.ensures.unwritten c.in-Unwritten.is;
+    })

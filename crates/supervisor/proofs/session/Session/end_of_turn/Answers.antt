@@ -10,7 +10,8 @@ use Rattle.activations.proofs.TurnLemmas.{asks-none}
 use Rattle.activations.specs.Causes.{IsVictim}
 use Rattle.activations.specs.Instructed.{IsWaiter}
 use Rattle.restart.specs.Kept.{number_of}
-use Rattle.supervisor.specs.Causes.{TellsNumber, EntersOrder}
+use Rattle.supervisor.specs.Causes.{TellsNumber, EntersOrder, ClosesBy}
+use Rattle.supervisor.proofs.CauseLemmas.{closes-since}
 use Rattle.supervisor.proofs.session.Session.end_of_turn.Goals as goal
 
 pub returns-in_default-clause-went : goal.returns-in_default-clause-went
@@ -74,3 +75,11 @@ pub returns-in-Err-clause-victim : goal.returns-in-Err-clause-victim
 returns-in-Err-clause-victim g c =
     let found = (seat-found (activity c.args.self.now).seating c.requires.sound.running.seating c.args.activation c.in-Some.seat (sym c.seat_of.ensures ∙ c.in-Some.is)).1 in
     subst (λ (n : ℕ). IsVictim n c.run.new.tally.cycles.items c.in-Err.end) found c.in-Err.ensures.victim
+
+pub returns-in-Ok-clause-committing : goal.returns-in-Ok-clause-committing
+returns-in-Ok-clause-committing g c =
+    let G = g.W.Outside in
+    let s = c.args.self.now in
+    let found = (seat-found (activity s).seating c.requires.sound.running.seating c.args.activation c.in-Some.seat (sym c.seat_of.ensures ∙ c.in-Some.is)).1 in
+    closes-since G g.met.W.Outside.fewer_later c.args.activation s.store c.commit.new.self c.args.outside.now c.run.new.outside c.commit.new.outside c.run.ensures.asks c.in-Ok.ensures.calm c.commit.result
+    (subst (λ (n : ℕ). ClosesBy G n c.commit.result s.store c.commit.new.self c.run.new.outside c.commit.new.outside) (c.in-Ok.ensures.stays.number ∙ found) c.commit.ensures.committing)

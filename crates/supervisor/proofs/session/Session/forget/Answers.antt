@@ -62,3 +62,10 @@ returns-in-Err-DiskFault-clause-did g c = λ desk sure shown.
     (λ (that : Desk). (x : Did G (activity s).programs s.opened event.Crash (CrashFailed (numbers that)) true (order_of s) (λ held shown. Shown (record s { store = store; activations = left; closed = true }) held shown) that before after) × Unit {0})
     (sym shown.is)
     (did, tt)
+
+pub returns-in-Err-Damaged-clause-undamaged : goal.returns-in-Err-Damaged-clause-undamaged
+returns-in-Err-Damaged-clause-undamaged g c = λ desk offset told shown same.
+    let G = g.W.Outside in
+    let s = c.args.self.now in
+    let fault = subst (λ (fault : ReopenFault). IsReopenFault G c.args.outside.now c.reopen.new.outside s.store.header fault) c.in-Err-Damaged.field-0-is c.in-Err-Damaged.ensures.fault in
+    undamaged s (held_of G c.args.outside.now) shown.over c.in-Err-Damaged.offset (fault told)
