@@ -1,6 +1,7 @@
 //! What a disk that stopped within a write holds, opened again; calls that fail; and stores that are damaged. The places and
 //! numbers are those of docs/FORMATS.md, worked out by hand.
 use super::side_by_side_tests::{AFTER_NOON, BEFORE_NOON, DAY, SIDE_BY_SIDE as PROGRAMS};
+use super::tests::words_of;
 use super::*;
 use line_geometry::{Directory, PageSize};
 use outside::{Call, Joint, MemoryDisk, MemoryScreen, MemorySource, Refusal};
@@ -284,11 +285,11 @@ const DAMAGES: [(usize, usize, &[u8], u64); 14] = [
 
 /// What a call left: its status, how many commits are in its order, what it printed, and the disk's bytes.
 #[derive(Drop)]
-struct Left {
-    status: Status,
-    commits: usize,
-    printed: Vec<u8>,
-    held: Vec<u8>,
+pub(super) struct Left {
+    pub(super) status: Status,
+    pub(super) commits: usize,
+    pub(super) printed: Vec<u8>,
+    pub(super) held: Vec<u8>,
 }
 
 /// The job on a disk with these bytes, which stops at a write, if it has one to stop at.
@@ -302,19 +303,19 @@ fn run(
     if let Some((write, outcome)) = stop {
         disk.fuse(write, outcome);
     }
-    run_on(alloc, disk, Vec::new(alloc), job)
+    run_on(alloc, disk, Vec::new(alloc), &["try"], job.as_bytes())
 }
 
-/// The job over this disk, and a screen with these puts that fail.
-fn run_on(
+/// The words over this disk and a source of this text, and a screen with these puts that fail.
+pub(super) fn run_on(
     alloc: Global,
     disk: MemoryDisk,
     fails: Vec<(u32, u32)>,
-    job: &str,
+    words: &[&str],
+    text: &[u8],
 ) -> Result<Left, AllocError> {
-    let mut words = Vec::new(alloc);
-    words.push(String::from_str(alloc, "try")?)?;
-    let mut source = MemorySource::new(Vec::from_slice(alloc, job.as_bytes())?, Vec::new(alloc));
+    let words = words_of(alloc, words)?;
+    let mut source = MemorySource::new(Vec::from_slice(alloc, text)?, Vec::new(alloc));
     let mut outside = Joint::new(disk, MemoryScreen::new(alloc, fails));
     let ended = console(alloc, &words, &mut source, &mut outside);
     let (disk, screen) = outside.into_parts();
@@ -392,7 +393,7 @@ fn assert_device(
         fails.push(put)?;
     }
     let disk = MemoryDisk::new(alloc, held, refusals);
-    let left = run_on(alloc, disk, fails, &job)?;
+    let left = run_on(alloc, disk, fails, &["try"], job.as_bytes())?;
     let mut printed = String::new(alloc);
     for part in device.printed {
         printed.push_str(part)?;

@@ -24,6 +24,8 @@ pub use status::{Ended, Status, status_text};
 pub use stops::{Stop, drill_stop};
 
 #[cfg(test)]
+mod bundle_tests;
+#[cfg(test)]
 mod crash_tests;
 #[cfg(test)]
 mod side_by_side_tests;

@@ -262,7 +262,7 @@ const UNCALLED: [Case; 9] = [
 ];
 
 /// The programs of the schedules below.
-const PROGRAMS: &str = "frames 2\n\
+pub(super) const PROGRAMS: &str = "frames 2\n\
     program add\n.window 1, 1, rw\ncau r6, r0, 0x1000\nl r3, 0(r6)\na r3, r2\nst r3, 0(r6)\nsvc 0\nend\n\
     program rd\n.window 1, 1, r\ncau r6, r0, 0x1000\nl r3, 0(r6)\nl r2, 0(r6)\nsvc 1\nsvc 0\nend\n\
     program quit\n.window 1, 1, rw\ncau r6, r0, 0x1000\nst r2, 0(r6)\nsvc 2\nend\n\
