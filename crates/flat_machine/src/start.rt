@@ -1,5 +1,5 @@
 ghost use Rattle.std.specs.Prelude.{◌≡◌, ◌≤◌, ◌-◌, ◌++◌, replicate, length, IfOk};
-ghost use Rattle.line_geometry.specs.Directory.{byte_count};
+ghost use Rattle.line_geometry.specs.Directory.{Layout, byte_count};
 ghost use Rattle.flat_machine.specs.After.{start, first_registers};
 
 use super::machine::{Cs, Plain, Program};
@@ -23,12 +23,32 @@ impl Plain {
         ensures private_length { IfOk result (λ plain. length plain.private ≡ 16384) }
         ensures store_length { IfOk result (λ plain. length plain.store ≡ byte_count directory.now) }
     {
+        let copied = OwnedList::from_vec(Vec::from_slice(alloc, store)?);
+        Plain::start_on(alloc, program, args, copied)
+    }
+
+    /// The same on a store that the program is given: it is taken as it is, and not copied. Whoever wants it back finds it in
+    /// the state (docs/MODEL.md).
+    ///
+    /// # Errors
+    ///
+    /// [`AllocError`] where there is no memory for the rest of the state; the store is let go then.
+    pub fn start_on(
+        alloc: Global,
+        program: &Program,
+        args: [u32; 4],
+        store: OwnedList<u8>,
+    ) -> Result<Plain, AllocError>
+        ensures value { IfOk result (λ plain. (directory : Layout) → plain ≡ start program.now args (record { directory = directory; bytes = store })) }
+        ensures private_length { IfOk result (λ plain. length plain.private ≡ 16384) }
+        ensures store_length { IfOk result (λ plain. length plain.store ≡ length store) }
+    {
         Ok(Plain {
             regs: first_registers(args),
             cs: Cs::CLEAR,
             iar: u32::from(program.entry),
             private: padded(alloc, program.image.as_slice(), 16384)?,
-            store: OwnedList::from_vec(Vec::from_slice(alloc, store)?),
+            store,
             out: Printed::new(alloc)?,
         })
     }

@@ -1,7 +1,6 @@
 -- The activations that begins make, from a place among the events on.
-use Rattle.std.proofs.Common.{◌≡◌, ◌≢◌, ℕ, zero, suc, ◌+◌, ◌-◌, ◌<◌, List, [], ◌∷◌, length, drop, get_or, slice_get, Some, None, refl, sym, ap, add-one, drop-cons, arith}
+use Rattle.std.proofs.Common.{◌≡◌, ◌≢◌, ℕ, zero, suc, ◌+◌, ◌<◌, List, [], ◌∷◌, length, drop, get_or, slice_get, Some, None, refl, sym, ap, add-one, drop-cons, arith}
 use Rattle.flat_machine.specs.declared.machine.Program.{Program}
-use Rattle.flat_machine.specs.Serial.{Activation, numbered}
 use Rattle.desk.specs.declared.event.Event.{Event}
 use Rattle.desk.specs.declared.event.Event.TheVariants.{Begin, Turn, Checkpoint, Crash}
 use Rattle.desk.specs.Commits.{begun}
@@ -32,15 +31,6 @@ pub begun_later : (programs : List Program) (events : List Event) (i : ℕ) (d :
     → begun programs (drop i events) ≡ begun programs (drop (i + 1) events)
 begun_later programs events i d here other =
     rw (drop-cons events i d here, add-one) (not_begun programs (get_or events i d) (drop (suc i) events) other)
-
--- the number among the later ones
-pub one_less : (first : Activation) (activations : List Activation) (left : ℕ) → left ≢ 1
-    → numbered (first ∷ activations) left ≡ numbered activations (left - 1)
-one_less first activations zero other = refl
-one_less first activations (suc zero) other = absurd (other refl)
-one_less first activations (suc (suc n)) other =
-    let e : suc (suc n) - 1 ≡ suc n = omega arith in
-    rw e refl
 
 -- an element by its place
 pub got : {X : Type 0} → (xs : List X) (i : ℕ) (x : X) → i < length xs → x ≡ get_or xs i x → slice_get xs i ≡ Some x

@@ -1,5 +1,6 @@
 pub mod BegunLemmas
 pub mod BundleLemmas
+pub mod IndexLemmas
 pub mod RowLemmas
 pub mod SameLemmas
 pub mod VerdictLemmas

@@ -1,17 +1,22 @@
 -- Commit lines one after another, and whether they are sound.
-use Rattle.std.proofs.Common.{◌≡◌, ℕ, ◌+◌, ◌%◌, ◌^◌, ◌<◌, true, false, List, [], ◌∷◌, ◌++◌, length, map, take, drop, get_or, Option, Some, None, option_and_then, ◌⊎◌, inl, inr, refl, sym, ◌∙◌, ap, length-append, add-one, drop-cons, arith}
+use Rattle.std.proofs.Common.{◌≡◌, ℕ, ◌+◌, ◌%◌, ◌^◌, ◌<◌, ◌≤◌, Bool, true, false, List, [], ◌∷◌, ◌++◌, length, map, take, drop, get_or, slice_get, Option, Some, None, option_and_then, ◌⊎◌, inl, inr, refl, sym, ◌∙◌, ap, length-append, add-one, drop-cons, arith}
 use Rattle.std.proofs.lemmas.List.{map-append, take-append-drop, take_more}
-use Rattle.std.specs.List.{Contains}
+use Rattle.std.proofs.lemmas.Option.{option_and_then_some}
 use Rattle.line_geometry.specs.Directory.{Layout}
 use Rattle.line_geometry.specs.FlatStore.{FlatStore}
 use Rattle.flat_machine.specs.declared.machine.Plain.{Plain}
-use Rattle.flat_machine.specs.Serial.{Activation, committing, serial}
+use Rattle.flat_machine.specs.Serial.{Activation, before_commit, committing, numbered, serial}
 use Rattle.desk.specs.Lines.{Line, Commit}
 use Rattle.job_text.specs.declared.job.Job.{Job}
 use Rattle.report_text.specs.declared.owned.OwnedLine.{OwnedLine}
 use Rattle.report_text.specs.ReadLines.{owned_told}
 use Rattle.serial_audit.specs.declared.auditing.KeptStore.{KeptStore}
-use Rattle.serial_audit.specs.Audit.{AreSound, IsSound, Replays, Stands, Told, activations_of, commits_told, flat_of, pair_of, report_told, told_before}
+use Rattle.serial_audit.specs.declared.auditing.Progress.{Progress}
+use Rattle.serial_audit.specs.declared.index.Entry.{Entry}
+use Rattle.serial_audit.specs.Audit.{AreSound, IsSound, Told, activations_of, commits_told, flat_of, pair_of, report_told, steps_allowed, told_before}
+use Rattle.serial_audit.specs.Index.{IsIndex, activation_in}
+use Rattle.serial_audit.specs.Progress.{IsTaken, MayFollow, Replays, Stands}
+use Rattle.serial_audit.proofs.IndexLemmas.{begun_at, entry_at}
 
 -- the commits of lines behind others come behind theirs
 pub told-append : (lines others : List Line) → commits_told (lines ++ others) ≡ commits_told lines ++ commits_told others
@@ -47,57 +52,113 @@ serial_more activations (first ∷ commits) commit store left is =
     by_state later None same = absurd (cc same)
     by_state later (Some state) same = later (record store { bytes = state.store }) same
 
--- a commit that runs again on what the others leave is sound, and stands behind it
-pub taken : (job : Job) (opening : KeptStore) (before : List Told) (number : ℕ) (seen bytes : List ℕ) (told : Told) (left : List ℕ) (directory : Layout)
-    → opening.directory ≡ directory → Stands job opening before number seen bytes → told.number ≡ (number + 1) % 2 ^ 64 → ¬ (Contains seen told.activation)
-    → Replays job (record { directory = directory; bytes = bytes }) told left
-    → IsSound job opening before told × Stands job opening (before ++ told ∷ []) told.number (seen ++ told.activation ∷ []) left
-taken job opening before number seen bytes told left directory same stands next fresh replays =
-    let again = rw (← same) at replays in
-    let place : told.number ≡ (opening.number + (length before + 1)) % 2 ^ 64 = let is = stands.number_is in omega arith in (
+pub not_true : false ≡ true → ⊥
+not_true same = cc
+
+-- a commit line that may follow, and whose activation commits as it tells on what the others leave, is sound
+pub sound_here : (job : Job) (opening : KeptStore) (before : List Told) (told : Told) (activation : Activation) (progress : Progress) (directory : Layout) (state : Plain)
+    → opening.directory ≡ directory → Stands job opening before progress → MayFollow job opening before told activation
+    → before_commit activation told.steps (record { directory = directory; bytes = progress.store }) ≡ Some state → told.out ≡ state.out
+    → IsSound job opening before told
+sound_here job opening before told activation progress directory state same stands follows commits prints = record {
+  number = follows.number;
+  first = follows.first;
+  allowed = follows.allowed;
+  left = record { directory = opening.directory; bytes = progress.store };
+  leaves = stands.leaves;
+  state = state;
+  commits = rw (same, follows.begun) commits;
+  prints = prints;
+}
+
+-- behind it the check stands at its number, one line more, the index with its activation marked, and what it leaves
+pub taken : (job : Job) (opening : KeptStore) (before : List Told) (told : Told) (activation : Activation) (progress next : Progress) (directory : Layout)
+    → opening.directory ≡ directory → Stands job opening before progress → MayFollow job opening before told activation
+    → Replays activation (record { directory = directory; bytes = progress.store }) told next.store
+    → next.number ≡ told.number → next.commits ≡ progress.commits + 1 → IsIndex job (before ++ told ∷ []) next.entries.items
+    → IsTaken job opening before told (Some next)
+taken job opening before told activation progress next directory same stands follows again number commits index =
+    let sound = sound_here job opening before told activation progress directory again.state same stands follows again.commits again.prints in
+    let at_left : committing (activations_of job) (pair_of told) (record { directory = opening.directory; bytes = progress.store }) ≡ Some again.state =
+    rw (same, follows.begun) again.commits in (
+      sound,
       record {
-        number = place;
-        first = λ has. fresh (rw stands.seen_are has);
-        allowed = again.allowed;
-        left = record { directory = opening.directory; bytes = bytes };
-        leaves = stands.leaves;
-        state = again.state;
-        commits = again.commits;
-        prints = again.prints;
-      },
-      record {
-        number_is = place ∙ simp length-append refl;
-        seen_are = rw stands.seen_are (sym (map-append (λ (earlier : Told). earlier.activation) before (told ∷ [])));
+        number_is = number ∙ follows.number ∙ simp length-append refl;
+        commits_are = commits ∙ ap (λ (n : ℕ). n + 1) stands.commits_are ∙ sym (length-append before (told ∷ []));
+        index = index;
         leaves =
             rw (map-append pair_of before (told ∷ []))
-            (serial_more (activations_of job) (map pair_of before) (pair_of told) (flat_of opening) (record { directory = opening.directory; bytes = bytes }) stands.leaves
-            ∙ rw (again.commits, again.leaves) refl);
+            (serial_more (activations_of job) (map pair_of before) (pair_of told) (flat_of opening) (record { directory = opening.directory; bytes = progress.store }) stands.leaves
+            ∙ rw (at_left, again.leaves) refl);
       },
     )
 
--- a sound line has the next number, the first of its activation, and runs again on what the others leave
-pub refused : (job : Job) (opening : KeptStore) (before : List Told) (number : ℕ) (seen bytes : List ℕ) (told : Told) (directory : Layout)
-    → opening.directory ≡ directory → Stands job opening before number seen bytes → IsSound job opening before told
-    → (told.number ≡ (number + 1) % 2 ^ 64) × (¬ (Contains seen told.activation))
-    × ((left : List ℕ) × Replays job (record { directory = directory; bytes = bytes }) told left)
-refused job opening before number seen bytes told directory same stands sound =
-    let here : sound.left ≡ record { directory = opening.directory; bytes = bytes } = cc (sound.leaves, stands.leaves) in (
-      (let is = stands.number_is in let told_is = sound.number in omega arith),
-      (λ has. sound.first (rw stands.seen_are at has)),
+-- a sound line may follow, and its activation runs again on what the others leave
+pub refused : (job : Job) (opening : KeptStore) (before : List Told) (told : Told) (progress : Progress) (directory : Layout)
+    → opening.directory ≡ directory → Stands job opening before progress → IsSound job opening before told
+    → (activation : Activation) × MayFollow job opening before told activation
+    × ((left : List ℕ) × Replays activation (record { directory = directory; bytes = progress.store }) told left)
+refused job opening before told progress directory same stands sound =
+    let here : sound.left ≡ record { directory = opening.directory; bytes = progress.store } = cc (sound.leaves, stands.leaves) in
+    let runs = rw (here, same) at sound.commits in
+    option_and_then_some (λ (activation : Activation). before_commit activation told.steps (record { directory = directory; bytes = progress.store }))
+    (numbered (activations_of job) told.activation) sound.state runs
+    (λ activation begun commits. (
+      activation,
+      record {
+        number = sound.number;
+        first = sound.first;
+        allowed = sound.allowed;
+        begun = begun;
+      },
       (
         sound.state.store,
         record {
-          allowed = sound.allowed;
           state = sound.state;
-          commits = rw (here, same) at sound.commits;
+          commits = commits;
           prints = sound.prints;
           leaves = refl;
         },
       ),
-    )
+    ))
 
-pub not_true : false ≡ true → ⊥
-not_true same = cc
+-- an activation has one number
+pub same_activation : (job : Job) (opening : KeptStore) (before : List Told) (told : Told) (one other : Activation)
+    → MayFollow job opening before told one → MayFollow job opening before told other → one ≡ other
+same_activation job opening before told one other first second = cc (first.begun, second.begun)
+
+-- a line with the next number, of an entry that hasn't committed and allows its steps, may follow
+pub may_follow : (job : Job) (opening : KeptStore) (before : List Told) (told : Told) (progress : Progress) (place : ℕ) (entry : Entry)
+    → Stands job opening before progress → slice_get progress.entries.items place ≡ Some entry → place + 1 ≡ told.activation
+    → told.number ≡ (progress.number + 1) % 2 ^ 64 → entry.committed ≡ false → told.steps ≤ entry.steps
+    → MayFollow job opening before told (activation_in entry)
+may_follow job opening before told progress place entry stands found its next open_yet few =
+    let is = entry_at job before progress.entries.items place entry stands.index found in
+    record {
+      number = let number = stands.number_is in omega arith;
+      first = λ has. not_true (sym open_yet ∙ is.committed.1 (rw its has));
+      allowed =
+          let steps = is.steps in
+          let within : told.steps ≤ steps_allowed job (place + 1) = omega (arith, few, steps) in
+          rw its at within;
+      begun = begun_at job before place told.activation entry is its;
+    }
+
+-- and no other line of that activation may
+pub follows_so : (job : Job) (opening : KeptStore) (before : List Told) (told : Told) (progress : Progress) (place : ℕ) (entry : Entry) (activation : Activation)
+    → Stands job opening before progress → slice_get progress.entries.items place ≡ Some entry → place + 1 ≡ told.activation
+    → MayFollow job opening before told activation
+    → (told.number ≡ (progress.number + 1) % 2 ^ 64) × (entry.committed ≡ false) × (told.steps < 2 ^ 64 → told.steps ≤ entry.steps)
+follows_so job opening before told progress place entry activation stands found its follows =
+    let is = entry_at job before progress.entries.items place entry stands.index found in (
+      (let number = stands.number_is in let told_is = follows.number in omega arith),
+      open_yet entry.committed (λ committed. follows.first (rw its at (is.committed.0 committed))),
+      (λ small. let steps = rw its at is.steps in let allowed = follows.allowed in omega arith),
+    )
+  where
+    open_yet : (b : Bool) → (b ≡ true → ⊥) → b ≡ false
+    open_yet true never = absurd (never refl)
+    open_yet false never = refl
 
 -- a list with one element more, cut at an element: the cut is at its last, or within the others
 last_or_within : (before : List Told) (last : Told) (first : List Told) (told : Told) (behind : List Told)

@@ -1,5 +1,5 @@
 -- A report whose commits are those of the programs run one after another.
-use Rattle.std.specs.Prelude.{◌≡◌, ℕ, ◌+◌, ◌≤◌, ◌%◌, ◌^◌, ◌==◌, ◌⊎◌, if◌then◌else◌, Bool, true, false, List, [], ◌∷◌, ◌++◌, length, map, sum, Some}
+use Rattle.std.specs.Prelude.{◌≡◌, ℕ, ◌+◌, ◌≤◌, ◌%◌, ◌^◌, ◌==◌, ◌⊎◌, if◌then◌else◌, List, [], ◌∷◌, ◌++◌, length, map, sum, Some}
 use Rattle.std.specs.List.{Contains}
 use Rattle.line_geometry.specs.FlatStore.{FlatStore}
 use Rattle.flat_machine.specs.declared.machine.Plain.{Plain}
@@ -80,26 +80,6 @@ pub record IsSerial (job : Job) (opening closing : KeptStore) (lines : List Told
   pub directory : closing.directory ≡ opening.directory
   pub number : closing.number ≡ (opening.number + length lines) % 2 ^ 64
   pub store : serial (activations_of job) (map pair_of lines) (flat_of opening) ≡ Some (flat_of closing)
-
--- After commit lines a check stands at their last number, these activations, and this store, which the commits leave one after another.
-pub record Stands (job : Job) (opening : KeptStore) (before : List Told) (number : ℕ) (seen bytes : List ℕ) : Type 0 where
-  pub number_is : number ≡ (opening.number + length before) % 2 ^ 64
-  pub seen_are : seen ≡ map (λ earlier. earlier.activation) before
-  pub leaves : serial (activations_of job) (map pair_of before) (flat_of opening) ≡ Some (record { directory = opening.directory; bytes = bytes })
-
--- a commit line was taken where it is sound, and left where it isn't
-abbrev pub IsTaken : Bool → Job → KeptStore → List Told → Told → ℕ → List ℕ → List ℕ → Type 0
-IsTaken true job opening before told number seen bytes =
-    IsSound job opening before told × Stands job opening (before ++ told ∷ []) number seen bytes
-IsTaken false job opening before told number seen bytes = ¬ (IsSound job opening before told)
-
--- a commit runs again on a store as it is told, and leaves these bytes
-pub record Replays (job : Job) (store : FlatStore) (told : Told) (bytes : List ℕ) : Type 0 where
-  pub allowed : told.steps ≤ steps_allowed job told.activation
-  pub state : Plain
-  pub commits : committing (activations_of job) (pair_of told) store ≡ Some state
-  pub prints : told.out ≡ state.out
-  pub leaves : bytes ≡ state.store
 
 -- the commit line with this number, counted from 1, is the first that isn't sound
 pub record IsFirstUnsound (job : Job) (opening : KeptStore) (lines : List Told) (number : ℕ) : Type 0 where

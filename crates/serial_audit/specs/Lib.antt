@@ -1,4 +1,6 @@
 pub mod Audit
 pub mod Bundle
 pub mod Commit
+pub mod Index
 pub mod Lengths
+pub mod Progress

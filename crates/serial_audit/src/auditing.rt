@@ -1,11 +1,14 @@
-ghost use Rattle.std.specs.Prelude.{◌≡◌, ◌+◌, ◌-◌, ◌%◌, ◌<◌, ◌≤◌, ◌^◌, ◌↔◌, IsTrue, List, [], length, IfOk, MatchResult};
-ghost use Rattle.std.specs.List.{Contains};
+ghost use Rattle.std.specs.Prelude.{◌≡◌, ◌+◌, ◌-◌, ◌<◌, ◌≤◌, ◌^◌, ◌↔◌, IsTrue, List, [], length, IfOk, IfSome, MatchOption, MatchResult};
 ghost use Rattle.line_geometry.specs.Directory.{byte_count};
+ghost use Rattle.flat_machine.specs.Serial.{Activation};
 ghost use Rattle.job_text.specs.declared.job.Job.{Job};
 ghost use Rattle.serial_audit.specs.declared.auditing.KeptStore.{KeptStore};
-ghost use Rattle.serial_audit.specs.Audit.{AreSound, IsFirstUnsound, IsTaken, IsVerdict, Stands, Told, report_told};
+ghost use Rattle.serial_audit.specs.Audit.{AreSound, IsFirstUnsound, IsVerdict, Told, report_told};
 ghost use Rattle.serial_audit.specs.Commit.{told_of};
+ghost use Rattle.serial_audit.specs.Index.{activation_in};
+ghost use Rattle.serial_audit.specs.Progress.{IsTaken, MayFollow, Stands};
 
+use super::index::{Entry, index_of, mark, place_among};
 use super::replay::Commit;
 use job_text::Job;
 use line_geometry::Directory;
@@ -33,7 +36,7 @@ pub enum Verdict {
 
 /// Whether a report is serial between two stores (docs/MODEL.md, "An audit").
 ///
-/// Each committed program runs once from its start, on the store that those before it left.
+/// Each committed program runs once from its start, on the store that those before it left, of which there is one copy.
 ///
 /// # Errors
 ///
@@ -67,29 +70,29 @@ pub fn audit(
 /// # Errors
 ///
 /// [`AllocError`] where there is no memory.
-pub fn audit_lines(
+pub fn audit_lines<'j>(
     alloc: Global,
-    job: &Job,
+    job: &'j Job,
     lines: &[OwnedLine],
     opening: &KeptStore,
-) -> Result<Result<Progress, u32>, AllocError>
+) -> Result<Result<Progress<'j>, u32>, AllocError>
     requires store { length opening.now.store.items ≡ byte_count opening.now.directory }
     requires few { length lines.now < 2 ^ 32 - 1 }
     ensures sound { IfOk result (λ found. MatchResult found
-        (λ progress. AreSound job.now opening.now (report_told lines.now) × Stands job.now opening.now (report_told lines.now) progress.number progress.seen.items progress.store)
+        (λ progress. AreSound job.now opening.now (report_told lines.now) × Stands job.now opening.now (report_told lines.now) progress)
         (λ place. IsFirstUnsound job.now opening.now (report_told lines.now) place)) }
-    ensures few { IfOk result (λ found. IfOk found (λ progress. length progress.seen.items ≤ length lines.now)) }
+    ensures few { IfOk result (λ found. IfOk found (λ progress. progress.commits ≤ length lines.now)) }
     ensures whole { IfOk result (λ found. IfOk found (λ progress. length progress.store ≡ byte_count opening.now.directory)) }
 {
-    let mut progress = Progress::new(alloc, opening)?;
-    let mut place: u32 = 1;
+    let mut progress = Progress::new(alloc, job, opening)?;
     for line in lines {
         match Commit::of(line) {
             Some(commit) => {
-                if !progress.take(alloc, job, &opening.directory, &commit)? {
-                    return Ok(Err(place));
+                let place = progress.next_place();
+                match progress.take(alloc, &opening.directory, &commit)? {
+                    Some(next) => progress = next,
+                    None => return Ok(Err(place)),
                 }
-                place += 1;
             }
             None => {}
         }
@@ -97,71 +100,100 @@ pub fn audit_lines(
     Ok(Ok(progress))
 }
 
-/// How far a check has come: the last number and the activations of the commit lines so far, and the bytes of the store
-/// that they leave (docs/MODEL.md, "An audit").
+/// How far a check has come: the last number and how many commit lines there were, what the job says of each activation and
+/// which of them have committed, and the bytes of the store that the commits leave (docs/MODEL.md, "An audit").
 #[derive(Drop)]
-pub struct Progress {
+pub struct Progress<'j> {
     pub number: u64,
-    pub seen: Vec<u32>,
+    pub commits: u32,
+    pub entries: Vec<Entry<'j>>,
     pub store: OwnedList<u8>,
 }
 
-impl Progress {
-    /// Before the first commit line, on an opening store.
-    fn new(alloc: Global, opening: &KeptStore) -> Result<Self, AllocError>
-        ensures stands { IfOk result (λ progress. (job : Job) → Stands job opening.now [] progress.number progress.seen.items progress.store) }
+impl<'j> Progress<'j> {
+    /// Before the first commit line, on a copy of an opening store.
+    fn new(alloc: Global, job: &'j Job, opening: &KeptStore) -> Result<Self, AllocError>
+        ensures stands { IfOk result (λ progress. Stands job.now opening.now [] progress) }
+        ensures none { IfOk result (λ progress. progress.commits ≡ 0) }
         ensures same { IfOk result (λ progress. length progress.store ≡ length opening.now.store.items) }
     {
         let number = opening.number;
         Ok(Progress {
             number,
-            seen: Vec::new(alloc),
+            commits: 0,
+            entries: index_of(alloc, job)?,
             store: OwnedList::from_vec(Vec::from_slice(alloc, opening.store.as_slice())?),
         })
     }
 
-    /// Takes one commit line more, if it is sound, and says whether it is.
+    /// Behind one commit line more, if it is sound. Its program runs on the store itself, so where it isn't sound there is no
+    /// way back to where the check stood.
     fn take(
-        &mut self,
+        self,
         alloc: Global,
-        job: &Job,
         directory: &Directory,
         commit: &Commit,
-    ) -> Result<bool, AllocError>
-        requires { length self.old.store ≡ byte_count directory.now }
-        ensures taken { IfOk result (λ sound. (opening : KeptStore) (before : List Told) → opening.directory ≡ directory.now
-            → Stands job.now opening before self.old.number self.old.seen.items self.old.store
-            → IsTaken sound job.now opening before (told_of commit.now) self.new.number self.new.seen.items self.new.store) }
-        ensures whole { length self.new.store ≡ byte_count directory.now }
+    ) -> Result<Option<Self>, AllocError>
+        requires whole { length self.store ≡ byte_count directory.now }
+        requires few { self.commits < 2 ^ 32 - 1 }
+        ensures taken { IfOk result (λ found. (job : Job) (opening : KeptStore) (before : List Told) → opening.directory ≡ directory.now
+            → Stands job opening before self.entry → IsTaken job opening before (told_of commit.now) found) }
+        ensures one { IfOk result (λ found. IfSome found (λ progress. progress.commits ≡ self.entry.commits + 1)) }
+        ensures whole { IfOk result (λ found. IfSome found (λ progress. length progress.store ≡ byte_count directory.now)) }
     {
-        if !self.is_followed_by(commit) {
-            return Ok(false);
-        }
-        match commit.replayed(alloc, job, directory, self.store.as_slice())? {
+        let entry = match self.entry_for(commit) {
+            Some(entry) => entry,
+            None => return Ok(None),
+        };
+        let Progress {
+            number: _,
+            commits,
+            mut entries,
+            store,
+        } = self;
+        match commit.replayed(alloc, entry.program, entry.args, directory, store)? {
             Some(store) => {
-                self.seen.push(commit.activation)?;
-                self.number = commit.number;
-                self.store = store;
-                Ok(true)
+                mark(&mut entries, commit.activation);
+                Ok(Some(Progress {
+                    number: commit.number,
+                    commits: commits + 1,
+                    entries,
+                    store,
+                }))
             }
-            None => Ok(false),
+            None => Ok(None),
         }
     }
 
-    /// Whether a commit line has the number that follows, and is the first of its activation (docs/MODEL.md, "An audit").
-    pub fn is_followed_by(&self, commit: &Commit) -> bool
-        ensures { IsTrue result ↔ ((commit.now.number ≡ (self.now.number + 1) % 2 ^ 64) × (¬ (Contains self.now.seen.items commit.now.activation))) }
+    /// The entry of a commit line's activation, if the line may be the next one: it has the number that follows, is the first of
+    /// its activation, and tells no more steps than the activation's turns allow; none too where the job begins no such
+    /// activation (docs/MODEL.md, "An audit").
+    pub fn entry_for(&self, commit: &Commit) -> Option<Entry<'j>>
+        ensures { (job : Job) (opening : KeptStore) (before : List Told) → Stands job opening before self.now
+            → MatchOption result ((activation : Activation) → ¬ (MayFollow job opening before (told_of commit.now) activation))
+            (λ entry. MayFollow job opening before (told_of commit.now) (activation_in entry)) }
     {
-        commit.number == self.number.wrapping_add(1)
-            && !has(self.seen.as_slice(), commit.activation)
+        let place = match place_among(self.entries.len(), commit.activation) {
+            Some(place) => place,
+            None => return None,
+        };
+        let entry = self.entries[place];
+        if commit.number == self.number.wrapping_add(1)
+            && !entry.committed
+            && commit.steps <= entry.steps
+        {
+            Some(entry)
+        } else {
+            None
+        }
     }
 
     /// The number of the next commit line, counted from 1 (docs/MODEL.md, "An audit").
     pub fn next_place(&self) -> u32
-        requires { length self.now.seen.items < 2 ^ 32 - 1 }
-        ensures { result ≡ length self.now.seen.items + 1 }
+        requires { self.now.commits < 2 ^ 32 - 1 }
+        ensures { result ≡ self.now.commits + 1 }
     {
-        self.seen.len() as u32 + 1
+        self.commits + 1
     }
 
     /// Whether a store is the one that the commits so far leave, under their number.
@@ -172,13 +204,6 @@ impl Progress {
             && closing.number == self.number
             && closing.store.as_slice() == self.store.as_slice()
     }
-}
-
-/// Whether a list has a number.
-fn has(numbers: &[u32], number: u32) -> bool
-    ensures { IsTrue result ↔ Contains numbers.now number }
-{
-    numbers.contains(&number)
 }
 
 /// Whether two directories are the same.

@@ -4,10 +4,12 @@
 
 mod auditing;
 mod bundle;
+mod index;
 mod replay;
 #[cfg(test)]
 mod tests;
 
 pub use auditing::{KeptStore, Progress, Verdict, audit, audit_lines};
 pub use bundle::{Bundle, Span, split_bundle};
+pub use index::Entry;
 pub use replay::Commit;

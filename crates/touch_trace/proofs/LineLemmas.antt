@@ -1,15 +1,17 @@
 -- Commit lines up to one of them, and that one.
-use Rattle.std.proofs.Common.{◌≡◌, ◌≢◌, ℕ, zero, suc, ◌+◌, ◌%◌, ◌^◌, ◌≤◌, List, [], ◌∷◌, ◌++◌, map, Some, inl, inr, refl, ◌∙◌, ap, append_assoc, arith}
+use Rattle.std.proofs.Common.{◌≡◌, ◌≢◌, ℕ, zero, suc, List, [], ◌∷◌, ◌++◌, map, Some, inl, inr, ◌∙◌, ap, append_assoc, arith}
 use Rattle.std.specs.List.{Contains}
 use Rattle.std.proofs.lemmas.List.{map-append}
 use Rattle.std.proofs.lemmas.List.Elements.{Contains-append_cases}
 use Rattle.line_geometry.specs.Directory.{Layout}
 use Rattle.flat_machine.specs.declared.machine.Plain.{Plain}
-use Rattle.flat_machine.specs.Serial.{Activation, before_commit, numbered}
+use Rattle.flat_machine.specs.Serial.{Activation, before_commit}
 use Rattle.job_text.specs.declared.job.Job.{Job}
 use Rattle.serial_audit.specs.declared.auditing.KeptStore.{KeptStore}
-use Rattle.serial_audit.specs.Audit.{IsFirstUnsound, IsSound, Stands, Told, activations_of, steps_allowed}
-use Rattle.serial_audit.proofs.VerdictLemmas.{taken}
+use Rattle.serial_audit.specs.declared.auditing.Progress.{Progress}
+use Rattle.serial_audit.specs.Audit.{IsFirstUnsound, IsSound, Told}
+use Rattle.serial_audit.specs.Progress.{MayFollow, Stands}
+use Rattle.serial_audit.proofs.VerdictLemmas.{sound_here}
 use Rattle.touch_trace.specs.declared.touch.Touch.{Touch}
 use Rattle.touch_trace.specs.Trace.{AreTouches, touches}
 
@@ -40,28 +42,19 @@ unsound_among job opening lines behind place unsound = record {
 }
 
 -- a line whose activation commits as it tells is sound, and has these touches
-pub traced_sound : (job : Job) (opening : KeptStore) (before : List Told) (number : ℕ) (seen bytes : List ℕ) (told : Told) (directory : Layout)
-    → (activation : Activation) (state : Plain) (list : List Touch) → opening.directory ≡ directory → Stands job opening before number seen bytes
-    → (told.number ≡ (number + 1) % 2 ^ 64) × (¬ (Contains seen told.activation))
-    → (told.steps ≤ steps_allowed job told.activation) × (numbered (activations_of job) told.activation ≡ Some activation)
-    → (before_commit activation told.steps (record { directory = directory; bytes = bytes }) ≡ Some state)
-    × (list ≡ touches activation (record { directory = directory; bytes = bytes }) told.steps)
+pub traced_sound : (job : Job) (opening : KeptStore) (before : List Told) (told : Told) (activation : Activation) (progress : Progress) (directory : Layout)
+    → (state : Plain) (list : List Touch) → opening.directory ≡ directory → Stands job opening before progress
+    → MayFollow job opening before told activation
+    → (before_commit activation told.steps (record { directory = directory; bytes = progress.store }) ≡ Some state)
+    × (list ≡ touches activation (record { directory = directory; bytes = progress.store }) told.steps)
     → told.out ≡ state.out → IsSound job opening before told × AreTouches job opening before told list
-traced_sound job opening before number seen bytes told directory activation state list same stands follows begun traced prints =
-    let sound = taken job opening before number seen bytes told state.store directory same stands follows.0 follows.1
-    (record {
-      allowed = begun.0;
-      state = state;
-      commits = rw begun.1 traced.0;
-      prints = prints;
-      leaves = refl;
-    }) in (
-      sound.0,
-      record {
-        activation = activation;
-        begun = begun.1;
-        left = record { directory = opening.directory; bytes = bytes };
-        leaves = stands.leaves;
-        list_is = rw same traced.1;
-      },
-    )
+traced_sound job opening before told activation progress directory state list same stands follows traced prints = (
+  sound_here job opening before told activation progress directory state same stands follows traced.0 prints,
+  record {
+    activation = activation;
+    begun = follows.begun;
+    left = record { directory = opening.directory; bytes = progress.store };
+    leaves = stands.leaves;
+    list_is = rw same traced.1;
+  },
+)

@@ -8,6 +8,7 @@ ghost use Rattle.touch_trace.specs.Trace.{touches, touches_of_step};
 use super::touch::{Touch, next_lines};
 use flat_machine::{Plain, Program, Went};
 use line_geometry::Directory;
+use owned_list::OwnedList;
 use std::alloc::{AllocError, Global};
 
 /// A program as it comes to the commit call as its step with this number, with the touches of its steps; none where it
@@ -17,19 +18,19 @@ pub(super) fn run_traced(
     program: &Program,
     args: [u32; 4],
     directory: &Directory,
-    store: &[u8],
+    store: OwnedList<u8>,
     steps: u64,
 ) -> Result<Option<(Plain, Vec<Touch>)>, AllocError>
-    requires { length store.now ≡ byte_count directory.now }
+    requires { length store ≡ byte_count directory.now }
     ensures { IfOk result (λ found. MatchOption found
-        (before_commit (record { program = program.now; args = args }) steps (record { directory = directory.now; bytes = store.now }) ≡ None)
-        (λ traced. (before_commit (record { program = program.now; args = args }) steps (record { directory = directory.now; bytes = store.now }) ≡ Some traced.0)
-        × (traced.1.items ≡ touches (record { program = program.now; args = args }) (record { directory = directory.now; bytes = store.now }) steps))) }
+        (before_commit (record { program = program.now; args = args }) steps (record { directory = directory.now; bytes = store }) ≡ None)
+        (λ traced. (before_commit (record { program = program.now; args = args }) steps (record { directory = directory.now; bytes = store }) ≡ Some traced.0)
+        × (traced.1.items ≡ touches (record { program = program.now; args = args }) (record { directory = directory.now; bytes = store }) steps))) }
 {
     if steps == 0 {
         return Ok(None);
     }
-    let mut plain = Plain::start(alloc, program, args, directory, store)?;
+    let mut plain = Plain::start_on(alloc, program, args, store)?;
     let mut touches = Vec::new(alloc);
     for step in 1..steps {
         tell_next(program, directory, &plain, step, &mut touches)?;

@@ -6,7 +6,7 @@ ghost use Rattle.flat_machine.specs.Touched.{lines_at, lines_of_act, touched};
 ghost use Rattle.touch_trace.specs.Stretch.{lines_by, lines_of};
 ghost use Rattle.touch_trace.specs.Trace.{touches_of_step};
 
-use flat_machine::{Act, Located, Pending, Plain, Program, start_row};
+use flat_machine::{Act, Located, Pending, Plain, Program, locate, start_row};
 use line_geometry::Directory;
 use std::alloc::AllocError;
 
@@ -95,7 +95,9 @@ fn access(
     ensures lines { lines_by store (lines_at directory.now (located program.now directory.now address bytes store) bytes) ≡ lines_of result }
     ensures small { IfSome result (λ stretch. stretch.first + stretch.count < 2 ^ 32) }
 {
-    let at = place_of(program, directory, address, bytes, store)?;
+    let Located::Shared(at) = locate(program, directory, address, bytes, store) else {
+        return None;
+    };
     let first = directory.line_of(at);
     let last = directory.line_of(at + u32::from(bytes) - 1);
     Some(Stretch {
@@ -103,26 +105,4 @@ fn access(
         count: last + 1 - first,
         store,
     })
-}
-
-/// The place of the store from which on these bytes lie, if they lie in it.
-fn place_of(
-    program: &Program,
-    directory: &Directory,
-    address: u32,
-    bytes: u8,
-    store: bool,
-) -> Option<u32>
-    ensures place { MatchOption result ((at : ℕ) → located program.now directory.now address bytes store ≢ Located.Shared at)
-        (λ at. located program.now directory.now address bytes store ≡ Located.Shared at) }
-    ensures within { IfSome result (λ at. at + bytes ≤ 2 ^ 22) }
-{
-    let register = (address >> 28) as usize;
-    let offset = address % 0x1000_0000;
-    let window = program.windows[register.checked_sub(1)?]?;
-    let length = directory.length_of(window.segment)?;
-    if offset + u32::from(bytes) > length || (store && !window.write) {
-        return None;
-    }
-    Some(directory.start_of(window.segment) + offset)
 }

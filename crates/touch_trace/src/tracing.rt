@@ -1,9 +1,11 @@
 ghost use Rattle.std.specs.Prelude.{◌≡◌, ◌-◌, ◌<◌, ◌^◌, List, length, map, take, IfOk, MatchOption};
 ghost use Rattle.std.specs.List.{Contains};
 ghost use Rattle.line_geometry.specs.Directory.{byte_count};
+ghost use Rattle.job_text.specs.declared.job.Job.{Job};
 ghost use Rattle.serial_audit.specs.declared.auditing.KeptStore.{KeptStore};
-ghost use Rattle.serial_audit.specs.Audit.{IsSound, Stands, Told, report_told};
+ghost use Rattle.serial_audit.specs.Audit.{IsSound, Told, report_told};
 ghost use Rattle.serial_audit.specs.Commit.{told_of};
+ghost use Rattle.serial_audit.specs.Progress.{Stands};
 ghost use Rattle.touch_trace.specs.Trace.{AreTouches, IsAnswer, IsFirstOf};
 
 use super::answer::{Trace, TraceFault};
@@ -42,12 +44,13 @@ pub fn trace(
         Ok(progress) => progress,
         Err(place) => return Err(TraceFault::NotSerial(place)),
     };
-    match touches_of(alloc, job, &opening.directory, &progress, &commit)? {
+    let place = progress.next_place();
+    match touches_of(alloc, &opening.directory, progress, &commit)? {
         Some(touches) => Ok(Trace {
             steps: commit.steps,
             touches,
         }),
-        None => Err(TraceFault::NotSerial(progress.next_place())),
+        None => Err(TraceFault::NotSerial(place)),
     }
 }
 
@@ -69,36 +72,37 @@ fn first_commit<'a>(report: &'a [OwnedLine], activation: u32) -> Option<(usize, 
     None
 }
 
-/// The touches of a commit line behind others, if it is sound.
+/// The touches of a commit line behind others, if it is sound. Its program runs on the store of the check itself.
 fn touches_of(
     alloc: Global,
-    job: &Job,
     directory: &Directory,
-    progress: &Progress,
+    progress: Progress,
     commit: &Commit,
 ) -> Result<Option<Vec<Touch>>, AllocError>
-    requires { length progress.now.store ≡ byte_count directory.now }
-    ensures { IfOk result (λ found. (opening : KeptStore) (before : List Told) → opening.directory ≡ directory.now
-        → Stands job.now opening before progress.now.number progress.now.seen.items progress.now.store
-        → MatchOption found (¬ (IsSound job.now opening before (told_of commit.now)))
-        (λ touches. IsSound job.now opening before (told_of commit.now) × AreTouches job.now opening before (told_of commit.now) touches.items)) }
+    requires { length progress.store ≡ byte_count directory.now }
+    ensures { IfOk result (λ found. (job : Job) (opening : KeptStore) (before : List Told) → opening.directory ≡ directory.now
+        → Stands job opening before progress.entry
+        → MatchOption found (¬ (IsSound job opening before (told_of commit.now)))
+        (λ touches. IsSound job opening before (told_of commit.now) × AreTouches job opening before (told_of commit.now) touches.items)) }
 {
-    if !progress.is_followed_by(commit) {
-        return Ok(None);
-    }
-    match commit.begun(job) {
-        Some(begun) => {
-            let args = begun.1;
-            let store = progress.store.as_slice();
-            match run_traced(alloc, begun.0, args, directory, store, commit.steps)? {
-                Some((state, touches)) => {
-                    if state.out.as_slice() == commit.out {
-                        Ok(Some(touches))
-                    } else {
-                        Ok(None)
-                    }
-                }
-                None => Ok(None),
+    let entry = match progress.entry_for(commit) {
+        Some(entry) => entry,
+        None => return Ok(None),
+    };
+    let store = progress.store;
+    match run_traced(
+        alloc,
+        entry.program,
+        entry.args,
+        directory,
+        store,
+        commit.steps,
+    )? {
+        Some((state, touches)) => {
+            if state.out.as_slice() == commit.out {
+                Ok(Some(touches))
+            } else {
+                Ok(None)
             }
         }
         None => Ok(None),

@@ -1,4 +1,5 @@
-use Rattle.std.proofs.Common.{◌≡◌, ◌+◌, ◌-◌, ◌<◌, None, refl, sym, ◌∙◌, ap, add-one, arith}
+use Rattle.std.proofs.Common.{◌≡◌, ◌+◌, ◌-◌, ◌<◌, Some, None, refl, sym, ◌∙◌, ap, add-one, arith}
+use Rattle.flat_machine.specs.declared.machine.Plain.{Plain}
 use Rattle.line_geometry.specs.FlatStore.{FlatStore}
 use Rattle.flat_machine.specs.After.{next_state}
 use Rattle.flat_machine.specs.Row.{row}
@@ -8,18 +9,26 @@ use Rattle.touch_trace.specs.Trace.{touches}
 use Rattle.touch_trace.proofs.StepLemmas.{touches_next}
 use Rattle.touch_trace.proofs.running.run_traced.Goals as goal
 
+pub loop-step-init : goal.loop-step-init
+loop-step-init c = record {
+  state = ap (λ (plain : Plain). Some plain) (sym (c.in_ok-plain.ensures.value c.args.directory.now));
+  private = c.in_ok-plain.ensures.private_length;
+  store = c.in_ok-plain.ensures.store_length ∙ c.requires;
+  touches = c.new-touches.ensures.items;
+}
+
 pub returns-in_default : goal.returns-in_default
 returns-in_default c =
     let test = c.loop-step-test.true in let low = c.loop-step.auto.step in
     let ends : next_state (row c.args.program.now c.args.directory.now c.loop-step.plain) ≡ None =
     rw c.step.ensures.row (stopped c.step.result c.step.new.self c.in_default.not-On) in
-    stops_early c.args.program.now c.args.args (record { directory = c.args.directory.now; bytes = c.args.store.now }) c.args.steps
+    stops_early c.args.program.now c.args.args (record { directory = c.args.directory.now; bytes = c.args.store }) c.args.steps
     (c.loop-step.step - 1) c.loop-step.plain (omega arith) c.loop-step.invariant.state ends
 
 pub loop-step-preserved : goal.loop-step-preserved
 loop-step-preserved c =
     let low = c.loop-step.auto.step in
-    let store : FlatStore = record { directory = c.args.directory.now; bytes = c.args.store.now } in
+    let store : FlatStore = record { directory = c.args.directory.now; bytes = c.args.store } in
     let activation : Activation = record { program = c.args.program.now; args = c.args.args } in
     let rows : c.loop-step.step + 1 - 1 ≡ (c.loop-step.step - 1) + 1 = omega arith in
     let step : (c.loop-step.step - 1) + 1 ≡ c.loop-step.step = omega arith in
@@ -36,7 +45,7 @@ pub returns-in-Commit : goal.returns-in-Commit
 returns-in-Commit c =
     let test = c.loop-step-test.false in
     let high = c.loop-step.auto.step-end in
-    let store : FlatStore = record { directory = c.args.directory.now; bytes = c.args.store.now } in
+    let store : FlatStore = record { directory = c.args.directory.now; bytes = c.args.store } in
     let activation : Activation = record { program = c.args.program.now; args = c.args.args } in
     let some : 0 < c.args.steps = omega (arith, c.if-steps-eq0.false) in
     let at : c.loop-step.step ≡ c.args.steps = omega (arith, high some) in
@@ -53,5 +62,5 @@ returns-in_default-step c =
     let some : 0 < c.args.steps = omega (arith, c.if-steps-eq0.false) in
     let at : c.loop-step.step ≡ c.args.steps = omega (arith, high some) in
     let last = rw at at c.loop-step.invariant.state in
-    commit_at c.args.program.now c.args.args (record { directory = c.args.directory.now; bytes = c.args.store.now }) c.args.steps some
+    commit_at c.args.program.now c.args.args (record { directory = c.args.directory.now; bytes = c.args.store }) c.args.steps some
     ∙ rw (last, c.step-2.ensures.row) (no_commit c.step-2.result c.loop-step.plain c.step-2.new.self c.in_default-step.not-Commit)

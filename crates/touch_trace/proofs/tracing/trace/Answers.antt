@@ -17,7 +17,7 @@ returns-in-Some-2 c =
     let before = report_told (take c.in-Some.found.0 c.args.report.now) in
     let told = told_of c.in-Some.found.1 in
     let stands = rw c.in-Ok.is at c.in_ok-progress.ensures.sound in
-    let both = rw c.in-Some-2.is at (c.in_ok-touches.ensures c.args.opening.now before refl stands.1) in (
+    let both = rw c.in-Some-2.is at (c.in_ok-touches.ensures c.args.job.now c.args.opening.now before refl stands.1) in (
       before,
       told,
       c.in-Some.ensures.1,

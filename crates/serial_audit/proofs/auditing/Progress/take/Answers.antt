@@ -1,24 +1,31 @@
+use Rattle.std.proofs.Common.{refl, rules}
+use Rattle.std.proofs.lemmas.List.{with_items_is}
 use Rattle.serial_audit.specs.Commit.{told_of}
-use Rattle.serial_audit.proofs.VerdictLemmas.{not_true, refused, taken}
+use Rattle.serial_audit.specs.Index.{activation_in}
+use Rattle.serial_audit.proofs.IndexLemmas.{index_more}
+use Rattle.serial_audit.proofs.VerdictLemmas.{refused, same_activation, taken}
 use Rattle.serial_audit.proofs.auditing.Progress.take.Goals as goal
 
-pub returns-then-not-is_followed_by-clause-taken : goal.returns-then-not-is_followed_by-clause-taken
-returns-then-not-is_followed_by-clause-taken c = λ opening before same stands sound.
-    let wants = refused c.args.job.now opening before c.args.self.now.number c.args.self.now.seen.items c.args.self.now.store (told_of c.args.commit.now)
-    c.args.directory.now same stands sound in
-    not_true (rw c.if-not-is_followed_by.true at (c.is_followed_by.ensures.1 (wants.0, wants.1)))
-
-pub returns-in_ok-push-in-Some-clause-taken : goal.returns-in_ok-push-in-Some-clause-taken
-returns-in_ok-push-in-Some-clause-taken c = λ opening before same stands.
-    let again = rw (c.in-Some.is, c.as_slice.ensures) at c.in_ok-store.ensures.value in
-    let follows = c.is_followed_by.ensures.0 c.if-not-is_followed_by.false in
-    let both = taken c.args.job.now opening before c.args.self.now.number c.args.self.now.seen.items c.args.self.now.store (told_of c.args.commit.now) c.in-Some.store
-    c.args.directory.now same stands follows.0 follows.1 again in
-    (both.0, rw c.in_ok-push-in-Some.ensures.items both.1)
-
 pub returns-in-None-clause-taken : goal.returns-in-None-clause-taken
-returns-in-None-clause-taken c = λ opening before same stands sound.
-    let wants = refused c.args.job.now opening before c.args.self.now.number c.args.self.now.seen.items c.args.self.now.store (told_of c.args.commit.now)
-    c.args.directory.now same stands sound in
-    let none = rw (c.in-None.is, c.as_slice.ensures) at c.in_ok-store.ensures.value in
-    none wants.2.0 wants.2.1
+returns-in-None-clause-taken c = λ job opening before same stands sound.
+    let wants = refused job opening before (told_of c.args.commit.now) c.args.self c.args.directory.now same stands sound in
+    c.in-None.ensures job opening before stands wants.0 wants.1
+
+pub returns-in-Some-2-clause-taken : goal.returns-in-Some-2-clause-taken
+returns-in-Some-2-clause-taken c = λ job opening before same stands.
+    let told = told_of c.args.commit.now in
+    let again = rw c.in-Some-2.is at c.in_ok-store.ensures.value in
+    let marks = rw c.deref_mut.ensures.value at c.mark.ensures in
+    let index = index_more job before told c.args.self.entries.items c.mark.new.entries stands.index marks in
+    let same_items = with_items_is c.args.self.entries c.mark.new.entries (search rules) in
+    taken job opening before told (activation_in c.in-Some.entry) c.args.self _ c.args.directory.now same stands
+    (c.in-Some.ensures job opening before stands) again refl refl
+    (rw same_items index)
+
+pub returns-clause-taken : goal.returns-clause-taken
+returns-clause-taken c = λ job opening before same stands sound.
+    let told = told_of c.args.commit.now in
+    let wants = refused job opening before told c.args.self c.args.directory.now same stands sound in
+    let one = same_activation job opening before told wants.0 (activation_in c.in-Some.entry) wants.1 (c.in-Some.ensures job opening before stands) in
+    let none = rw c.in-None-2.is at c.in_ok-store.ensures.value in
+    none wants.2.0 (rw one at wants.2.1)

@@ -1,0 +1,229 @@
+-- What a job says of its activations: the begins first, then the turns, then the marks of commits.
+use Rattle.std.proofs.Common.{◌≡◌, ◌≢◌, ℕ, zero, suc, ◌+◌, ◌-◌, ◌^◌, ◌<◌, ◌==◌, ◌||◌, ◌↔◌, Bool, true, false, IsTrue, List, [], ◌∷◌, ◌++◌, length, map, min, set, sum, take, get_or, slice_get, Option, Some, None, option_map, MatchOption, ◌⊎◌, inl, inr, refl, sym, ◌∙◌, ap, add-zero, zero-add, eq-eqb, ne_eqb, eqb, eqb-true, arith}
+use Rattle.std.specs.List.{All, Contains}
+use Rattle.std.proofs.lemmas.Bool.{eqb-false}
+use Rattle.std.proofs.lemmas.List.{get_or-set_same, length-set, map-append, take_more}
+use Rattle.std.proofs.lemmas.List.Elements.{All-append, Contains-append_cases, Contains-append_left, Contains-append_right}
+use Rattle.std.proofs.lemmas.List.Sums.{sum_by-append}
+use Rattle.std.proofs.lemmas.Option.{slice_get-get_or, slice_get_within}
+use Rattle.flat_machine.specs.Serial.{Activation, numbered}
+use Rattle.desk.specs.declared.event.Event.{Event}
+use Rattle.desk.specs.declared.event.Event.TheVariants.{Begin, Turn, Checkpoint, Crash}
+use Rattle.job_text.specs.declared.job.Job.{Job}
+use Rattle.serial_audit.specs.declared.index.Entry.{Entry}
+use Rattle.serial_audit.specs.Audit.{Told, activations_of, limit_of}
+use Rattle.serial_audit.specs.Index.{IsEntry, IsFresh, IsIndex, activation_in, marked, with_turns}
+
+-- the element written, and another one
+set_here : {X : Type 0} → (xs : List X) (i : ℕ) (y : X) → i < length xs → slice_get (set xs i y) i ≡ Some y
+set_here xs i y within =
+    slice_get-get_or (set xs i y) i y (rw (length-set xs i y) within) ∙ ap Some (get_or-set_same xs i y y within)
+
+set_other : {X : Type 0} → (xs : List X) (i j : ℕ) (y : X) → j ≢ i → slice_get (set xs i y) j ≡ slice_get xs j
+set_other [] i j y other = refl
+set_other (x ∷ xs) zero zero y other = absurd (other refl)
+set_other (x ∷ xs) zero (suc j) y other = refl
+set_other (x ∷ xs) (suc i) zero y other = refl
+set_other (x ∷ xs) (suc i) (suc j) y other = set_other xs i j y (λ same. other (ap suc same))
+
+-- a turn of this activation, and of another one
+limit_its : (number other limit : ℕ) → number ≡ other → limit_of number (Turn other limit) ≡ limit
+limit_its number other limit same = rw (eq-eqb number other same) refl
+
+limit_none : (number other limit : ℕ) → number ≢ other → limit_of number (Turn other limit) ≡ 0
+limit_none number other limit differ = rw (ne_eqb number other differ) refl
+
+not_turn : (number : ℕ) (event : Event) → ((activation limit : ℕ) → event ≢ Turn activation limit) → limit_of number event ≡ 0
+not_turn number (Begin program args) other = refl
+not_turn number (Turn activation limit) other = absurd (other activation limit refl)
+not_turn number Checkpoint other = refl
+not_turn number Crash other = refl
+
+-- the limits of one event more
+limits_more : (number : ℕ) (events : List Event) (i : ℕ) (d : Event) → i < length events
+    → sum (map (limit_of number) (take (i + 1) events)) ≡ sum (map (limit_of number) (take i events)) + limit_of number (get_or events i d)
+limits_more number events i d within =
+    rw (take_more events i d within, map-append (limit_of number) (take i events) (get_or events i d ∷ []))
+    (sum_by-append (λ (n : ℕ). n) (map (limit_of number) (take i events)) (limit_of number (get_or events i d) ∷ [])
+    ∙ ap (λ (n : ℕ). sum (map (limit_of number) (take i events)) + n) (zero-add (limit_of number (get_or events i d))))
+
+-- a sum held at a most, twice
+held_twice : (s k most : ℕ) → min (min s most + k) most ≡ min (s + k) most
+held_twice s k most = omega arith
+
+-- entries have the steps of these events' turns
+abbrev pub HasTurns : List Event → List Entry → List Entry → Type 0
+HasTurns events old now = (place : ℕ) → slice_get now place ≡ option_map (with_turns events place) (slice_get old place)
+
+-- an event that is no turn of an entry leaves it
+past_at : (events : List Event) (i : ℕ) (d : Event) → i < length events
+    → (place : ℕ) (old found : Option Entry) → found ≡ option_map (with_turns (take i events) place) old
+    → ((entry : Entry) → found ≡ Some entry → limit_of (place + 1) (get_or events i d) ≡ 0)
+    → found ≡ option_map (with_turns (take (i + 1) events) place) old
+past_at events i d within place None found now none = now
+past_at events i d within place (Some entry) found now none =
+    let more = limits_more (place + 1) events i d within in
+    let nothing = none (with_turns (take i events) place entry) now in
+    let same : sum (map (limit_of (place + 1)) (take (i + 1) events)) ≡ sum (map (limit_of (place + 1)) (take i events)) =
+    more ∙ rw nothing (add-zero (sum (map (limit_of (place + 1)) (take i events)))) in
+    now ∙ ap (λ (n : ℕ). Some (record entry { steps = min n (2 ^ 64 - 1) })) (sym same)
+
+-- an event that is no turn of any of them
+past : (events : List Event) (i : ℕ) (d : Event) (old now : List Entry) → i < length events
+    → ((place : ℕ) → place < length now → limit_of (place + 1) (get_or events i d) ≡ 0)
+    → HasTurns (take i events) old now → HasTurns (take (i + 1) events) old now
+past events i d old now within none has = λ place.
+    past_at events i d within place (slice_get old place) (slice_get now place) (has place)
+    (λ entry found. none place (slice_get_within now place entry found))
+
+-- an event that is no turn, and a turn of no entry
+pub past_other : (events : List Event) (i : ℕ) (d : Event) (old now : List Entry) → i < length events
+    → ((activation limit : ℕ) → get_or events i d ≢ Turn activation limit)
+    → HasTurns (take i events) old now → HasTurns (take (i + 1) events) old now
+past_other events i d old now within other has =
+    past events i d old now within (λ place inside. not_turn (place + 1) (get_or events i d) other) has
+
+pub past_turn : (events : List Event) (i activation limit : ℕ) (d : Event) (old now : List Entry) → i < length events
+    → get_or events i d ≡ Turn activation limit → ((place : ℕ) → place < length now → place + 1 ≢ activation)
+    → HasTurns (take i events) old now → HasTurns (take (i + 1) events) old now
+past_turn events i activation limit d old now within turn none has =
+    past events i d old now within (λ place inside. rw turn (limit_none (place + 1) activation limit (none place inside))) has
+
+-- the entry of a turn has as many steps more
+turned_at : (events : List Event) (i : ℕ) (d : Event) → i < length events
+    → (place limit : ℕ) (old : Option Entry) (entry : Entry) → Some entry ≡ option_map (with_turns (take i events) place) old
+    → limit_of (place + 1) (get_or events i d) ≡ limit
+    → Some (record entry { steps = min (entry.steps + limit) (2 ^ 64 - 1) }) ≡ option_map (with_turns (take (i + 1) events) place) old
+turned_at events i d within place limit None entry now its = absurd (cc now)
+turned_at events i d within place limit (Some first) entry now its =
+    let same : entry ≡ with_turns (take i events) place first = cc now in
+    let s = sum (map (limit_of (place + 1)) (take i events)) in
+    rw same
+    (ap (λ (n : ℕ). Some (record first { steps = n }))
+    (held_twice s limit (2 ^ 64 - 1)
+    ∙ ap (λ (n : ℕ). min n (2 ^ 64 - 1)) (ap (λ (n : ℕ). s + n) (sym its) ∙ sym (limits_more (place + 1) events i d within))))
+
+-- two numbers are the same or not
+by_test : (a b : ℕ) (test : Bool) → eqb a b ≡ test → (a ≡ b) ⊎ (a ≢ b)
+by_test a b true same = inl (eqb-true a b same)
+by_test a b false same = inr (eqb-false a b same)
+
+equal : (a b : ℕ) → (a ≡ b) ⊎ (a ≢ b)
+equal a b = by_test a b (eqb a b) refl
+
+-- a turn of one of them
+pub turned : (events : List Event) (i activation limit place : ℕ) (d : Event) (old now : List Entry) (entry : Entry)
+    → i < length events → get_or events i d ≡ Turn activation limit
+    → place < length now → place + 1 ≡ activation → slice_get now place ≡ Some entry
+    → HasTurns (take i events) old now
+    → HasTurns (take (i + 1) events) old (set now place (record entry { steps = min (entry.steps + limit) (2 ^ 64 - 1) }))
+turned events i activation limit place d old now entry within turn inside its found has = λ other.
+    elim (equal other place) [
+      | inl here ↦
+          rw here
+          (set_here now place (record entry { steps = min (entry.steps + limit) (2 ^ 64 - 1) }) inside
+          ∙ turned_at events i d within place limit (slice_get old place) entry (sym found ∙ has place)
+          (rw turn (limit_its (place + 1) activation limit its)))
+      | inr there ↦
+          set_other now place other (record entry { steps = min (entry.steps + limit) (2 ^ 64 - 1) }) there
+          ∙ past_at events i d within other (slice_get old other) (slice_get now other) (has other)
+          (λ first same. rw turn (limit_none (other + 1) activation limit (λ one. there (omega (arith, one, its)))))
+    ]
+
+-- one entry more
+pub fresh_more : (entries : List Entry) (entry : Entry) → All IsFresh entries → IsFresh entry → All IsFresh (entries ++ entry ∷ [])
+fresh_more entries entry fresh is = All-append IsFresh entries (entry ∷ []) fresh one
+  where
+    one : (k : ℕ) (d : Entry) → k < length (entry ∷ []) → IsFresh (get_or (entry ∷ []) k d)
+    one zero d within = is
+    one (suc k) d within = absurd (omega arith)
+
+-- an entry marked as that of the last line
+or_true : (b : Bool) → (b || true) ≡ true
+or_true true = refl
+or_true false = refl
+
+or_cases : (b c : Bool) → IsTrue (b || c) → IsTrue b ⊎ IsTrue c
+or_cases true c is = inl is
+or_cases false c is = inr is
+
+last_has : (told : Told) (number : ℕ) → Contains (told.activation ∷ []) number → told.activation ≡ number
+last_has told number (zero, within, is) = is
+last_has told number (suc k, within, is) = absurd (omega arith)
+
+committed_more : (before : List Told) (told : Told) (committed : Bool) (number : ℕ)
+    → (IsTrue committed ↔ Contains (map (λ (earlier : Told). earlier.activation) before) number)
+    → (IsTrue (committed || (number == told.activation)) ↔ Contains (map (λ (earlier : Told). earlier.activation) (before ++ told ∷ [])) number)
+committed_more before told committed number was =
+    let lines = map (λ (earlier : Told). earlier.activation) before in
+    rw (map-append (λ (earlier : Told). earlier.activation) before (told ∷ [])) (
+      λ is.
+          elim (or_cases committed (number == told.activation) is) [
+            | inl earlier ↦ Contains-append_left lines (told.activation ∷ []) number (was.0 earlier)
+            | inr last ↦ Contains-append_right lines (told.activation ∷ []) number (zero, omega arith, sym (eqb-true number told.activation last))
+          ],
+      λ has.
+          elim (Contains-append_cases lines (told.activation ∷ []) number has) [
+            | inl earlier ↦ rw (was.1 earlier) refl
+            | inr last ↦ rw (eq-eqb number told.activation (sym (last_has told number last))) (or_true committed)
+          ],
+    )
+
+entry_more : (job : Job) (before : List Told) (told : Told) (place : ℕ) (found : Option Entry)
+    → MatchOption found (slice_get (activations_of job) place ≡ None) (IsEntry job before place)
+    → MatchOption (option_map (marked told.activation place) found) (slice_get (activations_of job) place ≡ None) (IsEntry job (before ++ told ∷ []) place)
+entry_more job before told place None is = is
+entry_more job before told place (Some entry) is = record {
+  begun = is.begun;
+  steps = is.steps;
+  committed = committed_more before told entry.committed (place + 1) is.committed;
+}
+
+-- an index behind one commit line more
+pub index_more : (job : Job) (before : List Told) (told : Told) (old now : List Entry) → IsIndex job before old
+    → ((place : ℕ) → slice_get now place ≡ option_map (marked told.activation place) (slice_get old place))
+    → IsIndex job (before ++ told ∷ []) now
+index_more job before told old now index mark = λ place.
+    rw (mark place) (entry_more job before told place (slice_get old place) (index place))
+
+-- marking none
+marked_none : (activation place : ℕ) (found : Option Entry) → ((entry : Entry) → found ≡ Some entry → place + 1 ≢ activation)
+    → found ≡ option_map (marked activation place) found
+marked_none activation place None other = refl
+marked_none activation place (Some entry) other =
+    rw (ne_eqb (place + 1) activation (other entry refl)) (ap (λ (b : Bool). Some (record entry { committed = b })) (or_false entry.committed))
+  where
+    or_false : (b : Bool) → b ≡ (b || false)
+    or_false true = refl
+    or_false false = refl
+
+pub none_marked : (entries : List Entry) (activation : ℕ) → ((place : ℕ) → place < length entries → place + 1 ≢ activation)
+    → (place : ℕ) → slice_get entries place ≡ option_map (marked activation place) (slice_get entries place)
+none_marked entries activation none place =
+    marked_none activation place (slice_get entries place) (λ entry is. none place (slice_get_within entries place entry is))
+
+-- the activation of a number is that of its entry
+numbered_at : (activations : List Activation) (place number : ℕ) → place + 1 ≡ number → numbered activations number ≡ slice_get activations place
+numbered_at activations place zero its = absurd (omega (arith, its))
+numbered_at activations place (suc n) its =
+    let same : n ≡ place = omega (arith, its) in
+    ap (slice_get activations) same
+
+pub none_begun : (job : Job) (before : List Told) (entries : List Entry) (number : ℕ) (activation : Activation) → IsIndex job before entries
+    → ((place : ℕ) → place < length entries → place + 1 ≢ number) → numbered (activations_of job) number ≡ Some activation → ⊥
+none_begun job before entries zero activation index none is = cc is
+none_begun job before entries (suc place) activation index none is =
+    at (slice_get entries place) refl (index place)
+  where
+    at : (found : Option Entry) → slice_get entries place ≡ found
+        → MatchOption found (slice_get (activations_of job) place ≡ None) (IsEntry job before place) → ⊥
+    at None same gone = cc (gone, is)
+    at (Some entry) same begun = none place (slice_get_within entries place entry same) (omega arith)
+
+pub entry_at : (job : Job) (before : List Told) (entries : List Entry) (place : ℕ) (entry : Entry) → IsIndex job before entries
+    → slice_get entries place ≡ Some entry → IsEntry job before place entry
+entry_at job before entries place entry index found = rw found at (index place)
+
+pub begun_at : (job : Job) (before : List Told) (place number : ℕ) (entry : Entry) → IsEntry job before place entry → place + 1 ≡ number
+    → numbered (activations_of job) number ≡ Some (activation_in entry)
+begun_at job before place number entry is its = numbered_at (activations_of job) place number its ∙ is.begun

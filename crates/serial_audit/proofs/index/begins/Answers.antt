@@ -1,0 +1,51 @@
+use Rattle.std.proofs.Common.{◌+◌, false, List, [], ◌∷◌, ◌++◌, map, drop, refl, sym, ◌∙◌, ap, append_assoc}
+use Rattle.std.proofs.lemmas.List.{map-append}
+use Rattle.std.proofs.lemmas.Option.{slice_get_past}
+use Rattle.desk.specs.declared.event.Event.TheVariants.{Begin}
+use Rattle.flat_machine.specs.Serial.{Activation}
+use Rattle.desk.specs.Commits.{begun}
+use Rattle.serial_audit.specs.declared.index.Entry.{Entry}
+use Rattle.serial_audit.specs.Index.{activation_in}
+use Rattle.serial_audit.proofs.BegunLemmas.{begun_here, begun_later, begun_none, got}
+use Rattle.serial_audit.proofs.IndexLemmas.{fresh_more}
+use Rattle.serial_audit.proofs.index.begins.Goals as goal
+use Rattle.serial_audit.proofs.index.begins.Goals.{in-Begin+in-Some+in_ok-push-in-Some, in-Begin+in-None, in_default}
+
+pub loop-event-preserved : goal.loop-event-preserved
+loop-event-preserved c =
+    let programs = c.args.programs.now in
+    let events = c.args.events.now in
+    let i = c.loop-event.event-index in
+    let made = map activation_in c.loop-event.entries.items in
+    elim c.match-event.branch [
+      | in-Begin+in-Some+in_ok-push-in-Some w ↦
+          let look = w.in-Some.ensures.lookup in
+          let found = rw w.from.ensures at (got programs w.from.result w.in-Some.program.now look.3.0 look.1) in
+          let entry : Entry = record { program = w.in-Some.program; args = w.in-Begin.args; steps = 0; committed = false } in
+          let activation : Activation = record { program = w.in-Some.program.now; args = w.in-Begin.args } in
+          let rest = begun programs (drop (i + 1) events) in
+          rw (w.entries-is, w.in_ok-push-in-Some.ensures.items) (record {
+            begun =
+                ap (λ (list : List Activation). list ++ rest) (map-append activation_in c.loop-event.entries.items (entry ∷ []))
+                ∙ append_assoc made (activation ∷ []) rest
+                ∙ ap (λ (list : List Activation). made ++ list)
+                (sym (begun_here programs events i w.in-Begin.program w.in-Begin.args w.in-Some.program.now (Begin 0 []) c.loop-event-test.true w.in-Begin.is found))
+                ∙ c.loop-event.invariant.begun;
+            fresh = fresh_more c.loop-event.entries.items entry c.loop-event.invariant.fresh (record { steps = refl; uncommitted = refl });
+          })
+      | in-Begin+in-None w ↦
+          let past = rw w.from.ensures at (slice_get_past programs w.from.result w.in-None.ensures.lookup.3) in
+          rw w.entries-is (record {
+            begun =
+                ap (λ (rest : List Activation). made ++ rest) (sym (begun_none programs events i w.in-Begin.program w.in-Begin.args (Begin 0 []) c.loop-event-test.true w.in-Begin.is past))
+                ∙ c.loop-event.invariant.begun;
+            fresh = c.loop-event.invariant.fresh;
+          })
+      | in_default w ↦
+          rw w.entries-is (record {
+            begun =
+                ap (λ (rest : List Activation). made ++ rest) (sym (begun_later programs events i (Begin 0 []) c.loop-event-test.true w.in_default.not-Begin))
+                ∙ c.loop-event.invariant.begun;
+            fresh = c.loop-event.invariant.fresh;
+          })
+    ]

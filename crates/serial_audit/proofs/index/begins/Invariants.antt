@@ -1,0 +1,11 @@
+use Rattle.std.proofs.Common.{◌≡◌, ◌++◌, map, drop}
+use Rattle.std.specs.List.{All}
+use Rattle.desk.specs.Commits.{begun}
+use Rattle.serial_audit.specs.Index.{IsFresh, activation_in}
+use Rattle.serial_audit.proofs.index.begins.Given as goal
+
+abbrev pub invariant-loop-event : goal.invariant-loop-event
+invariant-loop-event l = record {
+  begun : map activation_in l.entries.items ++ begun l.programs (drop l.event-index l.events) ≡ begun l.programs l.events;
+  fresh : All IsFresh l.entries.items;
+}

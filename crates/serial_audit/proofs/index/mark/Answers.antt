@@ -1,0 +1,5 @@
+use Rattle.serial_audit.proofs.IndexLemmas.{none_marked}
+use Rattle.serial_audit.proofs.index.mark.Goals as goal
+
+pub returns-in-None : goal.returns-in-None
+returns-in-None c = none_marked c.args.entries.now c.args.activation c.in-None.ensures

@@ -1,0 +1,93 @@
+// What a job says of each of its activations.
+ghost use Rattle.std.specs.Prelude.{◌≡◌, ◌≢◌, ◌+◌, ◌<◌, ℕ, [], map, slice_get, option_map, IfOk, MatchOption};
+ghost use Rattle.std.specs.List.{All};
+ghost use Rattle.desk.specs.Commits.{begun};
+ghost use Rattle.serial_audit.specs.Index.{IsFresh, IsIndex, activation_in, marked, with_turns};
+
+use desk::Event;
+use flat_machine::Program;
+use job_text::Job;
+use std::alloc::{AllocError, Global};
+
+/// What an audit holds a commit line of an activation against: its program with its arguments, how many steps its turns allow
+/// together (2^64 - 1 where it would be more), and whether one of the commit lines so far is its (docs/MODEL.md, "An audit").
+#[derive(Clone, Copy)]
+pub struct Entry<'j> {
+    pub program: &'j Program,
+    pub args: [u32; 4],
+    pub steps: u64,
+    pub committed: bool,
+}
+
+/// An entry for each activation of a job, by its number, before the first commit line. It looks at each event twice, since a
+/// turn may stand before the begin of its activation.
+pub(super) fn index_of<'j>(alloc: Global, job: &'j Job) -> Result<Vec<Entry<'j>>, AllocError>
+    ensures { IfOk result (λ entries. IsIndex job.now [] entries.items) }
+{
+    let events = job.events.as_slice();
+    let mut entries = begins(alloc, job.programs.as_slice(), events)?;
+    allow_turns(&mut entries, events);
+    Ok(entries)
+}
+
+/// The entries of the begins, as if there were no turns.
+fn begins<'j>(
+    alloc: Global,
+    programs: &'j [Program],
+    events: &[Event],
+) -> Result<Vec<Entry<'j>>, AllocError>
+    ensures begun { IfOk result (λ entries. map activation_in entries.items ≡ begun programs.now events.now) }
+    ensures fresh { IfOk result (λ entries. All IsFresh entries.items) }
+{
+    let mut entries = Vec::new(alloc);
+    for event in events {
+        if let Event::Begin { program, args } = event {
+            match programs.get(usize::from(*program)) {
+                Some(program) => entries.push(Entry {
+                    program,
+                    args: *args,
+                    steps: 0,
+                    committed: false,
+                })?,
+                None => {}
+            }
+        }
+    }
+    Ok(entries)
+}
+
+/// Gives each activation the steps that its turns among these events allow.
+fn allow_turns(entries: &mut [Entry], events: &[Event])
+    requires { All IsFresh entries.old }
+    ensures { (place : ℕ) → slice_get entries.new place ≡ option_map (with_turns events.now place) (slice_get entries.old place) }
+{
+    for event in events {
+        if let Event::Turn { activation, limit } = event {
+            match place_among(entries.len(), *activation) {
+                Some(place) => {
+                    let entry = &mut entries[place];
+                    entry.steps = entry.steps.saturating_add(u64::from(*limit));
+                }
+                None => {}
+            }
+        }
+    }
+}
+
+/// Marks an activation as one that committed, if there is one with this number.
+pub(super) fn mark(entries: &mut [Entry], activation: u32)
+    ensures { (place : ℕ) → slice_get entries.new place ≡ option_map (marked activation place) (slice_get entries.old place) }
+{
+    match place_among(entries.len(), activation) {
+        Some(place) => entries[place].committed = true,
+        None => {}
+    }
+}
+
+/// The place of an activation among so many, which are counted from 1.
+pub(super) fn place_among(count: usize, activation: u32) -> Option<usize>
+    ensures { MatchOption result ((place : ℕ) → place < count → place + 1 ≢ activation) (λ place. (place < count) × (place + 1 ≡ activation)) }
+{
+    let place = (activation as usize).checked_sub(1)?;
+    if place < count { Some(place) } else { None }
+}
