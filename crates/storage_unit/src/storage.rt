@@ -40,6 +40,7 @@ impl Unit {
     ghost use Rattle.storage_unit.specs.View.{reach_of};
 
     /// The answer to an access of so many bytes that begins at a byte.
+    #[inline(always)]
     fn answer(&mut self, first: Virtual, bytes: u8, store: bool) -> Probe
         requires { Lies (reach_of self.old) first bytes }
         ensures answer { (access : Access) → access.bytes ≡ bytes → access.store ≡ store → result ≡ answered_at (is_in_frame (reach_of self.old)) (refuses (reach_of self.old)) access (Ok first) }
@@ -78,6 +79,7 @@ impl Unit {
     }
 
     /// Whether no frame holds the page of a byte, as the buffer and the table have it.
+    #[inline(always)]
     fn is_absent(&mut self, at: Virtual) -> bool
         ensures value { result ≡ is_absent (reach_of self.old) at }
         ensures state { reach_of self.new ≡ reach_of self.old }
@@ -86,6 +88,7 @@ impl Unit {
     }
 
     /// How many bytes past a byte the first of so many lies that the entry of its page refuses. Each line is looked at once.
+    #[inline(always)]
     fn first_refused(&self, first: Virtual, bytes: u8, store: bool) -> Option<u16>
         requires { Lies (reach_of self.now) first bytes }
         ensures { result ≡ find (λ past. is_kept_from (reach_of self.now) (on (place_of (reach_of self.now).directory first) past) store) (range_with_len 0 bytes) }
@@ -152,8 +155,23 @@ impl Unit {
         BigEndian::read_u16(&halfword)
     }
 
-    /// Copies some bytes that lie in frames, page by page.
+    /// Copies some bytes that lie in frames; those of one page at once.
+    #[inline(always)]
     fn copy(&self, first: Virtual, into: &mut [u8])
+        requires some { 0 < length into.old }
+        requires lies { Lies (reach_of self.now) first (length into.old) }
+        requires there { AreThere (reach_of self.now) first (length into.old) }
+        ensures { into.new ≡ bytes_shown (reach_of self.now) (place_of (reach_of self.now).directory first) (length into.old) }
+    {
+        if into.len() <= 2048 - usize::from(first.byte) {
+            self.copy_part(first, into);
+        } else {
+            self.copy_parts(first, into);
+        }
+    }
+
+    /// The same page by page.
+    fn copy_parts(&self, first: Virtual, into: &mut [u8])
         requires some { 0 < length into.old }
         requires lies { Lies (reach_of self.now) first (length into.old) }
         requires there { AreThere (reach_of self.now) first (length into.old) }
@@ -165,11 +183,12 @@ impl Unit {
         } else {
             let (front, back) = into.split_at_mut(rest);
             self.copy_part(first, front);
-            self.copy(byte_past(first, rest as u16), back);
+            self.copy_parts(byte_past(first, rest as u16), back);
         }
     }
 
     /// Copies some bytes of one page that is in a frame.
+    #[inline(always)]
     fn copy_part(&self, first: Virtual, into: &mut [u8])
         requires some { 0 < length into.old }
         requires within { first.byte + length into.old ≤ 2048 }
@@ -182,8 +201,23 @@ impl Unit {
         }
     }
 
-    /// Writes some bytes over those from a byte on, which lie in frames, page by page.
+    /// Writes some bytes over those from a byte on, which lie in frames; those of one page at once.
+    #[inline(always)]
     fn put(&mut self, first: Virtual, from: &[u8])
+        requires some { 0 < length from.now }
+        requires lies { Lies (reach_of self.old) first (length from.now) }
+        requires there { AreThere (reach_of self.old) first (length from.now) }
+        ensures { reach_of self.new ≡ put_at (reach_of self.old) (place_of (reach_of self.old).directory first) from.now }
+    {
+        if from.len() <= 2048 - usize::from(first.byte) {
+            self.put_part(first, from);
+        } else {
+            self.put_parts(first, from);
+        }
+    }
+
+    /// The same page by page.
+    fn put_parts(&mut self, first: Virtual, from: &[u8])
         requires some { 0 < length from.now }
         requires lies { Lies (reach_of self.old) first (length from.now) }
         requires there { AreThere (reach_of self.old) first (length from.now) }
@@ -194,11 +228,12 @@ impl Unit {
             self.put_part(first, from);
         } else {
             self.put_part(first, &from[..rest]);
-            self.put(byte_past(first, rest as u16), &from[rest..]);
+            self.put_parts(byte_past(first, rest as u16), &from[rest..]);
         }
     }
 
-    /// The same within one page.
+    /// Writes some bytes over those of one page, which is in a frame.
+    #[inline(always)]
     fn put_part(&mut self, first: Virtual, from: &[u8])
         requires some { 0 < length from.now }
         requires within { first.byte + length from.now ≤ 2048 }

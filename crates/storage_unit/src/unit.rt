@@ -103,6 +103,7 @@ impl Unit {
 
     /// The frame that holds the page of an address, as the table has it: asked of the buffer first, which then stays, and
     /// else of the table, whose answer comes into the buffer. All else stays.
+    #[inline(always)]
     pub fn translate(&mut self, at: Virtual) -> Option<u16>
         ensures value { result ≡ look_up (table_of (reach_of self.old)).keys (key_of at) }
         ensures found { result ≡ found (buffer_of self.old) (look_up (table_of (reach_of self.old)).keys (key_of at)) (key_of at) }

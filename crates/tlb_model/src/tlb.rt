@@ -92,8 +92,8 @@ impl Ways {
     fn forget(&mut self, frame: u16)
         ensures { self.new ≡ ways_without frame self.old }
     {
-        self.older = unless_of(self.older, frame);
-        self.newer = unless_of(self.newer, frame);
+        forget_pair(&mut self.older, frame);
+        forget_pair(&mut self.newer, frame);
     }
 }
 
@@ -166,12 +166,12 @@ fn is_of(pair: Pair, at: Virtual) -> bool
     pair.segment == at.segment && pair.page == at.page
 }
 
-/// A pair, if it isn't of a frame.
-fn unless_of(pair: Option<Pair>, frame: u16) -> Option<Pair>
-    ensures { result ≡ unless_of frame pair }
+/// A pair goes if it is of a frame.
+fn forget_pair(pair: &mut Option<Pair>, frame: u16)
+    ensures { pair.new ≡ unless_of frame pair.old }
 {
     match pair {
-        Some(held) if held.frame == frame => None,
-        _ => pair,
+        Some(held) if held.frame == frame => *pair = None,
+        _ => {}
     }
 }

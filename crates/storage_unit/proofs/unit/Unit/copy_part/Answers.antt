@@ -1,5 +1,4 @@
 use Rattle.std.proofs.Common.{◌≡◌, ℕ, ◌+◌, ◌<◌, ◌≤◌, List, length, sym, ◌∙◌, ap, refl, Option, Some, None}
-use Rattle.inverted_table.specs.declared.key.Key.{Key}
 use Rattle.inverted_table.specs.Keys.{key_of}
 use Rattle.inverted_table.specs.Placed.{look_up}
 use Rattle.segment_regs.specs.declared.registers.Virtual.{Virtual}

@@ -3,7 +3,6 @@ use Rattle.std.proofs.lemmas.List.{length-take, length-drop}
 use Rattle.line_geometry.specs.Segments.{page_bytes}
 use Rattle.line_geometry.specs.Directory.{Layout}
 use Rattle.segment_regs.specs.declared.registers.Virtual.{Virtual}
-use Rattle.inverted_table.specs.declared.key.Key.{Key}
 use Rattle.inverted_table.specs.Keys.{key_of}
 use Rattle.inverted_table.specs.Placed.{look_up}
 use Rattle.frame_pool.specs.declared.model.Pool.{Pool}

@@ -8,7 +8,7 @@ use Rattle.storage_unit.specs.Reached.{Lies, AreThere, bytes_shown}
 use Rattle.storage_unit.specs.View.{reach_of}
 use Rattle.storage_unit.proofs.PlaceLemmas.{lies-on, there-on, place-on}
 use Rattle.storage_unit.proofs.CopyLemmas.{shown-split}
-use Rattle.storage_unit.proofs.unit.Unit.+copy.Goals as goal
+use Rattle.storage_unit.proofs.unit.Unit.+copy_parts.Goals as goal
 
 behind : (state : Reach) (first next : Virtual) (rest m n : ℕ) → next ≡ bytes_on first rest → rest + m ≤ n → Lies state first n → AreThere state first n → Lies state next m × AreThere state next m
 behind state first next rest m n is less lies there =
@@ -23,8 +23,8 @@ joined state first next rest m n front back is sum one two =
     ∙ shown-split state (place_of state.directory first) rest m
     ∙ ap (bytes_shown state (place_of state.directory first)) sum
 
-pub copy-requires : goal.copy-requires
-copy-requires t c =
+pub copy_parts-requires : goal.copy_parts-requires
+copy_parts-requires t c =
     let split = c.split_at_mut-front.ensures in
     let n = length c.args.into.now in
     let m = length c.split_at_mut-front.result.1.now in
@@ -39,5 +39,5 @@ returns-else-into-rest t c =
     let state = reach_of c.args.self.now in
     let rest = 2048 - c.from-rest.result in
     joined state c.args.first c.byte_past.result rest (length c.split_at_mut-front.result.1.now) (length c.args.into.now)
-    c.copy_part-else-into-rest.new.into c.copy.new.into c.byte_past.ensures (omega (arith, split.back_len, c.if-into-rest.false))
-    (c.copy_part-else-into-rest.ensures ∙ ap (bytes_shown state (place_of state.directory c.args.first)) split.front_len) c.copy.ensures
+    c.copy_part-else-into-rest.new.into c.copy_parts.new.into c.byte_past.ensures (omega (arith, split.back_len, c.if-into-rest.false))
+    (c.copy_part-else-into-rest.ensures ∙ ap (bytes_shown state (place_of state.directory c.args.first)) split.front_len) c.copy_parts.ensures

@@ -12,7 +12,7 @@ use Rattle.storage_unit.proofs.PlaceLemmas.{lies-on, there-on, place-on}
 use Rattle.storage_unit.proofs.AfterLemmas.{private-room, lies-after, there-after, directory-after}
 use Rattle.storage_unit.proofs.StoreLemmas.{put-then}
 use Rattle.storage_unit.proofs.UnitLemmas.{unit-sound}
-use Rattle.storage_unit.proofs.unit.Unit.+put.Goals as goal
+use Rattle.storage_unit.proofs.unit.Unit.+put_parts.Goals as goal
 
 behind : (state now : Reach) (first next : Virtual) (place : Located) (part : List ℕ) (rest m n : ℕ) → now ≡ put_at state place part → next ≡ bytes_on first rest → rest + m ≤ n
     → Lies state first n → AreThere state first n → Lies now next m × AreThere now next m
@@ -38,8 +38,8 @@ joined state middle now sound first next rest from part other some more whole lo
     (λ a private. let (room, all) = private-room state sound first (length from) a lies private in omega (arith, room, all, ap length whole, length-append part other))
     ∙ ap (put_at state (place_of state.directory first)) whole
 
-pub put-requires : goal.put-requires
-put-requires t c =
+pub put_parts-requires : goal.put_parts-requires
+put_parts-requires t c =
     let state = reach_of c.args.self.now in
     let from = c.args.from.now in
     let n = length from in
@@ -57,7 +57,7 @@ returns-else-from-rest t c =
     let rest = 2048 - c.from-rest.result in
     let some : 0 < rest = omega (arith, c.from-rest.ensures, c.requires.lies.within) in
     let less : rest < n = omega (arith, c.if-from-rest.false) in
-    joined (reach_of unit) (reach_of c.put_part-else-from-rest.new.self) (reach_of c.put.new.self) (unit-sound unit) c.args.first c.byte_past.result rest from (take rest from) (drop rest from)
+    joined (reach_of unit) (reach_of c.put_part-else-from-rest.new.self) (reach_of c.put_parts.new.self) (unit-sound unit) c.args.first c.byte_past.result rest from (take rest from) (drop rest from)
     (simp length-take (omega (arith, some, less))) (simp length-drop (omega (arith, less))) (take-append-drop rest from) (simp length-take (omega (arith, less)))
     c.requires.lies c.byte_past.ensures c.put_part-else-from-rest.ensures
-    (c.put.ensures ∙ ap (put_at (reach_of c.put_part-else-from-rest.new.self) (place_of c.put_part-else-from-rest.new.self.directory c.byte_past.result)) (left from rest (omega (arith, less))))
+    (c.put_parts.ensures ∙ ap (put_at (reach_of c.put_part-else-from-rest.new.self) (place_of c.put_part-else-from-rest.new.self.directory c.byte_past.result)) (left from rest (omega (arith, less))))
