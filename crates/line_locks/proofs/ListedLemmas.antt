@@ -4,13 +4,13 @@ use Rattle.std.specs.List.{range_with_len}
 use Rattle.std.proofs.Common.{arith, ap, sym, ◌∙◌, subst, inl, inr, get_or, get_or-set_same, get_or-set_other}
 use Rattle.std.proofs.lemmas.Bool.{eqb-true, eqb-false, eq-eqb, both_ways, or_cases, or_parts, or_left, or_right, not-true, not-false, cond-false, cases_lt, cases_Bool}
 use Rattle.std.proofs.lemmas.List.{get_or-replicate, length_push, nil_from_length, get_or_past, same_lists, get_or_default, length-replicate}
-use Rattle.lock_rules.specs.Sets.{has, distinct, size}
+use Rattle.lock_rules.specs.Sets.{has, distinct, meets, size}
 use Rattle.lock_rules.proofs.Sets.{has-append, in_range}
 use Rattle.lock_rules.proofs.Sizes.{size-part, size-range, size-apart}
 use Rattle.line_geometry.specs.LineSets.{IsOfPage, union}
 use Rattle.line_geometry.proofs.LineSetLemmas.{is_in_where-below, of_page-below}
 use Rattle.line_locks.specs.declared.request.Want.{Want}
-use Rattle.line_locks.specs.Held.{nothing, of_page, holds_some, together}
+use Rattle.line_locks.specs.Held.{nothing, of_page, holds_some, together, conflicts_in, conflicts_with}
 use Rattle.line_locks.specs.Counted.{AreListed}
 
 -- where nothing is held, no line is
@@ -154,3 +154,17 @@ pub all-none : (pages : List (List ℕ × List ℕ)) (count : ℕ) → length pa
 all-none pages count long none =
     same_lists pages (replicate count nothing) (long ∙ sym (length-replicate count nothing))
     (λ k d within. get_or_default pages k d nothing within ∙ none k ∙ sym (get_or-replicate count k nothing d (omega (arith, within, long))))
+
+-- where no page is listed, nothing is in conflict with what is held
+pub none-conflicts : (pages : List (List ℕ × List ℕ)) → AreListed pages [] → (wants : List Want) → conflicts_with pages wants ≡ false
+none-conflicts pages are [] = refl
+none-conflicts pages are (want ∷ wants) =
+    ap (λ b. b || conflicts_with pages wants) (ap (conflicts_in want) (none-held (of_page pages want.page) (sym (are.each want.page))) ∙ calm want)
+    ∙ none-conflicts pages are wants
+  where
+    free : (set : List ℕ) → meets set [] ≡ false
+    free [] = refl
+    free (x ∷ set) = free set
+
+    calm : (want : Want) → conflicts_in want nothing ≡ false
+    calm want = ap (λ b. b || meets want.reads []) (free want.writes) ∙ free want.reads

@@ -75,6 +75,9 @@ impl SeatLines {
         requires { AreWithin (length self.now) request.now.wants.items }
         ensures { result ≡ conflicts_with self.now request.now.wants.items }
     {
+        if self.held.is_empty() {
+            return false;
+        }
         for want in request.wants.as_slice() {
             if is_in_conflict(want, self.held(want.page)) {
                 return true;

@@ -1,0 +1,13 @@
+use Rattle.std.proofs.Common.{◌≡◌, [], List, ℕ, vec_len, sym, ◌∙◌, subst, arith}
+use Rattle.std.proofs.lemmas.Bool.{eqb-true}
+use Rattle.std.proofs.lemmas.List.{nil_from_length}
+use Rattle.line_locks.specs.Counted.{AreListed}
+use Rattle.line_locks.proofs.ListedLemmas.{none-conflicts}
+use Rattle.line_locks.proofs.seat.SeatLines.conflicts.Goals as goal
+
+pub returns-then-is_empty : goal.returns-then-is_empty
+returns-then-is_empty c =
+    let zero : vec_len c.self.inside.held ≡ 0 = eqb-true (vec_len c.self.inside.held) 0 (sym c.is_empty.ensures ∙ c.if-is_empty.true) in
+    let none : c.self.inside.held.items ≡ [] = nil_from_length c.self.inside.held.items (omega (arith, zero, c.self.inside.held.ok)) in
+    let pages = subst (λ (pages : List (List ℕ × List ℕ)). AreListed pages c.self.inside.held.items) c.self.view_is c.self.invariant.1 in
+    sym (none-conflicts c.args.self.now (subst (λ (list : List ℕ). AreListed c.args.self.now list) none pages) c.args.request.now.wants.items)
