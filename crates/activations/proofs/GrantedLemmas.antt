@@ -1,8 +1,6 @@
 -- Who took what he asked for is granted it as on the desk: his lines are open then, and his next row isn't refused.
-use Rattle.std.specs.Prelude.{◌≡◌, refl, ℕ, zero, suc, ◌+◌, ◌-◌, ◌<◌, ◌==◌, if◌then◌else◌, Bool, true, false, List, [], ◌∷◌, ◌++◌, filter, length, slice_index_or, Some}
+use Rattle.std.specs.Prelude.{◌≡◌, refl, ℕ, zero, suc, ◌+◌, ◌-◌, ◌<◌, Bool, true, false, List, ◌++◌, length, slice_index_or, Some}
 use Rattle.std.proofs.Common.{arith, ap, sym, ◌∙◌, subst, inl, inr}
-use Rattle.std.proofs.lemmas.Bool.{eqb-true, or_cases}
-use Rattle.std.proofs.lemmas.List.Elements.{All-head, All-tail}
 use Rattle.line_geometry.specs.FlatStore.{FlatStore}
 use Rattle.lock_rules.specs.Sets.{has}
 use Rattle.lock_rules.specs.Lines.{Lines, both, page_of_line, pages_of, with_whole_pages}
@@ -42,29 +40,11 @@ use Rattle.activations.specs.Follows.{IsSound}
 use Rattle.activations.specs.Serves.{IsFetched}
 use Rattle.activations.specs.Serving.{AreGranted, IsFree, locked}
 use Rattle.activations.specs.Steps.{with_pool}
-use Rattle.activations.specs.Touched.{AreWanted, pages_refused, pages_wanted, refuses_want}
+use Rattle.activations.specs.Touched.{AreWanted, pages_wanted}
 use Rattle.activations.proofs.EndLemmas.{sound-pool}
 use Rattle.activations.proofs.GrantLemmas.{opened}
 use Rattle.activations.proofs.GrantingLemmas.{within-whole}
 use Rattle.activations.proofs.TakenLemmas.{taken-alike, granted-all}
-
--- a page that is refused is one of those that are wanted
-pub refused-below : (owned : List Authority) (tid pages : ℕ) (wants : List Want) → AreWithin pages wants → (page : ℕ) → has (pages_refused owned tid wants) page ≡ true → page < pages
-refused-below owned tid pages [] within page inside = absurd (cc)
-refused-below owned tid pages (want ∷ wants) within page inside =
-    by_test (refuses_want owned tid want) inside (refused-below owned tid pages wants (All-tail (λ (w : Want). w.page < pages) want wants within) page)
-  where
-    first : want.page < pages
-    first = All-head (λ (w : Want). w.page < pages) want wants within
-
-    by_test : (refused : Bool) → has (pages_wanted (if refused then want ∷ filter (refuses_want owned tid) wants else filter (refuses_want owned tid) wants)) page ≡ true
-        → (has (pages_refused owned tid wants) page ≡ true → page < pages) → page < pages
-    by_test true there rest =
-        elim (or_cases (want.page == page) (has (pages_refused owned tid wants) page) there) [
-          | inl here ↦ subst (λ (p : ℕ). p < pages) (eqb-true want.page page here) first
-          | inr later ↦ rest later
-        ]
-    by_test false there rest = rest there
 
 -- the numbers under identifiers are those of who sits there, whatever is held
 pub under-locked : (a : Activity) (seat : ℕ) (wants : List Want) (owned : List Authority) → number_under (locked a seat wants owned) ≡ number_under a

@@ -5,7 +5,7 @@ use Rattle.std.specs.List.{fold}
 use Rattle.outside.specs.declared.world.Outside.{Ghosts}
 use Rattle.outside.specs.declared.failed.Failed.{Failed}
 use Rattle.outside.specs.Bytes.{AreTold, Prints}
-use Rattle.outside.specs.Causes.{Rose, RoseBy}
+use Rattle.outside.specs.Causes.{RoseBy}
 use Rattle.outside.specs.Durable.{IsSure}
 use Rattle.outside.specs.Moments.{Elapses}
 use Rattle.outside.specs.Runs.{CallsDisk, FewerLater, Leaves, OnlyAsks, held_of}
@@ -44,7 +44,7 @@ use Rattle.job_text.proofs.BigLemmas.{events_all}
 use Rattle.console.specs.declared.status.Status.{Status}
 use Rattle.console.specs.declared.status.Status.TheVariants as status
 use Rattle.console.specs.Big.{HasBigRun, IsToldBy, Loaded, LoadedBy, RanBig, big_line, last_out, line_for}
-use Rattle.console.specs.Causes.{IsOfEvents, IsPastOpening, OpensBy}
+use Rattle.console.specs.Causes.{IsPastOpening, OpensBy}
 use Rattle.console.specs.Listed.{put_of}
 use Rattle.console.specs.Show.{PrintsBy}
 use Rattle.console.specs.Headline.{job_desk}
@@ -279,29 +279,6 @@ module _ {W : Type 0} (G : Ghosts W) (fewer_later : FewerLater G) (printed_now :
           calls.quiet.same ∙ asks.calls.quiet.same,
         );
       }))
-
--- the counts of faults, by how it ended
-module _ {W : Type 0} (G : Ghosts W) (transfers : ℕ) (last : List ℕ) (between after : W) where
-  pub told_unfailed : (quiet : Quiet) (now : Status) → IsToldBy G transfers quiet last between after now → now ≡ Status.Done → G.put_faults after ≡ G.put_faults between
-  told_unfailed (quiet.Ended commits rollbacks) now (past, puts, times) is = (subst (λ (status : Status). Puts G (big_line transfers commits rollbacks last) between after (put_of status)) is puts).only.cause.done
-  told_unfailed quiet.Closed now (shut, same) is = absurd (let no : ⊥ = cc in no)
-
-  pub told_put : (quiet : Quiet) (now : Status) → IsToldBy G transfers quiet last between after now → now ≡ Status.PutFault → Rose (G.put_faults between) (G.put_faults after)
-  told_put (quiet.Ended commits rollbacks) now (past, puts, times) is = (subst (λ (status : Status). Puts G (big_line transfers commits rollbacks last) between after (put_of status)) is puts).only.cause.failed
-  told_put quiet.Closed now (shut, same) is = absurd (let no : ⊥ = cc in no)
-
-  pub told_shut : (quiet : Quiet) (now : Status) → IsToldBy G transfers quiet last between after now → now ≡ Status.DiskFault → (quiet ≡ Quiet.Closed) × (after ≡ between)
-  told_shut (quiet.Ended commits rollbacks) now (past, puts, times) is = absurd (subst IsPastOpening is past)
-  told_shut quiet.Closed now (shut, same) is = (refl, same)
-
-  pub told_only : (quiet : Quiet) (now : Status) → IsToldBy G transfers quiet last between after now → IsOfEvents now
-  told_only (quiet.Ended commits rollbacks) now (past, puts, times) = of_past now past
-    where
-      of_past : (now : Status) → IsPastOpening now → IsOfEvents now
-      of_past status.Done past = tt
-      of_past status.PutFault past = tt
-      of_past _ past = absurd past
-  told_only quiet.Closed now (shut, same) = subst IsOfEvents (sym shut) tt
 
 -- the events of a load have no crash
 pub lasting : (transfers : ℕ) → All IsLasting (big_events transfers)

@@ -1,15 +1,12 @@
 -- The statuses of a run on a disk, by how it was opened and how it ended.
-use Rattle.std.proofs.Common.{◌≡◌, ℕ, List, inl, inr, refl, sym, ◌∙◌, ap, false}
+use Rattle.std.proofs.Common.{◌≡◌, ℕ, inr, refl, ◌∙◌, ap, false}
 use Rattle.std.specs.Prelude.{IsSome, IsTrue}
 use Rattle.outside.specs.declared.world.Outside.{Ghosts}
 use Rattle.outside.specs.Causes.{Rose}
 use Rattle.outside.specs.Runs.{held_of}
 use Rattle.store_format.specs.Header.{Header}
 use Rattle.store_format.specs.Bank.{Faulty, bank_of}
-use Rattle.store_format.specs.Stands.{Standing, Stands, NotAStore, Damaged, stands, chosen}
-use Rattle.redo_journal.specs.declared.fault.OpenFault.{OpenFault}
-use Rattle.redo_journal.specs.declared.fault.OpenFault.TheVariants as fault
-use Rattle.restart.specs.Faults.{IsOpenFault}
+use Rattle.store_format.specs.Stands.{chosen}
 use Rattle.supervisor.specs.Opened.{HasStood}
 use Rattle.supervisor.specs.declared.session.Session.{Session}
 use Rattle.supervisor.specs.contracts.supervisor.SessionSupervisor.TheImpl.{ghosts}
@@ -17,34 +14,11 @@ use Rattle.schedule_replay.specs.declared.events.Replayed.{Replayed}
 use Rattle.schedule_replay.specs.declared.events.Replayed.TheVariants as replayed
 use Rattle.schedule_replay.specs.Replays.{EndsBy}
 use Rattle.console.specs.declared.status.Status.{Status}
-use Rattle.console.specs.Statuses.{status_of_open, status_of_replay}
-use Rattle.console.specs.Opening.{IsStanding}
+use Rattle.console.specs.Statuses.{status_of_replay}
 use Rattle.console.specs.Causes.{OpensBy}
 
 same-offset : (one two : ℕ) → Status.Store one ≡ Status.Store two → one ≡ two
 same-offset one two is = cc
-
--- bytes that stand have no fault
-standing-is-none : (held : List ℕ) (offset : ℕ) → IsStanding held → stands held ≡ NotAStore offset → ⊥
-standing-is-none held offset (number, store, stood) is = let both : Stands number store ≡ NotAStore offset = sym stood ∙ is in absurd cc
-
-standing-undamaged : (held : List ℕ) (offset : ℕ) → IsStanding held → stands held ≡ Damaged offset → ⊥
-standing-undamaged held offset (number, store, stood) is = let both : Stands number store ≡ Damaged offset = sym stood ∙ is in absurd cc
-
--- a store that wasn't opened
-pub opens-fault : {W : Type 0} (G : Ghosts W) (before now : W) (fault : OpenFault) → IsOpenFault G before now fault → OpensBy G before now (status_of_open fault)
-opens-fault G before now (fault.NotAStore at) is = record {
-  no_store = λ offset same told. inl (inl (is told ∙ ap (λ (n : ℕ). let that : Standing = NotAStore n in that) (same-offset at offset same)));
-  store = λ past. absurd past;
-  never = λ honest told standing offset same. standing-is-none (held_of G before) at standing (is told);
-}
-opens-fault G before now (fault.Damaged at) is = record {
-  no_store = λ offset same told. inl (inr (is told ∙ ap (λ (n : ℕ). let that : Standing = Damaged n in that) (same-offset at offset same)));
-  store = λ past. absurd past;
-  never = λ honest told standing offset same. standing-undamaged (held_of G before) at standing (is told);
-}
-opens-fault G before now fault.DiskFault is = record { no_store = λ offset same told. absurd cc; store = λ past. absurd past; never = λ honest told standing offset same. absurd cc }
-opens-fault G before now fault.Memory is = record { no_store = λ offset same told. absurd cc; store = λ past. absurd past; never = λ honest told standing offset same. absurd cc }
 
 -- a store that was opened, and what was replayed on it
 pub opens-by : {W : Type 0} (G : Ghosts W) (before start now : W) (desk new : Session) (result : Replayed) → (IsSome (G.held before) → HasStood desk.store.header (held_of G before))

@@ -1,6 +1,6 @@
 -- What a drill's stops come to, and what is put of them.
-use Rattle.std.proofs.Common.{◌≡◌, ◌⊎◌, inl, inr, ℕ, zero, suc, ◌+◌, ◌*◌, ◌%◌, ◌<◌, ◌≤◌, Bool, true, false, List, [], ◌∷◌, ◌++◌, length, refl, sym, ◌∙◌, ap, subst, rules, arith, append_assoc, append-nil, length-append}
-use Rattle.std.specs.Prelude.{◌^◌, min, All, Result, Ok, Err, Vec}
+use Rattle.std.proofs.Common.{◌≡◌, inl, inr, ℕ, zero, suc, ◌+◌, ◌*◌, ◌%◌, ◌<◌, ◌≤◌, Bool, true, false, List, [], ◌∷◌, ◌++◌, length, refl, sym, ◌∙◌, ap, subst, rules, arith, append_assoc, append-nil, length-append}
+use Rattle.std.specs.Prelude.{◌^◌, min, All, Result, Ok, Vec}
 use Rattle.std.specs.declared.alloc.Global.{Global}
 use Rattle.std.proofs.lemmas.Bool.{cases_lt}
 use Rattle.line_geometry.specs.FlatStore.{FlatStore}
@@ -104,12 +104,6 @@ module _ {W : Type 0} (G : Ghosts W) where
   pub all-put : (job : Job) (before after : W) (count : ℕ) → count ≤ 256 → min 256 (2 * length (try_order job)) ≤ count → IsPut before after count → PutsStops G job before after (Ok count)
   all-put job before after count few enough put = (as-first before after count few put, put.many, enough)
 
-  -- by the status with which it ended
-  pub stops-ended : (job : Job) (before after : W) (status : Status) → PutsStops G job before after (Err status) → DrilledTo G job before after status
-  stops-ended job before after status.PutFault put = inl put
-  stops-ended job before after status.NoMemory put = put
-  stops-ended job before after _ put = absurd put
-
   one-pair : (pairs : List Pair) (pair : Pair) → All IsPair pairs → IsPair pair → All IsPair (pairs ++ pair ∷ [])
   one-pair [] pair each this zero d below = this
   one-pair [] pair each this (suc k) d below = absurd (omega arith)
@@ -183,12 +177,6 @@ module _ {W : Type 0} (G : Ghosts W) (job : Job) (before after : W) where
   drill-same status.PutFault did is = absurd (cc)
   drill-same status.NoMemory did is = absurd (cc)
   drill-same _ did is = absurd did
-
-  pub drill-only : (status : Status) → DrilledTo G job before after status → (status ≡ Status.Done) ⊎ (status ≡ Status.PutFault) ⊎ (status ≡ Status.NoMemory)
-  drill-only status.Done did = search rules
-  drill-only status.PutFault did = search rules
-  drill-only status.NoMemory did = search rules
-  drill-only _ did = absurd did
 
   -- of a text that means the job
   pub drilled-text : (left left_now : Option (List ℕ)) (text : List ℕ) (status : Status) → IsWhole left left_now text → job_of text ≡ Ok (content_of job) → DrilledTo G job before after status → DrilledBy G left left_now before after status

@@ -1,10 +1,9 @@
 -- Cycles of waits and their victims.
 use Rattle.std.specs.Prelude.{◌≡◌, refl, ℕ, zero, suc, ◌+◌, ◌<◌, ◌≤◌, ◌==◌, ◌⊎◌, not, max, if◌then◌else◌, Bool, true, false, List, [], ◌∷◌, ◌++◌, length, filter, map, find, fold, Option, Some, None, slice_index_or}
-use Rattle.std.specs.Option.{option_map_or}
 use Rattle.std.proofs.Common.{arith, ap, sym, ◌∙◌, subst, inl, inr, length-append}
 use Rattle.std.proofs.lemmas.Bool.{eqb-true, eq-eqb, ne_eqb, both_ways, and_parts, and_from, or_left, or_right, not_from_false, not-true, false_from_ne_true, cases_lt, not_from_true, cond-false}
 use Rattle.lock_rules.specs.Sets.{has}
-use Rattle.lock_rules.specs.Waits.{leads, next_shown, shown_after, shown_cycle, victim_of}
+use Rattle.lock_rules.specs.Waits.{leads, shown_after, shown_cycle, victim_of}
 use Rattle.lock_rules.proofs.Cycles.{after-among}
 use Rattle.line_geometry.specs.FlatStore.{IsWhole}
 use Rattle.desk.specs.Desk.{Desk, Entry, Authority, nobody, rolled_back}
@@ -259,27 +258,3 @@ breaks-all (suc left) one most entry old desk counts named among is enough store
             store limit
             (freed-keeps one victim.number old.authority desk.authority (ap (λ (n : ℕ). n == one) victim_is ∙ e) keeps)
             (one_more victim found)
-
--- A shown cycle has no more members than there are numbers, and the first once more.
-shown-short : (waits : ℕ → ℕ → Bool) (all : List ℕ) (steps first last : ℕ) → length (shown_after waits all steps first last) ≤ steps
-shown-short waits all zero first last = omega arith
-shown-short waits all (suc steps) first last = by_next (next_shown waits all first last) (λ next. shown-short waits all steps first next)
-  where
-    by_next :
-        (next : Option ℕ) → ((next : ℕ) → length (shown_after waits all steps first next) ≤ steps)
-        → length (option_map_or (λ next. next ∷ (if next == first then [] else shown_after waits all steps first next)) next []) ≤ suc steps
-    by_next None rest = omega arith
-    by_next (Some next) rest = by_test (next == first)
-      where
-        by_test : (round : Bool) → suc (length (if round then [] else shown_after waits all steps first next)) ≤ suc steps
-        by_test true = omega arith
-        by_test false = omega (arith, rest next)
-
-pub cycle-short : (waits : ℕ → ℕ → Bool) (all : List ℕ) (first : ℕ) (cycle : List ℕ) → shown_cycle waits all first ≡ Some cycle → length cycle ≤ suc (length all)
-cycle-short waits all first cycle is = by_test (leads waits all (length all) first first) is
-  where
-    by_test : (round : Bool) → (if round then Some (first ∷ shown_after waits all (length all) first first) else None) ≡ Some cycle → length cycle ≤ suc (length all)
-    by_test true is =
-        let it : first ∷ shown_after waits all (length all) first first ≡ cycle = cc in
-        omega (arith, ap (λ (c : List ℕ). length c) it, shown-short waits all (length all) first first)
-    by_test false is = absurd (cc)

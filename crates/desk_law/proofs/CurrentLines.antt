@@ -6,9 +6,8 @@ use Rattle.std.proofs.lemmas.Bool.{eqb-true, eq-eqb, both_ways, or_from, or_left
 use Rattle.line_geometry.specs.Directory.{Layout, byte_count}
 use Rattle.line_geometry.specs.FlatStore.{FlatStore, IsWhole}
 use Rattle.lock_rules.specs.Sets.{has}
-use Rattle.lock_rules.specs.Lines.{Lines, page_of_line, pages_of}
-use Rattle.lock_rules.proofs.Lines.{has-whole_pages, pages_of-line}
-use Rattle.lock_rules.proofs.Sets.{has-append, has_left, has_right}
+use Rattle.lock_rules.specs.Lines.{Lines}
+use Rattle.lock_rules.proofs.Sets.{has-append, has_right}
 use Rattle.flat_machine.specs.declared.machine.Plain.{Plain}
 use Rattle.flat_machine.specs.declared.machine.Plan.{Plan}
 use Rattle.flat_machine.specs.declared.machine.Plan.TheVariants.{Does, Fails}
@@ -77,18 +76,6 @@ module _ (store : FlatStore) (most_lines next : ℕ) (entries : List Entry) (are
         | inl same ↦ one-entry 0 next entries other entry are.ascend there here (eqb-true other.number entry.number same)
         | inr differ ↦ absurd (both_ways (has (all_of (due_to store entry)) line) ((are.apart other entry there here differ).first_writes line wrote) holds)
       ]
-
-  -- a page that one wrote into has no line of another
-  pub one-writer : (entry other : Entry) (wrote line : ℕ) → IsAmong entries entry → IsAmong entries other → (other.number == entry.number) ≡ false
-      → has (touched_of store entry).writes wrote ≡ true → page_of_line wrote ≡ page_of_line line → has (touched_of store other).writes line ≡ false
-  one-writer entry other wrote line here there differ is_written one_page =
-      false_from_ne_true (has (touched_of store other).writes line)
-      (λ also.
-      both_ways (has (all_of (due_to store entry)) line) ((are.apart other entry there here differ).first_writes line also)
-      (has_left (due_to store entry).reads (due_to store entry).writes line
-      (has-whole_pages (touched_of store entry) line
-      ∙ or_right (has (touched_of store entry).reads line) (has (pages_of (touched_of store entry).writes) (page_of_line line))
-      (ap (has (pages_of (touched_of store entry).writes)) (sym one_page) ∙ pages_of-line (touched_of store entry).writes wrote is_written))))
 
   pub writer-is : (entry : Entry) (line : ℕ) → IsAmong entries entry → has (touched_of store entry).writes line ≡ true → writer store entries line ≡ Some entry
   writer-is entry line here wrote = by_found (writer store entries line) refl

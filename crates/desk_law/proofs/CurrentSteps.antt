@@ -14,7 +14,7 @@ use Rattle.desk_law.specs.Beside.{IsLaid}
 use Rattle.desk_law.specs.Changes.{left_by}
 use Rattle.desk_law.specs.Consistent.{IsAmong, due_to, AreConsistent}
 use Rattle.desk_law.specs.Current.{IsCurrent}
-use Rattle.desk_law.proofs.CurrentLines.{somebody, current-written, current-unwritten, current-held, rollback-written, rollback-others, commit-current}
+use Rattle.desk_law.proofs.CurrentLines.{somebody, current-written, current-unwritten, rollback-written, rollback-others, commit-current}
 use Rattle.desk_law.proofs.Entries.{replaced, among-replaced, replaced-among, new-among, among-push, push-among, one-entry}
 use Rattle.desk_law.proofs.Others.{touched_of, others}
 
@@ -33,23 +33,6 @@ module _ (store : FlatStore) (most_lines next : ℕ) (entries : List Entry) (are
     wrote = λ entry state line here at written. is.lines line ∙ current-written store most_lines next entries are entry state line here at written;
     rest = λ line none. is.lines line ∙ current-unwritten store most_lines next entries are line none;
   }
-
-  pub shown-each : ShowsEach store entries bytes → IsCurrent store entries bytes
-  shown-each shows = record {
-    long = shows.long;
-    lines = λ line. elim (somebody store most_lines next entries are line) [
-      | inl some ↦
-          let live = are.live some.0 some.1 in
-          shows.wrote some.0 live.state line some.1 live.is some.2 ∙ sym (current-written store most_lines next entries are some.0 live.state line some.1 live.is some.2)
-      | inr none ↦ shows.rest line none ∙ sym (current-unwritten store most_lines next entries are line none)
-    ];
-  }
-
-  -- an active entry finds its own bytes on each line that it holds
-  pub held-shown : (entry : Entry) (state : Plain) (line : ℕ) → IsWhole store → IsAmong entries entry → after entry.runs.program entry.runs.args store entry.rows ≡ Some state
-      → IsCurrent store entries bytes → has ((due_to store entry).reads ++ (due_to store entry).writes) line ≡ true
-      → line_in store.directory bytes line ≡ line_in store.directory state.store line
-  held-shown entry state line whole here at is holds = is.lines line ∙ current-held store most_lines next entries are entry state line whole here at holds
 
   -- A rollback: the lines that the entry wrote are laid back from the committed store.
   pub current-rolled : (gone : Entry) (new : List ℕ) → IsAmong entries gone → IsCurrent store entries bytes → IsLaid store (due_to store gone).writes store.bytes bytes new

@@ -1,13 +1,12 @@
 -- After two pages were fetched into two frames or more, both are there.
-use Rattle.std.proofs.Common.{◌≡◌, ◌≢◌, ℕ, zero, suc, ◌+◌, ◌<◌, ◌≤◌, Bool, true, false, List, [], ◌∷◌, ◌++◌, length, refl, sym, ◌∙◌, ap, arith, get_or, Option, Some, None, ◌⊎◌, inl, inr}
+use Rattle.std.proofs.Common.{◌≡◌, ◌≢◌, ℕ, zero, suc, ◌+◌, ◌<◌, ◌≤◌, Bool, true, false, List, [], ◌∷◌, length, refl, sym, ◌∙◌, ap, arith, get_or, Option, Some, None, ◌⊎◌, inl, inr}
 use Rattle.std.specs.Prelude.{◌==◌, ◌||◌, not, nat_lt, cond, if◌then◌else◌, remove, position, unwrap_or}
 use Rattle.std.specs.List.{list_any, position_or_len}
 use Rattle.std.proofs.lemmas.Bool.Decides.{nat_tests}
 use Rattle.std.proofs.lemmas.List.Quantifiers.{position-Some}
 use Rattle.lock_rules.specs.Sets.{has}
 use Rattle.lock_rules.specs.Resident.{first_out, brought}
-use Rattle.lock_rules.proofs.Sets.{has_left, has_right}
-use Rattle.desk.specs.Instruction.{Fine, Fetched, fetches}
+use Rattle.desk.specs.Instruction.{Fetched}
 
 -- where no place passes, no item does
 nowhere : (p : ℕ → Bool) (xs : List ℕ) → position p xs ≡ None → list_any p xs ≡ false
@@ -86,81 +85,9 @@ module _ (kept : List ℕ) (page other : ℕ) (only : (x : ℕ) → has kept x �
           differ : false ≡ true → ⊥
           differ same = cc
 
-  brought-keeps : (frames : ℕ) (pages : List ℕ) → 1 < frames → has pages page ≡ false → has pages other ≡ true → has (brought frames kept pages page) other ≡ true
-  brought-keeps frames pages two new inside = by_test (nat_lt (length pages) frames) refl
-    where
-      by_test : (room : Bool) → nat_lt (length pages) frames ≡ room → has ((if room then pages else first_out kept pages) ++ page ∷ []) other ≡ true
-      by_test true room = has_left pages (page ∷ []) other inside
-      by_test false room =
-          let many : frames ≤ length pages = grind (arith, nat_tests, room) in
-          has_left (first_out kept pages) (page ∷ []) other (out-keeps pages (omega (arith, many, two)) new inside)
-
--- the page that comes in is there
-brought-has : (frames : ℕ) (kept pages : List ℕ) (page : ℕ) → has (brought frames kept pages page) page ≡ true
-brought-has frames kept pages page = has_right (if nat_lt (length pages) frames then pages else first_out kept pages) (page ∷ []) page (grind (arith, nat_tests))
-
 -- the pages that are there once one was fetched
 abbrev after : (frames : ℕ) (kept resident : List ℕ) (page : ℕ) → List ℕ
 after frames kept resident page = if has resident page then resident else brought frames kept resident page
 
-after-has : (frames : ℕ) (kept resident : List ℕ) (page : ℕ) → has (after frames kept resident page) page ≡ true
-after-has frames kept resident page = by_test (has resident page) refl
-  where
-    by_test : (here : Bool) → has resident page ≡ here → has (if here then resident else brought frames kept resident page) page ≡ true
-    by_test true here = here
-    by_test false here = brought-has frames kept resident page
-
-after-keeps : (frames : ℕ) (kept resident : List ℕ) (page other : ℕ) → ((x : ℕ) → has kept x ≡ true → (x ≡ page) ⊎ (x ≡ other)) → has kept other ≡ true
-    → 1 < frames → has resident other ≡ true → has (after frames kept resident page) other ≡ true
-after-keeps frames kept resident page other only is_kept two inside = by_test (has resident page) refl
-  where
-    by_test : (here : Bool) → has resident page ≡ here → has (if here then resident else brought frames kept resident page) other ≡ true
-    by_test true here = inside
-    by_test false here = brought-keeps kept page other only is_kept frames resident two here inside
-
--- one page more is fetched, and all can be read
-fetches-after : (frames : ℕ) (kept : List ℕ) (page : ℕ) (pages resident : List ℕ) (counted : ℕ)
-    → (count : ℕ) × (fetches Fine frames kept (page ∷ pages) resident counted ≡ fetches Fine frames kept pages (after frames kept resident page) count)
-fetches-after frames kept page pages resident counted = by_test (has resident page)
-  where
-    by_test : (here : Bool) → (count : ℕ)
-        × ((if here then fetches Fine frames kept pages resident counted else fetches Fine frames kept pages (brought frames kept resident page) (counted + 1))
-        ≡ fetches Fine frames kept pages (if here then resident else brought frames kept resident page) count)
-    by_test true = (counted, refl)
-    by_test false = (counted + 1, refl)
-
 same-fetched : (one other : List ℕ) (n m : ℕ) → Fetched one n ≡ Fetched other m → one ≡ other
 same-fetched one other n m same = cc
-
--- at most two pages that were fetched are there
-pub fetched-there : (frames : ℕ) (kept resident new : List ℕ) (counted count : ℕ) → length kept ≤ 2 → 1 < frames
-    → fetches Fine frames kept kept resident counted ≡ Fetched new count → (page : ℕ) → has kept page ≡ true → has new page ≡ true
-fetched-there frames [] resident new counted count few two fetched page inside = absurd (cc)
-fetched-there frames (p ∷ []) resident new counted count few two fetched page inside =
-    let (n, first) = fetches-after frames (p ∷ []) p [] resident counted in
-    let is : page ≡ p = grind (arith, nat_tests, inside) in
-    let same : after frames (p ∷ []) resident p ≡ new = same-fetched (after frames (p ∷ []) resident p) new n count (sym first ∙ fetched) in
-    ap (has new) is ∙ ap (λ (pages : List ℕ). has pages p) (sym same) ∙ after-has frames (p ∷ []) resident p
-fetched-there frames (p ∷ q ∷ []) resident new counted count few two fetched page inside =
-    let kept = p ∷ q ∷ [] in
-    let one = after frames kept resident p in
-    let (n, first) = fetches-after frames kept p (q ∷ []) resident counted in
-    let (m, second) = fetches-after frames kept q [] one n in
-    let same : after frames kept one q ≡ new = same-fetched (after frames kept one q) new m count (sym second ∙ sym first ∙ fetched) in
-    let here : has new p ≡ true =
-    ap (λ (pages : List ℕ). has pages p) (sym same)
-    ∙ after-keeps frames kept one q p (λ x inside. either x inside) (grind (arith, nat_tests)) two (after-has frames kept resident p) in
-    let there : has new q ≡ true = ap (λ (pages : List ℕ). has pages q) (sym same) ∙ after-has frames kept one q in
-    elim (either page inside) [
-      | inl is ↦ ap (has new) is ∙ there
-      | inr is ↦ ap (has new) is ∙ here
-    ]
-  where
-    either : (x : ℕ) → has (p ∷ q ∷ []) x ≡ true → (x ≡ q) ⊎ (x ≡ p)
-    either x inside = by_tests (p == x) (q == x) refl refl inside
-      where
-        by_tests : (a b : Bool) → (p == x) ≡ a → (q == x) ≡ b → (a || (b || false)) ≡ true → (x ≡ q) ⊎ (x ≡ p)
-        by_tests true b is other any = inr (grind (arith, nat_tests, is))
-        by_tests false true is other any = inl (grind (arith, nat_tests, other))
-        by_tests false false is other any = absurd (cc)
-fetched-there frames (p ∷ q ∷ r ∷ rest) resident new counted count few two fetched page inside = absurd (omega (arith, few))

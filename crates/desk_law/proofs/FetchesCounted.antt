@@ -59,26 +59,3 @@ fetched-for word frames kept (page ∷ pages) resident new counted count is read
         ≡ Fetched new count
     by_test true is first second reads = first is
     by_test false is first second reads = by_fails (can't_be_read word (counted + 1)) (reads is) (second is)
-
--- and a word by which they can be read fetches what Fine fetches
-pub fetched-fine : (word : Word) (frames : ℕ) (kept pages resident new : List ℕ) (counted count : ℕ) → fetches word frames kept pages resident counted ≡ Fetched new count
-    → fetches Fine frames kept pages resident counted ≡ Fetched new count
-fetched-fine word frames kept [] resident new counted count is = is
-fetched-fine word frames kept (page ∷ pages) resident new counted count is =
-    by_test (has resident page) (can't_be_read word (counted + 1)) is
-    (λ here. fetched-fine word frames kept pages resident new counted count here)
-    (λ came. fetched-fine word frames kept pages (brought frames kept resident page) new (counted + 1) count came)
-  where
-    by_test : (here fails : Bool)
-        → (if here then fetches word frames kept pages resident counted
-        else if fails then Broken (counted + 1)
-        else fetches word frames kept pages (brought frames kept resident page) (counted + 1))
-        ≡ Fetched new count
-        → (fetches word frames kept pages resident counted ≡ Fetched new count → fetches Fine frames kept pages resident counted ≡ Fetched new count)
-        → (fetches word frames kept pages (brought frames kept resident page) (counted + 1) ≡ Fetched new count → fetches Fine frames kept pages (brought frames kept resident page) (counted + 1) ≡ Fetched new count)
-        → (if here then fetches Fine frames kept pages resident counted
-        else fetches Fine frames kept pages (brought frames kept resident page) (counted + 1))
-        ≡ Fetched new count
-    by_test true fails is first second = first is
-    by_test false true is first second = absurd (cc)
-    by_test false false is first second = second is

@@ -1,15 +1,13 @@
 -- An instruction stage by stage, as one that serves a fault goes through them.
-use Rattle.std.specs.Prelude.{◌≡◌, refl, ℕ, ◌+◌, if◌then◌else◌, Bool, true, false, List, [], ◌∷◌, length, Option, Some}
-use Rattle.std.proofs.Common.{arith, ap, ◌∙◌}
-use Rattle.std.proofs.lemmas.Bool.Decides.{nat_tests}
-use Rattle.lock_rules.specs.Sets.{has}
+use Rattle.std.specs.Prelude.{◌≡◌, refl, ℕ, ◌+◌, if◌then◌else◌, Bool, false, List, [], ◌∷◌, length, Option, Some}
+use Rattle.std.proofs.Common.{ap, ◌∙◌}
 use Rattle.lock_rules.specs.Resident.{brought}
 use Rattle.flat_machine.specs.declared.machine.Plain.{Plain}
 use Rattle.flat_machine.specs.Row.{Outcome, On, Commit, Check, row}
 use Rattle.flat_machine.specs.After.{after}
 use Rattle.desk.specs.Desk.{Desk, Entry, with_entry, rolled_back}
 use Rattle.desk.specs.Holdings.{wanted, conflicts_of}
-use Rattle.desk.specs.Instruction.{Word, Fine, ReadFailed, Counts, Going, Over, Checked, Victim, Waits, Attempt, Fetching, Fetched, Broken, Settled, Lost, can't_be_read, fetches, instruction, attempts, attempts_at, limited, is_over_limit, fetched_first, fetches_touched, asks, gets, goes_on, takes_effect, touched_pages, refused_pages, granted, with_grants, locks_with, commits, breaks, contest_ends, waits_or_gets}
+use Rattle.desk.specs.Instruction.{Word, Fine, Counts, Going, Over, Checked, Victim, Waits, Attempt, Fetching, Fetched, Broken, Settled, Lost, fetches, instruction, attempts, attempts_at, limited, is_over_limit, fetched_first, fetches_touched, asks, gets, goes_on, takes_effect, touched_pages, refused_pages, granted, with_grants, locks_with, commits, breaks, contest_ends, waits_or_gets}
 use Rattle.desk_law.specs.Beside.{Reads}
 use Rattle.desk_law.specs.Changes.{gone_on}
 
@@ -22,10 +20,6 @@ attempt_of desk entry now =
 abbrev pub GoesOn : Outcome → Type 0
 GoesOn (Check code) = ⊥
 GoesOn _ = Unit {0}
-
--- a word by which one page can't be read says that those before it can
-pub reads-before : (page : ℕ) → Reads (ReadFailed (page + 1)) page
-reads-before page at few = grind (arith, nat_tests)
 
 pub reads-all : (counted : ℕ) → Reads Fine counted
 reads-all counted page few = refl
@@ -113,15 +107,3 @@ module _ (word : Word) (frames : ℕ) (kept : List ℕ) (page : ℕ) (pages resi
       if here then fetches word frames kept pages resident counted
       else if fails then Broken (counted + 1)
       else fetches word frames kept pages (brought frames kept resident page) (counted + 1)
-
-  pub fetch-here : has resident page ≡ true → fetches word frames kept (page ∷ pages) resident counted ≡ fetches word frames kept pages resident counted
-  fetch-here here = ap (λ (b : Bool). fetches_one b (can't_be_read word (counted + 1))) here
-
-  pub fetch-new : has resident page ≡ false → Reads word (counted + 1)
-      → fetches word frames kept (page ∷ pages) resident counted ≡ fetches word frames kept pages (brought frames kept resident page) (counted + 1)
-  fetch-new new reads =
-      ap (λ (b : Bool). fetches_one b (can't_be_read word (counted + 1))) new ∙ ap (fetches_one false) (reads (counted + 1) (omega arith))
-
-  pub fetch-fails : has resident page ≡ false → can't_be_read word (counted + 1) ≡ true
-      → fetches word frames kept (page ∷ pages) resident counted ≡ Broken (counted + 1)
-  fetch-fails new fails = ap (λ (b : Bool). fetches_one b (can't_be_read word (counted + 1))) new ∙ ap (fetches_one false) fails

@@ -44,7 +44,6 @@ pub mod ServedRows
 pub mod TurnLoop
 pub mod MemorySteps
 pub mod MemoryLaw
-pub mod LaidPages
 pub mod CyclesClose
 pub mod EndsCaused
 pub mod TurnCauses

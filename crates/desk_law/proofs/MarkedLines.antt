@@ -1,5 +1,5 @@
 -- The lines that are marked as written: those that some active entry has written.
-use Rattle.std.specs.Prelude.{◌≡◌, refl, ℕ, ◌==◌, ◌&&◌, ◌||◌, not, Bool, true, false, List, [], Some}
+use Rattle.std.specs.Prelude.{◌≡◌, refl, ℕ, ◌==◌, ◌&&◌, ◌||◌, not, Bool, true, List, Some}
 use Rattle.std.specs.List.{list_any}
 use Rattle.std.proofs.Common.{ap, sym, ◌∙◌, inl, inr}
 use Rattle.std.proofs.lemmas.Bool.{eqb-true, eq-eqb, both_ways, and_parts, and_from, or_cases, or_left, or_right, cases_Bool, not_from_false, not-true, false_from_ne_true}
@@ -9,31 +9,17 @@ use Rattle.lock_rules.specs.Lines.{Lines}
 use Rattle.flat_machine.specs.declared.machine.Plain.{Plain}
 use Rattle.flat_machine.specs.After.{after}
 use Rattle.flat_machine.specs.Due.{touched_next}
-use Rattle.flat_machine.specs.Agreement.{line_in}
 use Rattle.desk.specs.Desk.{Entry}
 use Rattle.desk_law.specs.Beside.{AreMarked}
 use Rattle.desk_law.specs.Changes.{left_by, gone_on}
 use Rattle.desk_law.specs.Consistent.{IsAmong, due_to, AreConsistent}
-use Rattle.desk_law.specs.Current.{IsCurrent}
-use Rattle.desk_law.proofs.CurrentLines.{within-more, wrote-held, holder-or-none, current-unwritten}
+use Rattle.desk_law.proofs.CurrentLines.{within-more, wrote-held, holder-or-none}
 use Rattle.desk_law.proofs.Entries.{replaced, among-replaced, replaced-among, new-among, among-filter, filter-among, one-entry}
 use Rattle.desk_law.proofs.KeptTables.{both-imply, any-entries}
 use Rattle.desk_law.proofs.Others.{touched_of, others, another-stays}
 use Rattle.desk_law.proofs.Waiting.{any-among, among-any}
 
 module _ (store : FlatStore) (most_lines next : ℕ) (entries : List Entry) (consistent : AreConsistent store most_lines next entries) (marked : ℕ → Bool) (are : AreMarked store entries marked) where
-  -- what isn't marked is committed
-  pub unmarked-committed : (bytes : List ℕ) (line : ℕ) → IsCurrent store entries bytes → marked line ≡ false
-      → line_in store.directory bytes line ≡ line_in store.directory store.bytes line
-  unmarked-committed bytes line current_now clear =
-      current_now.lines line
-      ∙ current-unwritten store most_lines next entries consistent line
-      (λ other among.
-      false_from_ne_true (has (touched_of store other).writes line)
-      (λ wrote.
-      both_ways (list_any (λ (entry : Entry). has (due_to store entry).writes line) entries) (sym (are.is line) ∙ clear)
-      (among-any (λ (entry : Entry). has (due_to store entry).writes line) entries other among wrote)))
-
   -- a row marks the lines that it wrote
   pub marked-row : (entry : Entry) (new : ℕ → Bool) → IsAmong entries entry
       → ((line : ℕ) → new line ≡ (marked line || has (touched_next entry.runs.program entry.runs.args store entry.rows).writes line))
@@ -153,7 +139,3 @@ module _ (store : FlatStore) (most_lines next : ℕ) (entries : List Entry) (con
             | inl it ↦ among-any (λ (one : Entry). has (due_to store one).writes line) entries entry here (ap (λ (x : Entry). has (touched_of store x).writes line) it ∙ wrote)
             | inr old ↦ among-any (λ (one : Entry). has (due_to store one).writes line) entries one old.0 wrote
           ]
-
--- nobody is active
-pub marked-quiet : (store : FlatStore) → AreMarked store [] (λ line. false)
-marked-quiet store = record { is = λ line. refl }

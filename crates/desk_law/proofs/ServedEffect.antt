@@ -1,7 +1,6 @@
 -- The end of an instruction that was served: its pages are granted and there, and its row goes on over the bytes of all.
-use Rattle.std.specs.Prelude.{false, nat_lt, ◌≡◌, refl, ℕ, ◌+◌, ◌<◌, true, List, [], ◌++◌, length, filter, slice_index_or, Option, Some}
+use Rattle.std.specs.Prelude.{◌≡◌, refl, ℕ, ◌+◌, ◌<◌, true, List, [], ◌++◌, length, filter, slice_index_or, Option}
 use Rattle.std.specs.Option.{option_map_or}
-use Rattle.std.proofs.lemmas.Bool.{ltb-false}
 use Rattle.std.proofs.Common.{arith, ap, sym, ◌∙◌}
 use Rattle.line_geometry.specs.Lines.{line_count}
 use Rattle.lock_rules.specs.Sets.{has}
@@ -11,43 +10,26 @@ use Rattle.lock_rules.proofs.Lines.{pages_of-line}
 use Rattle.flat_machine.specs.declared.machine.Plain.{Plain}
 use Rattle.flat_machine.specs.Row.{On, row}
 use Rattle.flat_machine.specs.Touched.{touched}
-use Rattle.flat_machine.specs.After.{after}
 use Rattle.flat_machine.specs.Agreement.{all_of}
 use Rattle.flat_machine.proofs.Below.{touched-below}
-use Rattle.desk.specs.Desk.{Desk, Entry, Authority, nobody, with_entry}
+use Rattle.desk.specs.Desk.{Desk, Authority, nobody, with_entry}
 use Rattle.desk.specs.Holdings.{conflicts_of}
-use Rattle.desk.specs.Instruction.{Word, Counts, Going, Attempt, Fetched, fetches, lines_written, touched_pages, refuses, lines_within, granted, locks_with, with_grants, gets}
+use Rattle.desk.specs.Instruction.{Word, Counts, Going, Attempt, Fetched, fetches, touched_pages, refuses, lines_within, granted, locks_with, with_grants, gets}
 use Rattle.desk_law.specs.Beside.{AreThere, over_all}
 use Rattle.desk_law.specs.Changes.{gone_on}
-use Rattle.desk_law.specs.Consistent.{IsAmong}
 use Rattle.desk_law.specs.Current.{IsCurrent}
 use Rattle.desk_law.specs.Laws.{ArePermitted}
 use Rattle.desk_law.proofs.AttemptsOnCurrent.{shown-current}
-use Rattle.desk_law.proofs.Contest.{KeepsPages, contending}
+use Rattle.desk_law.proofs.Contest.{KeepsPages}
 use Rattle.desk_law.proofs.ContestRounds.{IsUnderWay}
 use Rattle.desk_law.proofs.Entries.{replaced}
 use Rattle.desk_law.proofs.GoesOn.{IsReady, ready-again, grants-held, row-goes-on}
 use Rattle.desk_law.proofs.Granted.{granted-permits}
-use Rattle.desk_law.proofs.InstructionStages.{attempt_of, stage-gets, stage-on}
+use Rattle.desk_law.proofs.InstructionStages.{stage-gets, stage-on}
 use Rattle.desk_law.specs.Orderly.{IsOrderly}
 use Rattle.desk_law.proofs.Others.{touched_of}
 use Rattle.desk_law.proofs.SharedBytes.{row-on-current}
-use Rattle.desk_law.proofs.TurnsStay.{resident-consistent, resident-granted}
-
--- an attempt within the limit, once its pages were fetched first
-pub ready-first : (desk : Desk) (entry : Entry) (now next : Plain) (resident : List ℕ) → IsOrderly desk → IsAmong desk.active entry
-    → after entry.runs.program entry.runs.args desk.committed entry.rows ≡ Some now
-    → nat_lt desk.most_lines (lines_written (attempt_of desk entry now) desk) ≡ false
-    → IsReady (attempt_of desk entry now) (record desk { resident = resident })
-ready-first desk entry now next resident is here at within = record {
-  contending = contending entry.number (record desk { resident = resident }) (resident-consistent desk resident is);
-  mark = entry.waiting;
-  here = here;
-  now = at;
-  went = refl;
-  lines = refl;
-  short = ltb-false desk.most_lines (lines_written (attempt_of desk entry now) desk) within;
-}
+use Rattle.desk_law.proofs.TurnsStay.{resident-granted}
 
 -- and once a contest is settled
 pub ready-settled : (attempt : Attempt) (old desk : Desk) → IsReady attempt old → IsUnderWay old desk (record attempt.entry { waiting = true }) → IsOrderly desk

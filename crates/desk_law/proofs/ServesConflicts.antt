@@ -1,5 +1,5 @@
 -- The loop that serves a conflict: what it keeps, how it begins, one turn of it, and its ends.
-use Rattle.std.specs.Prelude.{◌≡◌, refl, ℕ, ◌<◌, ◌==◌, true, false, List, [], ◌∷◌, length, filter, map, find, Option, Some, None}
+use Rattle.std.specs.Prelude.{◌≡◌, refl, ℕ, ◌==◌, true, false, List, [], ◌∷◌, filter, map, find, Option, Some, None}
 use Rattle.std.proofs.Common.{ap, sym, ◌∙◌}
 use Rattle.lock_rules.specs.Lines.{Lines}
 use Rattle.lock_rules.specs.Waits.{shown_cycle, victim_of}
@@ -10,7 +10,7 @@ use Rattle.desk.specs.Instruction.{Word, Counts, Turning, Over, Victim, Waits, A
 use Rattle.desk_law.specs.Beside.{IsLaid, AreAlike, requested, IsTableBut, kept_conflict, kept_waits, IsTold, Reads}
 use Rattle.desk_law.specs.Consistent.{IsAmong, due_to}
 use Rattle.desk_law.proofs.Contest.{contending}
-use Rattle.desk_law.proofs.ContestRounds.{contest, with_cycle, entry_with, IsUnderWay, under-way, round-under_way, round-settles, round-breaks, round-loses, asks-contest, settled-consistent, lost-consistent, fewer-left, victim-there}
+use Rattle.desk_law.proofs.ContestRounds.{contest, with_cycle, entry_with, IsUnderWay, under-way, round-under_way, round-settles, round-breaks, round-loses, asks-contest, settled-consistent, lost-consistent, victim-there}
 use Rattle.desk_law.proofs.Entries.{among-found}
 use Rattle.desk_law.proofs.GoesOn.{IsReady, marked-contending}
 use Rattle.desk_law.proofs.InstructionStages.{stage-settled}
@@ -58,9 +58,6 @@ module _ (begins : Word → Turning) (attempt : Attempt) (refused : List ℕ) (f
   -- the victim of a cycle that the tables show is active, and with its rollback fewer are: the loop's measure falls
   pub contesting-victim : (cycle : List ℕ) → shows_cycle locks requests desk attempt.entry.number ≡ Some cycle → (victim : Entry) × (entry_with (victim_of cycle) desk ≡ Some victim)
   contesting-victim cycle shown = victim-there desk (marked attempt) cycle is.under_way.here (shown-here (Some cycle) shown)
-
-  pub contesting-falls : (victim : Entry) (number : ℕ) → entry_with number desk ≡ Some victim → length (rolled_back desk victim).active < length desk.active
-  contesting-falls victim number found = fewer-left desk victim number found
 
   module _ (cycle : List ℕ) (victim : Entry) (shown : shows_cycle locks requests desk attempt.entry.number ≡ Some cycle)
       (found : find (λ (other : Entry). other.number == victim_of cycle) desk.active ≡ Some victim) (new : List ℕ) (laid : IsLaid desk.committed (due_to desk.committed victim).writes desk.committed.bytes bytes new) where

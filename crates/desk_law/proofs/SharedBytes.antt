@@ -3,7 +3,7 @@ use Rattle.std.specs.Prelude.{◌≡◌, refl, ℕ, ◌+◌, ◌==◌, not, true
 use Rattle.std.specs.Option.{option_map_or}
 use Rattle.std.proofs.Common.{ap, sym, ◌∙◌, subst, inl, inr}
 use Rattle.std.proofs.lemmas.Bool.{eqb-true, both_ways, or_cases, or_left, or_parts, and_cases, cases_Bool, not_from_false, false_from_ne_true}
-use Rattle.line_geometry.specs.Directory.{Layout, byte_count}
+use Rattle.line_geometry.specs.Directory.{byte_count}
 use Rattle.line_geometry.specs.FlatStore.{FlatStore, IsWhole}
 use Rattle.lock_rules.specs.Sets.{has, meets}
 use Rattle.lock_rules.specs.Lines.{Lines, conflicts, pages_of, page_of_line}
@@ -12,13 +12,12 @@ use Rattle.lock_rules.proofs.Lines.{has-whole_pages, meets-at}
 use Rattle.flat_machine.specs.declared.machine.Plain.{Plain}
 use Rattle.flat_machine.specs.declared.machine.Plan.{Plan}
 use Rattle.flat_machine.specs.declared.machine.Plan.TheVariants.{Does, Fails}
-use Rattle.flat_machine.specs.declared.machine.Program.{Program}
 use Rattle.flat_machine.specs.Row.{Outcome, On, plan_at, row}
 use Rattle.flat_machine.specs.Touched.{touched, touched_by}
 use Rattle.flat_machine.specs.After.{after}
-use Rattle.flat_machine.specs.Agreement.{line_in, all_of, SameWay}
+use Rattle.flat_machine.specs.Agreement.{line_in, all_of}
 use Rattle.flat_machine.proofs.Agreement.{after-whole, after-kept}
-use Rattle.flat_machine.proofs.SameWay.{on, row-way}
+use Rattle.flat_machine.proofs.SameWay.{on}
 use Rattle.flat_machine.proofs.Steps.{Keeps, Steps, lines_of_plan, row-steps}
 use Rattle.desk.specs.Desk.{Desk, Entry}
 use Rattle.desk.specs.Holdings.{wanted, request, held, conflicts_with, conflicts_of}
@@ -137,7 +136,3 @@ row-on-current desk most entry now next bytes whole are later here is went none 
         subst (λ (outcome : Outcome). Steps desk.committed.directory (lines_of_plan entry.runs.program desk.committed.directory (plan_at now)) now bytes outcome (row entry.runs.program desk.committed.directory (on now bytes))) went
         (row-steps entry.runs.program desk.committed.directory now bytes own (current_now.long ∙ sym own)
         (λ line inside. sees line (has_left (wanted desk entry).reads (wanted desk entry).writes line (ap (λ (l : Lines). has l.reads line) lines ∙ inside))))
-
--- The row goes the same way over the bytes of all, also where it is the commit call or a check.
-pub way-on-current : (program : Program) (directory : Layout) (now : Plain) (bytes : List ℕ) → SameWay (row program directory now) (row program directory (record now { store = bytes }))
-way-on-current program directory now bytes = row-way program directory now bytes

@@ -17,7 +17,7 @@ use Rattle.desk_law.specs.Beside.{IsLaid, AreThere, AreAlike, over_all, requeste
 use Rattle.desk_law.specs.Changes.{left_by, gone_on}
 use Rattle.desk_law.specs.Consistent.{IsAmong, due_to, AreConsistent}
 use Rattle.desk_law.proofs.AttemptsOnCurrent.{HasGone, attempt-goes}
-use Rattle.desk_law.proofs.CurrentSteps.{current-rolled, current-committed, commit-laid, current-marked, current-begun, current-quiet}
+use Rattle.desk_law.proofs.CurrentSteps.{current-rolled, current-committed, commit-laid, current-marked, current-begun}
 use Rattle.desk_law.proofs.Entries.{replaced, among-replaced, among-filter, among-push}
 use Rattle.desk_law.proofs.GoesOn.{apart-turned, IsReady}
 use Rattle.desk_law.proofs.KeptTables.{kept-row, kept-mark, kept-rollback, kept-commit, kept-begin, kept-open_row}
@@ -148,14 +148,6 @@ told-begin store most_lines next entries locks requests states bytes last are la
   kept = kept-begin store entries locks requests told.kept last none unmarked clear;
   stand = states-begin store entries states told.stand last none bytes starts;
   is_current = current-begun store most_lines next entries are bytes last none later told.is_current;
-}
-
--- An opening, and what a crash leaves.
-pub told-quiet : (store : FlatStore) (locks requests : ℕ → Lines) (states : ℕ → Plain) → IsWhole store → IsTold store [] locks requests states store.bytes
-told-quiet store locks requests states whole = record {
-  kept = record { held = λ entry among. absurd among; asked = λ entry among waits. absurd among };
-  stand = λ entry among. absurd among;
-  is_current = current-quiet store whole;
 }
 
 -- A row that was served: its locks are those of the row too, its mark is off, and the state and the bytes are those that the

@@ -2,7 +2,7 @@
 use Rattle.std.specs.Prelude.{◌≡◌, refl, ℕ, zero, suc, ◌≤◌, ◌==◌, find, Option, Some}
 use Rattle.std.proofs.Common.{arith, ap, ◌∙◌}
 use Rattle.desk.specs.Desk.{Desk, Entry}
-use Rattle.desk.specs.Instruction.{Word, Fine, ReadFailed, Unwritten, Doubt, Failed, Counts, Turning, Going, Over, Ending, Limit, Attempt, no_counts, instruction, turns, turn, turn_of, commits}
+use Rattle.desk.specs.Instruction.{Word, Fine, ReadFailed, Unwritten, Doubt, Failed, Counts, Turning, Going, Over, Ending, Limit, Attempt, instruction, turns, commits}
 use Rattle.desk_law.specs.Beside.{Reads}
 use Rattle.desk_law.specs.Consistent.{IsAmong}
 use Rattle.desk_law.specs.Orderly.{IsOrderly}
@@ -11,13 +11,6 @@ use Rattle.desk_law.proofs.Entries.{found-among}
 -- a turn, from wherever it began, is one of so many instructions from here
 pub record IsTurning (begins : Word → Turning) (number left : ℕ) (desk : Desk) (counts : Counts) : Type 0 where
   pub comes : (word : Word) → Reads word counts.pages → begins word ≡ turns word number left (Going desk counts)
-
--- as it begins
-pub turning-begins : (limit : ℕ) (desk : Desk) (entry : Entry) → IsOrderly desk → IsAmong desk.active entry
-    → IsTurning (λ word. turn word entry.number limit desk) entry.number limit desk no_counts
-turning-begins limit desk entry is here = record {
-  comes = λ word reads. ap (λ (one : Option Entry). turn_of one word entry.number limit desk) (found-among desk.next desk.active entry is.active.ascend here);
-}
 
 turns-more : (word : Word) (number left : ℕ) (desk : Desk) (counts : Counts)
     → turns word number (suc left) (Going desk counts) ≡ turns word number left (instruction word (find (λ (entry : Entry). entry.number == number) desk.active) desk counts)

@@ -1,5 +1,5 @@
 -- What a seat holds page by page, and what it holds in flat lines.
-use Rattle.std.specs.Prelude.{◌≡◌, ◌≢◌, refl, ℕ, zero, suc, ◌+◌, ◌*◌, ◌<◌, ◌==◌, ◌||◌, Bool, true, false, List, [], ◌∷◌, ◌++◌, length, replicate, All}
+use Rattle.std.specs.Prelude.{◌≡◌, ◌≢◌, refl, ℕ, ◌+◌, ◌*◌, ◌<◌, ◌==◌, ◌||◌, Bool, true, false, List, [], ◌∷◌, ◌++◌, length, All}
 use Rattle.std.specs.List.{flat_map, list_any}
 use Rattle.std.proofs.Common.{◌⊎◌, inl, inr, arith, ap, sym, subst, ◌∙◌, get_or-set_same, get_or-set_other}
 use Rattle.std.proofs.lemmas.Bool.{eqb-true, eqb-false, or_left, or_right}
@@ -8,7 +8,7 @@ use Rattle.std.proofs.lemmas.List.{append-nil, append_assoc, length-set}
 use Rattle.std.proofs.lemmas.List.Elements.{All-head, All-tail}
 use Rattle.std.proofs.lemmas.List.Folds.{list_any-append}
 use Rattle.lock_rules.specs.Sets.{has, meets}
-use Rattle.lock_rules.specs.Lines.{Lines, both, no_lines, conflicts}
+use Rattle.lock_rules.specs.Lines.{Lines, both, conflicts}
 use Rattle.lock_rules.proofs.Sets.{has-append}
 use Rattle.line_geometry.specs.LineSets.{IsOfPage, union}
 use Rattle.line_geometry.proofs.LineSetLemmas.{of_page-below, is_in_where-below}
@@ -200,15 +200,3 @@ flat-taken pages lines (want ∷ wants) flat within reads writes =
     (append_assoc lines.reads (flat_lines want.page want.reads) (lines_wanted wants).reads)
     (append_assoc lines.writes (flat_lines want.page want.writes) (lines_wanted wants).writes)
     rest
-
-nothing-held : (count page : ℕ) → of_page (replicate count nothing) page ≡ nothing
-nothing-held zero page = refl
-nothing-held (suc count) zero = refl
-nothing-held (suc count) (suc page) = nothing-held count page
-
--- a seat that holds nothing has no flat line
-pub flat-none : (count : ℕ) → IsFlat (replicate count nothing) no_lines
-flat-none count = record {
-  reads = λ page line below. ap (λ h. has h.0 line) (nothing-held count page);
-  writes = λ page line below. ap (λ h. has h.1 line) (nothing-held count page);
-}

@@ -12,7 +12,7 @@ use Rattle.outside.specs.Runs.{FewerLater}
 use Rattle.outside.proofs.Runs.{elapses-trans}
 use Rattle.flat_machine.specs.declared.machine.Program.{Program}
 use Rattle.store_format.specs.Header.{Header, total}
-use Rattle.store_format.specs.Bank.{Faulty, bank_of}
+use Rattle.store_format.specs.Bank.{bank_of}
 use Rattle.store_format.specs.Stands.{chosen}
 use Rattle.std.specs.Prelude.{unwrap_or}
 use Rattle.desk.specs.declared.event.Event.{Event}
@@ -160,15 +160,6 @@ pub goes_since : {D W : Type 0} (S : desk.Ghosts D) (G : Ghosts W) (going : Goin
 goes_since S G going.On old mid new before between after header still disk goes = λ was_open. goes (still was_open)
 goes_since S G going.Closed old mid new before between after header still disk goes = (goes.0, λ was_open. let rose = goes.1 (still was_open) in omega (arith, rose, disk))
 goes_since S G (going.Damaged offset) old mid new before between after header still disk goes = (goes.0, λ told. ap (λ (these : Header). bank_of (unwrap_or (G.held after) []) these (chosen (unwrap_or (G.held after) []))) (sym header) ∙ goes.1 told)
-
--- and with puts behind it
-pub goes_until : {D W : Type 0} (S : desk.Ghosts D) (G : Ghosts W) (going : Going) (old new : D) (before middle after : W) → G.disk_faults after ≡ G.disk_faults middle → G.held after ≡ G.held middle → GoesBy S G old new before middle going → GoesBy S G old new before after going
-goes_until S G going.On old new before middle after disk held goes = goes
-goes_until S G going.Closed old new before middle after disk held goes = (goes.0, λ was_open. let rose = goes.1 was_open in omega (arith, rose, disk))
-goes_until S G (going.Damaged offset) old new before middle after disk held goes = (
-  goes.0,
-  subst (λ (those : Option (List ℕ)). IsSome those → bank_of (unwrap_or those []) (S.header old) (chosen (unwrap_or those [])) ≡ Faulty offset) (sym held) goes.1,
-)
 
 -- a supervisor that was closed before: an event was asked of it
 pub shut_asked : (events : List Event) (i : ℕ) (how : Going) → i < length events → how ≡ going.Closed → GoesShut events how

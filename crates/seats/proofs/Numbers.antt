@@ -1,7 +1,7 @@
 -- What is said of seats, said of the numbers in them and of flat lines: holders, waits and the shown cycle.
-use Rattle.std.specs.Prelude.{◌≡◌, refl, ℕ, ◌<◌, ◌==◌, ◌&&◌, not, cond, Bool, true, false, List, [], ◌∷◌, length, map, filter, All, Option, Some, None}
+use Rattle.std.specs.Prelude.{◌≡◌, refl, ℕ, ◌==◌, ◌&&◌, not, cond, Bool, true, false, List, [], ◌∷◌, map, filter, All, Option, Some, None}
 use Rattle.std.specs.Option.{option_map_or}
-use Rattle.std.proofs.Common.{arith, ap, sym, ◌∙◌, get_or-set_same, get_or-set_other}
+use Rattle.std.proofs.Common.{ap, sym, ◌∙◌, get_or-set_other}
 use Rattle.std.proofs.lemmas.Bool.{eqb-true, eqb-false, eq-eqb, both_ways, or_left, or_right}
 use Rattle.line_geometry.specs.LineSets.{IsOfPage}
 use Rattle.lock_rules.specs.Sets.{has}
@@ -17,10 +17,6 @@ use Rattle.seats.specs.declared.seat.Seat.{Seat}
 use Rattle.seats.specs.Seating.{Seating, IsSeating, newcomer, sitter, number_in, numbers, seat_of, with_sitter}
 use Rattle.seats.specs.Waiting.{holders, seat_waits, cycle_of}
 use Rattle.seats.proofs.Ascending.{apart}
-
--- another in a seat: he sits there, and the others sit where they sat
-pub sitter-same : (seating : Seating) (seat : ℕ) (who : Seat) → length seating.sitters ≡ 16 → seat < 16 → sitter (with_sitter seating seat who) seat ≡ who
-sitter-same seating seat who sixteen below = get_or-set_same seating.sitters seat who (newcomer 0 0 []) (omega (arith, sixteen, below))
 
 pub sitter-other : (seating : Seating) (seat other : ℕ) (who : Seat) → (other == seat) ≡ false → sitter (with_sitter seating seat who) other ≡ sitter seating other
 sitter-other seating seat other who differs = get_or-set_other seating.sitters seat other who (newcomer 0 0 []) (eqb-false other seat differs)
