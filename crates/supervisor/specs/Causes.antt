@@ -69,8 +69,8 @@ pub record IsFailedCommit {W : Type 0} (G : Ghosts W) (answer : Kept) (old new :
   pub crash : Tracks G old before → Leaves G (IsEither (begun_of old.bank) (held_of G before)) before after
   pub left : Tracks G old before → FailedLeaves G answer old before after
 
--- It failed in the commit of an activation and not before: up to a moment the disk was only asked, and its count stayed. Then came `Durable::commit` of
--- a record of the lines that the activation holds to write, which answered so. It sits there still.
+-- Up to a moment the disk was only asked, and its count stayed. From then on all is as `Durable::commit` promises where it answers so, of a record of the
+-- lines that an activation holds to write: the count rose in it. The activation sits there still.
 pub record ClosesInCommit {W : Type 0} (G : Ghosts W) (activation : ℕ) (answer : Kept) (store : KeptStore) (new : Session) (before after : W) : Type 0 where
   pub seat : ℕ
   pub taken : has (activity new).seating.taken seat ≡ true
@@ -82,7 +82,7 @@ pub record ClosesInCommit {W : Type 0} (G : Ghosts W) (activation : ℕ) (answer
   pub calm : G.disk_faults begun ≡ G.disk_faults before
   pub failed : IsFailedCommit G answer (with_begun store lines) (store_told new) begun after
 
--- a turn that closes did so in its commit, whose answer was Doubt exactly where the close is in doubt
+-- a turn that closes ends as its commit does at Doubt, where the close is in doubt, and else at Unwritten
 abbrev pub ClosesBy : {W : Type 0} → Ghosts W → (activation : ℕ) → TurnEnd → KeptStore → Session → W → W → Type 0
 ClosesBy G activation (end.Closed (Some doubted) told) store new before after = ClosesInCommit G activation kept.Doubt store new before after
 ClosesBy G activation (end.Closed None told) store new before after = ClosesInCommit G activation kept.Unwritten store new before after
