@@ -1,0 +1,20 @@
+use Rattle.std.proofs.Common.{◌≡◌, ◌+◌, ◌∷◌, [], ◌++◌, ℕ, length, ap, ◌∙◌, length-append}
+use Rattle.outside.specs.declared.calls.Run.{Run}
+use Rattle.outside.specs.Record.{calls_of}
+use Rattle.outside.specs.Calls.{made_of}
+use Rattle.outside.proofs.CallLemmas.{pushed}
+use Rattle.outside.proofs.calls.Calls.push.Goals as goal
+
+abbrev last_of : goal.After-push-room → Run
+last_of c = record { asked = c.args.self.now.asked; call = c.args.call }
+
+now_are : (c : goal.After-push-room) → calls_of c.push-room.new.self.items 0 ≡ made_of c.args.self.now ++ c.args.call ∷ []
+now_are c = pushed c.push-room.result c.args.self.now.runs.items c.push-room.new.self.items (last_of c) c.push-room.ensures.items (c.push-room.ensures.succeeds c.requires.0)
+
+pub invariant_of-self : goal.invariant_of-self
+invariant_of-self c = record {
+  counted = ap length (now_are c) ∙ length-append (made_of c.args.self.now) (c.args.call ∷ []) ∙ ap (λ (n : ℕ). n + 1) c.args.self.now.counted;
+}
+
+pub returns : goal.returns
+returns c = pushed c.push-room.result c.args.self.now.runs.items c.push-room.new.self.items (record { asked = c.args.self.now.asked; call = c.args.call }) c.push-room.ensures.items (c.push-room.ensures.succeeds c.requires.0)
