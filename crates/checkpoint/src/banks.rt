@@ -1,4 +1,5 @@
-ghost use Rattle.std.specs.Prelude.{◌≡◌, ◌≢◌, ◌↔◌, ◌+◌, ◌≤◌, ◌<◌, [], All, length, slice_set, slice_get, Some, None, IsSome, IfSome, IfOk, IfErr, OnOk};
+ghost use Rattle.std.specs.Prelude.{◌≡◌, ◌≢◌, ◌↔◌, ◌+◌, ◌≤◌, ◌<◌, [], All, length, slice_set, slice_get, slice_range, is_some, Some, None, IsSome, IfSome, IfOk, IfErr, OnOk};
+ghost use Rattle.std.specs.List.{list_any};
 ghost use Rattle.std.specs.Option.{option_map};
 ghost use Rattle.store_format.specs.Header.{total, line_bytes};
 ghost use Rattle.store_format.specs.Stands.{stands, one_more};
@@ -109,6 +110,15 @@ impl Banks {
         ensures within { IfSome result (λ at. at + line_bytes_of self.now ≤ area_end self.now) }
     {
         self.bank.newest(line)
+    }
+
+    /// Whether a record of the chosen bank holds one of so many lines from a first on.
+    #[inline(always)]
+    pub fn holds_some(&self, first: u32, count: u32) -> bool
+        requires { first + count ≤ length self.now.newest }
+        ensures { result ≡ list_any is_some (slice_range self.now.newest first (first + count)) }
+    {
+        self.bank.holds_some(first, count)
     }
 
     /// Begins a record, in place of any other that was begun.

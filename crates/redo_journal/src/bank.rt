@@ -1,4 +1,5 @@
-ghost use Rattle.std.specs.Prelude.{◌≡◌, ◌≢◌, ◌↔◌, ◌+◌, ◌*◌, ◌%◌, ◌≤◌, ◌<◌, ◌^◌, [], All, length, take, slice_set, slice_get, Some, None, IsNone, IsSome, IfSome, IfOk, IfErr, OnOk};
+ghost use Rattle.std.specs.Prelude.{◌≡◌, ◌≢◌, ◌↔◌, ◌+◌, ◌*◌, ◌%◌, ◌≤◌, ◌<◌, ◌^◌, [], All, length, take, slice_set, slice_get, slice_range, is_some, Some, None, IsNone, IsSome, IfSome, IfOk, IfErr, OnOk};
+ghost use Rattle.std.specs.List.{list_any};
 ghost use Rattle.std.specs.Option.{option_map};
 ghost use Rattle.store_format.specs.Header.{total, HasRanges};
 ghost use Rattle.store_format.specs.Bank.{record_bytes};
@@ -186,6 +187,17 @@ impl Bank {
         ensures within { IfSome result (λ at. at + line_bytes_of self.now ≤ area_end self.now) }
     {
         self.newest.as_slice()[line as usize]
+    }
+
+    /// Whether a record of the bank holds one of so many lines from a first on.
+    #[inline(always)]
+    pub fn holds_some(&self, first: u32, count: u32) -> bool
+        requires { first + count ≤ length self.now.newest }
+        ensures { result ≡ list_any is_some (slice_range self.now.newest first (first + count)) }
+    {
+        let from = first as usize;
+        let places = &self.newest.as_slice()[from..from + count as usize];
+        places.iter().any(|place| place.is_some())
     }
 
     /// How many lines a record may have to fit the rest of the bank; none where not even an empty one fits.

@@ -1,8 +1,10 @@
 -- A page whose home lines have the newest lines over them.
 use Rattle.std.proofs.Common.{◌≡◌, inl, inr, ℕ, ◌+◌, ◌*◌, ◌-◌, ◌<◌, ◌≤◌, List, length, take, drop, get_or, refl, sym, ◌∙◌, ap, arith}
-use Rattle.std.specs.Prelude.{Option, None, Some, IfSome, fold}
+use Rattle.std.specs.Prelude.{Option, None, Some, IfSome, fold, slice_range, is_some, true, false}
+use Rattle.std.specs.List.{list_any}
+use Rattle.std.proofs.lemmas.List.Folds.{list_any_at}
 use Rattle.std.proofs.lemmas.Bool.{cases_eq}
-use Rattle.std.proofs.lemmas.List.{drop-drop, drop-take, take-take, length-drop, length-take-le}
+use Rattle.std.proofs.lemmas.List.{drop-drop, drop-take, take-take, length-drop, length-take-le, places}
 use Rattle.line_geometry.specs.Directory.{page_count}
 use Rattle.line_geometry.specs.Lines.{line_count}
 use Rattle.line_geometry.specs.declared.directory.PageSize.TheVariants.{Two}
@@ -80,6 +82,31 @@ composed_more image home newest first i page new (Some at) more long place_is wi
 
     behind : (k i : ℕ) → i + 1 ≤ k → k ≡ i → ⊥
     behind k i past same = omega (arith, past, same)
+
+-- no place of a part in which none is
+nowhere : (newest : List (Option ℕ)) (first k : ℕ) → first + 16 ≤ length newest → list_any is_some (slice_range newest first (first + 16)) ≡ false → k < 16 → get_or newest (first + k) None ≡ None
+nowhere newest first k long none few = by_place (get_or newest (first + k) None) refl
+  where
+    part : List (Option ℕ)
+    part = slice_range newest first (first + 16)
+
+    there : get_or part k None ≡ get_or newest (first + k) None
+    there = grind (arith, places, few, long)
+
+    by_place : (place : Option ℕ) → get_or newest (first + k) None ≡ place → place ≡ None
+    by_place None is = refl
+    by_place (Some at) is =
+        let within : k < length part = grind (arith, places, few, long) in
+        let some : is_some (get_or part k None) ≡ true = ap is_some (there ∙ is) in
+        let any = list_any_at is_some part k None within some in
+        cc
+
+-- where none of the sixteen lines is in the bank, the page at home is that of the store
+pub composed_at_home : (image home : List ℕ) (newest : List (Option ℕ)) (first : ℕ) (page : List ℕ) → first + 16 ≤ length newest → list_any is_some (slice_range newest first (first + 16)) ≡ false → Composed image home newest first 0 page → Composed image home newest first 16 page
+composed_at_home image home newest first page long none composed = record {
+  done = λ k few. composed.left k (omega arith) few ∙ ap (newest_bytes image home (first + k)) (sym (nowhere newest first k long none few));
+  left = λ k past few. absurd (omega (arith, past, few));
+}
 
 -- with all sixteen lines the page is that of the store
 pub composed_all : (image home bytes : List ℕ) (newest : List (Option ℕ)) (places : ℕ → Option ℕ) (bound page_number : ℕ) (page : List ℕ) → Agree bound image home bytes places → ((k : ℕ) → k < bound → get_or newest k None ≡ places k) → page_number * 16 + 16 ≤ bound → length page ≡ 2048

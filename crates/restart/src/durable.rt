@@ -199,6 +199,9 @@ impl Durable {
     {
         let first = u32::from(page) * 16;
         outside.read_at(self.header.home_at(first), into)?;
+        if !self.banks.holds_some(first, 16) {
+            return Ok(());
+        }
         for i in 0..16 {
             read_newest(
                 &self.banks,

@@ -12,7 +12,7 @@ use Rattle.redo_journal.specs.Kept.{area_end}
 use Rattle.store_format.proofs.Padded.{read_is}
 use Rattle.restart.specs.Kept.{KeptStore}
 use Rattle.restart.specs.Shows.{Shows}
-use Rattle.restart.proofs.Compose.{Composed, composed_none, composed_more, shown_page, placed_at}
+use Rattle.restart.proofs.Compose.{Composed, composed_none, composed_more, composed_at_home, shown_page, placed_at}
 use Rattle.restart.specs.Page.{newest_over}
 use Rattle.restart.proofs.ShowLemmas.{end_inside}
 use Rattle.restart.proofs.durable.Durable.read_page.Goals as goal
@@ -57,6 +57,24 @@ loop-i-preserved g c =
           (read.read still ∙ ap (λ (image : List ℕ). newest_over (line_bytes Two) image place c.loop-i.into (c.loop-i.i * line_bytes Two)) same)
           (so_far.composed told);
     }
+
+pub returns-then-not-holds_some-clause-read : goal.returns-then-not-holds_some-clause-read
+returns-then-not-holds_some-clause-read g c shown =
+    let held = held_of g.W.Outside c.args.outside.now in
+    let store : KeptStore = record { header = c.self.inside.header; bank = c.self.inside.banks } in
+    let first = c.from-first.result * 16 in
+    let shows : Shows held store = subst (λ (store : KeptStore). Shows held store) (sym c.self.view_is) shown.shows in
+    let same : first ≡ c.args.page * 16 = omega (arith, c.from-first.ensures) in
+    let within : c.args.page < page_count store.header.directory = subst (λ (store : KeptStore). c.args.page < page_count store.header.directory) (sym c.self.view_is) c.requires.page in
+    let whole = c.read_at.auto.into ∙ c.requires.whole in
+    let read =
+        read_is (g.W.Outside.held c.args.outside.now) c.read_at.new.into c.home_at.result (length c.args.into.now) shown.told c.in_ok-read_at.ensures.read
+        ∙ ap (λ (n : ℕ). bytes_at held n (length c.args.into.now)) c.home_at.ensures.value
+        ∙ ap (bytes_at held (home_at store.header first)) c.requires.whole in
+    let at_home : Composed held (home_of held store.header) store.bank.newest first 16 c.read_at.new.into =
+    composed_at_home held (home_of held store.header) store.bank.newest first c.read_at.new.into (omega (arith, shows.fits.lines, within, same)) (sym c.holds_some.ensures ∙ c.if-not-holds_some.true) (composed_none held store.header store.bank.newest first c.read_at.new.into read) in
+    shown_page held store shows c.read_at.new.into c.args.page within whole
+    (subst (λ (n : ℕ). Composed held (home_of held store.header) store.bank.newest n 16 c.read_at.new.into) same at_home)
 
 pub returns-clause-read : goal.returns-clause-read
 returns-clause-read g c shown =
