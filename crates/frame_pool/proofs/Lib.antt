@@ -3,4 +3,5 @@ pub mod SoundLemmas
 pub mod PlaceLemmas
 pub mod PoolLemmas
 pub mod LendLemmas
+pub mod LayLemmas
 pub mod SeenLemmas

@@ -23,6 +23,7 @@ impl FrameBytes {
     }
 
     /// A part.
+    #[inline(always)]
     pub fn part(&self, at: usize, count: usize) -> &[u8]
         requires { at + count ≤ vec_len self.now.items }
         ensures { result.now ≡ slice_range self.now.items.items at (at + count) }
@@ -31,6 +32,7 @@ impl FrameBytes {
     }
 
     /// A part, to be written over.
+    #[inline(always)]
     pub fn part_mut(&mut self, at: usize, count: usize) -> &mut [u8]
         requires { at + count ≤ vec_len self.old.items }
         ensures* writes_back { sem 𝓛 (LendsPart self.entry at result) }
@@ -40,6 +42,7 @@ impl FrameBytes {
     }
 
     /// Writes bytes over those from a place on.
+    #[inline(always)]
     pub fn write(&mut self, at: usize, from: &[u8])
         requires { at + length from.now ≤ vec_len self.old.items }
         ensures items { self.new.items.items ≡ overlaid self.old.items.items at from.now }
@@ -50,6 +53,7 @@ impl FrameBytes {
 }
 
 /// Writes bytes over those from a place on.
+#[inline(always)]
 fn write_over(items: &mut [u8], at: usize, part: &[u8])
     requires { at + length part.now ≤ length items.old }
     ensures { items.new ≡ overlaid items.old at part.now }

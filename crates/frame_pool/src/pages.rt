@@ -65,6 +65,7 @@ impl StorePages {
     }
 
     /// The frame of a page.
+    #[inline(always)]
     pub fn frame_of(&self, page: u16) -> Option<u16>
         ensures { result ≡ place_of (places_of self.now) page }
     {
@@ -72,6 +73,7 @@ impl StorePages {
     }
 
     /// The page of a frame.
+    #[inline(always)]
     pub fn page_in(&self, frame: u16) -> Option<u16>
         ensures { result ≡ page_at (places_of self.now) frame }
     {
@@ -80,6 +82,7 @@ impl StorePages {
 
     /// The index of the page that goes out for another: none while a frame is free, else that of the first that isn't to
     /// stay.
+    #[inline(always)]
     pub fn index_out(&self, keep: Option<u16>) -> Option<usize>
         ensures { result ≡ index_out (places_of self.now) keep }
     {
@@ -91,6 +94,7 @@ impl StorePages {
     }
 
     /// The page at an index of the resident ones leaves its frame.
+    #[inline]
     pub fn leave(&mut self, index: usize)
         requires { index < vec_len self.old.resident }
         ensures { places_of self.new ≡ left (places_of self.old) index (resident_at (places_of self.old) index) (frame_of_index (places_of self.old) index) }
@@ -104,6 +108,7 @@ impl StorePages {
     }
 
     /// A page that isn't resident comes into a free frame.
+    #[inline]
     pub fn come(&mut self, page: u16) -> u16
         requires page { page < vec_len self.old.frame_of }
         requires absent { has self.old.resident.items page ≡ false }
@@ -126,6 +131,7 @@ impl StorePages {
 }
 
 /// The index of the first page that isn't to stay.
+#[inline]
 fn first_to_go(pages: &[u16], keep: Option<u16>) -> Option<usize>
     ensures { result ≡ position (λ page. not (has (option_to_list keep) page)) pages.now }
 {
@@ -133,6 +139,7 @@ fn first_to_go(pages: &[u16], keep: Option<u16>) -> Option<usize>
 }
 
 /// Whether a page is to stay.
+#[inline(always)]
 fn is_to_stay(keep: Option<u16>, page: u16) -> bool
     ensures { result ≡ has (option_to_list keep) page }
 {

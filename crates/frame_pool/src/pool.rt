@@ -1,4 +1,4 @@
-ghost use Rattle.std.specs.Prelude.{◌≡◌, ◌+◌, ◌*◌, ◌<◌, ◌≤◌, ◌==◌, if◌then◌else◌, [], false, length, slice_index, vec_len, replicate, is_some, IfOk, IfSome};
+ghost use Rattle.std.specs.Prelude.{◌≡◌, ◌+◌, ◌*◌, ◌<◌, ◌≤◌, ◌==◌, if◌then◌else◌, [], false, length, slice_index, vec_len, replicate, is_some, fold, slice_range, IfOk, IfSome};
 ghost use Rattle.std.specs.Borrow.{sem};
 ghost use Rattle.lock_rules.specs.Sets.{has};
 ghost use Rattle.owned_list.specs.Overlay.{overlaid};
@@ -58,7 +58,7 @@ fn zeros(alloc: Global, count: usize) -> Result<OwnedList<u8>, AllocError>
 }
 
 impl FramePool {
-    ghost use Rattle.frame_pool.specs.Pool.{Brought, fresh, frame_at, page_at, marks_at, part_of, frame_bytes, line_in_frame, line_kept, line_shown, gone, page_out, with_room, settled, undone, emptied, laid, line_laid, lines_of_part};
+    ghost use Rattle.frame_pool.specs.Pool.{Brought, fresh, frame_at, page_at, marks_at, part_of, frame_bytes, line_in_frame, line_kept, line_shown, gone, page_out, with_room, settled, undone, emptied, laid, line_laid, with_bytes, lines_of_part};
     ghost use Rattle.frame_pool.specs.View.{pool_of};
     ghost use Rattle.frame_pool.specs.PoolLending.{LendsFrame, LendsMarked, with_marked};
 
@@ -91,6 +91,7 @@ impl FramePool {
     }
 
     /// The frame that a page is in: some frame of the store, exactly where the page is resident.
+    #[inline(always)]
     pub fn frame_of(&self, page: u16) -> Option<u16>
         ensures value { result ≡ frame_at (pool_of self.now) page }
         ensures resident { is_some result ≡ has (pool_of self.now).resident page }
@@ -102,6 +103,7 @@ impl FramePool {
 
     /// Brings in a page that isn't resident. It comes last; where no frame is free, the first page that isn't to stay goes
     /// out, and its marked lines are kept. What its frame held is still there: it is to be filled.
+    #[inline]
     pub fn bring(&mut self, page: u16, keep: Option<u16>) -> Slot
         requires page { page < length (pool_of self.old).frame_of }
         requires absent { has (pool_of self.old).resident page ≡ false }
@@ -116,6 +118,7 @@ impl FramePool {
     }
 
     /// The page that isn't to stay goes out, if no frame is free.
+    #[inline]
     fn make_room(&mut self, keep: Option<u16>) -> Option<u16>
         ensures out { result ≡ page_out (pool_of self.old) keep }
         ensures value { pool_of self.new ≡ with_room (pool_of self.old) keep }
@@ -149,6 +152,7 @@ impl FramePool {
     }
 
     /// Lends a frame, to be filled.
+    #[inline(always)]
     pub fn page_mut(&mut self, frame: u16) -> &mut [u8]
         requires { frame < frame_count (pool_of self.old).page (pool_of self.old).frames }
         ensures* writes_back { sem 𝓛 (LendsFrame self.entry (frame * page_bytes (pool_of self.entry.now).page) result) }
@@ -164,9 +168,38 @@ impl FramePool {
         ensures { pool_of self.new ≡ laid (pool_of self.old) page }
     {
         if let Some(frame) = self.places.frame_of(page) {
-            for line in self.written(page).lines() {
-                self.lay_line(page, frame, line);
+            let marks = self.written(page);
+            if marks.bits() == u16::MAX {
+                self.lay_page(page, frame);
+            } else {
+                self.lay_lines(page, frame, marks);
             }
+        }
+    }
+
+    /// The kept bytes of a page lie over those of a frame.
+    #[inline(always)]
+    fn lay_page(&mut self, page: u16, frame: u16)
+        requires page { page < length (pool_of self.old).frame_of }
+        requires frame { frame < frame_count (pool_of self.old).page (pool_of self.old).frames }
+        ensures { let size = page_bytes (pool_of self.old).page in pool_of self.new ≡ with_bytes (pool_of self.old) (frame * size) (slice_range (pool_of self.old).kept (page * size) (page * size + size)) }
+    {
+        let size = page_bytes(self.places.page);
+        let from = usize::from(page) * size;
+        self.bytes.write(
+            usize::from(frame) * size,
+            &self.kept.as_slice()[from..from + size],
+        );
+    }
+
+    /// Kept lines of a page lie over those of a frame, one after another.
+    fn lay_lines(&mut self, page: u16, frame: u16, lines: LineSet)
+        requires page { page < length (pool_of self.old).frame_of }
+        requires frame { frame < frame_count (pool_of self.old).page (pool_of self.old).frames }
+        ensures { pool_of self.new ≡ fold (line_laid page frame) (pool_of self.old) lines }
+    {
+        for line in lines.lines() {
+            self.lay_line(page, frame, line);
         }
     }
 
@@ -187,6 +220,7 @@ impl FramePool {
     }
 
     /// Where a line of a frame begins.
+    #[inline(always)]
     fn place(&self, at: Spot) -> usize
         requires frame { at.frame < frame_count (pool_of self.now).page (pool_of self.now).frames }
         requires line { at.line < 16 }
@@ -246,6 +280,7 @@ impl FramePool {
     }
 
     /// Marks lines of the page of the store in a frame, if there is one.
+    #[inline(always)]
     fn mark(&mut self, frame: u16, lines: LineSet)
         ensures value { self.new ≡ with_marked self.old frame lines }
         ensures bytes { self.new.bytes ≡ self.old.bytes }
@@ -258,6 +293,7 @@ impl FramePool {
     }
 
     /// The lines in which a part of a page lies.
+    #[inline(always)]
     fn lines_of_part(&self, at: usize, count: usize) -> LineSet
         requires { at + count ≤ page_bytes (pool_of self.now).page }
         ensures { result ≡ lines_of_part (pool_of self.now).page at count }
@@ -270,6 +306,7 @@ impl FramePool {
     }
 
     /// The lines of a page that are marked as written.
+    #[inline(always)]
     pub fn written(&self, page: u16) -> LineSet
         requires { page < length (pool_of self.now).frame_of }
         ensures { result ≡ marks_at (pool_of self.now) page }
@@ -331,6 +368,7 @@ impl FramePool {
 }
 
 /// Bytes of a page are kept from a place on, if a line of it is marked.
+#[inline(always)]
 fn keep_over(kept: &mut OwnedList<u8>, at: usize, bytes: &[u8], marks: LineSet)
     requires { at + length bytes.now ≤ length kept.old }
     ensures value { kept.new ≡ (if length marks == 0 then kept.old else overlaid kept.old at bytes.now) }

@@ -163,3 +163,29 @@ fn pages_go_out_and_come_back(rt: HostRuntime) -> Result<(), Fail> {
     }
     Ok(())
 }
+
+#[test]
+fn page_comes_back_whole(rt: HostRuntime) -> Result<(), Fail> {
+    // Each line of a page is written, and what is filled in later shows in none of them.
+    for size in [PageSize::Two, PageSize::Four] {
+        let mut pool = FramePool::new(rt.alloc(), size, 2, 6)?;
+        assert!(rt; holds(&mut pool, &Step::Bring(3, None, None)));
+        for line in 0..16 {
+            assert!(rt; holds(&mut pool, &Step::Write(3, line, 100 + line)));
+        }
+        for step in [
+            Step::Marks(3, u16::MAX),
+            Step::Empty,
+            Step::Bring(3, None, None),
+            Step::Fill(3, 7),
+        ]
+        .iter()
+        {
+            assert!(rt; holds(&mut pool, step));
+        }
+        for line in 0..16 {
+            assert!(rt; holds(&mut pool, &Step::Shows(3, line, 100 + line)));
+        }
+    }
+    Ok(())
+}

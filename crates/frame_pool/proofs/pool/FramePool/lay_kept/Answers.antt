@@ -1,44 +1,20 @@
-use Rattle.std.proofs.Common.{◌≡◌, ◌<◌, ℕ, List, length, sym, ◌∙◌, ap, subst, refl, All}
-use Rattle.std.specs.Prelude.{fold}
-use Rattle.std.proofs.lemmas.List.Elements.{All-head, All-tail}
-use Rattle.line_geometry.specs.declared.line_set.LinesOf.{LinesOf}
-use Rattle.frame_pool.specs.declared.model.Pool.{Pool}
-use Rattle.frame_pool.specs.Pool.{line_laid}
+use Rattle.std.proofs.Common.{◌≡◌, sym, ◌∙◌, ap}
+use Rattle.std.specs.List.{range_with_len}
+use Rattle.line_geometry.specs.LineSets.{lines_of_bits}
+use Rattle.frame_pool.specs.Pool.{marks_at}
 use Rattle.frame_pool.specs.View.{pool_of}
-use Rattle.frame_pool.proofs.PoolLemmas.{lines-below, frame-within}
+use Rattle.frame_pool.proofs.PoolLemmas.{frame-within}
+use Rattle.frame_pool.proofs.LayLemmas.{all-lines, whole-laid}
 use Rattle.frame_pool.proofs.pool.FramePool.lay_kept.Goals as goal
 
-pub loop-line-init : goal.loop-line-init
-loop-line-init c =
-    let is : c.into_iter-line-iterator.result.left ≡ c.written.result =
-    ap (λ (lines : LinesOf). lines.left) c.into_iter-line-iterator.ensures.into_iter_gives ∙ c.lines-line-items.ensures.value in
-    record {
-      same = refl;
-      below = subst (λ (set : List ℕ). All (λ (line : ℕ). line < 16) set) (sym is) (lines-below c.written.result c.lines-line-items.ensures.of_page);
-      pages = refl;
-      size = refl;
-      frames = refl;
-    }
+pub lay_page-requires-clause-frame : goal.lay_page-requires-clause-frame
+lay_page-requires-clause-frame c = frame-within c.args.self.now c.args.page c.in-Some.frame (sym c.frame_of.ensures ∙ c.in-Some.is)
 
-pub lay_line-requires-clause-frame : goal.lay_line-requires-clause-frame
-lay_line-requires-clause-frame c =
-    rw (c.loop-line.invariant.size, c.loop-line.invariant.frames)
-    (frame-within c.args.self.now c.args.page c.in-Some.frame (sym c.frame_of.ensures ∙ c.in-Some.is))
+pub lay_lines-requires-clause-frame : goal.lay_lines-requires-clause-frame
+lay_lines-requires-clause-frame c = frame-within c.args.self.now c.args.page c.in-Some.frame (sym c.frame_of.ensures ∙ c.in-Some.is)
 
-pub lay_line-requires-clause-line : goal.lay_line-requires-clause-line
-lay_line-requires-clause-line c =
-    All-head (λ (line : ℕ). line < 16) c.in-Some-line.line c.next.new.self.left
-    (subst (λ (set : List ℕ). All (λ (line : ℕ). line < 16) set) c.in-Some-line.ensures.steps c.loop-line.invariant.below)
-
-pub loop-line-preserved : goal.loop-line-preserved
-loop-line-preserved c =
-    record {
-      same = ap (λ (pool : Pool). fold (line_laid c.args.page c.in-Some.frame) pool c.next.new.self.left) c.lay_line.ensures
-          ∙ sym (ap (fold (line_laid c.args.page c.in-Some.frame) (pool_of c.loop-line.self)) c.in-Some-line.ensures.steps)
-          ∙ c.loop-line.invariant.same;
-      below = All-tail (λ (line : ℕ). line < 16) c.in-Some-line.line c.next.new.self.left
-          (subst (λ (set : List ℕ). All (λ (line : ℕ). line < 16) set) c.in-Some-line.ensures.steps c.loop-line.invariant.below);
-      pages = ap (λ (pool : Pool). length pool.frame_of) c.lay_line.ensures ∙ c.loop-line.invariant.pages;
-      size = ap (λ (pool : Pool). pool.page) c.lay_line.ensures ∙ c.loop-line.invariant.size;
-      frames = ap (λ (pool : Pool). pool.frames) c.lay_line.ensures ∙ c.loop-line.invariant.frames;
-    }
+pub returns-then-bits : goal.returns-then-bits
+returns-then-bits c =
+    let all : range_with_len 0 16 ≡ marks_at (pool_of c.args.self.now) c.args.page =
+    sym all-lines ∙ ap lines_of_bits (sym c.if-bits.true) ∙ c.bits.ensures ∙ c.written-marks.ensures in
+    c.lay_page.ensures ∙ whole-laid c.args.self.now c.args.page c.in-Some.frame c.requires (sym c.frame_of.ensures ∙ c.in-Some.is) all

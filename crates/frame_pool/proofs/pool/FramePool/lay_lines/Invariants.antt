@@ -2,7 +2,7 @@ use Rattle.std.proofs.Common.{◌≡◌, ℕ, ◌<◌, length, All}
 use Rattle.std.specs.Prelude.{fold}
 use Rattle.frame_pool.specs.Pool.{line_laid}
 use Rattle.frame_pool.specs.View.{pool_of}
-use Rattle.frame_pool.proofs.pool.FramePool.lay_kept.Given as goal
+use Rattle.frame_pool.proofs.pool.FramePool.lay_lines.Given as goal
 
 -- the lines that are left lie over what lies there
 abbrev pub invariant-loop-line : goal.invariant-loop-line
