@@ -149,7 +149,7 @@ pub enter-chained :
     → IsChained (slice_set anchors own (Some frame)) (slice_set next frame (following anchors own)) (slice_set keys frame (Some key))
 enter-chained anchors next keys frame own key chained inside free absent within is_own =
     record {
-      some = omega (arith, chained.some, length-set anchors own (Some frame));
+      power = (chained.power.0, length-set anchors own (Some frame) ∙ chained.power.1);
       sized = length-set next frame (following anchors own) ∙ chained.sized ∙ sym (length-set keys frame (Some key));
       chains = λ hash below. by_test hash (own == hash) refl (omega (arith, length-set anchors own (Some frame)));
       once = entered-once keys frame key inside absent chained.once;

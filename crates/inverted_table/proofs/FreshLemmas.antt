@@ -1,6 +1,7 @@
 -- A table with nothing in it.
 use Rattle.std.proofs.Common.{◌≡◌, ℕ, ◌<◌, ◌≤◌, ◌⊎◌, false, List, [], length, sym, ◌∙◌, ap, arith, inl, inr, Some, None}
 use Rattle.std.specs.Prelude.{◌==◌, replicate, slice_index_or, Option}
+use Rattle.std.specs.Int.{IsPowerOfTwo}
 use Rattle.std.specs.Option.{option_map_or}
 use Rattle.std.proofs.lemmas.Bool.{cases_lt}
 use Rattle.std.proofs.lemmas.List.{length-replicate, get_or-replicate}
@@ -18,11 +19,11 @@ nothing X count i = by_case (cases_lt i count)
     by_case (inr above) = get_or-eq_default (replicate {A = Option X} count None) None (let short : length (replicate {A = Option X} count None) ≤ i = omega (arith, length-replicate {A = Option X} count None) in short)
 
 chained-fresh :
-    (anchors frames : ℕ) → 1 ≤ anchors
+    (anchors frames : ℕ) → IsPowerOfTwo anchors
     → IsChained (replicate anchors None) (replicate frames None) (replicate frames None)
-chained-fresh anchors frames some =
+chained-fresh anchors frames power =
     record {
-      some = omega (arith, length-replicate {A = Option ℕ} anchors None);
+      power = (power.0, length-replicate {A = Option ℕ} anchors None ∙ power.1);
       sized = length-replicate {A = Option ℕ} frames None ∙ sym (length-replicate {A = Option Key} frames None);
       chains = λ hash below. chain hash;
       once = λ frame other key first second. absurd (let clash : None ≡ Some key = sym (nothing Key frames frame) ∙ first in cc);
@@ -44,6 +45,6 @@ chained-fresh anchors frames some =
         }
 
 pub chained-fresh_by :
-    (anchors frames : ℕ) (list next : List (Option ℕ)) (keys : List (Option Key)) → 1 ≤ anchors
+    (anchors frames : ℕ) (list next : List (Option ℕ)) (keys : List (Option Key)) → IsPowerOfTwo anchors
     → list ≡ replicate anchors None → next ≡ replicate frames None → keys ≡ replicate frames None → IsChained list next keys
-chained-fresh_by anchors frames list next keys some e1 e2 e3 = rw (e1, e2, e3) (chained-fresh anchors frames some)
+chained-fresh_by anchors frames list next keys power e1 e2 e3 = rw (e1, e2, e3) (chained-fresh anchors frames power)

@@ -76,7 +76,7 @@ pub leave-first :
     → IsChained (slice_set anchors own (following next frame)) next (slice_set keys frame None)
 leave-first anchors next keys frame own key chained inside holds within is_own before =
     record {
-      some = omega (arith, chained.some, length-set anchors own (following next frame));
+      power = (chained.power.0, length-set anchors own (following next frame) ∙ chained.power.1);
       sized = chained.sized ∙ sym (length-set keys frame None);
       chains = λ hash below. by_test hash (own == hash) refl (omega (arith, length-set anchors own (following next frame)));
       once = left-once keys frame inside chained.once;
@@ -115,7 +115,7 @@ pub leave-behind :
     → IsChained anchors (slice_set next other (following next frame)) (slice_set keys frame None)
 leave-behind anchors next keys frame own other key chained inside holds within is_own before =
     record {
-      some = chained.some;
+      power = chained.power;
       sized = length-set next other (following next frame) ∙ chained.sized ∙ sym (length-set keys frame None);
       chains = λ hash below. by_test hash (own == hash) refl below;
       once = left-once keys frame inside chained.once;

@@ -1,5 +1,6 @@
 -- Chains through the frames: each frame in use is in the chain of its hash.
-use Rattle.std.specs.Prelude.{◌≡◌, ℕ, zero, suc, ◌%◌, ◌<◌, ◌≤◌, ◌==◌, if◌then◌else◌, false, List, [], ◌∷◌, length, slice_index_or, Option, Some, None, bit_xor}
+use Rattle.std.specs.Prelude.{◌≡◌, ℕ, zero, suc, ◌%◌, ◌<◌, ◌==◌, if◌then◌else◌, false, List, [], ◌∷◌, length, slice_index_or, Option, Some, None, bit_xor}
+use Rattle.std.specs.Int.{IsPowerOfTwo}
 use Rattle.std.specs.Option.{option_map_or}
 use Rattle.lock_rules.specs.Sets.{has, distinct}
 use Rattle.inverted_table.specs.declared.key.Key.{Key}
@@ -41,9 +42,9 @@ pub record IsChain (anchors next : List (Option ℕ)) (keys : List (Option Key))
   pub apart : distinct (chain_of anchors next hash) ≡ chain_of anchors next hash
   pub has_its : (frame : ℕ) → has (chain_of anchors next hash) frame ≡ option_map_or (λ key. hash_of (length anchors) key == hash) (key_in keys frame) false
 
--- anchors, chains and what the frames hold agree, and no page is in two frames
+-- anchors, chains and what the frames hold agree, the number of anchors is a power of two, and no page is in two frames
 pub record IsChained (anchors next : List (Option ℕ)) (keys : List (Option Key)) : Type 0 where
-  pub some : 1 ≤ length anchors
+  pub power : IsPowerOfTwo (length anchors)
   pub sized : length next ≡ length keys
   pub chains : (hash : ℕ) → hash < length anchors → IsChain anchors next keys hash
   pub once : (frame other : ℕ) (key : Key) → key_in keys frame ≡ Some key → key_in keys other ≡ Some key → frame ≡ other

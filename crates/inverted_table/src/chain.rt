@@ -1,20 +1,23 @@
 // Chains through the frames: each frame leads to the one after it.
 ghost use Rattle.std.specs.Prelude.{◌≡◌, ◌==◌, ◌<◌, find, length, None};
+ghost use Rattle.std.specs.Int.{IsPowerOfTwo};
 ghost use Rattle.inverted_table.specs.Placed.{key_in, holds};
 ghost use Rattle.inverted_table.specs.Chains.{hash_of, following, chain_from, chain_end, before_in};
 
 use super::key::Key;
 
-/// The hash of a page among so many anchors.
+/// The hash of a page among so many anchors, a power of two.
+#[inline(always)]
 pub fn hash(key: Key, anchors: usize) -> usize
-    requires { 0 < anchors }
+    requires { IsPowerOfTwo anchors }
     ensures value { result ≡ hash_of anchors key }
     ensures below { result < anchors }
 {
-    (u32::from(key.segment) ^ key.page) as usize % anchors
+    (u32::from(key.segment) ^ key.page) as usize & (anchors - 1)
 }
 
 /// The frame after another.
+#[inline(always)]
 pub fn following(next: &[Option<u16>], frame: u16) -> Option<u16>
     ensures { result ≡ following next.now frame }
 {
@@ -22,6 +25,7 @@ pub fn following(next: &[Option<u16>], frame: u16) -> Option<u16>
 }
 
 /// Whether a frame holds a page.
+#[inline]
 pub fn holds(keys: &[Option<Key>], frame: u16, key: Key) -> bool
     ensures { result ≡ holds key (key_in keys.now frame) }
 {
@@ -32,6 +36,7 @@ pub fn holds(keys: &[Option<Key>], frame: u16, key: Key) -> bool
 }
 
 /// The first frame along a chain that holds a page.
+#[inline]
 pub fn find_along(
     next: &[Option<u16>],
     keys: &[Option<Key>],
@@ -52,6 +57,7 @@ pub fn find_along(
 }
 
 /// The frame in front of another along a chain that ends. None where the chain begins with the other, or doesn't have it.
+#[inline]
 pub fn before(next: &[Option<u16>], first: Option<u16>, frame: u16) -> Option<u16>
     requires { chain_end next.now (length next.now) first ≡ None }
     ensures { result ≡ before_in (chain_from next.now (length next.now) first) frame }

@@ -63,6 +63,7 @@ impl Table {
     }
 
     /// The frame that holds the page of an address.
+    #[inline]
     pub fn find(&self, at: Virtual) -> Option<u16>
         ensures { result ≡ look_up self.now.keys (key_of at) }
     {
@@ -75,6 +76,7 @@ impl Table {
     }
 
     /// A free frame holds from now on a page that no frame holds.
+    #[inline]
     pub fn enter(&mut self, frame: u16, segment: u16, page: u32)
         requires frame { frame < length self.old.keys }
         requires free { key_in self.old.keys frame ≡ None }
@@ -90,6 +92,7 @@ impl Table {
     }
 
     /// A frame holds nothing from now on.
+    #[inline]
     pub fn leave(&mut self, frame: u16)
         requires { frame < length self.old.keys }
         ensures { self.new ≡ without_frame self.old frame }
@@ -108,6 +111,7 @@ impl Table {
     }
 
     /// The entry of a page of the store.
+    #[inline(always)]
     pub fn authority(&self, page: u16) -> Authority
         requires { page < length self.now.entries }
         ensures { result ≡ entry_at self.now page }
@@ -116,6 +120,7 @@ impl Table {
     }
 
     /// Sets the entry of a page of the store.
+    #[inline(always)]
     pub fn set_authority(&mut self, page: u16, value: Authority)
         requires { page < length self.old.entries }
         ensures { self.new ≡ with_entry self.old page value }

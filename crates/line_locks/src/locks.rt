@@ -52,6 +52,7 @@ impl Locks {
     }
 
     /// The lines of a page that a seat holds: those to read and those to write.
+    #[inline(always)]
     pub fn held(&self, seat: u8, page: u16) -> (LineSet, LineSet)
         requires seat { seat < 16 }
         requires page { page < self.now.pages }
@@ -85,7 +86,8 @@ impl Locks {
     }
 
     /// Whether a seat is another than the one that asks, and holds something with which its request conflicts.
-    fn is_in_conflict(&self, other: u8, seat: u8, request: &Request) -> bool
+    #[inline(always)]
+    pub fn is_in_conflict(&self, other: u8, seat: u8, request: &Request) -> bool
         requires other { other < 16 }
         requires pages { AreWithin self.now.pages request.now.wants.items }
         ensures { result ≡ is_in_conflict self.now seat request.now.wants.items other }
@@ -94,6 +96,7 @@ impl Locks {
     }
 
     /// A seat holds what a request wants too, also where that conflicts.
+    #[inline(always)]
     pub fn take(&mut self, seat: u8, request: &Request)
         requires seat { seat < 16 }
         requires pages { AreWithin self.old.pages request.now.wants.items }
@@ -111,6 +114,7 @@ impl Locks {
     }
 
     /// The number of lines that a seat holds to write, over all pages. It is kept, and not counted anew.
+    #[inline(always)]
     pub fn written_lines(&self, seat: u8) -> u32
         requires { seat < 16 }
         ensures { result ≡ write_count (of_seat self.now seat) }

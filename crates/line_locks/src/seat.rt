@@ -47,6 +47,7 @@ impl SeatLines {
     }
 
     /// The lines of a page that it holds, to read and to write.
+    #[inline(always)]
     pub fn held(&self, page: u16) -> (LineSet, LineSet)
         requires { page < length self.now }
         ensures { result ≡ of_page self.now page }
@@ -64,6 +65,7 @@ impl SeatLines {
     }
 
     /// The number of lines that it holds to write.
+    #[inline(always)]
     pub fn written(&self) -> u32
         ensures { result ≡ write_count self.now }
     {
@@ -71,6 +73,7 @@ impl SeatLines {
     }
 
     /// Whether a request conflicts with what it holds.
+    #[inline]
     pub fn conflicts(&self, request: &Request) -> bool
         requires { AreWithin (length self.now) request.now.wants.items }
         ensures { result ≡ conflicts_with self.now request.now.wants.items }
@@ -87,6 +90,7 @@ impl SeatLines {
     }
 
     /// What a request wants is held too.
+    #[inline]
     pub fn take(&mut self, request: &Request)
         requires { AreWithin (length self.old) request.now.wants.items }
         ensures value { self.new ≡ with_wants self.old request.now.wants.items }
@@ -98,6 +102,7 @@ impl SeatLines {
     }
 
     /// What is wanted of a page is held too.
+    #[inline]
     #[tactic(auto, using(crate::proofs::CountLemmas::all_few))]
     fn add(&mut self, want: &Want)
         requires { want.now.page < length self.old }
@@ -124,6 +129,7 @@ impl SeatLines {
 }
 
 /// Lists a page among those that ascend, where it is the first time that something is held of it.
+#[inline]
 fn list_if(is_first: bool, list: &mut Vec<u16>, page: u16)
     requires room { is_first ≡ true → vec_len list.old < vec_capacity list.old }
     requires absent { is_first ≡ true → has list.old.items page ≡ false }
@@ -164,6 +170,7 @@ fn clear(pages: &mut Vec<(LineSet, LineSet)>, list: &[u16])
 }
 
 /// Whether something is held of a page.
+#[inline]
 fn holds_some(reads: LineSet, writes: LineSet) -> bool
     ensures value { result ≡ holds_some (reads, writes) }
     ensures reads { IsOfPage reads }
@@ -174,6 +181,7 @@ fn holds_some(reads: LineSet, writes: LineSet) -> bool
 }
 
 /// Whether what is wanted of a page conflicts with what is held of it.
+#[inline]
 #[tactic(auto, using(crate::proofs::MeetsLemmas::meets_append))]
 fn is_in_conflict(want: &Want, held: (LineSet, LineSet)) -> bool
     ensures { result ≡ conflicts_in want.now held }
@@ -183,6 +191,7 @@ fn is_in_conflict(want: &Want, held: (LineSet, LineSet)) -> bool
 }
 
 /// Whether some line is in both sets.
+#[inline(always)]
 fn meets(set: LineSet, other: LineSet) -> bool
     ensures { result ≡ meets set other }
 {

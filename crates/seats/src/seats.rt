@@ -50,6 +50,7 @@ impl Seats {
     }
 
     /// The seats that are taken, in the order in which their activations began.
+    #[inline(always)]
     pub fn taken(&self) -> &[u8]
         ensures taken { result.now ≡ self.now.taken }
         ensures sound { IsSeating self.now }
@@ -58,6 +59,7 @@ impl Seats {
     }
 
     /// Who sits in a seat.
+    #[inline(always)]
     pub fn sitter(&self, seat: u8) -> &Seat
         requires { seat < 16 }
         ensures { result.now ≡ sitter self.now seat }
@@ -66,6 +68,7 @@ impl Seats {
     }
 
     /// What each seat holds.
+    #[inline(always)]
     pub fn locks(&self) -> &Locks
         ensures { result.now ≡ self.now.holding }
     {
@@ -138,6 +141,7 @@ impl Seats {
     }
 
     /// Who sits in a seat has done so many rows more, and waits for nothing.
+    #[inline]
     pub fn go_on(&mut self, seat: u8, rows: u32)
         requires seat { seat < 16 }
         requires rows { (sitter self.old seat).rows + rows < 2 ^ 64 }
@@ -158,6 +162,7 @@ impl Seats {
     }
 
     /// A taken seat holds what a request wants too.
+    #[inline(always)]
     pub fn take(&mut self, seat: u8, request: &Request)
         requires taken { has self.old.taken seat ≡ true }
         requires pages { AreWithin self.old.holding.pages request.now.wants.items }

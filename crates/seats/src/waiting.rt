@@ -14,14 +14,14 @@ use wait_cycles::shown_cycle;
 
 impl Seats {
     /// The numbers of the activations with which a request of a seat conflicts, ascending.
+    #[inline]
     pub fn holders(&self, seat: u8, request: &Request) -> ArrayVec<u32, 16>
         requires { AreWithin self.now.holding.pages request.now.wants.items }
         ensures { result.items ≡ holders self.now seat request.now.wants.items }
     {
-        let bits = self.locks().conflicts(seat, request);
         let mut holders = ArrayVec::new();
         for other in self.taken() {
-            if is_on(bits, *other) {
+            if self.locks().is_in_conflict(*other, seat, request) {
                 holders.push(self.sitter(*other).number);
             }
         }

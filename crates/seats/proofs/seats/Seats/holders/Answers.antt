@@ -1,15 +1,12 @@
-use Rattle.std.proofs.Common.{◌≡◌, ◌+◌, ◌<◌, ℕ, Bool, true, false, cond, List, [], ◌∷◌, ◌++◌, length, map, filter, take, get_or, append-nil, arith, ap, sym, subst, ◌∙◌}
-use Rattle.std.specs.Prelude.{All}
+use Rattle.std.proofs.Common.{◌≡◌, ◌+◌, ◌<◌, ℕ, Bool, true, false, cond, List, [], ◌∷◌, ◌++◌, length, map, filter, take, get_or, append-nil, arith, ap, sym, ◌∙◌}
 use Rattle.arrayvec.specs.ArrayVec.{ArrayVec}
 use Rattle.std.proofs.lemmas.List.{map-append}
-use Rattle.std.proofs.lemmas.List.Elements.{All-get_or, filter_more}
-use Rattle.line_locks.specs.Holding.{is_in_conflict, in_conflict, bits_of_seats}
-use Rattle.wait_cycles.specs.Rows.{is_on}
+use Rattle.std.proofs.lemmas.List.Elements.{filter_more}
+use Rattle.line_locks.specs.Holding.{Holding, is_in_conflict}
 use Rattle.seats.specs.Seating.{number_in}
-use Rattle.seats.proofs.Bits.{all-on}
 use Rattle.seats.proofs.Kept.{few-taken}
 use Rattle.seats.proofs.seats.Seats.holders.Goals as goal
-use Rattle.seats.proofs.seats.Seats.holders.Goals.{then-is_on, else-is_on}
+use Rattle.seats.proofs.seats.Seats.holders.Goals.{then-is_in_conflict, else-is_in_conflict}
 
 pub push-requires : goal.push-requires
 push-requires c =
@@ -29,20 +26,18 @@ loop-other-preserved c =
     let p : ℕ → Bool = is_in_conflict c.args.self.now.holding c.args.seat c.args.request.now.wants.items in
     let seats : List ℕ = c.taken-other-items.result.now in
     let now = c.loop-other.invariant in
-    let below : get_or seats c.loop-other.other-index 0 < 16 =
-    All-get_or (λ seat. seat < 16) seats c.loop-other.other-index 0 c.loop-other-test.true (subst (λ (these : List ℕ). All (λ seat. seat < 16) these) (sym c.taken-other-items.ensures.taken) c.taken-other-items.ensures.sound.among) in
-    let tells : is_on c.conflicts-bits.result (get_or seats c.loop-other.other-index 0) ≡ p (get_or seats c.loop-other.other-index 0) =
-    ap (λ (bits : ℕ). is_on bits (get_or seats c.loop-other.other-index 0)) (c.conflicts-bits.ensures ∙ (λ i. bits_of_seats (in_conflict (c.locks.ensures i) c.args.seat c.args.request.now.wants.items)))
-    ∙ all-on p (get_or seats c.loop-other.other-index 0) below in
-    elim c.if-is_on.branch [
-      | then-is_on w ↦
-          let more = one-more p (number_in c.args.self.now) seats c.loop-other.other-index true c.loop-other-test.true (sym tells ∙ sym c.is_on.ensures ∙ w.if-is_on.true) in
+    let here : ℕ = get_or seats c.loop-other.other-index 0 in
+    let tells : c.is_in_conflict.result ≡ p here =
+    c.is_in_conflict.ensures ∙ ap (λ (holding : Holding). is_in_conflict holding c.args.seat c.args.request.now.wants.items here) c.locks.ensures in
+    elim c.if-is_in_conflict.branch [
+      | then-is_in_conflict w ↦
+          let more = one-more p (number_in c.args.self.now) seats c.loop-other.other-index true c.loop-other-test.true (sym tells ∙ w.if-is_in_conflict.true) in
           record {
             long = omega (arith, now.long, w.push.ensures.len, ap (λ (these : ArrayVec ℕ). length these.items) w.holders-is);
             numbers = ap (λ (these : ArrayVec ℕ). these.items) w.holders-is ∙ w.push.ensures.items ∙ (λ i. now.numbers i ++ (w.sitter.ensures i).number ∷ []) ∙ sym more;
           }
-      | else-is_on w ↦
-          let more = one-more p (number_in c.args.self.now) seats c.loop-other.other-index false c.loop-other-test.true (sym tells ∙ sym c.is_on.ensures ∙ w.if-is_on.false) in
+      | else-is_in_conflict w ↦
+          let more = one-more p (number_in c.args.self.now) seats c.loop-other.other-index false c.loop-other-test.true (sym tells ∙ w.if-is_in_conflict.false) in
           record {
             long = omega (arith, now.long, ap (λ (these : ArrayVec ℕ). length these.items) w.holders-is);
             numbers = ap (λ (these : ArrayVec ℕ). these.items) w.holders-is ∙ now.numbers ∙ sym (more ∙ append-nil _);
