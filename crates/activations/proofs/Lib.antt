@@ -17,7 +17,6 @@ pub mod IdleLemmas
 pub mod InstructLemmas
 pub mod KeptLemmas
 pub mod LimitLemmas
-pub mod LineLemmas
 pub mod PoolLemmas
 pub mod PrepareLemmas
 pub mod PrintedLemmas

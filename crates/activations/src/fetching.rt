@@ -33,6 +33,7 @@ impl Activations {
     /// # Errors
     ///
     /// Only where the disk's count rose: the page that was counted last couldn't be read, and no page is resident.
+    #[inline(always)]
     pub(super) fn fetch<W: Outside>(
         &mut self,
         store: &Durable,
@@ -69,6 +70,7 @@ impl Activations {
 
     /// Brings in a page if it isn't resident, and counts it then. Another page, if one is named, stays. If it can't be read,
     /// all pages go out.
+    #[inline(always)]
     fn fetch_page<W: Outside>(
         &mut self,
         store: &Durable,

@@ -15,6 +15,7 @@ impl Activations {
     ghost use Rattle.activations.specs.View.{activity_of};
 
     /// Who sits in a seat holds what he asked for, and the pages whose entries refused him are granted.
+    #[inline(always)]
     pub(super) fn take(&mut self, seat: u8, touch: &Touch, refused: (bool, bool))
         requires sound { IsSound (activity_of self.old) }
         requires taken { has (activity_of self.old).seating.taken seat ≡ true }
@@ -28,6 +29,7 @@ impl Activations {
     }
 
     /// The pages of a touch that are picked are granted to a seat.
+    #[inline(always)]
     #[tactic(auto, using(crate::proofs::GrantingLemmas::one_within, crate::proofs::GrantingLemmas::first_within, crate::proofs::GrantingLemmas::second_within))]
     fn grant_picked(&mut self, seat: u8, touch: &Touch, picked: (bool, bool))
         requires seat { seat < 16 }
@@ -47,6 +49,7 @@ impl Activations {
     }
 
     /// A page is granted to a seat where it is picked.
+    #[inline(always)]
     fn grant_if(&mut self, picked: bool, seat: u8, page: u16)
         requires seat { seat < 16 }
         requires same { (activity_of self.old).seating.holding.pages ≡ page_count (activity_of self.old).reach.directory }
@@ -60,6 +63,7 @@ impl Activations {
     }
 
     /// A page gets the entry that a seat's locks of it give.
+    #[inline(always)]
     fn grant(&mut self, seat: u8, page: u16)
         requires seat { seat < 16 }
         requires same { (activity_of self.old).seating.holding.pages ≡ page_count (activity_of self.old).reach.directory }

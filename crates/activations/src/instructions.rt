@@ -146,6 +146,7 @@ impl Activations {
     /// # Errors
     ///
     /// The end of the turn: it asks for too many lines, or a page can't be read.
+    #[inline(always)]
     fn prepare<W: Outside>(
         &mut self,
         store: &Durable,
@@ -189,6 +190,7 @@ impl Activations {
     /// # Errors
     ///
     /// A page can't be read: who sits in the seat is rolled back, and no page is resident.
+    #[inline(always)]
     fn bring<W: Outside>(
         &mut self,
         store: &Durable,
@@ -228,6 +230,7 @@ impl Activations {
     /// # Errors
     ///
     /// The end of the turn: he is a victim, or still waits.
+    #[inline(always)]
     fn ask(&mut self, seat: u8, touch: &Touch, tally: &mut Tally) -> Result<(), TurnEnd>
         requires sound { IsSound (activity_of self.old) }
         requires taken { has (activity_of self.old).seating.taken seat ≡ true }
@@ -256,6 +259,7 @@ impl Activations {
     /// # Errors
     ///
     /// The end of the turn: a page can't be read.
+    #[inline(always)]
     fn get<W: Outside>(
         &mut self,
         store: &Durable,
@@ -287,6 +291,7 @@ impl Activations {
     }
 
     /// The row of who sits in a seat, whose access was served, takes effect. It isn't counted yet.
+    #[inline(always)]
     fn go_on(&mut self, seat: u8) -> Result<(), TurnEnd>
         requires sound { IsSound (activity_of self.old) }
         requires taken { has (activity_of self.old).seating.taken seat ≡ true }

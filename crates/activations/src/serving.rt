@@ -1,7 +1,6 @@
 // An access that isn't permitted is served: its pages come in, and its lines are locked.
-ghost use Rattle.std.specs.Prelude.{◌≡◌, ◌+◌, ◌<◌, ◌&&◌, not};
-ghost use Rattle.std.specs.List.{list_any, range_with_len};
-ghost use Rattle.lock_rules.specs.Sets.{has};
+ghost use Rattle.std.specs.Prelude.{◌≡◌, ◌+◌, ◌<◌, not};
+ghost use Rattle.std.specs.List.{list_any};
 ghost use Rattle.line_locks.specs.Held.{AreWithin};
 ghost use Rattle.line_geometry.specs.Directory.{page_count};
 ghost use Rattle.lockbit_rules.specs.Entries.{entry_of, lets};
@@ -17,6 +16,7 @@ impl Activations {
     ghost use Rattle.activations.specs.View.{activity_of};
 
     /// Of the first and the second page of a touch, whether its entry refuses who sits in a seat a line of it.
+    #[inline(always)]
     pub fn refused(&self, seat: u8, touch: &Touch) -> (bool, bool)
         requires seat { seat < 16 }
         requires pages { AreWithin (page_count (activity_of self.now).reach.directory) (wants_of touch.now) }
@@ -30,6 +30,7 @@ impl Activations {
     }
 
     /// Whether the entry of a page refuses who sits in a seat one of these lines.
+    #[inline(always)]
     fn refuses(&self, seat: u8, want: &Want) -> bool
         requires seat { seat < 16 }
         requires page { want.now.page < page_count (activity_of self.now).reach.directory }
@@ -42,15 +43,14 @@ impl Activations {
 }
 
 /// Whether an entry keeps one of these lines from an identifier.
+#[inline(always)]
 fn keeps_from(entry: &Authority, tid: u8, lines: LineSet, store: bool) -> bool
     ensures { result ≡ list_any (λ line. not (lets (entry_of entry.now) tid line store)) lines }
 {
-    lines.count() > 0 && keeps_some(entry, tid, lines, store)
-}
-
-/// The same, line by line of a page.
-fn keeps_some(entry: &Authority, tid: u8, lines: LineSet, store: bool) -> bool
-    ensures { result ≡ list_any (λ line. has lines line && not (lets (entry_of entry.now) tid line store)) (range_with_len 0 16) }
-{
-    (0..16).any(|line| lines.contains(line) && !entry.permits(tid, line, store))
+    for line in lines.lines() {
+        if !entry.permits(tid, line, store) {
+            return true;
+        }
+    }
+    false
 }

@@ -20,6 +20,7 @@ pub enum Touch {
 
 impl Touch {
     /// The lines from a first to a last, which is the same or the next, to load from or to store to.
+    #[inline(always)]
     pub fn between(first: u32, last: u32, store: bool) -> Touch
         requires order { first ≤ last }
         requires near { last ≤ first + 1 }
@@ -35,6 +36,7 @@ impl Touch {
     }
 
     /// What is asked for: the same lines, and all sixteen to read of each page that is written into.
+    #[inline(always)]
     pub fn request(&self) -> Request
         ensures { result.wants.items ≡ map with_whole_page (wants_of self.now) }
     {
@@ -52,6 +54,7 @@ impl Touch {
 }
 
 /// The lines from a first to a last of one page.
+#[inline(always)]
 fn want_of(first: u32, last: u32, store: bool) -> Want
     requires order { first ≤ last }
     requires near { last ≤ first + 1 }
@@ -75,6 +78,7 @@ fn want_of(first: u32, last: u32, store: bool) -> Want
 }
 
 /// The same lines of a page, and all of them to read where one is written.
+#[inline(always)]
 fn with_whole_page(want: &Want) -> Want
     ensures { result ≡ with_whole_page want.now }
 {

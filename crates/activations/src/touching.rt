@@ -33,6 +33,7 @@ impl Activations {
     ghost use Rattle.activations.specs.View.{activity_of};
 
     /// The lines of the store that an access of who sits in a seat touches.
+    #[inline(always)]
     pub(super) fn touch_of(&self, seat: u8, access: Access) -> Touch
         requires sound { IsSound (activity_of self.now) }
         requires taken { has (activity_of self.now).seating.taken seat ≡ true }
@@ -52,6 +53,7 @@ impl Activations {
     }
 
     /// Where an access of who sits in a seat lies.
+    #[inline(always)]
     fn locate(&self, seat: u8, access: Access) -> Result<Virtual, Check>
         requires sound { IsSound (activity_of self.now) }
         requires taken { has (activity_of self.now).seating.taken seat ≡ true }
@@ -66,6 +68,7 @@ impl Activations {
     /// # Errors
     ///
     /// [`TurnEnd::Journal`] exactly where they are more than a record may have.
+    #[inline(always)]
     pub(super) fn keep_limit(&mut self, seat: u8, touch: &Touch) -> Result<(), TurnEnd>
         requires sound { IsSound (activity_of self.old) }
         requires taken { has (activity_of self.old).seating.taken seat ≡ true }
@@ -86,6 +89,7 @@ impl Activations {
     }
 
     /// How many lines who sits in a seat will have written, with those of a touch.
+    #[inline(always)]
     fn lines_with(&self, seat: u8, touch: &Touch) -> u32
         requires sound { IsSound (activity_of self.now) }
         requires seat { seat < 16 }
@@ -103,6 +107,7 @@ impl Activations {
     }
 
     /// How many lines a seat holds to write.
+    #[inline(always)]
     fn held_lines(&self, seat: u8) -> u32
         requires sound { IsSound (activity_of self.now) }
         requires seat { seat < 16 }
@@ -113,6 +118,7 @@ impl Activations {
     }
 
     /// How many of the lines that are wanted of a page to write a seat doesn't hold to write yet.
+    #[inline(always)]
     fn new_lines(&self, seat: u8, want: &Want) -> u32
         requires sound { IsSound (activity_of self.now) }
         requires seat { seat < 16 }
@@ -126,6 +132,7 @@ impl Activations {
 }
 
 /// The lines that an access touches whose first byte is one of the store.
+#[inline(always)]
 fn touch_from(directory: &Directory, first: Virtual, access: Access) -> Touch
     requires some { 0 < access.bytes }
     requires few { access.bytes ≤ 64 }

@@ -28,6 +28,7 @@ impl Unit {
 
     /// Brings in a page that isn't resident, as the pool does. What its frame held is still there: it is to be filled, and
     /// then its kept lines laid over it.
+    #[inline]
     pub fn bring(&mut self, page: u16, keep: Option<u16>) -> Slot
         requires page { page < page_count (reach_of self.old).directory }
         requires absent { has (reach_of self.old).pool.resident page ≡ false }
@@ -45,6 +46,7 @@ impl Unit {
     }
 
     /// Lends a frame, to be filled. Nothing else can be written through a part of the unit that is lent.
+    #[inline(always)]
     pub fn page_mut(&mut self, frame: u16) -> &mut [u8]
         requires { frame < frame_count (reach_of self.old).pool.page (reach_of self.old).pool.frames }
         ensures* writes_back { sem 𝓛 (LendsPage self.entry (frame * page_bytes (reach_of self.entry.now).pool.page) result) }
@@ -54,6 +56,7 @@ impl Unit {
     }
 
     /// The kept lines of a page lie over those of its frame.
+    #[inline(always)]
     pub fn lay_kept(&mut self, page: u16)
         requires { page < page_count (reach_of self.old).directory }
         ensures { reach_of self.new ≡ record (reach_of self.old) { pool = laid (reach_of self.old).pool page } }
@@ -88,6 +91,7 @@ impl Unit {
     }
 
     /// Sets the entry of a page.
+    #[inline(always)]
     pub fn set_authority(&mut self, page: u16, value: Authority)
         requires { page < page_count (reach_of self.old).directory }
         ensures { reach_of self.new ≡ record (reach_of self.old) { entries = slice_set (reach_of self.old).entries page value } }
@@ -104,6 +108,7 @@ impl Unit {
 }
 
 /// The frame that holds a page of the store, if one is asked for.
+#[inline]
 fn frame_of(table: &Table, segments: &[(u16, u16)], page: Option<u16>) -> Option<u16>
     ensures { result ≡ option_and_then (λ page. look_up table.now.keys (key_among segments.now page)) page }
 {
@@ -116,6 +121,7 @@ fn frame_of(table: &Table, segments: &[(u16, u16)], page: Option<u16>) -> Option
 }
 
 /// A frame holds nothing, and the buffer forgets it, if one is named.
+#[inline]
 fn leave_frame(table: &mut Table, buffer: &mut Tlb, frame: Option<u16>)
     requires { IfSome frame (λ frame. frame < length table.old.keys) }
     ensures table { table.new ≡ option_map_or (without_frame table.old) frame table.old }

@@ -79,6 +79,7 @@ impl Ways {
     }
 
     /// A new pair comes last, after the first has gone where there were two.
+    #[inline]
     fn add(&mut self, pair: Pair)
         ensures { pairs_of self.new ≡ with_newest (pairs_of self.old) pair }
     {
@@ -89,6 +90,7 @@ impl Ways {
     }
 
     /// The pairs of a frame go.
+    #[inline]
     fn forget(&mut self, frame: u16)
         ensures { self.new ≡ ways_without frame self.old }
     {
@@ -151,6 +153,7 @@ impl Tlb {
 }
 
 /// The pairs of a frame go from all classes.
+#[inline]
 fn forget_all(classes: &mut [Ways], frame: u16)
     ensures { classes.new ≡ map (ways_without frame) classes.old }
 {
@@ -160,6 +163,7 @@ fn forget_all(classes: &mut [Ways], frame: u16)
 }
 
 /// Whether a pair is of the page of an address.
+#[inline(always)]
 fn is_of(pair: Pair, at: Virtual) -> bool
     ensures { result ≡ is_pair_of (key_of at) pair }
 {
@@ -167,6 +171,7 @@ fn is_of(pair: Pair, at: Virtual) -> bool
 }
 
 /// A pair goes if it is of a frame.
+#[inline(always)]
 fn forget_pair(pair: &mut Option<Pair>, frame: u16)
     ensures { pair.new ≡ unless_of frame pair.old }
 {
