@@ -13,6 +13,7 @@ cd -- "$here"
 export PYTHONDONTWRITEBYTECODE=1
 gcc -O2 -Wall -Wextra -o "$scratch/interp-O2" interp.c
 gcc -O3 -Wall -Wextra -o "$scratch/interp-O3" interp.c
+gcc -O2 -DMOVES -Wall -Wextra -o "$scratch/interp-moves" interp.c
 gcc -O2 -static -Wall -Wextra -o "$scratch/once" once.c
 python3 jobs.py "$scratch/jobs"
 python3 check.py "$program" "$scratch/interp-O2" "$scratch" 2000

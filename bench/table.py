@@ -1,4 +1,4 @@
-"""Prints the tables of docs/SPEED.md: `python3 table.py PROGRAM SCRATCH`. SCRATCH has interp-O2, interp-O3, once and jobs/."""
+"""Prints the tables of docs/SPEED.md: `python3 table.py PROGRAM SCRATCH`. SCRATCH has interp-O2, interp-O3, interp-moves, once and jobs/."""
 import os
 import re
 import shutil
@@ -100,6 +100,15 @@ def loops():
     return profiles
 
 
+def moves():
+    """The loop of faults beside an interpreter that moves the bytes of each page as frames do."""
+    name = "two-frames"
+    words = interp("moves", jobs.LOOPS[name][0], 1, jobs.TURNS, jobs.MILLION)
+    ours, other = rounds([([program, "try"], path("jobs", name + ".job")), (words, listing(name))])
+    print(f"\n{name} beside the interpreter that moves bytes: {ours[0] * 1e6 / ROWS:.1f}, {other[0] * 1e6 / ROWS:.1f} ns a row,"
+          f" {ours[0] / other[0]:.1f}; peak of romp801 {ours[2]:,} KiB", flush=True)
+
+
 def transactions():
     print("\n| Transactions, each begun and ended by one turn | number | romp801, ms: best, median | µs each |"
           " interp -O2, ms | ratio |")
@@ -143,6 +152,7 @@ def functions(profiles):
 
 print("Load at the start: " + " ".join(f"{load:.1f}" for load in os.getloadavg()) + f", {os.cpu_count()} processors\n")
 profiles = loops()
+moves()
 transactions()
 texts()
 functions(profiles)

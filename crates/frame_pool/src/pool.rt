@@ -101,6 +101,15 @@ impl FramePool {
         self.places.frame_of(page)
     }
 
+    /// The page that goes out for another: none while a frame is free, else the first that isn't to stay.
+    #[inline(always)]
+    pub fn page_out(&self, keep: Option<u16>) -> Option<u16>
+        ensures { result ≡ page_out (pool_of self.now) keep }
+    {
+        let index = self.places.index_out(keep)?;
+        Some(self.places.resident[index])
+    }
+
     /// Brings in a page that isn't resident. It comes last; where no frame is free, the first page that isn't to stay goes
     /// out, and its marked lines are kept. What its frame held is still there: it is to be filled.
     #[inline]

@@ -1,7 +1,7 @@
 // Pages that come in and go out, and entries that are set.
 ghost use Rattle.std.specs.Prelude.{◌≡◌, ◌*◌, ◌<◌, ◌≤◌, false, length, fold, slice_set, option_and_then, IfSome};
 ghost use Rattle.std.specs.Option.{option_map_or};
-ghost use Rattle.inverted_table.specs.Placed.{look_up, without_frame};
+ghost use Rattle.inverted_table.specs.Placed.{without_frame};
 ghost use Rattle.tlb_model.specs.Buffer.{IsOfTable};
 ghost use Rattle.frame_pool.specs.View.{pool_of};
 ghost use Rattle.storage_unit.specs.Held.{keys_without};
@@ -10,7 +10,7 @@ ghost use Rattle.line_geometry.specs.Directory.{page_count};
 ghost use Rattle.line_geometry.specs.Segments.{page_bytes};
 ghost use Rattle.lock_rules.specs.Sets.{has};
 ghost use Rattle.frame_pool.specs.Sizes.{frame_count};
-ghost use Rattle.frame_pool.specs.Pool.{Brought, page_out, frame_bytes, settled, undone, emptied, laid};
+ghost use Rattle.frame_pool.specs.Pool.{Brought, frame_at, page_out, frame_bytes, settled, undone, emptied, laid};
 ghost use Rattle.storage_unit.specs.Places.{key_among};
 ghost use Rattle.storage_unit.specs.Served.{released};
 
@@ -19,7 +19,6 @@ use frame_pool::{FramePool, Slot};
 use inverted_table::{Key, Table};
 use line_geometry::LineSet;
 use lockbit_rules::Authority;
-use segment_regs::Virtual;
 use tlb_model::Tlb;
 
 impl Unit {
@@ -36,11 +35,10 @@ impl Unit {
         ensures brought { Brought (reach_of self.old).pool (reach_of self.new).pool page keep result.frame }
         ensures rest { reach_of self.new ≡ record (reach_of self.old) { pool = (reach_of self.new).pool } }
     {
+        let left = frame_out(&self.pool, keep);
         let slot = self.pool.bring(page, keep);
-        let segments = self.directory.segments();
-        let left = frame_of(&self.table, segments, slot.out);
         leave_frame(&mut self.table, &mut self.buffer, left);
-        let key = key_among(segments, page);
+        let key = key_among(self.directory.segments(), page);
         self.table.enter(slot.frame, key.segment, key.page);
         slot
     }
@@ -107,17 +105,12 @@ impl Unit {
     }
 }
 
-/// The frame that holds a page of the store, if one is asked for.
-#[inline]
-fn frame_of(table: &Table, segments: &[(u16, u16)], page: Option<u16>) -> Option<u16>
-    ensures { result ≡ option_and_then (λ page. look_up table.now.keys (key_among segments.now page)) page }
+/// The frame of the page that goes out for another, if one does.
+#[inline(always)]
+fn frame_out(pool: &FramePool, keep: Option<u16>) -> Option<u16>
+    ensures { result ≡ option_and_then (frame_at (pool_of pool.now)) (page_out (pool_of pool.now) keep) }
 {
-    let key = key_among(segments, page?);
-    table.find(Virtual {
-        segment: key.segment,
-        page: key.page,
-        byte: 0,
-    })
+    pool.frame_of(pool.page_out(keep)?)
 }
 
 /// A frame holds nothing, and the buffer forgets it, if one is named.

@@ -23,16 +23,6 @@ use Rattle.storage_unit.proofs.StateLemmas.{room-stays, room-none, absent-frame,
 use Rattle.storage_unit.proofs.unit.Unit.bring.Goals as goal
 
 module _ (unit : Unit) (page : ℕ) (keep : Option ℕ) where
-  -- the frame that the table finds is the one that the pool had
-  frame-is : (left : Option ℕ) (segments : List (ℕ × ℕ)) (out : Option ℕ) → left ≡ option_and_then (λ page. look_up unit.table.keys (key_among segments page)) out
-      → segments ≡ unit.directory.segments → out ≡ page_out (pool_of unit.pool) keep → left ≡ option_and_then (frame_at (pool_of unit.pool)) (page_out (pool_of unit.pool) keep)
-  frame-is left segments out is of went =
-      is
-      ∙ ap (option_and_then (λ page. look_up unit.table.keys (key_among segments page))) went
-      ∙ ap (λ (list : List (ℕ × ℕ)). option_and_then (λ page. look_up unit.table.keys (key_among list page)) (page_out (pool_of unit.pool) keep)) of
-      ∙ ap (λ (keys : List (Option Key)). option_and_then (λ page. look_up keys (key_of_page unit.directory page)) (page_out (pool_of unit.pool) keep)) unit.held
-      ∙ out-frame unit.directory unit.two unit.legal (pool_of unit.pool) (pool-seen unit.pool) unit.pool_size unit.pages (pages_begun unit.begun) keep
-
   frame-inside : (left : Option ℕ) → left ≡ option_and_then (frame_at (pool_of unit.pool)) (page_out (pool_of unit.pool) keep) → IfSome left (λ frame. frame < length unit.table.keys)
   frame-inside left is =
       subst (λ (o : Option ℕ). IfSome o (λ frame. frame < length unit.table.keys)) (sym is)
@@ -89,22 +79,13 @@ module _ (unit : Unit) (page : ℕ) (keep : Option ℕ) where
         ∙ ap (λ (p : Pool). keys_of unit.directory unit.begun p.frames p.page_in) (sym came.rest)
 
 pub leave_frame-requires : goal.leave_frame-requires
-leave_frame-requires c =
-    frame-inside c.args.self.now c.args.page c.args.keep c.frame_of-left.result
-    (frame-is c.args.self.now c.args.page c.args.keep c.frame_of-left.result c.segments-segments.result.now c.bring-slot.result.out c.frame_of-left.ensures c.segments-segments.ensures.value c.bring-slot.ensures.out)
-
-between : (unit : Unit) (page : ℕ) (keep : Option ℕ) (table : Placed) (left : Option ℕ) (segments : List (ℕ × ℕ)) (out : Option ℕ)
-    → left ≡ option_and_then (λ page. look_up unit.table.keys (key_among segments page)) out → segments ≡ unit.directory.segments → out ≡ page_out (pool_of unit.pool) keep
-    → table ≡ option_map_or (without_frame unit.table) left unit.table
-    → table.keys ≡ keys_of unit.directory unit.begun (with_room (pool_of unit.pool) keep).frames (with_room (pool_of unit.pool) keep).page_in
-between unit page keep table left segments out is of went now = keys-between unit page keep table left (frame-is unit page keep left segments out is of went) now
+leave_frame-requires c = frame-inside c.args.self.now c.args.page c.args.keep c.frame_out-left.result c.frame_out-left.ensures
 
 pub enter-requires-clause-frame : goal.enter-requires-clause-frame
 enter-requires-clause-frame c =
     let unit = c.args.self.now in
     let room = with_room (pool_of unit.pool) c.args.keep in
-    let keys = between unit c.args.page c.args.keep c.leave_frame.new.table c.frame_of-left.result c.segments-segments.result.now c.bring-slot.result.out
-    c.frame_of-left.ensures c.segments-segments.ensures.value c.bring-slot.ensures.out c.leave_frame.ensures.table in
+    let keys = keys-between unit c.args.page c.args.keep c.leave_frame.new.table c.frame_out-left.result c.frame_out-left.ensures c.leave_frame.ensures.table in
     omega (
       arith,
       ap length keys,
@@ -115,8 +96,7 @@ enter-requires-clause-frame c =
 pub enter-requires-clause-free : goal.enter-requires-clause-free
 enter-requires-clause-free c =
     let unit = c.args.self.now in
-    let keys = between unit c.args.page c.args.keep c.leave_frame.new.table c.frame_of-left.result c.segments-segments.result.now c.bring-slot.result.out
-    c.frame_of-left.ensures c.segments-segments.ensures.value c.bring-slot.ensures.out c.leave_frame.ensures.table in
+    let keys = keys-between unit c.args.page c.args.keep c.leave_frame.new.table c.frame_out-left.result c.frame_out-left.ensures c.leave_frame.ensures.table in
     ap (λ (list : List (Option Key)). key_in list c.bring-slot.result.frame) keys
     ∙ free unit c.args.page c.args.keep (pool_of c.bring-slot.new.self) c.bring-slot.result.frame c.bring-slot.ensures.brought c.requires.page c.requires.absent
 
@@ -126,11 +106,10 @@ key-is unit page key segments is of = is ∙ ap (λ (list : List (ℕ × ℕ)). 
 pub enter-requires-clause-absent : goal.enter-requires-clause-absent
 enter-requires-clause-absent c =
     let unit = c.args.self.now in
-    let keys = between unit c.args.page c.args.keep c.leave_frame.new.table c.frame_of-left.result c.segments-segments.result.now c.bring-slot.result.out
-    c.frame_of-left.ensures c.segments-segments.ensures.value c.bring-slot.ensures.out c.leave_frame.ensures.table in
+    let keys = keys-between unit c.args.page c.args.keep c.leave_frame.new.table c.frame_out-left.result c.frame_out-left.ensures c.leave_frame.ensures.table in
     ap (λ (list : List (Option Key)). look_up list c.key_among-key.result) keys
     ∙ ap (λ (key : Key). look_up (keys_of unit.directory unit.begun (with_room (pool_of unit.pool) c.args.keep).frames (with_room (pool_of unit.pool) c.args.keep).page_in) key)
-    (key-is unit c.args.page c.key_among-key.result c.segments-segments.result.now c.key_among-key.ensures c.segments-segments.ensures.value)
+    (key-is unit c.args.page c.key_among-key.result c.segments.result.now c.key_among-key.ensures c.segments.ensures.value)
     ∙ unfound unit c.args.page c.args.keep (pool_of c.bring-slot.new.self) c.bring-slot.result.frame c.bring-slot.ensures.brought c.requires.page c.requires.absent
 
 pub invariant_of-self : goal.invariant_of-self
@@ -139,9 +118,8 @@ invariant_of-self c =
     let new = pool_of c.bring-slot.new.self in
     let frame = c.bring-slot.result.frame in
     let came = c.bring-slot.ensures.brought in
-    let keys = between unit c.args.page c.args.keep c.leave_frame.new.table c.frame_of-left.result c.segments-segments.result.now c.bring-slot.result.out
-    c.frame_of-left.ensures c.segments-segments.ensures.value c.bring-slot.ensures.out c.leave_frame.ensures.table in
-    let key = key-is unit c.args.page c.key_among-key.result c.segments-segments.result.now c.key_among-key.ensures c.segments-segments.ensures.value in
+    let keys = keys-between unit c.args.page c.args.keep c.leave_frame.new.table c.frame_out-left.result c.frame_out-left.ensures c.leave_frame.ensures.table in
+    let key = key-is unit c.args.page c.key_among-key.result c.segments.result.now c.key_among-key.ensures c.segments.ensures.value in
     let room = with_room (pool_of unit.pool) c.args.keep in
     let left_keys : List (Option Key) = keys_of unit.directory unit.begun room.frames room.page_in in
     let now : c.enter.new.self.keys ≡ slice_set left_keys frame (Some (key_of_page unit.directory c.args.page)) =
@@ -158,7 +136,7 @@ invariant_of-self c =
       entries =
           ap (λ (t : Placed). length t.entries) c.enter.ensures
           ∙ ap (λ (t : Placed). length t.entries) c.leave_frame.ensures.table
-          ∙ ap length (without-entries unit.table c.frame_of-left.result) ∙ unit.entries;
+          ∙ ap length (without-entries unit.table c.frame_out-left.result) ∙ unit.entries;
       marks = subst (λ (list : List (List ℕ)). AreOfPages list) (sym (ap (λ (p : Pool). p.marked) came.rest ∙ old.marked)) unit.marks;
       held = now ∙ entered-keys unit c.args.page c.args.keep new frame came c.requires.page c.requires.absent;
       remembered =
