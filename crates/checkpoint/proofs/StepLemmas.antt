@@ -23,10 +23,6 @@ module _ {W : Type 0} (G : Ghosts W) (fewer_later : FewerLater G) (old mid new :
       (λ since. let from = follows image seen since in (from.0, asks.crash told from.0 seen (fewer_later mid (G.moment old) (G.moment mid) from.0 seen before.later from.1), from.2))
       (time.nothing_else (G.moment old) image seen before.later left)
 
--- where nothing was called
-pub follows_nothing : {W : Type 0} (G : Ghosts W) (step : List ℕ → List ℕ → Type 0) → ((image : List ℕ) → step image image) → (now : W) → Follows step G.moment G.left_since now now
-follows_nothing G step stays now image seen left = (image, left, stays image)
-
 -- the bytes held are the same after calls that only ask
 pub same_held : {W : Type 0} (G : Ghosts W) (old new : W) → OnlyAsks G old new → held_of G new ≡ held_of G old
 same_held G old new asks = ap (λ (those : Option (List ℕ)). unwrap_or those []) asks.held

@@ -1,19 +1,18 @@
 -- The ends of an entry, from what an attempt over the bytes of all tells: its commit call, its program check, and any rollback.
 use Rattle.std.specs.Prelude.{◌≡◌, ℕ, ◌+◌, List, Some}
-use Rattle.lock_rules.specs.Sets.{size}
 use Rattle.lock_rules.specs.Lines.{Lines}
 use Rattle.flat_machine.specs.declared.machine.Plain.{Plain}
 use Rattle.flat_machine.specs.Row.{Commit, Check, row}
 use Rattle.flat_machine.specs.After.{after}
 use Rattle.desk.specs.Desk.{Desk, Entry, ended, rolled_back}
-use Rattle.desk.specs.Instruction.{Word, Fine, Counts, Over, Checked, Committed, instruction, lines_written, ordered, commits}
+use Rattle.desk.specs.Instruction.{Word, Fine, Counts, Over, Checked, Committed, instruction, ordered, commits}
 use Rattle.desk_law.specs.Beside.{IsLaid, IsTold, over_all}
 use Rattle.desk_law.specs.Consistent.{IsAmong, due_to}
 use Rattle.desk_law.proofs.AttemptsOnCurrent.{own-commit, own-check, ends-consistent}
 use Rattle.desk_law.proofs.Contest.{rolled-consistent}
 use Rattle.desk_law.proofs.InstructionStages.{attempt_of}
 use Rattle.desk_law.specs.Orderly.{IsOrderly}
-use Rattle.desk_law.proofs.RowsThere.{commit-row, commit-lines, check-row}
+use Rattle.desk_law.proofs.RowsThere.{commit-row, check-row}
 use Rattle.desk_law.proofs.ToldSteps.{HasCommitted, told-commit, told-rollback}
 
 -- the desk after the commit of an entry at a state
@@ -24,7 +23,6 @@ committed_desk desk entry now =
 -- what a commit call comes to
 pub record Commits (desk : Desk) (counts : Counts) (entry : Entry) (now : Plain) (locks requests : ℕ → Lines) (states : ℕ → Plain) (bytes : List ℕ) : Type 0 where
   pub comes : (word : Word) → instruction word (Some entry) desk counts ≡ commits word (attempt_of desk entry now) desk counts
-  pub record_size : lines_written (attempt_of desk entry now) desk ≡ size (due_to desk.committed entry).writes
   pub record_lines : IsLaid desk.committed (due_to desk.committed entry).writes bytes desk.committed.bytes now.store
   pub consistent : IsOrderly (committed_desk desk entry now)
   pub told : IsTold (committed_desk desk entry now).committed (committed_desk desk entry now).active locks requests states bytes
@@ -37,7 +35,6 @@ pub commit-ends :
     → Commits desk counts entry now locks requests states bytes
 commit-ends desk counts entry now locks requests states bytes is here at told went = record {
   comes = comes;
-  record_size = commit-lines desk entry now is here at own;
   record_lines = done.record_lines;
   consistent =
       ends-consistent Fine desk (committed_desk desk entry now) counts (record counts { ran = counts.ran + 1 }) (Committed (entry.rows + 1) now.out) entry is here (comes Fine);

@@ -1,13 +1,12 @@
 -- An instruction stage by stage, as one that serves a fault goes through them.
-use Rattle.std.specs.Prelude.{◌≡◌, refl, ℕ, ◌+◌, if◌then◌else◌, Bool, false, List, [], ◌∷◌, length, Option, Some}
+use Rattle.std.specs.Prelude.{◌≡◌, refl, ℕ, ◌+◌, Bool, false, List, [], ◌∷◌, length, Option, Some}
 use Rattle.std.proofs.Common.{ap, ◌∙◌}
-use Rattle.lock_rules.specs.Resident.{brought}
 use Rattle.flat_machine.specs.declared.machine.Plain.{Plain}
 use Rattle.flat_machine.specs.Row.{Outcome, On, Commit, Check, row}
 use Rattle.flat_machine.specs.After.{after}
 use Rattle.desk.specs.Desk.{Desk, Entry, with_entry, rolled_back}
 use Rattle.desk.specs.Holdings.{wanted, conflicts_of}
-use Rattle.desk.specs.Instruction.{Word, Fine, Counts, Going, Over, Checked, Victim, Waits, Attempt, Fetching, Fetched, Broken, Settled, Lost, fetches, instruction, attempts, attempts_at, limited, is_over_limit, fetched_first, fetches_touched, asks, gets, goes_on, takes_effect, touched_pages, refused_pages, granted, with_grants, locks_with, commits, breaks, contest_ends, waits_or_gets}
+use Rattle.desk.specs.Instruction.{Word, Fine, Counts, Going, Over, Checked, Victim, Waits, Attempt, Fetched, Broken, Settled, Lost, fetches, instruction, attempts, attempts_at, limited, is_over_limit, fetched_first, fetches_touched, asks, gets, goes_on, takes_effect, touched_pages, refused_pages, granted, with_grants, locks_with, commits, breaks, contest_ends, waits_or_gets}
 use Rattle.desk_law.specs.Beside.{Reads}
 use Rattle.desk_law.specs.Changes.{gone_on}
 
@@ -99,11 +98,3 @@ module _ (word : Word) (attempt : Attempt) (desk : Desk) (counts : Counts) where
 
   pub stage-commit : (outcome : Outcome) → outcome ≡ Commit → takes_effect word attempt outcome desk counts ≡ commits word attempt desk counts
   stage-commit outcome is = ap (λ (this : Outcome). takes_effect word attempt this desk counts) is
-
--- What one page does to a fetch: it is there, or comes in, or can't be read.
-module _ (word : Word) (frames : ℕ) (kept : List ℕ) (page : ℕ) (pages resident : List ℕ) (counted : ℕ) where
-  abbrev fetches_one : Bool → Bool → Fetching
-  fetches_one here fails =
-      if here then fetches word frames kept pages resident counted
-      else if fails then Broken (counted + 1)
-      else fetches word frames kept pages (brought frames kept resident page) (counted + 1)

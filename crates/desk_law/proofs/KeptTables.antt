@@ -5,10 +5,10 @@ use Rattle.std.proofs.Common.{ap, sym, ◌∙◌, subst, inl, inr}
 use Rattle.std.proofs.lemmas.Bool.{both_ways, not-true}
 use Rattle.line_geometry.specs.FlatStore.{FlatStore, IsWhole}
 use Rattle.lock_rules.specs.Sets.{has, meets}
-use Rattle.lock_rules.specs.Lines.{Lines, no_lines, conflicts, with_whole_pages}
+use Rattle.lock_rules.specs.Lines.{Lines, conflicts, with_whole_pages}
 use Rattle.lock_rules.specs.Waits.{shown_cycle}
 use Rattle.lock_rules.proofs.Sets.{has-append, any-some}
-use Rattle.lock_rules.proofs.Lines.{ArePart, meets-at}
+use Rattle.lock_rules.proofs.Lines.{meets-at}
 use Rattle.flat_machine.specs.declared.machine.Plain.{Plain}
 use Rattle.flat_machine.specs.After.{after}
 use Rattle.desk.specs.Desk.{Desk, Entry}
@@ -16,9 +16,8 @@ use Rattle.desk.specs.Holdings.{request, conflicts_with, conflicts_of, waits_for
 use Rattle.desk_law.specs.Beside.{AreAlike, requested, AreKept, IsTableBut, kept_conflict, kept_waits}
 use Rattle.desk_law.specs.Changes.{left_by, gone_on}
 use Rattle.desk_law.specs.Consistent.{IsAmong, due_to, AreConsistent}
-use Rattle.desk_law.proofs.Entries.{replaced, among-replaced, among-filter, among-push}
+use Rattle.desk_law.proofs.Entries.{replaced, among-replaced, among-filter}
 use Rattle.desk_law.proofs.Others.{others, another-stays, StaysSame}
-use Rattle.desk_law.proofs.RowsThere.{open-due}
 
 pub alike-same : (lines : Lines) → AreAlike lines lines
 alike-same lines = record { reads = λ line. refl; writes = λ line. refl }
@@ -152,37 +151,3 @@ module _ (store : FlatStore) (entries : List Entry) (locks requests : ℕ → Li
         let same : StaysSame store (left_by store now) other = another-stays store most_lines next entries entry other now whole consistent here there (not-true (other.number == entry.number) differ) is in
         subst (λ (lines : Lines). AreAlike (requests other.number) (with_whole_pages lines)) (sym same.wants) (are.asked other there waits);
   }
-
-  -- a begin gives no locks
-  pub kept-begin : (last : Entry) → last.rows ≡ 0 → last.waiting ≡ false → AreAlike (locks last.number) no_lines → AreKept store (entries ++ last ∷ []) locks requests
-  kept-begin last none unmarked clear = record {
-    held = λ other among. elim (among-push entries last other among) [
-      | inl old ↦ are.held other old
-      | inr it ↦
-          subst (λ (x : Entry). AreAlike (locks x.number) (due_to store x)) it
-          (subst (λ (rows : ℕ). AreAlike (locks last.number) (due_to store (record last { rows = rows }))) (sym none) clear)
-    ];
-    asked = λ other among waits. elim (among-push entries last other among) [
-      | inl old ↦ are.asked other old waits
-      | inr it ↦ absurd (both_ways other.waiting (ap (λ (x : Entry). x.waiting) (sym it) ∙ unmarked) waits)
-    ];
-  }
-
--- a row whose lines were there sets nothing
-pub kept-open_row : (desk : Desk) (locks requests : ℕ → Lines) (entry : Entry) → AreKept desk.committed desk.active locks requests → IsAmong desk.active entry
-    → ArePart (request desk entry) (due_to desk.committed entry)
-    → AreKept desk.committed (replaced (gone_on entry) desk.active) locks requests
-kept-open_row desk locks requests entry are here part =
-    kept-row desk.committed desk.active locks requests are entry locks
-    (alike-then (locks entry.number) (due_to desk.committed entry) (due_to desk.committed (gone_on entry)) (are.held entry here)
-    (alike-back (due_to desk.committed (gone_on entry)) (due_to desk.committed entry) (open-due desk entry part)))
-    (record { kept = λ at other. refl })
-
--- (3) The request of another is the same after a commit; the other steps leave the committed store, of which it is.
-pub request-commit :
-    (store : FlatStore) (most_lines next : ℕ) (entries : List Entry) (entry other : Entry) (now : Plain) → IsWhole store → AreConsistent store most_lines next entries
-    → IsAmong entries entry → IsAmong entries other → (other.number == entry.number) ≡ false
-    → after entry.runs.program entry.runs.args store entry.rows ≡ Some now
-    → requested (left_by store now) other ≡ requested store other
-request-commit store most_lines next entries entry other now whole consistent here there differ is =
-    ap with_whole_pages (another-stays store most_lines next entries entry other now whole consistent here there differ is).wants

@@ -138,16 +138,6 @@ commit-row word desk counts entry now is here at went =
     held : ArePart (request desk entry) (due_to desk.committed entry)
     held = there-held desk entry is here there
 
--- its record has so many lines
-pub commit-lines : (desk : Desk) (entry : Entry) (now : Plain) → IsOrderly desk → IsAmong desk.active entry
-    → after entry.runs.program entry.runs.args desk.committed entry.rows ≡ Some now
-    → row entry.runs.program desk.committed.directory now ≡ Commit
-    → lines_written (attempt_of desk entry now) desk ≡ size (due_to desk.committed entry).writes
-commit-lines desk entry now is here at went =
-    held-written desk entry
-    (there-held desk entry is here
-    (subst (AreThere desk entry.number) (sym (wanted-commit desk entry now at went)) (record { reads = λ line inside. absurd (cc); writes = λ line inside. absurd (cc) })))
-
 -- A program check rolls back, whatever is there.
 pub check-row :
     (word : Word) (desk : Desk) (counts : Counts) (entry : Entry) (now : Plain) (code : ℕ)

@@ -92,9 +92,6 @@ module _ (begins : Word → Turning) (attempt : Attempt) (refused : List ℕ) (f
     )
 
   -- the holders that the entry conflicts with still, by the tables
-  abbrev pub holders_left : List ℕ
-  holders_left = map (λ (other : Entry). other.number) (filter (kept_conflict (requests attempt.entry.number) locks attempt.entry.number) desk.active)
-
   pub holders-are : map (λ (other : Entry). other.number) (filter (kept_conflict (requests attempt.entry.number) locks attempt.entry.number) desk.active) ≡ conflicts_of desk attempt.entry
   holders-are = conflicts-kept desk locks requests is.told.kept (requests attempt.entry.number) attempt.entry (is.told.kept.asked (marked attempt) is.under_way.here refl)
 

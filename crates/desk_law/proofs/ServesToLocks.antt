@@ -45,9 +45,6 @@ asked_for attempt = with_whole_pages attempt.lines
 module _ (desk : Desk) (counts : Counts) (entry : Entry) (now shown : Plain) (bytes : List ℕ) (is : IsOrderly desk) (here : IsAmong desk.active entry)
     (at : after entry.runs.program entry.runs.args desk.committed entry.rows ≡ Some now)
     (went : row entry.runs.program desk.committed.directory (over_all now bytes) ≡ On shown) where
-  abbrev the_lines : Lines
-  the_lines = touched entry.runs.program desk.committed.directory (over_all now bytes)
-
   wants : wanted desk entry ≡ touched entry.runs.program desk.committed.directory (over_all now bytes)
   wants = wanted-is desk entry now shown bytes at went
 

@@ -1,26 +1,24 @@
 -- What a supervisor keeps beside a desk: locks and requests by number, states but for their store, and one list of bytes for
--- all; and what each step does to it.
-use Rattle.std.specs.Prelude.{◌≡◌, ℕ, ◌+◌, ◌==◌, not, Bool, true, false, List, [], ◌∷◌, ◌++◌, Some}
+-- all; and what steps do to it.
+use Rattle.std.specs.Prelude.{◌≡◌, ℕ, ◌+◌, ◌==◌, not, Bool, true, List, [], Some}
 use Rattle.std.proofs.Common.{ap, sym, ◌∙◌, subst, inl, inr}
 use Rattle.std.proofs.lemmas.Bool.{not-true}
 use Rattle.line_geometry.specs.FlatStore.{FlatStore, IsWhole}
-use Rattle.lock_rules.specs.Lines.{Lines, no_lines}
+use Rattle.lock_rules.specs.Lines.{Lines}
 use Rattle.flat_machine.specs.declared.machine.Plain.{Plain}
 use Rattle.flat_machine.specs.Row.{On, row}
-use Rattle.flat_machine.specs.Touched.{touched}
-use Rattle.flat_machine.specs.After.{after, start}
+use Rattle.flat_machine.specs.After.{after}
 use Rattle.flat_machine.proofs.Agreement.{after-whole}
 use Rattle.desk.specs.Desk.{Desk, Entry, with_entry}
 use Rattle.desk.specs.Holdings.{conflicts_of}
-use Rattle.desk.specs.Instruction.{Word, Counts, Going, Attempt, Fetched, instruction, fetches, touched_pages, gets}
-use Rattle.desk_law.specs.Beside.{IsLaid, AreThere, AreAlike, over_all, requested, IsTableBut, IsState, AreStates, AreStatesBut, IsTold}
+use Rattle.desk.specs.Instruction.{Word, Counts, Going, Attempt, Fetched, fetches, touched_pages, gets}
+use Rattle.desk_law.specs.Beside.{IsLaid, AreAlike, over_all, requested, IsTableBut, IsState, AreStates, AreStatesBut, IsTold}
 use Rattle.desk_law.specs.Changes.{left_by, gone_on}
 use Rattle.desk_law.specs.Consistent.{IsAmong, due_to, AreConsistent}
-use Rattle.desk_law.proofs.AttemptsOnCurrent.{HasGone, attempt-goes}
-use Rattle.desk_law.proofs.CurrentSteps.{current-rolled, current-committed, commit-laid, current-marked, current-begun}
-use Rattle.desk_law.proofs.Entries.{replaced, among-replaced, among-filter, among-push}
+use Rattle.desk_law.proofs.CurrentSteps.{current-rolled, current-committed, commit-laid, current-marked}
+use Rattle.desk_law.proofs.Entries.{replaced, among-replaced, among-filter}
 use Rattle.desk_law.proofs.GoesOn.{apart-turned, IsReady}
-use Rattle.desk_law.proofs.KeptTables.{kept-row, kept-mark, kept-rollback, kept-commit, kept-begin, kept-open_row}
+use Rattle.desk_law.proofs.KeptTables.{kept-row, kept-mark, kept-rollback, kept-commit}
 use Rattle.desk_law.specs.Orderly.{IsOrderly}
 use Rattle.desk_law.proofs.Others.{others, another-same, after-row}
 use Rattle.desk_law.proofs.ServedEffect.{got, WasServed, served-goes}
@@ -53,42 +51,6 @@ module _ (store : FlatStore) (entries : List Entry) (states : ℕ → Plain) (ar
       let (bytes, same) = another-same store entry other now (over_all (states other.number) is.bytes) whole at is.at
       (apart-turned (due_to store other) (due_to store entry) (consistent.apart other entry there here (not-true (other.number == entry.number) differ))) in
       record { bytes = bytes; at = same.state_on_other }
-
-  pub states-begin : (last : Entry) → last.rows ≡ 0 → (bytes : List ℕ) → over_all (states last.number) store.bytes ≡ start last.runs.program last.runs.args store
-      → AreStates store (entries ++ last ∷ []) states
-  states-begin last none bytes is other among = elim (among-push entries last other among) [
-    | inl old ↦ are other old
-    | inr it ↦
-        subst (λ (x : Entry). IsState store x (states x.number)) it
-        (record { bytes = store.bytes; at = ap (λ (rows : ℕ). after last.runs.program last.runs.args store rows) none ∙ ap Some (sym is) })
-  ]
-
--- A row whose lines were there: the locks stay, and the state and the bytes are those that the attempt left.
-pub record HasGoneOn (desk : Desk) (counts : Counts) (entry : Entry) (locks requests : ℕ → Lines) (states : ℕ → Plain) (shown : Plain) : Type 0 where
-  pub is_instruction : (word : Word) → instruction word (Some entry) desk counts ≡ Going (with_entry desk (gone_on entry)) (record counts { ran = counts.ran + 1 })
-  pub consistent : IsOrderly (with_entry desk (gone_on entry))
-  pub told : IsTold desk.committed (replaced (gone_on entry) desk.active) locks requests states shown.store
-
-pub told-open_row :
-    (desk : Desk) (counts : Counts) (entry : Entry) (locks requests : ℕ → Lines) (states new : ℕ → Plain) (shown : Plain) (bytes : List ℕ)
-    → IsOrderly desk → IsAmong desk.active entry → IsTold desk.committed desk.active locks requests states bytes
-    → row entry.runs.program desk.committed.directory (over_all (states entry.number) bytes) ≡ On shown
-    → AreThere desk entry.number (touched entry.runs.program desk.committed.directory (over_all (states entry.number) bytes))
-    → new entry.number ≡ shown → AreStatesBut entry.number states new
-    → HasGoneOn desk counts entry locks requests new shown
-told-open_row desk counts entry locks requests states new shown bytes is here told went there new_is but =
-    let state = told.stand entry here in
-    let gone : HasGone desk counts entry shown =
-    attempt-goes desk counts entry (over_all (states entry.number) state.bytes) shown bytes is here state.at told.is_current went there in
-    record {
-      is_instruction = gone.is_instruction;
-      consistent = gone.consistent;
-      told = record {
-        kept = kept-open_row desk locks requests entry told.kept here gone.held;
-        stand = states-row desk.committed desk.active states told.stand entry gone.next shown new gone.at gone.shows new_is but;
-        is_current = gone.is_current;
-      };
-    }
 
 -- A mark.
 pub told-mark :
@@ -135,19 +97,6 @@ told-commit store most_lines next entries locks requests states bytes entry now 
   record_lines =
       commit-laid store most_lines next entries are bytes entry now whole
       (after-whole entry.runs.program entry.runs.args store entry.rows now whole at ∙ sym whole) here at told.is_current;
-}
-
--- A begin.
-pub told-begin :
-    (store : FlatStore) (most_lines next : ℕ) (entries : List Entry) (locks requests : ℕ → Lines) (states : ℕ → Plain) (bytes : List ℕ) (last : Entry)
-    → AreConsistent store most_lines next entries → AreConsistent store most_lines (next + 1) (entries ++ last ∷ [])
-    → IsTold store entries locks requests states bytes → last.rows ≡ 0 → last.waiting ≡ false → AreAlike (locks last.number) no_lines
-    → over_all (states last.number) store.bytes ≡ start last.runs.program last.runs.args store
-    → IsTold store (entries ++ last ∷ []) locks requests states bytes
-told-begin store most_lines next entries locks requests states bytes last are later told none unmarked clear starts = record {
-  kept = kept-begin store entries locks requests told.kept last none unmarked clear;
-  stand = states-begin store entries states told.stand last none bytes starts;
-  is_current = current-begun store most_lines next entries are bytes last none later told.is_current;
 }
 
 -- A row that was served: its locks are those of the row too, its mark is off, and the state and the bytes are those that the

@@ -26,9 +26,6 @@ left_one end counter more = omega arith
 pub walked-none : (next : List (Option ℕ)) (count : ℕ) (place : Option ℕ) → place ≡ None → chain_from next count place ≡ []
 walked-none next count place at = ap (chain_from next count) at ∙ chain-none next count
 
-pub walked-all : (next : List (Option ℕ)) (end counter : ℕ) (place : Option ℕ) → end ≤ counter → chain_from next (end - counter) place ≡ []
-walked-all next end counter place done = let none : end - counter ≡ 0 = omega arith in ap (λ (n : ℕ). chain_from next n place) none
-
 -- a walk that is at a frame, and goes on behind it
 pub walked-one :
     (next : List (Option ℕ)) (end counter frame : ℕ) (place after : Option ℕ) → place ≡ Some frame → counter < end → after ≡ following next frame

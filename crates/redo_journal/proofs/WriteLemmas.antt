@@ -92,7 +92,3 @@ wrote_nothing G now = record {
   longer = λ count room. room;
   writes = same_fewer (G.writes now) (G.writes now) refl;
 }
-
--- two writes more
-pub two_more : (old new : Option ℕ) → new ≡ option_map (λ count. count + 2) old → IsMoreBy 2 old new
-two_more old new counts before is = (before + 2, counts ∙ ap (option_map (λ count. count + 2)) is, omega arith)

@@ -1,6 +1,6 @@
 -- A record that is added behind a checkpoint.
 use Rattle.std.proofs.Common.{◌≡◌, inl, inr, ⊎_elim, ◌⊎◌, ℕ, ◌+◌, ◌%◌, ◌^◌, ◌<◌, ◌≤◌, Bool, true, false, List, [], ◌∷◌, ◌++◌, length, refl, sym, subst, ◌∙◌, ap, arith}
-use Rattle.std.specs.Prelude.{Option, None, Some, IsSome, unwrap_or, nat_lt, if◌then◌else◌}
+use Rattle.std.specs.Prelude.{Option, None, Some, unwrap_or, nat_lt, if◌then◌else◌}
 use Rattle.std.specs.Option.{option_map}
 use Rattle.std.proofs.lemmas.Bool.Decides.{nat_tests}
 use Rattle.std.proofs.lemmas.List.{length-replicate}
@@ -26,13 +26,6 @@ use Rattle.redo_journal.specs.declared.keep.Kept.TheVariants as keeping
 begun_by : (begun : Option (List RecordLine)) (at : ℕ) → unwrap_or (option_map (placed at) begun) [] ≡ placed at (unwrap_or begun [])
 begun_by None at = refl
 begun_by (Some lines) at = refl
-
-some_by : (begun : Option (List RecordLine)) (at : ℕ) → IsSome begun → IsSome (option_map (placed at) begun)
-some_by None at some = cc
-some_by (Some lines) at some = refl
-
-pub still_begun : (which : Which) (bank : KeptBank) → IsSome bank.begun → IsSome (turned which bank).begun
-still_begun which bank some = some_by bank.begun _ some
 
 -- it adds the same to what stands
 pub adds_same : (which : Which) (bank : KeptBank) (first second : Standing) → first ≡ second → one_more (begun_of (turned which bank)) first ≡ one_more (begun_of bank) second

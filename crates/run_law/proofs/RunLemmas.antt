@@ -1,16 +1,15 @@
 -- Runs, one after another.
-use Rattle.std.proofs.Common.{◌≡◌, ℕ, ◌+◌, List, [], ◌∷◌, ◌++◌, map, refl, sym, ap, ◌∙◌, append_assoc, cond}
-use Rattle.std.specs.Prelude.{not, Bool, false, if◌then◌else◌}
+use Rattle.std.proofs.Common.{◌≡◌, ℕ, ◌+◌, List, [], ◌∷◌, ◌++◌, refl, sym, ap, ◌∙◌, append_assoc, cond}
+use Rattle.std.specs.Prelude.{not}
 use Rattle.std.specs.List.{flat_map}
 use Rattle.std.proofs.lemmas.List.Sums.{sum_by-append}
 use Rattle.std.proofs.lemmas.Grind.{flat_map-append}
 use Rattle.flat_machine.specs.declared.machine.Program.{Program}
 use Rattle.desk.specs.declared.event.Event.{Event}
 use Rattle.desk.specs.Desk.{Desk}
-use Rattle.desk.specs.Holdings.{numbers}
 use Rattle.desk.specs.Instruction.{Word}
 use Rattle.desk.specs.Run.{run, step, is_fine, faulted, OpenBeforeEach}
-use Rattle.desk.specs.Lines.{Line, Open, Left, End, line_text}
+use Rattle.desk.specs.Lines.{Line, Open, line_text}
 use Rattle.desk.specs.Report.{number_after, happening_lines, closing_lines, lines_from, report, event_lines}
 
 module _ (programs : List Program) where
@@ -45,11 +44,3 @@ module _ (programs : List Program) where
 
 pub faulted_on : (xs ys : List (Event × Word)) → faulted (xs ++ ys) ≡ faulted xs + faulted ys
 faulted_on xs ys = sum_by-append (λ (event : Event × Word). cond (not (is_fine event.1)) 1 0) xs ys
-
--- the lines of the end, where the desk is open and no event is left
-pub closing_bytes : (number : ℕ) (desk : Desk) → desk.closed ≡ false → flat_map line_text (map Left (numbers desk)) ++ flat_map line_text (End (number_after number desk) ∷ []) ≡ flat_map line_text (closing_lines number [] desk)
-closing_bytes number desk was_open =
-    let lines : List Line = map Left (numbers desk) ++ End (number_after number desk) ∷ [] in
-    let none : List Line = [] in
-    sym (flat_map-append line_text (map Left (numbers desk)) (End (number_after number desk) ∷ []))
-    ∙ ap (λ (shut : Bool). flat_map line_text (if shut then none else lines)) (sym was_open)

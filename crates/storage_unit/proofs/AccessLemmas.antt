@@ -1,6 +1,5 @@
 -- Where an access that is permitted begins.
-use Rattle.std.proofs.Common.{◌≡◌, ℕ, Bool, false, refl, sym, ◌∙◌, ap, subst, Ok, Err}
-use Rattle.segment_regs.specs.declared.registers.Check.{Check}
+use Rattle.std.proofs.Common.{◌≡◌, ℕ, Bool, false, refl, sym, ◌∙◌, ap, subst, Ok}
 use Rattle.segment_regs.specs.declared.registers.Virtual.{Virtual}
 use Rattle.segment_regs.specs.Registers.{located_by}
 use Rattle.romp_cpu.specs.declared.storage.Probe.{Probe}
@@ -33,9 +32,3 @@ module _ (state : Reach) (sound : IsSound state) (address n : ℕ) (store : Bool
         lies = lies state sound address n v (under state.registers address n store v lies_at);
         there = permitted-there state v n (access_to address n store) refl (ap (answered_at (is_in_frame state) (refuses state) (access_to address n store)) (sym lies_at) ∙ permitted);
       })
-
-  pub not-refused : (check : Check) → answered state.registers (is_in_frame state) (refuses state) (access_to address n store) ≡ Probe.Permitted → located_by state.registers address 0 false ≡ Err check → ⊥
-  not-refused check permitted is =
-      let (v, lies_at) = found permitted in
-      let clash = sym (first-byte state sound address n store v lies_at) ∙ is in
-      cc

@@ -178,15 +178,7 @@ first-byte state sound address n store at is =
     ∙ ap (λ o. Ok (virtual_at at.segment o)) none
     ∙ ap Ok (sym (itself state sound address n at u))
 
--- fewer bytes lie there too, and those behind some
-pub lies-less : (state : Reach) (at : Virtual) (n m : ℕ) → m ≤ n → Lies state at n → Lies state at m
-lies-less state at n m less lies = record {
-  within = lies.within;
-  few = omega (arith, less, lies.few);
-  private = λ own. let (seat, runner, few, segment, begun, fits) = lies.private own in (seat, runner, few, segment, begun, omega (arith, less, fits));
-  shared = λ own. let (bytes, found, fits, within) = lies.shared own in (bytes, found, omega (arith, less, fits), within);
-}
-
+-- bytes behind some of them lie there too
 pub lies-on : (state : Reach) (at : Virtual) (k m n : ℕ) → k + m ≤ n → Lies state at n → Lies state (bytes_on at k) m
 lies-on state at k m n less lies =
     let offset : offset_of (bytes_on at k) ≡ offset_of at + k = offset-is at.segment (offset_of at + k) in

@@ -101,51 +101,6 @@ nones-more keys first count room =
 pub nones-long : (keys : List (Option Key)) (first count : ℕ) → first + count ≤ length keys → length (overlaid keys first (replicate count None)) ≡ length keys
 nones-long keys first count room = length-overlaid keys first (replicate count None) (omega (arith, room, length-replicate count (let none : Option Key = None in none)))
 
--- a part of a list written over behind another is both written over
-pub overlaid-then :
-    (xs : List ℕ) (at : ℕ) (part other : List ℕ) → at + length part + length other ≤ length xs
-    → overlaid (overlaid xs at part) (at + length part) other ≡ overlaid xs at (part ++ other)
-overlaid-then xs at part other room =
-    same_number_lists (overlaid (overlaid xs at part) (at + length part) other) (overlaid xs at (part ++ other)) (long ∙ sym longer) (λ k below. element k)
-  where
-    both : length (part ++ other) ≡ length part + length other
-    both = length-append part other
-
-    first : length (overlaid xs at part) ≡ length xs
-    first = length-overlaid xs at part (omega (arith, room))
-
-    long : length (overlaid (overlaid xs at part) (at + length part) other) ≡ length xs
-    long = length-overlaid (overlaid xs at part) (at + length part) other (omega (arith, room, first)) ∙ first
-
-    longer : length (overlaid xs at (part ++ other)) ≡ length xs
-    longer = length-overlaid xs at (part ++ other) (omega (arith, room, both))
-
-    element : (k : ℕ) → slice_index (overlaid (overlaid xs at part) (at + length part) other) k ≡ slice_index (overlaid xs at (part ++ other)) k
-    element k = elim (cases_lt k (at + length part)) [
-      | inl low ↦
-          overlaid_before (overlaid xs at part) (at + length part) other k 0 (omega (arith, room, first)) low
-          ∙ elim (cases_lt k at) [
-            | inl lower ↦ overlaid_before xs at part k 0 (omega (arith, room)) lower ∙ sym (overlaid_before xs at (part ++ other) k 0 (omega (arith, room)) lower)
-            | inr high ↦
-                overlaid_within xs at part k 0 (omega (arith, room)) high low
-                ∙ sym (get_or_append_left part other 0 (k - at) (omega (arith, high, low)))
-                ∙ sym (overlaid_within xs at (part ++ other) k 0 (omega (arith, room)) high (omega (arith, low, both)))
-          ]
-      | inr high ↦
-          elim (cases_lt k (at + length part + length other)) [
-            | inl within ↦
-                let back : k - at - length part ≡ k - (at + length part) = omega arith in
-                overlaid_within (overlaid xs at part) (at + length part) other k 0 (omega (arith, room, first)) high within
-                ∙ ap (slice_index other) (sym back)
-                ∙ sym (get_or-append_right part other (length part) (k - at) 0 refl (omega (arith, high)))
-                ∙ sym (overlaid_within xs at (part ++ other) k 0 (omega (arith, room)) (omega (arith, high)) (omega (arith, within, both)))
-            | inr past ↦
-                overlaid_behind (overlaid xs at part) (at + length part) other k 0 (omega (arith, room, first)) past
-                ∙ overlaid_behind xs at part k 0 (omega (arith, room)) high
-                ∙ sym (overlaid_behind xs at (part ++ other) k 0 (omega (arith, room)) (omega (arith, past, both)))
-          ]
-    ]
-
 -- a page of an image with zeros after it
 pub part-of-whole :
     (image : List ℕ) (at size rest : ℕ) → at + size ≤ length image + rest

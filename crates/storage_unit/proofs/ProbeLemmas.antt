@@ -4,16 +4,15 @@ use Rattle.std.specs.Prelude.{not, find}
 use Rattle.std.specs.List.{range_with_len}
 use Rattle.std.proofs.lemmas.Bool.{cases_lt}
 use Rattle.line_geometry.specs.Segments.{page_bytes}
-use Rattle.line_geometry.specs.Directory.{start_of}
 use Rattle.line_geometry.specs.Lines.{line_of}
 use Rattle.segment_regs.specs.declared.registers.Virtual.{Virtual}
 use Rattle.segment_regs.specs.Registers.{bytes_on}
 use Rattle.storage_unit.specs.declared.model.Reach.{Reach}
-use Rattle.storage_unit.specs.Places.{is_private, offset_of, place_of, on}
+use Rattle.storage_unit.specs.Places.{is_private, place_of, on}
 use Rattle.storage_unit.specs.Reach.{is_there, is_kept_from, is_refused}
 use Rattle.storage_unit.specs.Reached.{IsSound, Lies, is_absent}
 use Rattle.storage_unit.proofs.FindLemmas.{none-found, first-found}
-use Rattle.storage_unit.proofs.PlaceLemmas.{place-on, on-on, lies-on, private-is, shared-is, there-found}
+use Rattle.storage_unit.proofs.PlaceLemmas.{place-on, on-on, lies-on, private-is, there-found}
 
 module _ (state : Reach) (sound : IsSound state) (first : Virtual) (n : ℕ) (some : 0 < n) (few : n ≤ 255) (lies : Lies state first n) where
   abbrev test : ℕ → Bool
@@ -77,8 +76,3 @@ pub private-kept : (state : Reach) (first : Virtual) (n : ℕ) (store : Bool) �
     → None ≡ find (λ past. is_kept_from state (on (place_of state.directory first) past) store) (range_with_len 0 n)
 private-kept state first n store own =
     sym (none-found (λ past. is_kept_from state (on (place_of state.directory first) past) store) 0 n (λ k above below. ap (λ place. is_kept_from state (on place k) store) (private-is state.directory first own)))
-
-pub shared-kept : (state : Reach) (first : Virtual) (n : ℕ) (store : Bool) → is_private first.segment ≡ false
-    → find (λ past. is_refused state (line_of state.directory (start_of state.directory first.segment + offset_of first + past)) store) (range_with_len 0 n)
-    ≡ find (λ past. is_kept_from state (on (place_of state.directory first) past) store) (range_with_len 0 n)
-shared-kept state first n store own = ap (λ place. find (λ past. is_kept_from state (on place past) store) (range_with_len 0 n)) (sym (shared-is state.directory first own))

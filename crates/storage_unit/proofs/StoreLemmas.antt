@@ -30,7 +30,7 @@ use Rattle.storage_unit.specs.Reach.{put_byte, spot_put, marks_put, put_in_store
 use Rattle.storage_unit.specs.Reached.{IsSound, Lies}
 use Rattle.storage_unit.proofs.StateLemmas.{marks-set}
 use Rattle.frame_pool.proofs.SeenLemmas.{some-within}
-use Rattle.storage_unit.proofs.PrivateLemmas.{overlaid-then}
+use Rattle.frame_pool.proofs.LayLemmas.{overlaid-joined}
 use Rattle.storage_unit.proofs.PlaceLemmas.{private-is, shared-is, finds-own, finds-shared, place-byte}
 use Rattle.storage_unit.proofs.PutLemmas.{put-inside, put-outside, has-lines, page-bytes, page-marks}
 
@@ -238,7 +238,7 @@ module _ (state : Reach) (sound : IsSound state) (place : Located) (first second
       by_place (Private a) fits =
           let sum : (state.runner - 1) * 16384 + (a + length first) ≡ (state.runner - 1) * 16384 + a + length first = omega arith in
           ap (λ n. (let now : Reach = record state { pool = with_bytes (with_bytes state.pool ((state.runner - 1) * 16384 + a) first) n second } in now)) sum
-          ∙ ap (λ (list : List ℕ). (let now : Reach = record state { pool = record state.pool { bytes = list } } in now)) (overlaid-then state.pool.bytes ((state.runner - 1) * 16384 + a) first second (fits a refl))
+          ∙ ap (λ (list : List ℕ). (let now : Reach = record state { pool = record state.pool { bytes = list } } in now)) (overlaid-joined state.pool.bytes ((state.runner - 1) * 16384 + a) first second (omega (arith, fits a refl)))
       by_place (Shared p) fits =
           ap (λ (list : List ℕ). (let now : Reach = record state { pool = record state.pool { bytes = list; marked = (put_in_store state.directory (put_in_store state.directory state.pool p first) (p + length first) second).marked } } in now)) (spots-twice p)
           ∙ ap (λ (list : List (List ℕ)). (let now : Reach = record state { pool = record state.pool { bytes = (put_in_store state.directory state.pool p (first ++ second)).bytes; marked = list } } in now)) (marks-twice p)

@@ -8,7 +8,8 @@ use Rattle.frame_pool.specs.Sizes.{frame_count}
 use Rattle.frame_pool.specs.View.{pool_of}
 use Rattle.frame_pool.proofs.LendLemmas.{lent-part}
 use Rattle.frame_pool.proofs.SeenLemmas.{pool-seen}
-use Rattle.storage_unit.proofs.PrivateLemmas.{overlaid-then, part-of-whole, next-page}
+use Rattle.frame_pool.proofs.LayLemmas.{overlaid-joined}
+use Rattle.storage_unit.proofs.PrivateLemmas.{part-of-whole, next-page}
 use Rattle.storage_unit.proofs.private.fill_pages.Goals as goal
 
 pub loop-index-preserved : goal.loop-index-preserved
@@ -50,6 +51,5 @@ loop-index-preserved c =
     ∙ ap (λ n. with_bytes (with_bytes old (first * 2048) (take (index * 2048) whole)) n c.lay_part.new.page) at
     ∙ ap (λ (list : List ℕ). with_bytes (with_bytes old (first * 2048) (take (index * 2048) whole)) (first * 2048 + length (take (index * 2048) whole)) list) part
     ∙ ap (λ (list : List ℕ). (let q : Pool = record old { bytes = list } in q))
-    (overlaid-then old.bytes (first * 2048) (take (index * 2048) whole) (take 2048 (drop (index * 2048) whole))
-    (omega (arith, front, ap length (sym part) ∙ page_long, few, c.requires.few, room)))
+    (overlaid-joined old.bytes (first * 2048) (take (index * 2048) whole) (take 2048 (drop (index * 2048) whole)) (omega (arith, few, c.requires.few, room)))
     ∙ ap (with_bytes old (first * 2048)) (sym (next-page index whole))
