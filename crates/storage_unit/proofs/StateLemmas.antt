@@ -25,7 +25,7 @@ use Rattle.frame_pool.proofs.SeenLemmas.{some-within, gone-absent, gone-frame, g
 use Rattle.storage_unit.specs.Places.{key_of_page}
 use Rattle.storage_unit.specs.Held.{AreOfPages, held_private, held_in, keys_with, keys_without}
 use Rattle.storage_unit.proofs.LeaveLemmas.{emptied-frame}
-use Rattle.storage_unit.proofs.HeldLemmas.{above, below, finds-page, keys-long, held-store, keys-store}
+use Rattle.storage_unit.proofs.HeldLemmas.{above, below, keys-long, held-store, keys-store}
 
 -- kept lines that are laid change bytes of frames alone
 fold-bytes : (page frame : ℕ) (lines : List ℕ) (pool : Pool) → fold (line_laid page frame) pool lines ≡ record pool { bytes = (fold (line_laid page frame) pool lines).bytes }
@@ -124,16 +124,6 @@ find-has p (y ∷ ys) x is = by_test (p y) is (λ later. find-has p ys x later)
         any true inside = refl
         any false inside = inside
 
-pub out-below : (pool : Pool) (keep : Option ℕ) (page : ℕ) → IsSeen pool → page_out pool keep ≡ Some page → page < length pool.frame_of
-out-below pool keep page seen is = by_room (nat_lt (length pool.resident) pool.frames) is
-  where
-    inside : has pool.resident page ≡ true → page < length pool.frame_of
-    inside there = by_frame (frame_at pool page) refl (sym (seen.resident page) ∙ there)
-      where
-        by_frame : (o : Option ℕ) → frame_at pool page ≡ o → is_some o ≡ true → page < length pool.frame_of
-        by_frame None at is = absurd (cc)
-        by_frame (Some frame) at is = some-within pool.frame_of page frame at
-
     by_room : (b : Bool) → (if b then None else find (λ page. not (has (option_to_list keep) page)) pool.resident) ≡ Some page → page < length pool.frame_of
     by_room true is = absurd (cc)
     by_room false is = inside (find-has (λ page. not (has (option_to_list keep) page)) pool.resident page is)
@@ -189,14 +179,7 @@ module _ (d : Layout) (two : d.page ≡ Two) (legal : IsLegal d.segments) (pool 
       by_frame (Some frame) is =
           omega (arith, keys-long d t pool.frames pool.page_in, below d two legal pool seen size pages t page frame (seen.there page frame is))
 
-  -- the frame of the page that goes out, as the table has it
-  pub out-frame : (keep : Option ℕ) → option_and_then (λ page. look_up (keys_with d t pool.frames pool.page_in) (key_of_page d page)) (page_out pool keep) ≡ option_and_then (frame_at pool) (page_out pool keep)
-  out-frame keep = by_out (page_out pool keep) refl
-    where
-      by_out : (o : Option ℕ) → page_out pool keep ≡ o → option_and_then (λ page. look_up keys (key_of_page d page)) o ≡ option_and_then (frame_at pool) o
-      by_out None is = refl
-      by_out (Some page) is = finds-page d two legal pool seen size pages t page (omega (arith, out-below pool keep page seen is, pages))
-
+  -- the frame of the page that goes out is one of the table's
   pub out-inside : (keep : Option ℕ) → IfSome (option_and_then (frame_at pool) (page_out pool keep)) (λ frame. frame < length (keys_with d t pool.frames pool.page_in))
   out-inside keep = by_out (page_out pool keep)
     where

@@ -19,7 +19,7 @@ use Rattle.storage_unit.specs.declared.unit.Unit.{Unit}
 use Rattle.storage_unit.specs.Places.{key_among, key_of_page}
 use Rattle.storage_unit.specs.Held.{keys_of, pages_begun, AreOfPages}
 use Rattle.storage_unit.proofs.HeldLemmas.{key-at, keys-long, held-store, finds-page, keys-store}
-use Rattle.storage_unit.proofs.StateLemmas.{room-stays, room-none, absent-frame, out-frame, out-inside, keys-room, without-keys, without-entries}
+use Rattle.storage_unit.proofs.StateLemmas.{room-stays, room-none, absent-frame, out-inside, keys-room, without-keys, without-entries}
 use Rattle.storage_unit.proofs.unit.Unit.bring.Goals as goal
 
 module _ (unit : Unit) (page : ℕ) (keep : Option ℕ) where
