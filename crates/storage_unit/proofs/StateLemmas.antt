@@ -1,6 +1,6 @@
 -- What the calls of a unit leave of its pool and its table.
 use Rattle.std.proofs.Common.{◌≡◌, ◌≢◌, ℕ, ◌+◌, ◌<◌, Bool, true, false, List, [], ◌∷◌, ◌++◌, length, replicate, All, refl, sym, ◌∙◌, ap, subst, arith, get_or, Option, Some, None, inl, inr}
-use Rattle.std.specs.Prelude.{◌==◌, ◌||◌, not, nat_lt, cond, option_to_list, if◌then◌else◌, slice_index_or, slice_set, fold, find, is_some, option_map, option_and_then, IfSome}
+use Rattle.std.specs.Prelude.{◌==◌, ◌||◌, nat_lt, if◌then◌else◌, slice_index_or, slice_set, fold, is_some, option_map, option_and_then, IfSome}
 use Rattle.std.specs.Option.{option_map_or}
 use Rattle.std.proofs.lemmas.Bool.{cases_lt, cases_eq, eq-eqb, ne_eqb}
 use Rattle.std.proofs.lemmas.List.{length-set, set_past, get_or-set_same, get_or-set_other, get_or-replicate, length-replicate, get_or_past, same_lists}
@@ -21,7 +21,7 @@ use Rattle.frame_pool.specs.Seen.{IsSeen}
 use Rattle.frame_pool.specs.Sizes as sizes
 use Rattle.frame_pool.specs.Pool.{frame_at, page_at, marks_at, gone, page_out, with_room, emptied, laid, line_laid}
 use Rattle.frame_pool.proofs.PoolLemmas.{gone-from}
-use Rattle.frame_pool.proofs.SeenLemmas.{some-within, gone-absent, gone-frame, gone-stays, seen-gone, Stays}
+use Rattle.frame_pool.proofs.SeenLemmas.{gone-absent, gone-frame, gone-stays, seen-gone, Stays}
 use Rattle.storage_unit.specs.Places.{key_of_page}
 use Rattle.storage_unit.specs.Held.{AreOfPages, held_private, held_in, keys_with, keys_without}
 use Rattle.storage_unit.proofs.LeaveLemmas.{emptied-frame}
@@ -110,23 +110,6 @@ absent-frame pool page seen absent = by_frame (frame_at pool page) (sym (seen.re
     by_frame : (o : Option ℕ) → is_some o ≡ false → o ≡ None
     by_frame None is = refl
     by_frame (Some frame) is = absurd (cc)
-
--- the page that goes out is one of the store
-find-has : (p : ℕ → Bool) (xs : List ℕ) (x : ℕ) → find p xs ≡ Some x → has xs x ≡ true
-find-has p [] x is = absurd (cc)
-find-has p (y ∷ ys) x is = by_test (p y) is (λ later. find-has p ys x later)
-  where
-    by_test : (b : Bool) → cond b (Some y) (find p ys) ≡ Some x → (find p ys ≡ Some x → has ys x ≡ true) → has (y ∷ ys) x ≡ true
-    by_test true is rest = let same : y ≡ x = cc in ap (λ (b : Bool). b || has ys x) (eq-eqb y x same)
-    by_test false is rest = any (y == x) (rest is)
-      where
-        any : (b : Bool) → has ys x ≡ true → (b || has ys x) ≡ true
-        any true inside = refl
-        any false inside = inside
-
-    by_room : (b : Bool) → (if b then None else find (λ page. not (has (option_to_list keep) page)) pool.resident) ≡ Some page → page < length pool.frame_of
-    by_room true is = absurd (cc)
-    by_room false is = inside (find-has (λ page. not (has (option_to_list keep) page)) pool.resident page is)
 
 -- keys of a table without a frame
 pub without-keys : (table : Placed) (o : Option ℕ) → (option_map_or (without_frame table) o table).keys ≡ option_map_or (λ frame. slice_set table.keys frame None) o table.keys
