@@ -1,6 +1,6 @@
 #!/usr/bin/env bash
 # growth.sh PROGRAM [SCRATCH]: what a turn, a commit, a checkpoint and an opening cost as the store grows, and as more programs are
-# active. Prints the tables of docs/SPEED.md, "Growth". Wants gcc. SCRATCH is a folder for the stores; a file system in memory, where a
+# active, and the peak of memory. Prints the tables of docs/SPEED.md, "Growth". Wants gcc. SCRATCH is a folder for the stores; a file system in memory, where a
 # sync does nothing, shows what the program does itself.
 set -eu
 
@@ -73,6 +73,13 @@ spent() {
     done | sort -n | head -n 1
 }
 
+# the peak of resident memory of a run of a job on a fresh store, in KiB
+peak() {
+    rm -f "$scratch/store"
+    "$program" new "$scratch/store" 131072 $segments >/dev/null
+    "$scratch/once" "$program" run "$scratch/store" <"$1" 2>&1 >/dev/null | awk '/^once/ && $5 == 0 { print $4 }'
+}
+
 # line LABEL OTHERS: the costs, as a row of a table
 line() {
     job "$2" nothing >"$scratch/none.job"
@@ -101,3 +108,14 @@ echo
 echo '| Active programs | opening and begins, ms | a commit, µs | a checkpoint, µs | a row, ns |'
 echo '|---|---|---|---|---|'
 segments='1 32' && for others in 0 3 7 15; do line $((others + 1)) "$others"; done
+echo
+echo '| Pages of the store | KiB of them | peak, KiB: opened | after 400 commits | after a turn of a million rows |'
+echo '|---|---|---|---|---|'
+for pages in 4 32 256 1024; do
+    segments="1 $((pages < 128 ? pages : 128))"
+    for ((segment = 2; segment <= pages / 128; segment++)); do segments="$segments $segment 128"; done
+    job 0 nothing >"$scratch/none.job"
+    job 0 commit_often >"$scratch/commits.job"
+    job 0 turn_long >"$scratch/turn.job"
+    echo "| $pages | $((pages * 2)) | $(peak "$scratch/none.job") | $(peak "$scratch/commits.job") | $(peak "$scratch/turn.job") |"
+done

@@ -106,7 +106,11 @@ def moves():
     words = interp("moves", jobs.LOOPS[name][0], 1, jobs.TURNS, jobs.MILLION)
     ours, other = rounds([([program, "try"], path("jobs", name + ".job")), (words, listing(name))])
     print(f"\n{name} beside the interpreter that moves bytes: {ours[0] * 1e6 / ROWS:.1f}, {other[0] * 1e6 / ROWS:.1f} ns a row,"
-          f" {ours[0] / other[0]:.1f}; peak of romp801 {ours[2]:,} KiB", flush=True)
+          f" {ours[0] / other[0]:.1f}", flush=True)
+    with open(path("one-turn.job"), "w") as job:
+        job.write(jobs.loop(name, 1))
+    _, one, _ = run([program, "try"], path("one-turn.job"))
+    print(f"Its peak after one turn of a million rows and after {jobs.TURNS}: {one:,} and {ours[2]:,} KiB", flush=True)
 
 
 def transactions():
