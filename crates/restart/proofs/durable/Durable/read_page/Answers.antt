@@ -68,9 +68,9 @@ returns-then-not-holds_some-clause-read g c shown =
     let within : c.args.page < page_count store.header.directory = subst (λ (store : KeptStore). c.args.page < page_count store.header.directory) (sym c.self.view_is) c.requires.page in
     let whole = c.read_at.auto.into ∙ c.requires.whole in
     let read =
-        read_is (g.W.Outside.held c.args.outside.now) c.read_at.new.into c.home_at.result (length c.args.into.now) shown.told c.in_ok-read_at.ensures.read
-        ∙ ap (λ (n : ℕ). bytes_at held n (length c.args.into.now)) c.home_at.ensures.value
-        ∙ ap (bytes_at held (home_at store.header first)) c.requires.whole in
+    read_is (g.W.Outside.held c.args.outside.now) c.read_at.new.into c.home_at.result (length c.args.into.now) shown.told c.in_ok-read_at.ensures.read
+    ∙ ap (λ (n : ℕ). bytes_at held n (length c.args.into.now)) c.home_at.ensures.value
+    ∙ ap (bytes_at held (home_at store.header first)) c.requires.whole in
     let at_home : Composed held (home_of held store.header) store.bank.newest first 16 c.read_at.new.into =
     composed_at_home held (home_of held store.header) store.bank.newest first c.read_at.new.into (omega (arith, shows.fits.lines, within, same)) (sym c.holds_some.ensures ∙ c.if-not-holds_some.true) (composed_none held store.header store.bank.newest first c.read_at.new.into read) in
     shown_page held store shows c.read_at.new.into c.args.page within whole
