@@ -1,6 +1,6 @@
 -- Who took what he asked for is granted it as on the desk: his lines are open then, and his next row isn't refused.
 use Rattle.std.specs.Prelude.{◌≡◌, refl, ℕ, zero, suc, ◌+◌, ◌-◌, ◌<◌, Bool, true, false, List, ◌++◌, length, slice_index_or, Some}
-use Rattle.std.proofs.Common.{arith, ap, sym, ◌∙◌, subst, inl, inr}
+use Rattle.std.proofs.Common.{arith, ap, sym, ◌∙◌, subst}
 use Rattle.line_geometry.specs.FlatStore.{FlatStore}
 use Rattle.lock_rules.specs.Sets.{has}
 use Rattle.lock_rules.specs.Lines.{Lines, both, page_of_line, pages_of, with_whole_pages}
@@ -10,7 +10,7 @@ use Rattle.line_locks.specs.Held.{AreWithin}
 use Rattle.line_locks.specs.Holding.{of_seat}
 use Rattle.lockbit_rules.specs.declared.Authority.{Authority}
 use Rattle.flat_machine.specs.declared.machine.Plain.{Plain}
-use Rattle.flat_machine.specs.Row.{On, Commit, Check, row}
+use Rattle.flat_machine.specs.Row.{On, row}
 use Rattle.flat_machine.specs.After.{after}
 use Rattle.flat_machine.specs.Touched.{touched}
 use Rattle.frame_pool.specs.declared.model.Pool.{Pool}
@@ -35,7 +35,7 @@ use Rattle.seats.proofs.Kept.{taken-below, long-seat}
 use Rattle.storage_unit.specs.Bytes.{private_bytes}
 use Rattle.storage_unit.specs.Rows.{IsOpen, IsOpenLine, IsShutOut}
 use Rattle.activations.specs.Activity.{Activity, live_in, program_in, entry_in, entries, store_over, desk_over, authority_under, number_under, locks_in, state_in, shown}
-use Rattle.activations.specs.Attempted.{plain_in, IsShut, IsStopped}
+use Rattle.activations.specs.Attempted.{plain_in, IsShut}
 use Rattle.activations.specs.Follows.{IsSound}
 use Rattle.activations.specs.Serves.{IsFetched}
 use Rattle.activations.specs.Serving.{AreGranted, IsFree, locked}
@@ -195,16 +195,3 @@ module _ (begins : Word → Turning) (attempt : Attempt) (refused : List ℕ) (a
               ∙ wanted-is old attempt.entry attempt.now shut.next (shown a committed) free.ready.now (row-there ∙ shut.goes)
               ∙ ap (touched attempt.entry.runs.program a.reach.directory) shows
               ∙ ap (λ (e : Entry). touched e.runs.program a.reach.directory (plain_in (with_pool (locked a seat wants owned) pool) seat committed)) (sym same)
-
-      -- neither is it the commit call nor a check.
-      pub stopped-not : IsStopped (with_pool (locked a seat wants owned) pool) seat → ⊥
-      stopped-not is = elim (is committed free.follows.kept.long) [
-        | inl commits ↦ on-commit goes-shown.0 (sym goes-shown.1 ∙ commits)
-        | inr (code, checks) ↦ on-check goes-shown.0 code (sym goes-shown.1 ∙ checks)
-      ]
-        where
-          on-commit : (left : Plain) → On left ≡ Commit → ⊥
-          on-commit left is = cc
-
-          on-check : (left : Plain) (code : ℕ) → On left ≡ Check code → ⊥
-          on-check left code is = cc

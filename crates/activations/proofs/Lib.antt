@@ -18,6 +18,7 @@ pub mod InstructLemmas
 pub mod KeptLemmas
 pub mod LimitLemmas
 pub mod PoolLemmas
+mod PositionLemmas
 pub mod PrepareLemmas
 pub mod PrintedLemmas
 pub mod RecordBytes

@@ -9,7 +9,7 @@ use Rattle.frame_pool.specs.declared.model.Pool.{Pool}
 use Rattle.desk_law.specs.Beside.{IsState}
 use Rattle.desk_law.specs.Current.{IsCurrent}
 use Rattle.desk_law.specs.Orderly.{IsOrderly}
-use Rattle.desk_law.proofs.BroughtByPool.{position-same}
+use Rattle.activations.proofs.PositionLemmas.{position-same}
 use Rattle.seats.proofs.Kept.{taken-below}
 use Rattle.storage_unit.specs.Laws.{Keeps}
 use Rattle.activations.specs.Activity.{Activity, entry_in, entries, store_over, desk_over, state_in}

@@ -10,10 +10,10 @@ use Rattle.store_format.specs.declared.header.Which.TheVariants.{A, B}
 use Rattle.store_format.specs.Header.{Header, home_at, bank_at, line_bytes}
 use Rattle.redo_journal.specs.Kept.{KeptBank, end_of}
 use Rattle.store_format.specs.Bank.{RecordLine}
-use Rattle.store_format.specs.Stands.{IsStore, laid, home_of, stands}
+use Rattle.store_format.specs.Stands.{IsStore, laid, home_of}
 use Rattle.store_format.proofs.Fronts.{shorter_front, rest_front}
 use Rattle.store_format.proofs.Stores.{area_within}
-use Rattle.store_format.proofs.Elsewhere.{store_front, stands_alike}
+use Rattle.store_format.proofs.Elsewhere.{store_front}
 use Rattle.outside.specs.Bytes.{bytes_at, written, Torn}
 use Rattle.outside.proofs.Torn.{torn_by_written}
 use Rattle.redo_journal.specs.Noted.{newest_place}
@@ -136,9 +136,6 @@ module _ (header : Header) (which : Which) (base gate : ℕ) (records : List (Li
         let second = store_agrees held header which base gate records is in
         same_lines bound (fold laid (home_of image header) records) (fold laid (home_of held header) records) first.long second.long
         (λ line below. first.each line below ∙ line_same line (newest_place line records) below refl ∙ sym (second.each line below))
-
-    pub covered_stands : stands image ≡ stands held
-    covered_stands = stands_alike header image held which which base base gate gate records records covered_store is refl covered_bytes
 
   -- with all lines at home the home lines are the store
   pub homed_bytes : (image : List ℕ) → IsHomed header records held bound image → home_of image header ≡ fold laid (home_of held header) records

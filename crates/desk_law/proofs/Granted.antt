@@ -129,9 +129,6 @@ granted-permits attempt locks before later keeps reads writes below = record {
       ];
 }
   where
-    refuses_at : ℕ → Bool
-    refuses_at page = refuses (slice_index_or before page nobody) attempt.entry.number (lines_within page attempt.lines)
-
     refused : List ℕ
     refused = filter (λ page. refuses (slice_index_or before page nobody) attempt.entry.number (lines_within page attempt.lines)) (touched_pages attempt)
 

@@ -1,12 +1,12 @@
 -- An instruction stage by stage, as one that serves a fault goes through them.
-use Rattle.std.specs.Prelude.{◌≡◌, refl, ℕ, ◌+◌, Bool, false, List, [], ◌∷◌, length, Option, Some}
+use Rattle.std.specs.Prelude.{◌≡◌, refl, ℕ, ◌+◌, Bool, false, List, length, Option, Some}
 use Rattle.std.proofs.Common.{ap, ◌∙◌}
 use Rattle.flat_machine.specs.declared.machine.Plain.{Plain}
 use Rattle.flat_machine.specs.Row.{Outcome, On, Commit, Check, row}
 use Rattle.flat_machine.specs.After.{after}
 use Rattle.desk.specs.Desk.{Desk, Entry, with_entry, rolled_back}
 use Rattle.desk.specs.Holdings.{wanted, conflicts_of}
-use Rattle.desk.specs.Instruction.{Word, Fine, Counts, Going, Over, Checked, Victim, Waits, Attempt, Fetched, Broken, Settled, Lost, fetches, instruction, attempts, attempts_at, limited, is_over_limit, fetched_first, fetches_touched, asks, gets, goes_on, takes_effect, touched_pages, refused_pages, granted, with_grants, locks_with, commits, breaks, contest_ends, waits_or_gets}
+use Rattle.desk.specs.Instruction.{Word, Fine, Counts, Going, Over, Checked, Attempt, Fetched, Broken, Settled, fetches, instruction, attempts, attempts_at, limited, is_over_limit, fetched_first, fetches_touched, asks, gets, goes_on, takes_effect, touched_pages, refused_pages, granted, with_grants, locks_with, commits, breaks, contest_ends, waits_or_gets}
 use Rattle.desk_law.specs.Beside.{Reads}
 use Rattle.desk_law.specs.Changes.{gone_on}
 
@@ -62,20 +62,10 @@ module _ (word : Word) (attempt : Attempt) (desk : Desk) (counts : Counts) where
       conflict
 
   module _ (refused : List ℕ) where
-    -- 5. Without a conflict it gets its pages; 6. with one it is marked, and the contest begins.
-    pub stage-free : asks word attempt refused [] desk counts ≡ gets word attempt refused desk counts
-    stage-free = refl
-
     -- 8. Once a contest is settled, it waits for those that are left, or gets its pages.
     pub stage-settled : (holders : List ℕ) → conflicts_of desk attempt.entry ≡ holders
         → contest_ends word attempt refused (Settled desk counts) ≡ waits_or_gets word attempt refused holders desk counts
     stage-settled holders is = ap (λ (these : List ℕ). waits_or_gets word attempt refused these desk counts) is
-
-    pub stage-lost : contest_ends word attempt refused (Lost desk counts) ≡ Over desk counts Victim
-    stage-lost = refl
-
-    pub stage-waits : (holder : ℕ) (holders : List ℕ) → waits_or_gets word attempt refused (holder ∷ holders) desk counts ≡ Over desk counts (Waits (holder ∷ holders))
-    stage-waits holder holders = refl
 
     -- 9. It gets its pages: those that left are fetched again, and the row takes effect.
     pub stage-gets : (authority : List _) (resident : List ℕ) (counted : ℕ) → granted attempt (locks_with attempt desk) refused desk.authority ≡ authority
@@ -85,11 +75,6 @@ module _ (word : Word) (attempt : Attempt) (desk : Desk) (counts : Counts) where
     stage-gets authority resident counted grants is =
         ap (goes_on word attempt (with_grants attempt refused desk) counts) is
         ∙ ap (λ these. takes_effect word attempt attempt.outcome (record desk { resident = resident; authority = these }) (record counts { pages = counted })) grants
-
-    pub stage-gets_broken : (counted : ℕ)
-        → fetches word desk.frames (touched_pages attempt) (touched_pages attempt) desk.resident counts.pages ≡ Broken counted
-        → gets word attempt refused desk counts ≡ breaks attempt (with_grants attempt refused desk) counts counted
-    stage-gets_broken counted is = ap (goes_on word attempt (with_grants attempt refused desk) counts) is
 
   -- 10. A row that goes on.
   pub stage-on : (outcome : Outcome) (next : Plain) → outcome ≡ On next

@@ -21,7 +21,6 @@ pub mod CyclesBroken
 pub mod SomebodyGoesOn
 pub mod Granted
 pub mod AlikeSets
-pub mod BroughtByPool
 pub mod FetchedThere
 pub mod FetchesCounted
 pub mod KeptTables
