@@ -4,16 +4,17 @@ use Rattle.std.specs.Prelude.{Option, None, Some, fold}
 use Rattle.std.proofs.lemmas.Bool.{cases_lt, cases_eq}
 use Rattle.std.proofs.lemmas.List.{drop-drop, take_at, length-drop, length-take-le}
 use Rattle.line_geometry.specs.Lines.{line_count}
-use Rattle.line_geometry.specs.declared.directory.PageSize.TheVariants.{Two}
+use Rattle.line_geometry.specs.declared.directory.PageSize.{PageSize}
 use Rattle.store_format.specs.declared.header.Which.{Which}
 use Rattle.store_format.specs.declared.header.Which.TheVariants.{A, B}
 use Rattle.store_format.specs.Header.{Header, home_at, bank_at, line_bytes}
-use Rattle.redo_journal.specs.Kept.{KeptBank, end_of}
+use Rattle.redo_journal.specs.Kept.{KeptBank, end_of, line_bytes_of}
 use Rattle.store_format.specs.Bank.{RecordLine}
 use Rattle.store_format.specs.Stands.{IsStore, laid, home_of}
 use Rattle.store_format.proofs.Fronts.{shorter_front, rest_front}
 use Rattle.store_format.proofs.Stores.{area_within}
 use Rattle.store_format.proofs.Elsewhere.{store_front}
+use Rattle.store_format.proofs.Widths.{lines-below}
 use Rattle.outside.specs.Bytes.{bytes_at, written, Torn}
 use Rattle.outside.proofs.Torn.{torn_by_written}
 use Rattle.redo_journal.specs.Noted.{newest_place}
@@ -22,10 +23,10 @@ use Rattle.redo_journal.proofs.Newest.{bytes_of_line, newest_bytes, store_agrees
 use Rattle.checkpoint.specs.Home.{home_line, home_place, copied, TornLine, IsCovered, IsHomed}
 
 -- a line of the home lines
-home_is : (header : Header) (image : List ℕ) (line : ℕ) → bytes_of_line line (home_of image header) ≡ home_line header image line
+home_is : (header : Header) (image : List ℕ) (line : ℕ) → bytes_of_line header.directory.page line (home_of image header) ≡ home_line header image line
 home_is header image line =
-    let place : home_at header 0 + line * line_bytes Two ≡ home_at header line = omega arith in
-    ap (λ (these : List ℕ). take (line_bytes Two) these) (drop-drop (line * line_bytes Two) (home_at header 0) image) ∙ ap (λ (n : ℕ). take (line_bytes Two) (drop n image)) place
+    let place : home_at header 0 + line * line_bytes header.directory.page ≡ home_at header line = omega arith in
+    ap (λ (these : List ℕ). take (line_bytes header.directory.page) these) (drop-drop (line * line_bytes header.directory.page) (home_at header 0) image) ∙ ap (λ (n : ℕ). take (line_bytes header.directory.page) (drop n image)) place
 
 -- both banks lie in front of the home lines
 pub end_within : (which : Which) (bank : KeptBank) (lines : ℕ) → end_of which bank.bank_bytes ≤ home_place bank lines
@@ -33,8 +34,8 @@ end_within A bank lines = omega arith
 end_within B bank lines = omega arith
 
 -- bytes in the same front
-pub front_bytes : (old new : List ℕ) (k place : ℕ) → take k new ≡ take k old → place + line_bytes Two ≤ k → bytes_at new place (line_bytes Two) ≡ bytes_at old place (line_bytes Two)
-front_bytes old new k place same within = shorter_front (line_bytes Two) (k - place) (drop place new) (drop place old) (rest_front place k new old same (omega arith)) (omega arith)
+pub front_bytes : (page : PageSize) (old new : List ℕ) (k place : ℕ) → take k new ≡ take k old → place + line_bytes page ≤ k → bytes_at new place (line_bytes page) ≡ bytes_at old place (line_bytes page)
+front_bytes page old new k place same within = shorter_front (line_bytes page) (k - place) (drop place new) (drop place old) (rest_front place k new old same (omega arith)) (omega arith)
 
 -- bytes behind what is the same
 pub behind_bytes : (old new : List ℕ) (k place : ℕ) → drop k new ≡ drop k old → k ≤ place → drop place new ≡ drop place old
@@ -54,27 +55,27 @@ module _ (header : Header) (which : Which) (base gate : ℕ) (records : List (Li
   covered_self = record { front = refl; long = refl; others = λ line below none. refl }
 
   -- the newest place of a line lies in front of the home lines
-  placed : (line place : ℕ) → newest_place line records ≡ Some place → place + line_bytes Two ≤ home_at header 0
+  placed : (line place : ℕ) → newest_place line records ≡ Some place → place + line_bytes header.directory.page ≤ home_at header 0
   placed line place there =
-      let records_there = held_records held bound (bank_at header which) header.bank_bytes gate records (omega (arith, (area_within header which).0, is.whole)) is.holds in
-      let inside = newest_within bound (bank_at header which + 8 + header.bank_bytes) held line place records records_there there in
+      let records_there = held_records header.directory.page held bound (bank_at header which) header.bank_bytes gate records (omega (arith, (area_within header which).0, is.whole)) is.holds in
+      let inside = newest_within header.directory.page bound (bank_at header which + 8 + header.bank_bytes) held line place records records_there there in
       omega (arith, inside, (area_within header which).0)
 
-  module _ (start image : List ℕ) (covered : IsCovered header records held start) (line place : ℕ) (below : line < bound) (there : newest_place line records ≡ Some place) (torn : Torn (home_at header line) (line_bytes Two) start image) where
+  module _ (start image : List ℕ) (covered : IsCovered header records held start) (line place : ℕ) (below : line < bound) (there : newest_place line records ≡ Some place) (torn : Torn (home_at header line) (line_bytes header.directory.page) start image) where
     -- another line's home is as it was
     other_home : (k : ℕ) → (k ≡ line → ⊥) → k < bound → home_line header image k ≡ home_line header start k
     other_home k different within = elim (cases_lt k line) [
-      | inl before ↦ front_bytes start image (home_at header line) (home_at header k) torn.before (omega (arith, before))
-      | inr behind ↦ ap (λ (these : List ℕ). take (line_bytes Two) these) (behind_bytes start image (home_at header line + line_bytes Two) (home_at header k) torn.after (beyond k behind different))
+      | inl before ↦ front_bytes header.directory.page start image (home_at header line) (home_at header k) torn.before (omega (arith, lines-below header.directory.page k line before))
+      | inr behind ↦ ap (λ (these : List ℕ). take (line_bytes header.directory.page) these) (behind_bytes start image (home_at header line + line_bytes header.directory.page) (home_at header k) torn.after (beyond k behind different))
     ]
       where
-        beyond : (k : ℕ) → line ≤ k → (k ≡ line → ⊥) → home_at header line + line_bytes Two ≤ home_at header k
-        beyond k behind different = omega (arith, different)
+        beyond : (k : ℕ) → line ≤ k → (k ≡ line → ⊥) → home_at header line + line_bytes header.directory.page ≤ home_at header k
+        beyond k behind different = let less : line < k = omega (arith, behind, different) in omega (arith, lines-below header.directory.page line k less)
 
     pub torn_covered : IsCovered header records held image
     torn_covered = record {
       front = shorter_front (home_at header 0) (home_at header line) image start torn.before (omega arith) ∙ covered.front;
-      long = omega (arith, torn.no_shorter, torn.no_longer, covered.long, is.whole, below);
+      long = omega (arith, torn.no_shorter, torn.no_longer, covered.long, is.whole, lines-below header.directory.page line bound below);
       others = λ k within none. other_home k (λ same. let both : None ≡ Some place = sym none ∙ ap (λ (n : ℕ). newest_place n records) same ∙ there in cc) within ∙ covered.others k within none;
     }
 
@@ -90,33 +91,33 @@ module _ (header : Header) (which : Which) (base gate : ℕ) (records : List (Li
 
   module _ (upto place : ℕ) (start : List ℕ) (homed : IsHomed header records held upto start) (below : upto < bound) (there : newest_place upto records ≡ Some place) where
     abbrev piece : List ℕ
-    piece = bytes_at start place (line_bytes Two)
+    piece = bytes_at start place (line_bytes header.directory.page)
 
     abbrev now : List ℕ
     now = written start (home_at header upto) piece
 
-    length-piece : length piece ≡ line_bytes Two
-    length-piece = length-take-le (line_bytes Two) (drop place start) (omega (arith, length-drop place start, homed.covered.long, is.whole, placed upto place there))
+    length-piece : length piece ≡ line_bytes header.directory.page
+    length-piece = length-take-le (line_bytes header.directory.page) (drop place start) (omega (arith, length-drop place start, homed.covered.long, is.whole, placed upto place there))
 
-    torn_now : Torn (home_at header upto) (line_bytes Two) start now
-    torn_now = torn_by_written start (home_at header upto) piece (omega (arith, homed.covered.long, is.whole, below)) (line_bytes Two) (omega (arith, length-piece))
+    torn_now : Torn (home_at header upto) (line_bytes header.directory.page) start now
+    torn_now = torn_by_written start (home_at header upto) piece (omega (arith, homed.covered.long, is.whole, lines-below header.directory.page upto bound below)) (line_bytes header.directory.page) (omega (arith, length-piece))
 
     here : home_line header now upto ≡ piece
     here =
-        ap (λ (these : List ℕ). take (line_bytes Two) these) (drop-written start (home_at header upto) piece (omega (arith, homed.covered.long, is.whole, below)))
-        ∙ take_at piece (drop (home_at header upto + length piece) start) (line_bytes Two) length-piece
+        ap (λ (these : List ℕ). take (line_bytes header.directory.page) these) (drop-written start (home_at header upto) piece (omega (arith, homed.covered.long, is.whole, lines-below header.directory.page upto bound below)))
+        ∙ take_at piece (drop (home_at header upto + length piece) start) (line_bytes header.directory.page) length-piece
 
     earlier : (line : ℕ) → line < upto + 1 → (line ≡ upto → ⊥) → line < upto
     earlier line up other = omega (arith, other)
 
-    pub homed_more : IsHomed header records held (upto + 1) (written start (home_at header upto) (bytes_at start place (line_bytes Two)))
+    pub homed_more : IsHomed header records held (upto + 1) (written start (home_at header upto) (bytes_at start place (line_bytes header.directory.page)))
     homed_more = record {
       covered = torn_covered start now homed.covered upto place below there torn_now;
       homed = λ line at up within found. elim (cases_eq line upto) [
         | inl same ↦
             let both : Some at ≡ Some place = sym found ∙ ap (λ (n : ℕ). newest_place n records) same ∙ there in
             let place_is : place ≡ at = cc in
-            ap (home_line header now) same ∙ here ∙ front_bytes held start (home_at header 0) place homed.covered.front (placed upto place there) ∙ ap (λ (n : ℕ). bytes_at held n (line_bytes Two)) place_is
+            ap (home_line header now) same ∙ here ∙ front_bytes header.directory.page held start (home_at header 0) place homed.covered.front (placed upto place there) ∙ ap (λ (n : ℕ). bytes_at held n (line_bytes header.directory.page)) place_is
         | inr other ↦ other_home start now homed.covered upto place below there torn_now line other within ∙ homed.homed line at (earlier line up other) within found
       ];
     }
@@ -125,43 +126,46 @@ module _ (header : Header) (which : Which) (base gate : ℕ) (records : List (Li
     pub covered_store : IsStore image header which base gate records
     covered_store = store_front header which base gate records held is image (home_at header 0) big covered.front (area_within header which).0 covered.long
 
-    line_same : (line : ℕ) (place : Option ℕ) → line < bound → newest_place line records ≡ place → newest_bytes image (home_of image header) line place ≡ newest_bytes held (home_of held header) line place
+    line_same : (line : ℕ) (place : Option ℕ) → line < bound → newest_place line records ≡ place → newest_bytes header.directory.page image (home_of image header) line place ≡ newest_bytes header.directory.page held (home_of held header) line place
     line_same line None below none = home_is header image line ∙ covered.others line below none ∙ sym (home_is header held line)
-    line_same line (Some place) below there = front_bytes held image (home_at header 0) place covered.front (placed line place there)
+    line_same line (Some place) below there = front_bytes header.directory.page held image (home_at header 0) place covered.front (placed line place there)
 
     -- the store is the same
-    pub covered_bytes : fold laid (home_of image header) records ≡ fold laid (home_of held header) records
+    pub covered_bytes : fold (laid header.directory.page) (home_of image header) records ≡ fold (laid header.directory.page) (home_of held header) records
     covered_bytes =
         let first = store_agrees image header which base gate records covered_store in
         let second = store_agrees held header which base gate records is in
-        same_lines bound (fold laid (home_of image header) records) (fold laid (home_of held header) records) first.long second.long
+        same_lines header.directory.page bound (fold (laid header.directory.page) (home_of image header) records) (fold (laid header.directory.page) (home_of held header) records) first.long second.long
         (λ line below. first.each line below ∙ line_same line (newest_place line records) below refl ∙ sym (second.each line below))
 
   -- with all lines at home the home lines are the store
-  pub homed_bytes : (image : List ℕ) → IsHomed header records held bound image → home_of image header ≡ fold laid (home_of held header) records
+  pub homed_bytes : (image : List ℕ) → IsHomed header records held bound image → home_of image header ≡ fold (laid header.directory.page) (home_of held header) records
   homed_bytes image homed =
       let agrees = store_agrees held header which base gate records is in
-      same_lines bound (home_of image header) (fold laid (home_of held header) records) (omega (arith, length-drop (home_at header 0) image, homed.covered.long, is.whole)) agrees.long
+      same_lines header.directory.page bound (home_of image header) (fold (laid header.directory.page) (home_of held header) records) (omega (arith, length-drop (home_at header 0) image, homed.covered.long, is.whole)) agrees.long
       (λ line below. line_home line (newest_place line records) below refl ∙ sym (agrees.each line below))
     where
-      line_home : (line : ℕ) (place : Option ℕ) → line < bound → newest_place line records ≡ place → bytes_of_line line (home_of image header) ≡ newest_bytes held (home_of held header) line place
+      line_home : (line : ℕ) (place : Option ℕ) → line < bound → newest_place line records ≡ place → bytes_of_line header.directory.page line (home_of image header) ≡ newest_bytes header.directory.page held (home_of held header) line place
       line_home line None below none = home_is header image line ∙ homed.covered.others line below none ∙ sym (home_is header held line)
       line_home line (Some place) below there = home_is header image line ∙ homed.homed line place below below there
 
   -- a line after its bytes were copied, where there are any
-  module _ (bank : KeptBank) (line : ℕ) (same : header.bank_bytes ≡ bank.bank_bytes) (below : line < bound) where
+  module _ (bank : KeptBank) (line : ℕ) (sized : header.directory.page ≡ bank.page) (same : header.bank_bytes ≡ bank.bank_bytes) (below : line < bound) where
     home_same : home_place bank line ≡ home_at header line
-    home_same = omega (arith, same)
+    home_same = omega (arith, same, ap (λ (page : PageSize). line_bytes page * line) sized)
 
-    pub step_covered : (place : Option ℕ) → newest_place line records ≡ place → (start image : List ℕ) → IsCovered header records held start → TornLine (line_bytes Two) place (home_place bank line) start image → IsCovered header records held image
+    width : line_bytes_of bank ≡ line_bytes header.directory.page
+    width = ap line_bytes (sym sized)
+
+    pub step_covered : (place : Option ℕ) → newest_place line records ≡ place → (start image : List ℕ) → IsCovered header records held start → TornLine (line_bytes_of bank) place (home_place bank line) start image → IsCovered header records held image
     step_covered None there start image covered torn = subst (λ (those : List ℕ). IsCovered header records held those) (sym torn) covered
     step_covered (Some place) there start image covered torn =
-        torn_covered start image covered line place below there (subst (λ (n : ℕ). Torn n (line_bytes Two) start image) home_same torn)
+        torn_covered start image covered line place below there (subst (λ (n : ℕ). Torn n (line_bytes header.directory.page) start image) home_same (subst (λ (n : ℕ). Torn (home_place bank line) n start image) width torn))
 
-    pub step_homed : (place : Option ℕ) → newest_place line records ≡ place → (start image : List ℕ) → IsHomed header records held line start → image ≡ copied (line_bytes Two) start place (home_place bank line) → IsHomed header records held (line + 1) image
+    pub step_homed : (place : Option ℕ) → newest_place line records ≡ place → (start image : List ℕ) → IsHomed header records held line start → image ≡ copied (line_bytes_of bank) start place (home_place bank line) → IsHomed header records held (line + 1) image
     step_homed None there start image homed is_copied = homed_none line image (subst (λ (those : List ℕ). IsHomed header records held line those) (sym is_copied) homed) there
     step_homed (Some place) there start image homed is_copied =
-        subst (λ (those : List ℕ). IsHomed header records held (line + 1) those) (sym (is_copied ∙ ap (λ (n : ℕ). written start n (bytes_at start place (line_bytes Two))) home_same)) (homed_more line place start homed below there)
+        subst (λ (those : List ℕ). IsHomed header records held (line + 1) those) (sym (is_copied ∙ ap (λ (n : ℕ). written start (home_place bank line) (bytes_at start place n)) width ∙ ap (λ (n : ℕ). written start n (bytes_at start place (line_bytes header.directory.page))) home_same)) (homed_more line place start homed below there)
 
   pub homed_start : IsHomed header records held 0 held
   homed_start = record { covered = covered_self; homed = λ line place up below there. absurd (omega (arith, up)) }

@@ -104,7 +104,7 @@ module _ (header : Header) (bank : KeptBank) (records : List (List RecordLine)) 
   big = store_big header bank.which bank.base bank.gate records held is
 
   -- by the old bank
-  same_by : (image : List ℕ) → IsStore image header bank.which bank.base bank.gate records → fold laid (home_of image header) records ≡ fold laid (home_of held header) records → IsSame header bank records held image
+  same_by : (image : List ℕ) → IsStore image header bank.which bank.base bank.gate records → fold (laid header.directory.page) (home_of image header) records ≡ fold (laid header.directory.page) (home_of held header) records → IsSame header bank records held image
   same_by image store bytes = record {
     stood = stands_alike header image held bank.which bank.which bank.base bank.base bank.gate bank.gate records records store is refl bytes;
     one_of = inl (record { gate = bank.gate; store = store });
@@ -119,14 +119,14 @@ module _ (header : Header) (bank : KeptBank) (records : List (List RecordLine)) 
   pub headed_same : (start image : List ℕ) → IsCovered header records held start → Torn (bank_at header away) 9 start image → IsSame header bank records held image
   headed_same start image covered torn =
       let alike = head_alike header bank.which bank.base bank.gate records start image big (covered_store header bank.which bank.base bank.gate records held is big start covered) torn in
-      same_by image alike.store (ap (λ (home : List ℕ). fold laid home records) alike.home ∙ covered_bytes header bank.which bank.base bank.gate records held is big start covered)
+      same_by image alike.store (ap (λ (home : List ℕ). fold (laid header.directory.page) home records) alike.home ∙ covered_bytes header bank.which bank.base bank.gate records held is big start covered)
 
   -- all lines are home, and the other bank begins with its head
   pub record IsHeaded (image : List ℕ) : Type 0 where
     pub store : IsStore image header bank.which bank.base bank.gate records
     pub empty : IsEmpty header away number image
-    pub same : fold laid (home_of image header) records ≡ fold laid (home_of held header) records
-    pub bytes : home_of image header ≡ fold laid (home_of held header) records
+    pub same : fold (laid header.directory.page) (home_of image header) records ≡ fold (laid header.directory.page) (home_of held header) records
+    pub bytes : home_of image header ≡ fold (laid header.directory.page) (home_of held header) records
 
   pub headed : (start : List ℕ) → IsHomed header records held (line_count header.directory) start → IsHeaded (written start (bank_at header away) (head_bytes number))
   headed start homed =
@@ -138,7 +138,7 @@ module _ (header : Header) (bank : KeptBank) (records : List (List RecordLine)) 
       record {
         store = alike.store;
         empty = head_empty header away number start within (omega arith);
-        same = ap (λ (home : List ℕ). fold laid home records) alike.home ∙ covered_bytes header bank.which bank.base bank.gate records held is big start homed.covered;
+        same = ap (λ (home : List ℕ). fold (laid header.directory.page) home records) alike.home ∙ covered_bytes header bank.which bank.base bank.gate records held is big start homed.covered;
         bytes = alike.home ∙ homed_bytes header bank.which bank.base bank.gate records held is big start homed;
       }
 
@@ -154,7 +154,7 @@ module _ (header : Header) (bank : KeptBank) (records : List (List RecordLine)) 
     selected_same image torn = elim (one_of_two bank.which (chosen image)) [
       | inl stayed ↦
           same_by image (stays header bank.which bank.base bank.gate records old ready.store number ready.empty image torn stayed)
-          (ap (λ (home : List ℕ). fold laid home records) (home header bank.which bank.base bank.gate records old ready.store number ready.empty image torn) ∙ ready.same)
+          (ap (λ (home : List ℕ). fold (laid header.directory.page) home records) (home header bank.which bank.base bank.gate records old ready.store number ready.empty image torn) ∙ ready.same)
       | inr went ↦
           let store = turns header bank.which bank.base bank.gate records old ready.store number ready.empty image torn went in
           record {

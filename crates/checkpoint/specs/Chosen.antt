@@ -52,7 +52,7 @@ pub record IsIntact (held : List ℕ) (bank : KeptBank) : Type 0 where
 
 -- a disk's fault is counted; damage is a fault of the chosen bank in the bytes that are told
 abbrev pub IsReopenFault : {W : Type 0} → Ghosts W → W → W → KeptBank → ReopenFault → Type 0
-IsReopenFault G old new bank (reopening.Damaged offset) = IsSome (G.held old) → bank_in (held_of G old) (chosen (held_of G old)) bank.bank_bytes (length bank.newest) ≡ Faulty offset
+IsReopenFault G old new bank (reopening.Damaged offset) = IsSome (G.held old) → bank_in (held_of G old) bank.page (chosen (held_of G old)) bank.bank_bytes (length bank.newest) ≡ Faulty offset
 IsReopenFault G old new bank reopening.DiskFault = Rose (G.disk_faults old) (G.disk_faults new)
 
 -- the same for banks that are opened: they are no other store's, and memory is free

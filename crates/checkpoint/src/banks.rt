@@ -121,6 +121,14 @@ impl Banks {
         self.bank.holds_some(first, count)
     }
 
+    /// The bytes of a line of the store.
+    #[inline(always)]
+    pub fn line_bytes(&self) -> usize
+        ensures { result ≡ line_bytes_of self.now }
+    {
+        self.line.len()
+    }
+
     /// Begins a record, in place of any other that was begun.
     pub fn record_start(&mut self)
         ensures { self.new ≡ record self.old { begun = Some [] } }

@@ -12,7 +12,7 @@ ghost use Rattle.checkpoint.specs.Home.{home_place, store_bytes, copied, TornLin
 
 use outside::{Failed, Outside};
 use redo_journal::{Bank, write_once};
-use store_format::LINE_BYTES;
+use store_format::lines_bytes;
 
 /// Writes the newest bytes of each line that the bank holds to the line's home, ascending. It takes one read and one
 /// write for each of them, through a buffer of one line, and no call for any other line.
@@ -55,7 +55,7 @@ fn copy_newest<W: Outside>(
 fn home_place(bank: &Bank, line: u32) -> u64
     ensures { result ≡ home_place bank.now line }
 {
-    272 + 2 * u64::from(bank.bank_bytes()) + LINE_BYTES as u64 * u64::from(line)
+    272 + 2 * u64::from(bank.bank_bytes()) + lines_bytes(bank.page(), line)
 }
 
 /// Writes as many bytes as a buffer has from one place of the disk to another.

@@ -10,7 +10,7 @@ use Rattle.store_format.specs.Stands.{Stands, NotAStore, Damaged, stands, chosen
 
 -- the header of the store: segment 1 with four pages, segment 2 with two, and a bank of 65,536 bytes
 abbrev pub try_layout : Header
-try_layout = record { directory = record { page = Two; segments = (1, 4) ∷ (2, 2) ∷ [] }; bank_bytes = 65536 }
+try_layout = record { directory = record { page = Two; segments = (1, 4) ∷ (2, 2) ∷ []; fine = 0 }; bank_bytes = 65536 }
 
 -- the bytes stand for a number and a store
 abbrev pub IsStanding : List ℕ → Type 0

@@ -25,7 +25,7 @@ program =
     }
 
 abbrev pub directory : Layout
-directory = record { page = Two; segments = (4, 1) ∷ (5, 1) ∷ [] }
+directory = record { page = Two; segments = (4, 1) ∷ (5, 1) ∷ []; fine = 0 }
 
 -- 64 in register 0, 1 in register 1, and two values in registers 2 and 3
 abbrev pub holding : ℕ → ℕ → List ℕ

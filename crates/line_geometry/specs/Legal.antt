@@ -1,8 +1,10 @@
 -- Which lists of segments a directory has.
-use Rattle.std.specs.Prelude.{ℕ, ◌+◌, ◌≤◌, nat_lt, nat_le, ◌==◌, ◌||◌, if◌then◌else◌, Bool, List, [], ◌∷◌, length, map, sum_by, All, Option, Some, None}
+use Rattle.std.specs.Prelude.{ℕ, ◌+◌, ◌≤◌, ◌<◌, ◌^◌, nat_lt, nat_le, ◌==◌, ◌||◌, if◌then◌else◌, Bool, List, [], ◌∷◌, length, map, sum_by, All, Option, Some, None}
 use Rattle.std.specs.List.Sorted.{IsStrictlyIncreasing}
 use Rattle.line_geometry.specs.declared.directory.DirectoryFault.{DirectoryFault}
-use Rattle.line_geometry.specs.declared.directory.DirectoryFault.TheVariants.{Order, Range, TooMany}
+use Rattle.line_geometry.specs.declared.directory.DirectoryFault.TheVariants.{Order, Range, TooMany, Flag}
+use Rattle.line_geometry.specs.declared.directory.PageSize.{PageSize}
+use Rattle.line_geometry.specs.declared.directory.PageSize.TheVariants.{Two, Four}
 
 -- whether a number isn't one of those from a least to a greatest
 abbrev pub is_outside : ℕ → ℕ → ℕ → Bool
@@ -39,3 +41,20 @@ pub record IsLegal (segments : List (ℕ × ℕ)) : Type 0 where
   pub in_range : All IsInRange segments
   pub ascending : IsStrictlyIncreasing (map (λ segment. segment.0) segments)
   pub pages : sum_by (λ segment. segment.1) segments ≤ 1024
+
+-- how many flags so many segments have: one each, and none with pages of 2,048 bytes
+abbrev pub flag_count : PageSize → ℕ → ℕ
+flag_count Two count = 0
+flag_count Four count = count
+
+-- flags have no other bit
+abbrev pub AreFlags : PageSize → List (ℕ × ℕ) → ℕ → Type 0
+AreFlags page segments fine = fine < 2 ^ flag_count page (length segments)
+
+-- the first fault with these flags: that of the segments, and then that of the flags
+abbrev pub flagged_fault : PageSize → List (ℕ × ℕ) → ℕ → Option DirectoryFault → Option DirectoryFault
+flagged_fault page segments fine (Some fault) = Some fault
+flagged_fault page segments fine None = if nat_lt fine (2 ^ flag_count page (length segments)) then None else Some Flag
+
+abbrev pub fault_with : PageSize → List (ℕ × ℕ) → ℕ → Option DirectoryFault
+fault_with page segments fine = flagged_fault page segments fine (fault_of segments)

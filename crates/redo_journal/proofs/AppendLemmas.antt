@@ -4,7 +4,7 @@ use Rattle.std.specs.Prelude.{Option, None, Some, unwrap_or, IsSome, ◌==◌}
 use Rattle.std.specs.Option.{option_map}
 use Rattle.std.proofs.lemmas.List.{drop-drop, take_all, take-set-le, drop-set-lt, length-set, get_or-set_same, length-take-le}
 use Rattle.line_geometry.specs.Lines.{line_count}
-use Rattle.line_geometry.specs.declared.directory.PageSize.TheVariants.{Two}
+use Rattle.line_geometry.specs.declared.directory.PageSize.{PageSize}
 use Rattle.store_format.specs.declared.header.Which.{Which}
 use Rattle.store_format.specs.declared.header.Which.TheVariants.{A, B}
 use Rattle.store_format.specs.Header.{Header, number_at, home_at, bank_at, entry_bytes}
@@ -27,7 +27,7 @@ use Rattle.redo_journal.specs.Tracks.{Tracks, IsEither, HoldsOneOf}
 pub record Ready (held : List ℕ) (header : Header) (which : Which) (base gate : ℕ) (records : List (List RecordLine)) (count : ℕ) (lines : List RecordLine) (body : List ℕ) : Type 0 where
   pub store : IsStore held header which base gate records
   pub big : 0 < header.bank_bytes
-  pub good : IsBody (line_count header.directory) ((base + length records + 1) % 2 ^ 64) gate count lines body
+  pub good : IsBody header.directory.page (line_count header.directory) ((base + length records + 1) % 2 ^ 64) gate count lines body
   pub fits : gate + length body < (area_of header which).end
 
 end_is : (header : Header) (which : Which) (bytes : ℕ) → header.bank_bytes ≡ bytes → (area_of header which).end ≡ end_of which bytes
@@ -40,37 +40,39 @@ place_is header A bytes same = refl
 place_is header B bytes same = omega (arith, same)
 
 -- the body that was filled in is one
-body_of : (bound due gate count : ℕ) (old new : List ℕ) → 11 + entry_bytes Two * count ≤ length old → length new ≡ length old → number_at new 0 2 ≡ count → number_at new 2 8 ≡ due
-    → take (entry_bytes Two * count) (drop 10 new) ≡ take (entry_bytes Two * count) (drop 10 old) → slice_index new (10 + entry_bytes Two * count) ≡ 0
-    → wrong_line bound 0 (lines_from count (gate + 11) (drop 10 old)) ≡ None
-    → IsBody bound due gate count (lines_from count (gate + 11) (drop 10 old)) (take (11 + entry_bytes Two * count) new)
-body_of bound due gate count old new room long counted numbered lines closed ordered =
-    let front : take (11 + entry_bytes Two * count) (take (11 + entry_bytes Two * count) new) ≡ take (11 + entry_bytes Two * count) new = take_all (11 + entry_bytes Two * count) (take (11 + entry_bytes Two * count) new) (omega (arith, length-take-le (11 + entry_bytes Two * count) new (omega (arith, long, room)))) in
+body_of : (page : PageSize) (bound due gate count : ℕ) (old new : List ℕ) → 11 + entry_bytes page * count ≤ length old → length new ≡ length old → number_at new 0 2 ≡ count → number_at new 2 8 ≡ due
+    → take (entry_bytes page * count) (drop 10 new) ≡ take (entry_bytes page * count) (drop 10 old) → slice_index new (10 + entry_bytes page * count) ≡ 0
+    → wrong_line bound 0 (lines_from page count (gate + 11) (drop 10 old)) ≡ None
+    → IsBody page bound due gate count (lines_from page count (gate + 11) (drop 10 old)) (take (11 + entry_bytes page * count) new)
+body_of page bound due gate count old new room long counted numbered lines closed ordered =
+    let front : take (11 + entry_bytes page * count) (take (11 + entry_bytes page * count) new) ≡ take (11 + entry_bytes page * count) new = take_all (11 + entry_bytes page * count) (take (11 + entry_bytes page * count) new) (omega (arith, length-take-le (11 + entry_bytes page * count) new (omega (arith, long, room)))) in
     record {
-      bytes = length-take-le (11 + entry_bytes Two * count) new (omega (arith, long, room));
-      counted = same_number_at 0 2 (11 + entry_bytes Two * count) (take (11 + entry_bytes Two * count) new) new front (omega arith) ∙ counted;
-      numbered = same_number_at 2 8 (11 + entry_bytes Two * count) (take (11 + entry_bytes Two * count) new) new front (omega arith) ∙ numbered;
+      bytes = length-take-le (11 + entry_bytes page * count) new (omega (arith, long, room));
+      counted = same_number_at 0 2 (11 + entry_bytes page * count) (take (11 + entry_bytes page * count) new) new front (omega arith) ∙ counted;
+      numbered = same_number_at 2 8 (11 + entry_bytes page * count) (take (11 + entry_bytes page * count) new) new front (omega arith) ∙ numbered;
       lined =
-          same_lines count (gate + 11) (entry_bytes Two * count) (drop 10 (take (11 + entry_bytes Two * count) new)) (drop 10 new) (later_front 10 (entry_bytes Two * count) (take (11 + entry_bytes Two * count) new) new (shorter_front (10 + entry_bytes Two * count) (11 + entry_bytes Two * count) (take (11 + entry_bytes Two * count) new) new front (omega arith))) (omega arith)
-          ∙ same_lines count (gate + 11) (entry_bytes Two * count) (drop 10 new) (drop 10 old) lines (omega arith);
+          same_lines page count (gate + 11) (entry_bytes page * count) (drop 10 (take (11 + entry_bytes page * count) new)) (drop 10 new) (later_front 10 (entry_bytes page * count) (take (11 + entry_bytes page * count) new) new (shorter_front (10 + entry_bytes page * count) (11 + entry_bytes page * count) (take (11 + entry_bytes page * count) new) new front (omega arith))) (omega arith)
+          ∙ same_lines page count (gate + 11) (entry_bytes page * count) (drop 10 new) (drop 10 old) lines (omega arith);
       sound = ordered;
-      closed = same_byte (10 + entry_bytes Two * count) (11 + entry_bytes Two * count) (take (11 + entry_bytes Two * count) new) new front (omega arith) ∙ closed;
+      closed = same_byte (10 + entry_bytes page * count) (11 + entry_bytes page * count) (take (11 + entry_bytes page * count) new) new front (omega arith) ∙ closed;
     }
 
 pub make_ready : {W : Type 0} (G : Ghosts W) (bank : Inside) (outside : W) (tracks : Tracks G (kept_of bank) outside) → IsWhole bank
-    → (filled body : List ℕ) (due : ℕ) → body ≡ take (record_bytes (begun_count bank)) filled → length filled ≡ length bank.body → number_at filled 0 2 ≡ (begun_count bank) → number_at filled 2 8 ≡ due
-    → take (entry_bytes Two * begun_count bank) (drop 10 filled) ≡ take (entry_bytes Two * begun_count bank) (drop 10 bank.body) → slice_index filled (10 + entry_bytes Two * begun_count bank) ≡ 0
-    → due ≡ ((bank.base + bank.count) % 2 ^ 64 + 1) % 2 ^ 64 → bank.gate + record_bytes (begun_count bank) + 1 ≤ end_of bank.which bank.bank_bytes
+    → (filled body : List ℕ) (due : ℕ) → body ≡ take (record_bytes bank.page (begun_count bank)) filled → length filled ≡ length bank.body → number_at filled 0 2 ≡ (begun_count bank) → number_at filled 2 8 ≡ due
+    → take (entry_bytes bank.page * begun_count bank) (drop 10 filled) ≡ take (entry_bytes bank.page * begun_count bank) (drop 10 bank.body) → slice_index filled (10 + entry_bytes bank.page * begun_count bank) ≡ 0
+    → due ≡ ((bank.base + bank.count) % 2 ^ 64 + 1) % 2 ^ 64 → bank.gate + record_bytes bank.page (begun_count bank) + 1 ≤ end_of bank.which bank.bank_bytes
     → Ready (held_of G outside) tracks.header bank.which bank.base bank.gate tracks.records (begun_count bank) (begun_lines bank) body
 make_ready G bank outside tracks whole filled body due is long counted numbered lines closed due_is fits =
     let due_of : due ≡ (bank.base + length tracks.records + 1) % 2 ^ 64 = omega (arith, due_is, tracks.count) in
     let bound : wrong_line (line_count tracks.header.directory) 0 (begun_lines bank) ≡ None = ap (λ (n : ℕ). wrong_line n 0 (begun_lines bank)) tracks.bound ∙ whole.ordered in
-    let good = body_of (line_count tracks.header.directory) ((bank.base + length tracks.records + 1) % 2 ^ 64) bank.gate (begun_count bank) bank.body filled (omega (arith, whole.buffer, whole.fits)) long counted (numbered ∙ due_of) lines closed bound in
+    let filled_in = body_of bank.page (line_count tracks.header.directory) ((bank.base + length tracks.records + 1) % 2 ^ 64) bank.gate (begun_count bank) bank.body filled (omega (arith, whole.buffer, whole.fits)) long counted (numbered ∙ due_of) lines closed bound in
+    let good : IsBody tracks.header.directory.page (line_count tracks.header.directory) ((bank.base + length tracks.records + 1) % 2 ^ 64) bank.gate (begun_count bank) (begun_lines bank) (take (record_bytes bank.page (begun_count bank)) filled) =
+    subst (λ (page : PageSize). IsBody page (line_count tracks.header.directory) ((bank.base + length tracks.records + 1) % 2 ^ 64) bank.gate (begun_count bank) (begun_lines bank) (take (record_bytes bank.page (begun_count bank)) filled)) (sym tracks.page) filled_in in
     subst (λ (these : List ℕ). Ready (held_of G outside) tracks.header bank.which bank.base bank.gate tracks.records (begun_count bank) (begun_lines bank) these) (sym is) (record {
       store = tracks.store;
       big = omega (arith, tracks.bank_bytes, whole.some_bytes);
       good = good;
-      fits = omega (arith, good.bytes, fits, end_is tracks.header bank.which bank.bank_bytes tracks.bank_bytes);
+      fits = omega (arith, filled_in.bytes, fits, end_is tracks.header bank.which bank.bank_bytes tracks.bank_bytes);
     })
 
 module _ (held : List ℕ) (header : Header) (which : Which) (base gate : ℕ) (records : List (List RecordLine)) (count : ℕ) (lines : List RecordLine) (body : List ℕ) (ready : Ready held header which base gate records count lines body) where
@@ -135,15 +137,15 @@ module _ (held : List ℕ) (header : Header) (which : Which) (base gate : ℕ) (
       (ap (λ (n : ℕ). n == 0xA5) (get_or-set_same image gate 0xA5 0 within))
 
 -- the lines that were filled in around are those that were begun
-pub filled_lines : (bank : Inside) (filled those : List ℕ) → take (entry_bytes Two * begun_count bank) (drop 10 filled) ≡ take (entry_bytes Two * begun_count bank) (drop 10 bank.body) → those ≡ filled
-    → lines_from (begun_count bank) (bank.gate + 11) (drop 10 those) ≡ begun_lines bank
+pub filled_lines : (bank : Inside) (filled those : List ℕ) → take (entry_bytes bank.page * begun_count bank) (drop 10 filled) ≡ take (entry_bytes bank.page * begun_count bank) (drop 10 bank.body) → those ≡ filled
+    → lines_from bank.page (begun_count bank) (bank.gate + 11) (drop 10 those) ≡ begun_lines bank
 filled_lines bank filled those lines is =
-    ap (λ (these : List ℕ). lines_from (begun_count bank) (bank.gate + 11) (drop 10 these)) is
-    ∙ same_lines (begun_count bank) (bank.gate + 11) (entry_bytes Two * begun_count bank) (drop 10 filled) (drop 10 bank.body) lines (omega arith)
+    ap (λ (these : List ℕ). lines_from bank.page (begun_count bank) (bank.gate + 11) (drop 10 these)) is
+    ∙ same_lines bank.page (begun_count bank) (bank.gate + 11) (entry_bytes bank.page * begun_count bank) (drop 10 filled) (drop 10 bank.body) lines (omega arith)
 
-pub length-lines_from : (count at : ℕ) (bytes : List ℕ) → length (lines_from count at bytes) ≡ count
-length-lines_from zero at bytes = refl
-length-lines_from (suc count) at bytes = omega (arith, length-lines_from count (at + entry_bytes Two) (drop (entry_bytes Two) bytes))
+pub length-lines_from : (page : PageSize) (count at : ℕ) (bytes : List ℕ) → length (lines_from page count at bytes) ≡ count
+length-lines_from page zero at bytes = refl
+length-lines_from page (suc count) at bytes = omega (arith, length-lines_from page count (at + entry_bytes page) (drop (entry_bytes page) bytes))
 
 -- the lines that are begun are those of the buffer
 begun_by : (begun : Option ℕ) (bank : Inside) → unwrap_or (option_map (buffered bank) begun) [] ≡ buffered bank (unwrap_or begun 0)
@@ -154,7 +156,7 @@ pub begun_is : (bank : Inside) (kept : KeptBank) → kept_of bank ≡ kept → b
 begun_is bank kept is = sym (begun_by bank.begun bank) ∙ ap begun_of is
 
 pub length-begun : (bank : Inside) (kept : KeptBank) → kept_of bank ≡ kept → length (begun_of kept) ≡ (begun_count bank)
-length-begun bank kept is = ap length (sym (begun_is bank kept is)) ∙ length-lines_from (begun_count bank) (bank.gate + 11) (drop 10 bank.body)
+length-begun bank kept is = ap length (sym (begun_is bank kept is)) ∙ length-lines_from bank.page (begun_count bank) (bank.gate + 11) (drop 10 bank.body)
 
 -- a record that is begun is in the fields
 some_by : (begun : Option ℕ) (bank : Inside) → IsSome (option_map (buffered bank) begun) → IsSome begun
@@ -170,12 +172,12 @@ unwrapped begun count is = ap (λ (those : Option ℕ). unwrap_or those 0) is
 -- what the fields say of room is what the kept bank says
 pub record SaysRoom (bank : Inside) (kept : KeptBank) : Type 0 where
   pub end : area_end kept ≡ end_of bank.which bank.bank_bytes
-  pub need : needed_end kept ≡ bank.gate + record_bytes (begun_count bank) + 1
+  pub need : needed_end kept ≡ bank.gate + record_bytes bank.page (begun_count bank) + 1
 
 pub says_room : (bank : Inside) (kept : KeptBank) → kept_of bank ≡ kept → SaysRoom bank kept
 says_room bank kept is = record {
   end = ap area_end (sym is);
-  need = let gate : kept.gate ≡ bank.gate = ap (λ (those : KeptBank). those.gate) (sym is) in omega (arith, gate, length-begun bank kept is);
+  need = ap needed_end (sym is) ∙ ap (λ (n : ℕ). bank.gate + record_bytes bank.page n + 1) (length-begun bank (kept_of bank) refl);
 }
 
 -- the fields are tracked as the bank is
@@ -193,13 +195,13 @@ fields_tracked G bank kept outside is tracks = record {
 }
 
 -- the bank with its begun record is what the fields say then
-pub with_record_is : (bank : Inside) (kept : KeptBank) (gate : ℕ) (newest : List (Option ℕ)) → kept_of bank ≡ kept → gate ≡ bank.gate + record_bytes (begun_count bank) → newest ≡ noted bank.newest (begun_lines bank)
+pub with_record_is : (bank : Inside) (kept : KeptBank) (gate : ℕ) (newest : List (Option ℕ)) → kept_of bank ≡ kept → gate ≡ bank.gate + record_bytes bank.page (begun_count bank) → newest ≡ noted bank.newest (begun_lines bank)
     → record (kept_of bank) { count = bank.count + 1; gate = gate; newest = newest; begun = None } ≡ with_record kept
 with_record_is bank kept gate newest is gate_is newest_is =
     let lines = begun_is bank (kept_of bank) refl in
-    let place : gate ≡ bank.gate + record_bytes (length (begun_of (kept_of bank))) = omega (arith, gate_is, length-begun bank (kept_of bank) refl) in
+    let place : gate ≡ bank.gate + record_bytes bank.page (length (begun_of (kept_of bank))) = gate_is ∙ ap (λ (n : ℕ). bank.gate + record_bytes bank.page n) (sym (length-begun bank (kept_of bank) refl)) in
     ap (λ (n : ℕ). record (kept_of bank) { count = bank.count + 1; gate = n; newest = newest; begun = None }) place
-    ∙ ap (λ (these : List (Option ℕ)). record (kept_of bank) { count = bank.count + 1; gate = bank.gate + record_bytes (length (begun_of (kept_of bank))); newest = these; begun = None }) (newest_is ∙ ap (noted bank.newest) lines)
+    ∙ ap (λ (these : List (Option ℕ)). record (kept_of bank) { count = bank.count + 1; gate = bank.gate + record_bytes bank.page (length (begun_of (kept_of bank))); newest = these; begun = None }) (newest_is ∙ ap (noted bank.newest) lines)
     ∙ ap with_record is
 
 -- a bank that is tracked, and a body that adds its begun record

@@ -4,17 +4,17 @@ use Rattle.std.proofs.lemmas.List.{drop_at, length-drop}
 use Rattle.byteorder.specs.Endian.{big_bytes, big_number}
 use Rattle.byteorder.specs.Numbers.{big_number-reads_back}
 use Rattle.owned_list.specs.Overlay.{overlaid}
-use Rattle.line_geometry.specs.declared.directory.PageSize.TheVariants.{Two}
+use Rattle.line_geometry.specs.declared.directory.PageSize.{PageSize}
 use Rattle.redo_journal.proofs.Overlaid.{take-overlaid}
 use Rattle.store_format.specs.Header.{number_at, entry_bytes}
 use Rattle.store_format.proofs.Fronts.{same_number_at, later_front}
 
-module _ (body head : List ℕ) (count : ℕ) (room : 11 + entry_bytes Two * count ≤ length body) (ten : length head ≡ 10) where
+module _ (page : PageSize) (body head : List ℕ) (count : ℕ) (room : 11 + entry_bytes page * count ≤ length body) (ten : length head ≡ 10) where
   headed : List ℕ
   headed = overlaid body 0 head
 
   filled : List ℕ
-  filled = overlaid headed (10 + entry_bytes Two * count) (0 ∷ [])
+  filled = overlaid headed (10 + entry_bytes page * count) (0 ∷ [])
 
   drop-headed : drop 10 headed ≡ drop 10 body
   unfolding headed
@@ -24,15 +24,15 @@ module _ (body head : List ℕ) (count : ℕ) (room : 11 + entry_bytes Two * cou
   unfolding headed
   length-headed = omega (arith, length-append head (drop (0 + length head) body), length-drop (0 + length head) body)
 
-  front : take (10 + entry_bytes Two * count) filled ≡ take (10 + entry_bytes Two * count) headed
+  front : take (10 + entry_bytes page * count) filled ≡ take (10 + entry_bytes page * count) headed
   unfolding filled
-  front = take-overlaid headed (10 + entry_bytes Two * count) (0 ∷ []) (omega (arith, length-headed))
+  front = take-overlaid headed (10 + entry_bytes page * count) (0 ∷ []) (omega (arith, length-headed))
 
-  pub lines_stay : take (entry_bytes Two * count) (drop 10 (overlaid (overlaid body 0 head) (10 + entry_bytes Two * count) (0 ∷ []))) ≡ take (entry_bytes Two * count) (drop 10 body)
+  pub lines_stay : take (entry_bytes page * count) (drop 10 (overlaid (overlaid body 0 head) (10 + entry_bytes page * count) (0 ∷ []))) ≡ take (entry_bytes page * count) (drop 10 body)
   unfolding filled headed
-  lines_stay = later_front 10 (entry_bytes Two * count) filled headed front ∙ ap (λ (these : List ℕ). take (entry_bytes Two * count) these) drop-headed
+  lines_stay = later_front 10 (entry_bytes page * count) filled headed front ∙ ap (λ (these : List ℕ). take (entry_bytes page * count) these) drop-headed
 
-  pub numbered : (two eight : ℕ) → head ≡ big_bytes 2 two ++ big_bytes 8 eight → eight < 2 ^ 64 → number_at (overlaid (overlaid body 0 head) (10 + entry_bytes Two * count) (0 ∷ [])) 2 8 ≡ eight
+  pub numbered : (two eight : ℕ) → head ≡ big_bytes 2 two ++ big_bytes 8 eight → eight < 2 ^ 64 → number_at (overlaid (overlaid body 0 head) (10 + entry_bytes page * count) (0 ∷ [])) 2 8 ≡ eight
   unfolding filled headed
   numbered two eight is fits =
       let rest = drop (0 + length head) body in
@@ -40,6 +40,6 @@ module _ (body head : List ℕ) (count : ℕ) (room : 11 + entry_bytes Two * cou
       ap (λ (these : List ℕ). drop 2 (these ++ rest)) is
       ∙ ap (λ (these : List ℕ). drop 2 these) (append_assoc (big_bytes 2 two) (big_bytes 8 eight) rest)
       ∙ drop_at (big_bytes 2 two) (big_bytes 8 eight ++ rest) 2 refl in
-      same_number_at 2 8 (10 + entry_bytes Two * count) filled headed front (omega arith)
+      same_number_at 2 8 (10 + entry_bytes page * count) filled headed front (omega arith)
       ∙ ap (λ (these : List ℕ). big_number 8 these) shape
       ∙ big_number-reads_back 8 eight rest fits

@@ -7,16 +7,16 @@ use Rattle.byteorder.specs.Endian.{big_bytes, big_number}
 use Rattle.byteorder.specs.Numbers.{big_number-reads_back, big_from-take}
 use Rattle.owned_list.specs.Overlay.{overlaid}
 use Rattle.owned_list.proofs.Overlay.{length-overlaid}
-use Rattle.line_geometry.specs.declared.directory.PageSize.TheVariants.{Two}
+use Rattle.line_geometry.specs.declared.directory.PageSize.{PageSize}
 use Rattle.store_format.specs.Header.{line_bytes, entry_bytes}
 use Rattle.store_format.specs.Bank.{RecordLine, lines_from, record_bytes}
 use Rattle.store_format.proofs.Fronts.{same_lines, later_front, shorter_front}
 use Rattle.store_format.proofs.Lines.{line_at, lines_more, least_after}
 use Rattle.redo_journal.proofs.Overlaid.{take-overlaid, drop-overlaid}
 
-module _ (body piece : List ℕ) (count gate line : ℕ) (whole : length piece ≡ line_bytes Two) (small : line < 2 ^ 32) (room : 10 + entry_bytes Two * count + entry_bytes Two ≤ length body) where
+module _ (page : PageSize) (body piece : List ℕ) (count gate line : ℕ) (whole : length piece ≡ line_bytes page) (small : line < 2 ^ 32) (room : 10 + entry_bytes page * count + entry_bytes page ≤ length body) where
   abbrev at : ℕ
-  at = 10 + entry_bytes Two * count
+  at = 10 + entry_bytes page * count
 
   numbered : List ℕ
   numbered = overlaid body at (big_bytes 4 line)
@@ -42,36 +42,36 @@ module _ (body piece : List ℕ) (count gate line : ℕ) (whole : length piece �
       ∙ ap (λ (these : List ℕ). take 4 these) (drop-overlaid body at (big_bytes 4 line) (omega (arith, room)))
       ∙ take_at (big_bytes 4 line) (drop (at + 4) body) 4 refl
 
-  piece_there : take (line_bytes Two) (drop 4 (drop at written)) ≡ piece
+  piece_there : take (line_bytes page) (drop 4 (drop at written)) ≡ piece
   unfolding numbered written
   piece_there =
-      ap (λ (these : List ℕ). take (line_bytes Two) these) (drop-drop 4 at written ∙ drop-overlaid numbered (at + 4) piece (omega (arith, length-numbered, room)))
-      ∙ take_at piece (drop (at + 4 + length piece) numbered) (line_bytes Two) whole
+      ap (λ (these : List ℕ). take (line_bytes page) these) (drop-drop 4 at written ∙ drop-overlaid numbered (at + 4) piece (omega (arith, length-numbered, room)))
+      ∙ take_at piece (drop (at + 4 + length piece) numbered) (line_bytes page) whole
 
   abbrev added : RecordLine
-  added = record { line = line; at = gate + record_bytes count; bytes = piece }
+  added = record { line = line; at = gate + record_bytes page count; bytes = piece }
 
-  here : line_at (gate + 11 + entry_bytes Two * count) (drop (entry_bytes Two * count) (drop 10 written)) ≡ added
+  here : line_at page (gate + 11 + entry_bytes page * count) (drop (entry_bytes page * count) (drop 10 written)) ≡ added
   here =
-      let from : 10 + entry_bytes Two * count ≡ at = omega arith in
-      let place : gate + 11 + entry_bytes Two * count ≡ gate + record_bytes count = omega arith in
-      let those : drop (entry_bytes Two * count) (drop 10 written) ≡ drop at written = drop-drop (entry_bytes Two * count) 10 written in
+      let from : 10 + entry_bytes page * count ≡ at = omega arith in
+      let place : gate + 11 + entry_bytes page * count ≡ gate + record_bytes page count = omega arith in
+      let those : drop (entry_bytes page * count) (drop 10 written) ≡ drop at written = drop-drop (entry_bytes page * count) 10 written in
       let number : big_number 4 (drop at written) ≡ line =
       sym (big_from-take 0 4 4 (drop at written) (omega arith)) ∙ ap (λ (these : List ℕ). big_number 4 these) number_there ∙ big_number-reads_back 4 line [] small in
-      ap (line_at (gate + 11 + entry_bytes Two * count)) those
-      ∙ ap (λ (n : ℕ). record { line = n; at = gate + 11 + entry_bytes Two * count; bytes = take (line_bytes Two) (drop 4 (drop at written)) }) number
-      ∙ ap (λ (n : ℕ). record { line = line; at = n; bytes = take (line_bytes Two) (drop 4 (drop at written)) }) place
-      ∙ ap (λ (these : List ℕ). record { line = line; at = gate + record_bytes count; bytes = these }) piece_there
+      ap (line_at page (gate + 11 + entry_bytes page * count)) those
+      ∙ ap (λ (n : ℕ). record { line = n; at = gate + 11 + entry_bytes page * count; bytes = take (line_bytes page) (drop 4 (drop at written)) }) number
+      ∙ ap (λ (n : ℕ). record { line = line; at = n; bytes = take (line_bytes page) (drop 4 (drop at written)) }) place
+      ∙ ap (λ (these : List ℕ). record { line = line; at = gate + record_bytes page count; bytes = these }) piece_there
 
-  pub line_added : lines_from (count + 1) (gate + 11) (drop 10 (overlaid (overlaid body (10 + entry_bytes Two * count) (big_bytes 4 line)) (10 + entry_bytes Two * count + 4) piece)) ≡ lines_from count (gate + 11) (drop 10 body) ++ record { line = line; at = gate + record_bytes count; bytes = piece } ∷ []
+  pub line_added : lines_from page (count + 1) (gate + 11) (drop 10 (overlaid (overlaid body (10 + entry_bytes page * count) (big_bytes 4 line)) (10 + entry_bytes page * count + 4) piece)) ≡ lines_from page count (gate + 11) (drop 10 body) ++ record { line = line; at = gate + record_bytes page count; bytes = piece } ∷ []
   unfolding numbered written
   line_added =
       let more : count + 1 ≡ suc count = omega arith in
-      ap (λ (n : ℕ). lines_from n (gate + 11) (drop 10 written)) more
-      ∙ lines_more count (gate + 11) (drop 10 written)
-      ∙ ap (λ (these : List RecordLine). these ++ line_at (gate + 11 + entry_bytes Two * count) (drop (entry_bytes Two * count) (drop 10 written)) ∷ [])
-      (same_lines count (gate + 11) (entry_bytes Two * count) (drop 10 written) (drop 10 body) (later_front 10 (entry_bytes Two * count) written body front) (omega arith))
-      ∙ ap (λ (last : RecordLine). lines_from count (gate + 11) (drop 10 body) ++ last ∷ []) here
+      ap (λ (n : ℕ). lines_from page n (gate + 11) (drop 10 written)) more
+      ∙ lines_more page count (gate + 11) (drop 10 written)
+      ∙ ap (λ (these : List RecordLine). these ++ line_at page (gate + 11 + entry_bytes page * count) (drop (entry_bytes page * count) (drop 10 written)) ∷ [])
+      (same_lines page count (gate + 11) (entry_bytes page * count) (drop 10 written) (drop 10 body) (later_front 10 (entry_bytes page * count) written body front) (omega arith))
+      ∙ ap (λ (last : RecordLine). lines_from page count (gate + 11) (drop 10 body) ++ last ∷ []) here
 
 -- a line above all others comes next
 pub least_low : (least line : ℕ) (lines : List RecordLine) → least ≤ line → All (λ begun. begun.line < line) lines → least_after least lines ≤ line

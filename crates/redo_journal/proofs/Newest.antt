@@ -9,7 +9,7 @@ use Rattle.owned_list.specs.Overlay.{overlaid}
 use Rattle.std.specs.Prelude.{◌%◌, ◌^◌, ◌==◌, slice_index}
 use Rattle.byteorder.specs.Endian.{big_number}
 use Rattle.line_geometry.specs.Lines.{line_count}
-use Rattle.line_geometry.specs.declared.directory.PageSize.TheVariants.{Two}
+use Rattle.line_geometry.specs.declared.directory.PageSize.{PageSize}
 use Rattle.store_format.specs.declared.header.Which.{Which}
 use Rattle.store_format.specs.Header.{Header, home_at, bank_at, number_at, line_bytes, entry_bytes}
 use Rattle.store_format.specs.Bank.{RecordLine, lines_from, wrong_line, lines_of, count_of, Area, Gate, Closed, Wrong, Sound, Holds, gate_at, holds_from, bank_held}
@@ -20,190 +20,195 @@ use Rattle.store_format.proofs.Walk.{sound_is, preceded_is}
 use Rattle.owned_list.proofs.Overlay.{length-overlaid}
 use Rattle.redo_journal.proofs.Overlaid.{take-overlaid, drop-overlaid, behind-overlaid}
 use Rattle.redo_journal.proofs.NoteLemmas.{first_in_order}
+use Rattle.store_format.proofs.Widths.{lines-below}
 use Rattle.redo_journal.specs.Noted.{place_in, newest_place}
 use Rattle.redo_journal.proofs.Places.{or_assoc, or_none, last_of, if_some, AreBelow, AllBelow}
 
 -- the bytes of a line in a list of lines
-abbrev pub bytes_of_line : ℕ → List ℕ → List ℕ
-bytes_of_line k bytes = take (line_bytes Two) (drop (k * line_bytes Two) bytes)
+abbrev pub bytes_of_line : PageSize → ℕ → List ℕ → List ℕ
+bytes_of_line page k bytes = take (line_bytes page) (drop (k * line_bytes page) bytes)
 
-pub same_line : (bytes part : List ℕ) (j : ℕ) → length part ≡ line_bytes Two → j * line_bytes Two + line_bytes Two ≤ length bytes → bytes_of_line j (overlaid bytes (j * line_bytes Two) part) ≡ part
-same_line bytes part j long within =
-    ap (λ (these : List ℕ). take (line_bytes Two) these) (drop-overlaid bytes (j * line_bytes Two) part (omega (arith, long)))
-    ∙ take_at part (drop (j * line_bytes Two + length part) bytes) (line_bytes Two) long
+pub same_line : (page : PageSize) (bytes part : List ℕ) (j : ℕ) → length part ≡ line_bytes page → j * line_bytes page + line_bytes page ≤ length bytes → bytes_of_line page j (overlaid bytes (j * line_bytes page) part) ≡ part
+same_line page bytes part j long within =
+    ap (λ (these : List ℕ). take (line_bytes page) these) (drop-overlaid bytes (j * line_bytes page) part (omega (arith, long)))
+    ∙ take_at part (drop (j * line_bytes page + length part) bytes) (line_bytes page) long
 
-pub other_line : (bytes part : List ℕ) (j k : ℕ) → length part ≡ line_bytes Two → j * line_bytes Two + line_bytes Two ≤ length bytes → (k ≡ j → ⊥) → bytes_of_line k (overlaid bytes (j * line_bytes Two) part) ≡ bytes_of_line k bytes
-other_line bytes part j k long within other = elim (cases_lt k j) [
+pub other_line : (page : PageSize) (bytes part : List ℕ) (j k : ℕ) → length part ≡ line_bytes page → j * line_bytes page + line_bytes page ≤ length bytes → (k ≡ j → ⊥) → bytes_of_line page k (overlaid bytes (j * line_bytes page) part) ≡ bytes_of_line page k bytes
+other_line page bytes part j k long within other = elim (cases_lt k j) [
   | inl before ↦
-      shorter_front (line_bytes Two) (j * line_bytes Two - k * line_bytes Two) (drop (k * line_bytes Two) (overlaid bytes (j * line_bytes Two) part)) (drop (k * line_bytes Two) bytes)
-      (rest_front (k * line_bytes Two) (j * line_bytes Two) (overlaid bytes (j * line_bytes Two) part) bytes (take-overlaid bytes (j * line_bytes Two) part (omega (arith, long))) (omega arith)) (omega arith)
+      shorter_front (line_bytes page) (j * line_bytes page - k * line_bytes page) (drop (k * line_bytes page) (overlaid bytes (j * line_bytes page) part)) (drop (k * line_bytes page) bytes)
+      (rest_front (k * line_bytes page) (j * line_bytes page) (overlaid bytes (j * line_bytes page) part) bytes (take-overlaid bytes (j * line_bytes page) part (omega (arith, long))) (omega (arith, lines-below page k j before))) (omega (arith, lines-below page k j before))
   | inr behind ↦
       let more : k ≡ j → ⊥ = other in
-      let whole : j * line_bytes Two + length part + (k * line_bytes Two - (j * line_bytes Two + line_bytes Two)) ≡ k * line_bytes Two = later k j behind more in
-      ap (λ (n : ℕ). take (line_bytes Two) (drop n (overlaid bytes (j * line_bytes Two) part))) (sym whole)
-      ∙ ap (λ (these : List ℕ). take (line_bytes Two) these) (sym (drop-drop (k * line_bytes Two - (j * line_bytes Two + line_bytes Two)) (j * line_bytes Two + length part) (overlaid bytes (j * line_bytes Two) part)))
-      ∙ ap (λ (these : List ℕ). take (line_bytes Two) (drop (k * line_bytes Two - (j * line_bytes Two + line_bytes Two)) these)) (behind-overlaid bytes (j * line_bytes Two) part (omega (arith, long)))
-      ∙ ap (λ (these : List ℕ). take (line_bytes Two) these) (drop-drop (k * line_bytes Two - (j * line_bytes Two + line_bytes Two)) (j * line_bytes Two + length part) bytes)
-      ∙ ap (λ (n : ℕ). take (line_bytes Two) (drop n bytes)) whole
+      let whole : j * line_bytes page + length part + (k * line_bytes page - (j * line_bytes page + line_bytes page)) ≡ k * line_bytes page = later k j behind more in
+      ap (λ (n : ℕ). take (line_bytes page) (drop n (overlaid bytes (j * line_bytes page) part))) (sym whole)
+      ∙ ap (λ (these : List ℕ). take (line_bytes page) these) (sym (drop-drop (k * line_bytes page - (j * line_bytes page + line_bytes page)) (j * line_bytes page + length part) (overlaid bytes (j * line_bytes page) part)))
+      ∙ ap (λ (these : List ℕ). take (line_bytes page) (drop (k * line_bytes page - (j * line_bytes page + line_bytes page)) these)) (behind-overlaid bytes (j * line_bytes page) part (omega (arith, long)))
+      ∙ ap (λ (these : List ℕ). take (line_bytes page) these) (drop-drop (k * line_bytes page - (j * line_bytes page + line_bytes page)) (j * line_bytes page + length part) bytes)
+      ∙ ap (λ (n : ℕ). take (line_bytes page) (drop n bytes)) whole
 ]
   where
-    later : (k j : ℕ) → j ≤ k → (k ≡ j → ⊥) → j * line_bytes Two + length part + (k * line_bytes Two - (j * line_bytes Two + line_bytes Two)) ≡ k * line_bytes Two
-    later k j le more = omega (arith, long, more)
+    later : (k j : ℕ) → j ≤ k → (k ≡ j → ⊥) → j * line_bytes page + length part + (k * line_bytes page - (j * line_bytes page + line_bytes page)) ≡ k * line_bytes page
+    later k j le more = let less : j < k = omega (arith, le, more) in omega (arith, long, lines-below page j k less)
 
 -- the bytes of a line by its newest place in an image, or by its home
-abbrev pub newest_bytes : List ℕ → List ℕ → ℕ → Option ℕ → List ℕ
-newest_bytes image home k None = bytes_of_line k home
-newest_bytes image home k (Some place) = take (line_bytes Two) (drop place image)
+abbrev pub newest_bytes : PageSize → List ℕ → List ℕ → ℕ → Option ℕ → List ℕ
+newest_bytes page image home k None = bytes_of_line page k home
+newest_bytes page image home k (Some place) = take (line_bytes page) (drop place image)
 
 -- each line of the bytes is where the newest places say
-pub record Agree (bound : ℕ) (image home bytes : List ℕ) (newest : ℕ → Option ℕ) : Type 0 where
-  pub long : length bytes ≡ bound * line_bytes Two
-  pub each : (k : ℕ) → k < bound → bytes_of_line k bytes ≡ newest_bytes image home k (newest k)
+pub record Agree (page : PageSize) (bound : ℕ) (image home bytes : List ℕ) (newest : ℕ → Option ℕ) : Type 0 where
+  pub long : length bytes ≡ bound * line_bytes page
+  pub each : (k : ℕ) → k < bound → bytes_of_line page k bytes ≡ newest_bytes page image home k (newest k)
 
 -- a line of a record of an image, in front of an end
-pub record IsLine (bound end : ℕ) (image : List ℕ) (line : RecordLine) : Type 0 where
+pub record IsLine (page : PageSize) (bound end : ℕ) (image : List ℕ) (line : RecordLine) : Type 0 where
   pub below : line.line < bound
-  pub has : line.bytes ≡ take (line_bytes Two) (drop (line.at + 4) image)
-  pub whole : length line.bytes ≡ line_bytes Two
-  pub within : line.at + entry_bytes Two ≤ end
+  pub has : line.bytes ≡ take (line_bytes page) (drop (line.at + 4) image)
+  pub whole : length line.bytes ≡ line_bytes page
+  pub within : line.at + entry_bytes page ≤ end
 
 -- the newest places with a record more
 abbrev pub newer : List RecordLine → (ℕ → Option ℕ) → ℕ → Option ℕ
 newer lines newest k = option_or (place_in k lines) (newest k)
 
-agree_line : (bound end : ℕ) (image home bytes : List ℕ) (newest : ℕ → Option ℕ) (line : RecordLine) → IsLine bound end image line → Agree bound image home bytes newest
-    → Agree bound image home (overlaid bytes (line.line * line_bytes Two) line.bytes) (newer (line ∷ []) newest)
-agree_line bound end image home bytes newest line is agree = record {
-  long = length-overlaid bytes (line.line * line_bytes Two) line.bytes (omega (arith, is.below, is.whole, agree.long)) ∙ agree.long;
+agree_line : (page : PageSize) (bound end : ℕ) (image home bytes : List ℕ) (newest : ℕ → Option ℕ) (line : RecordLine) → IsLine page bound end image line → Agree page bound image home bytes newest
+    → Agree page bound image home (overlaid bytes (line.line * line_bytes page) line.bytes) (newer (line ∷ []) newest)
+agree_line page bound end image home bytes newest line is agree =
+  let room : line.line * line_bytes page + line_bytes page ≤ bound * line_bytes page = lines-below page line.line bound is.below in record {
+  long = length-overlaid bytes (line.line * line_bytes page) line.bytes (omega (arith, room, is.whole, agree.long)) ∙ agree.long;
   each = λ k within. elim (cases_eq k line.line) [
     | inl same ↦
         let here : (line.line == k) ≡ true = grind (arith, nat_tests) in
-        ap (λ (n : ℕ). bytes_of_line n (overlaid bytes (line.line * line_bytes Two) line.bytes)) same
-        ∙ same_line bytes line.bytes line.line is.whole (omega (arith, is.below, agree.long))
+        ap (λ (n : ℕ). bytes_of_line page n (overlaid bytes (line.line * line_bytes page) line.bytes)) same
+        ∙ same_line page bytes line.bytes line.line is.whole (omega (arith, room, agree.long))
         ∙ is.has
-        ∙ ap (λ (b : Bool). newest_bytes image home k (option_or (if b then Some (line.at + 4) else None) (newest k))) (sym here)
+        ∙ ap (λ (b : Bool). newest_bytes page image home k (option_or (if b then Some (line.at + 4) else None) (newest k))) (sym here)
     | inr other ↦
         let here : (line.line == k) ≡ false = grind (arith, nat_tests) in
-        other_line bytes line.bytes line.line k is.whole (omega (arith, is.below, agree.long)) other
+        other_line page bytes line.bytes line.line k is.whole (omega (arith, room, agree.long)) other
         ∙ agree.each k within
-        ∙ ap (λ (b : Bool). newest_bytes image home k (option_or (if b then Some (line.at + 4) else None) (newest k))) (sym here)
+        ∙ ap (λ (b : Bool). newest_bytes page image home k (option_or (if b then Some (line.at + 4) else None) (newest k))) (sym here)
   ];
 }
 
-abbrev pub AreLines : (bound end : ℕ) → List ℕ → List RecordLine → Type 0
-AreLines bound end image [] = Unit {0}
-AreLines bound end image (line ∷ lines) = IsLine bound end image line × AreLines bound end image lines
+abbrev pub AreLines : (page : PageSize) (bound end : ℕ) → List ℕ → List RecordLine → Type 0
+AreLines page bound end image [] = Unit {0}
+AreLines page bound end image (line ∷ lines) = IsLine page bound end image line × AreLines page bound end image lines
 
-abbrev pub AreRecords : (bound end : ℕ) → List ℕ → List (List RecordLine) → Type 0
-AreRecords bound end image [] = Unit {0}
-AreRecords bound end image (lines ∷ records) = AreLines bound end image lines × AreRecords bound end image records
+abbrev pub AreRecords : (page : PageSize) (bound end : ℕ) → List ℕ → List (List RecordLine) → Type 0
+AreRecords page bound end image [] = Unit {0}
+AreRecords page bound end image (lines ∷ records) = AreLines page bound end image lines × AreRecords page bound end image records
 
-agree_lines : (bound end : ℕ) (image home bytes : List ℕ) (newest : ℕ → Option ℕ) (lines : List RecordLine) → AreLines bound end image lines → Agree bound image home bytes newest
-    → Agree bound image home (laid bytes lines) (newer lines newest)
-agree_lines bound end image home bytes newest [] are agree = agree
-agree_lines bound end image home bytes newest (line ∷ lines) are agree =
-    let rest = agree_lines bound end image home (overlaid bytes (line.line * line_bytes Two) line.bytes) (newer (line ∷ []) newest) lines are.1 (agree_line bound end image home bytes newest line are.0 agree) in
+agree_lines : (page : PageSize) (bound end : ℕ) (image home bytes : List ℕ) (newest : ℕ → Option ℕ) (lines : List RecordLine) → AreLines page bound end image lines → Agree page bound image home bytes newest
+    → Agree page bound image home (laid page bytes lines) (newer lines newest)
+agree_lines page bound end image home bytes newest [] are agree = agree
+agree_lines page bound end image home bytes newest (line ∷ lines) are agree =
+    let rest = agree_lines page bound end image home (overlaid bytes (line.line * line_bytes page) line.bytes) (newer (line ∷ []) newest) lines are.1 (agree_line page bound end image home bytes newest line are.0 agree) in
     record {
       long = rest.long;
-      each = λ k within. rest.each k within ∙ ap (newest_bytes image home k) (or_assoc (place_in k lines) (if line.line == k then Some (line.at + 4) else None) (newest k));
+      each = λ k within. rest.each k within ∙ ap (newest_bytes page image home k) (or_assoc (place_in k lines) (if line.line == k then Some (line.at + 4) else None) (newest k));
     }
 
-agree_records : (bound end : ℕ) (image home bytes : List ℕ) (newest : ℕ → Option ℕ) (records : List (List RecordLine)) → AreRecords bound end image records → Agree bound image home bytes newest
-    → Agree bound image home (fold laid bytes records) (λ k. option_or (newest_place k records) (newest k))
-agree_records bound end image home bytes newest [] are agree = agree
-agree_records bound end image home bytes newest (lines ∷ records) are agree =
-    let rest = agree_records bound end image home (laid bytes lines) (newer lines newest) records are.1 (agree_lines bound end image home bytes newest lines are.0 agree) in
+agree_records : (page : PageSize) (bound end : ℕ) (image home bytes : List ℕ) (newest : ℕ → Option ℕ) (records : List (List RecordLine)) → AreRecords page bound end image records → Agree page bound image home bytes newest
+    → Agree page bound image home (fold (laid page) bytes records) (λ k. option_or (newest_place k records) (newest k))
+agree_records page bound end image home bytes newest [] are agree = agree
+agree_records page bound end image home bytes newest (lines ∷ records) are agree =
+    let rest = agree_records page bound end image home (laid page bytes lines) (newer lines newest) records are.1 (agree_lines page bound end image home bytes newest lines are.0 agree) in
     record {
       long = rest.long;
-      each = λ k within. rest.each k within ∙ ap (newest_bytes image home k) (or_assoc (newest_place k records) (place_in k lines) (newest k));
+      each = λ k within. rest.each k within ∙ ap (newest_bytes page image home k) (or_assoc (newest_place k records) (place_in k lines) (newest k));
     }
 
 -- lines of an image are below its bound
-lines_below : (bound end : ℕ) (image : List ℕ) (lines : List RecordLine) → AreLines bound end image lines → AreBelow bound lines
-lines_below bound end image [] are = tt
-lines_below bound end image (line ∷ lines) are = (are.0.below, lines_below bound end image lines are.1)
+lines_below : (page : PageSize) (bound end : ℕ) (image : List ℕ) (lines : List RecordLine) → AreLines page bound end image lines → AreBelow bound lines
+lines_below page bound end image [] are = tt
+lines_below page bound end image (line ∷ lines) are = (are.0.below, lines_below page bound end image lines are.1)
 
-pub all_below : (bound end : ℕ) (image : List ℕ) (records : List (List RecordLine)) → AreRecords bound end image records → AllBelow bound records
-all_below bound end image [] are = tt
-all_below bound end image (lines ∷ records) are = (lines_below bound end image lines are.0, all_below bound end image records are.1)
+pub all_below : (page : PageSize) (bound end : ℕ) (image : List ℕ) (records : List (List RecordLine)) → AreRecords page bound end image records → AllBelow bound records
+all_below page bound end image [] are = tt
+all_below page bound end image (lines ∷ records) are = (lines_below page bound end image lines are.0, all_below page bound end image records are.1)
 
 -- lines in order that lie in an image
-lines_are : (bound least count at end : ℕ) (image : List ℕ) → at + entry_bytes Two * count ≤ end → end ≤ length image → wrong_line bound least (lines_from count at (drop at image)) ≡ None → AreLines bound end image (lines_from count at (drop at image))
-lines_are bound least zero at end image fits whole none = tt
-lines_are bound least (suc count) at end image fits whole none =
-    let here : RecordLine = record { line = big_number 4 (drop at image); at = at; bytes = take (line_bytes Two) (drop 4 (drop at image)) } in
-    let rest : lines_from count (at + entry_bytes Two) (drop (entry_bytes Two) (drop at image)) ≡ lines_from count (at + entry_bytes Two) (drop (at + entry_bytes Two) image) = ap (λ (these : List ℕ). lines_from count (at + entry_bytes Two) these) (drop-drop (entry_bytes Two) at image) in
-    let first = first_in_order bound least here (lines_from count (at + entry_bytes Two) (drop (entry_bytes Two) (drop at image))) none in
-    let others = lines_are bound (here.line + 1) count (at + entry_bytes Two) end image (omega arith) whole (ap (wrong_line bound (here.line + 1)) (sym rest) ∙ first.rest) in (
+lines_are : (page : PageSize) (bound least count at end : ℕ) (image : List ℕ) → at + entry_bytes page * count ≤ end → end ≤ length image → wrong_line bound least (lines_from page count at (drop at image)) ≡ None → AreLines page bound end image (lines_from page count at (drop at image))
+lines_are page bound least zero at end image fits whole none = tt
+lines_are page bound least (suc count) at end image fits whole none =
+    let here : RecordLine = record { line = big_number 4 (drop at image); at = at; bytes = take (line_bytes page) (drop 4 (drop at image)) } in
+    let rest : lines_from page count (at + entry_bytes page) (drop (entry_bytes page) (drop at image)) ≡ lines_from page count (at + entry_bytes page) (drop (at + entry_bytes page) image) = ap (λ (these : List ℕ). lines_from page count (at + entry_bytes page) these) (drop-drop (entry_bytes page) at image) in
+    let first = first_in_order bound least here (lines_from page count (at + entry_bytes page) (drop (entry_bytes page) (drop at image))) none in
+    let others = lines_are page bound (here.line + 1) count (at + entry_bytes page) end image (omega arith) whole (ap (wrong_line bound (here.line + 1)) (sym rest) ∙ first.rest) in (
       record {
         below = first.below;
-        has = ap (λ (these : List ℕ). take (line_bytes Two) these) (drop-drop 4 at image);
-        whole = length-take-le (line_bytes Two) (drop 4 (drop at image)) (omega (arith, length-drop 4 (drop at image), length-drop at image));
+        has = ap (λ (these : List ℕ). take (line_bytes page) these) (drop-drop 4 at image);
+        whole = length-take-le (line_bytes page) (drop 4 (drop at image)) (omega (arith, length-drop 4 (drop at image), length-drop at image));
         within = omega arith;
       },
-      subst (λ (these : List RecordLine). AreLines bound end image these) (sym rest) others,
+      subst (λ (these : List RecordLine). AreLines page bound end image these) (sym rest) others,
     )
 
 records_are : (image : List ℕ) (area : Area) (most number from gate : ℕ) (records : List (List RecordLine)) (at : Gate) → area.end ≤ length image → gate_at image area number from ≡ at
-    → holds_from image area most number at ≡ Holds gate records → AreRecords area.bound area.end image records
+    → holds_from image area most number at ≡ Holds gate records → AreRecords area.page area.bound area.end image records
 unfolding holds_from
-records_are image area most number from gate records (Closed closed) whole is holds = let none : records ≡ [] = cc in subst (λ (these : List (List RecordLine)). AreRecords area.bound area.end image these) (sym none) tt
+records_are image area most number from gate records (Closed closed) whole is holds = let none : records ≡ [] = cc in subst (λ (these : List (List RecordLine)). AreRecords area.page area.bound area.end image these) (sym none) tt
 records_are image area most number from gate records (Wrong offset) whole is holds = cc
 records_are image area zero number from gate records (Sound lines next) whole is holds = cc
 records_are image area (suc most) number from gate records (Sound lines next) whole is holds =
-    let sound = sound_is (slice_index image from == 0xA5) area.bound area.end ((number + 1) % 2 ^ 64) from (drop from image) lines next is in
+    let sound = sound_is area.page (slice_index image from == 0xA5) area.bound area.end ((number + 1) % 2 ^ 64) from (drop from image) lines next is in
     let parts = preceded_is lines (holds_from image area most (number + 1) (gate_at image area (number + 1) next)) gate records holds in
     let rest = records_are image area most (number + 1) next gate parts.0 (gate_at image area (number + 1) next) whole refl parts.1 in
     let count = count_of (drop from image) in
-    let place : lines_of from (drop from image) ≡ lines_from count (from + 11) (drop (from + 11) image) = ap (λ (these : List ℕ). lines_from count (from + 11) these) (drop-drop 11 from image) in
-    let first = lines_are area.bound 0 count (from + 11) area.end image (omega (arith, sound.is_next, sound.fits)) whole (ap (wrong_line area.bound 0) (sym place) ∙ sound.in_order) in
-    let here : AreLines area.bound area.end image lines = subst (λ (these : List RecordLine). AreLines area.bound area.end image these) (sym (sound.lines_are ∙ place)) first in
-    subst (λ (these : List (List RecordLine)). AreRecords area.bound area.end image these) (sym parts.2) (here, rest)
+    let place : lines_of area.page from (drop from image) ≡ lines_from area.page count (from + 11) (drop (from + 11) image) = ap (λ (these : List ℕ). lines_from area.page count (from + 11) these) (drop-drop 11 from image) in
+    let first = lines_are area.page area.bound 0 count (from + 11) area.end image (omega (arith, sound.is_next, sound.fits)) whole (ap (wrong_line area.bound 0) (sym place) ∙ sound.in_order) in
+    let here : AreLines area.page area.bound area.end image lines = subst (λ (these : List RecordLine). AreLines area.page area.bound area.end image these) (sym (sound.lines_are ∙ place)) first in
+    subst (λ (these : List (List RecordLine)). AreRecords area.page area.bound area.end image these) (sym parts.2) (here, rest)
 
 -- where a line has its newest bytes there are as many before the end
-place_within : (bound end : ℕ) (image : List ℕ) (k place : ℕ) (lines : List RecordLine) → AreLines bound end image lines → place_in k lines ≡ Some place → place + line_bytes Two ≤ end
-place_within bound end image k place [] are is = cc
-place_within bound end image k place (line ∷ lines) are is = elim (last_of (place_in k lines) (if line.line == k then Some (line.at + 4) else None) place is) [
-  | inl later ↦ place_within bound end image k place lines are.1 later
+place_within : (page : PageSize) (bound end : ℕ) (image : List ℕ) (k place : ℕ) (lines : List RecordLine) → AreLines page bound end image lines → place_in k lines ≡ Some place → place + line_bytes page ≤ end
+place_within page bound end image k place [] are is = cc
+place_within page bound end image k place (line ∷ lines) are is = elim (last_of (place_in k lines) (if line.line == k then Some (line.at + 4) else None) place is) [
+  | inl later ↦ place_within page bound end image k place lines are.1 later
   | inr here ↦ let at = if_some (line.line == k) (line.at + 4) place here in omega (arith, at, are.0.within)
 ]
 
-pub newest_within : (bound end : ℕ) (image : List ℕ) (k place : ℕ) (records : List (List RecordLine)) → AreRecords bound end image records → newest_place k records ≡ Some place → place + line_bytes Two ≤ end
-newest_within bound end image k place [] are is = cc
-newest_within bound end image k place (lines ∷ records) are is = elim (last_of (newest_place k records) (place_in k lines) place is) [
-  | inl later ↦ newest_within bound end image k place records are.1 later
-  | inr here ↦ place_within bound end image k place lines are.0 here
+pub newest_within : (page : PageSize) (bound end : ℕ) (image : List ℕ) (k place : ℕ) (records : List (List RecordLine)) → AreRecords page bound end image records → newest_place k records ≡ Some place → place + line_bytes page ≤ end
+newest_within page bound end image k place [] are is = cc
+newest_within page bound end image k place (lines ∷ records) are is = elim (last_of (newest_place k records) (place_in k lines) place is) [
+  | inl later ↦ newest_within page bound end image k place records are.1 later
+  | inr here ↦ place_within page bound end image k place lines are.0 here
 ]
 
 -- the records that a bank holds lie in the image
-pub held_records : (image : List ℕ) (bound at bank_bytes gate : ℕ) (records : List (List RecordLine)) → at + 8 + bank_bytes ≤ length image → bank_held image bound at bank_bytes ≡ Holds gate records → AreRecords bound (at + 8 + bank_bytes) image records
-held_records image bound at bank_bytes gate records whole holds =
-    records_are image (record { bound = bound; end = at + 8 + bank_bytes }) bank_bytes (number_at image at 8) (at + 8) gate records (gate_at image (record { bound = bound; end = at + 8 + bank_bytes }) (number_at image at 8) (at + 8)) whole refl holds
+pub held_records : (page : PageSize) (image : List ℕ) (bound at bank_bytes gate : ℕ) (records : List (List RecordLine)) → at + 8 + bank_bytes ≤ length image → bank_held image page bound at bank_bytes ≡ Holds gate records → AreRecords page bound (at + 8 + bank_bytes) image records
+held_records page image bound at bank_bytes gate records whole holds =
+    records_are image (record { page = page; bound = bound; end = at + 8 + bank_bytes }) bank_bytes (number_at image at 8) (at + 8) gate records (gate_at image (record { page = page; bound = bound; end = at + 8 + bank_bytes }) (number_at image at 8) (at + 8)) whole refl holds
 
 -- each line of the store that an image stands for is where its newest place says, or at home
 pub store_agrees : (image : List ℕ) (header : Header) (which : Which) (base gate : ℕ) (records : List (List RecordLine)) → IsStore image header which base gate records
-    → Agree (line_count header.directory) image (home_of image header) (fold laid (home_of image header) records) (λ k. newest_place k records)
+    → Agree header.directory.page (line_count header.directory) image (home_of image header) (fold (laid header.directory.page) (home_of image header) records) (λ k. newest_place k records)
 store_agrees image header which base gate records is =
     let all =
-    agree_records (line_count header.directory) (bank_at header which + 8 + header.bank_bytes) image (home_of image header) (home_of image header) (λ k. None) records
-    (held_records image (line_count header.directory) (bank_at header which) header.bank_bytes gate records (omega (arith, (area_within header which).0, is.whole)) is.holds)
+    agree_records header.directory.page (line_count header.directory) (bank_at header which + 8 + header.bank_bytes) image (home_of image header) (home_of image header) (λ k. None) records
+    (held_records header.directory.page image (line_count header.directory) (bank_at header which) header.bank_bytes gate records (omega (arith, (area_within header which).0, is.whole)) is.holds)
     (record { long = omega (arith, length-drop (home_at header 0) image, is.whole); each = λ k within. refl }) in
-    record { long = all.long; each = λ k within. all.each k within ∙ ap (newest_bytes image (home_of image header) k) (or_none (newest_place k records)) }
+    record { long = all.long; each = λ k within. all.each k within ∙ ap (newest_bytes header.directory.page image (home_of image header) k) (or_none (newest_place k records)) }
 
 -- lists of as many lines that have the same lines
-pub same_lines : (n : ℕ) (xs ys : List ℕ) → length xs ≡ n * line_bytes Two → length ys ≡ n * line_bytes Two → ((k : ℕ) → k < n → bytes_of_line k xs ≡ bytes_of_line k ys) → xs ≡ ys
-same_lines zero xs ys long long' each = empty xs (omega arith) ∙ sym (empty ys (omega arith))
+pub same_lines : (page : PageSize) (n : ℕ) (xs ys : List ℕ) → length xs ≡ n * line_bytes page → length ys ≡ n * line_bytes page → ((k : ℕ) → k < n → bytes_of_line page k xs ≡ bytes_of_line page k ys) → xs ≡ ys
+same_lines page zero xs ys long long' each = empty xs (omega arith) ∙ sym (empty ys (omega arith))
   where
     empty : (zs : List ℕ) → length zs ≡ 0 → zs ≡ []
     empty [] none = refl
     empty (z ∷ zs) none = absurd (omega arith)
-same_lines (suc n) xs ys long long' each =
-    sym (take-append-drop (line_bytes Two) xs)
-    ∙ ap (λ (these : List ℕ). these ++ drop (line_bytes Two) xs) (each 0 (omega arith))
-    ∙ ap (λ (these : List ℕ). take (line_bytes Two) ys ++ these)
-    (same_lines n (drop (line_bytes Two) xs) (drop (line_bytes Two) ys) (omega (arith, length-drop (line_bytes Two) xs)) (omega (arith, length-drop (line_bytes Two) ys))
-    (λ k few. ap (λ (these : List ℕ). take (line_bytes Two) these) (moved xs k) ∙ each (suc k) (omega arith) ∙ ap (λ (these : List ℕ). take (line_bytes Two) these) (sym (moved ys k))))
-    ∙ take-append-drop (line_bytes Two) ys
+same_lines page (suc n) xs ys long long' each =
+    sym (take-append-drop (line_bytes page) xs)
+    ∙ ap (λ (these : List ℕ). these ++ drop (line_bytes page) xs) (first xs ∙ each 0 (omega arith) ∙ sym (first ys))
+    ∙ ap (λ (these : List ℕ). take (line_bytes page) ys ++ these)
+    (same_lines page n (drop (line_bytes page) xs) (drop (line_bytes page) ys) (omega (arith, length-drop (line_bytes page) xs)) (omega (arith, length-drop (line_bytes page) ys))
+    (λ k few. ap (λ (these : List ℕ). take (line_bytes page) these) (moved xs k) ∙ each (suc k) (omega arith) ∙ ap (λ (these : List ℕ). take (line_bytes page) these) (sym (moved ys k))))
+    ∙ take-append-drop (line_bytes page) ys
   where
-    moved : (zs : List ℕ) (k : ℕ) → drop (k * line_bytes Two) (drop (line_bytes Two) zs) ≡ drop (suc k * line_bytes Two) zs
-    moved zs k = let place : (line_bytes Two) + k * line_bytes Two ≡ suc k * line_bytes Two = omega arith in drop-drop (k * line_bytes Two) (line_bytes Two) zs ∙ ap (λ (n : ℕ). drop n zs) place
+    first : (zs : List ℕ) → take (line_bytes page) zs ≡ bytes_of_line page 0 zs
+    first zs = let none : 0 ≡ 0 * line_bytes page = omega arith in ap (λ (n : ℕ). take (line_bytes page) (drop n zs)) none
+
+    moved : (zs : List ℕ) (k : ℕ) → drop (k * line_bytes page) (drop (line_bytes page) zs) ≡ drop (suc k * line_bytes page) zs
+    moved zs k = let place : (line_bytes page) + k * line_bytes page ≡ suc k * line_bytes page = omega arith in drop-drop (k * line_bytes page) (line_bytes page) zs ∙ ap (λ (n : ℕ). drop n zs) place

@@ -5,7 +5,7 @@ use Rattle.std.specs.Option.{option_map}
 use Rattle.std.proofs.lemmas.List.Elements.{All-replicate}
 use Rattle.byteorder.specs.Endian.{big_number}
 use Rattle.owned_list.specs.Overlay.{overlaid}
-use Rattle.line_geometry.specs.declared.directory.PageSize.TheVariants.{Two}
+use Rattle.line_geometry.specs.declared.directory.PageSize.{PageSize}
 use Rattle.store_format.specs.declared.header.Which.{Which}
 use Rattle.store_format.specs.Header.{line_bytes, entry_bytes}
 use Rattle.store_format.proofs.Lines.{in_order}
@@ -20,46 +20,46 @@ use Rattle.redo_journal.specs.Noted.{AreWithin}
 use Rattle.redo_journal.specs.Turned.{placed, turned}
 
 -- the same bytes read from another offset are the lines placed there
-pub lines_placed : (count at from : ℕ) (bytes : List ℕ) → lines_from count at bytes ≡ placed at (lines_from count from bytes)
-lines_placed zero at from bytes = refl
-lines_placed (suc count) at from bytes = ap (λ (these : List RecordLine). record { line = big_number 4 bytes; at = at; bytes = take (line_bytes Two) (drop 4 bytes) } ∷ these) (lines_placed count (at + entry_bytes Two) (from + entry_bytes Two) (drop (entry_bytes Two) bytes))
+pub lines_placed : (page : PageSize) (count at from : ℕ) (bytes : List ℕ) → lines_from page count at bytes ≡ placed page at (lines_from page count from bytes)
+lines_placed page zero at from bytes = refl
+lines_placed page (suc count) at from bytes = ap (λ (these : List RecordLine). record { line = big_number 4 bytes; at = at; bytes = take (line_bytes page) (drop 4 bytes) } ∷ these) (lines_placed page count (at + entry_bytes page) (from + entry_bytes page) (drop (entry_bytes page) bytes))
 
-pub length-placed : (at : ℕ) (lines : List RecordLine) → length (placed at lines) ≡ length lines
-length-placed at [] = refl
-length-placed at (line ∷ lines) = omega (arith, length-placed (at + entry_bytes Two) lines)
+pub length-placed : (page : PageSize) (at : ℕ) (lines : List RecordLine) → length (placed page at lines) ≡ length lines
+length-placed page at [] = refl
+length-placed page at (line ∷ lines) = omega (arith, length-placed page (at + entry_bytes page) lines)
 
 -- they are in order where they were
-pub placed_order : (bound least at : ℕ) (lines : List RecordLine) → wrong_line bound least lines ≡ None → wrong_line bound least (placed at lines) ≡ None
-placed_order bound least at [] none = refl
-placed_order bound least at (line ∷ lines) none =
+pub placed_order : (page : PageSize) (bound least at : ℕ) (lines : List RecordLine) → wrong_line bound least lines ≡ None → wrong_line bound least (placed page at lines) ≡ None
+placed_order page bound least at [] none = refl
+placed_order page bound least at (line ∷ lines) none =
     let first = first_in_order bound least line lines none in
-    let rest = placed_order bound (line.line + 1) (at + entry_bytes Two) lines first.rest in
+    let rest = placed_order page bound (line.line + 1) (at + entry_bytes page) lines first.rest in
     rw (in_order bound least line.line (low_of bound least line lines none) first.below) rest
 
 -- they are laid over a store as they were
-laid_placed : (at : ℕ) (lines : List RecordLine) (bytes : List ℕ) → laid bytes (placed at lines) ≡ laid bytes lines
-laid_placed at [] bytes = refl
-laid_placed at (line ∷ lines) bytes = laid_placed (at + entry_bytes Two) lines (overlaid bytes (line.line * line_bytes Two) line.bytes)
+laid_placed : (page size : PageSize) (at : ℕ) (lines : List RecordLine) (bytes : List ℕ) → laid size bytes (placed page at lines) ≡ laid size bytes lines
+laid_placed page size at [] bytes = refl
+laid_placed page size at (line ∷ lines) bytes = laid_placed page size (at + entry_bytes page) lines (overlaid bytes (line.line * line_bytes size) line.bytes)
 
-pub one_more_placed : (at : ℕ) (lines : List RecordLine) (standing : Standing) → one_more (placed at lines) standing ≡ one_more lines standing
-one_more_placed at lines (Stands number store) = ap (λ (bytes : List ℕ). Stands ((number + 1) % 2 ^ 64) (let flat : FlatStore = record { directory = store.directory; bytes = bytes } in flat)) (laid_placed at lines store.bytes)
-one_more_placed at lines (NotAStore offset) = refl
-one_more_placed at lines (Damaged offset) = refl
+pub one_more_placed : (page : PageSize) (at : ℕ) (lines : List RecordLine) (standing : Standing) → one_more (placed page at lines) standing ≡ one_more lines standing
+one_more_placed page at lines (Stands number store) = ap (λ (bytes : List ℕ). Stands ((number + 1) % 2 ^ 64) (let flat : FlatStore = record { directory = store.directory; bytes = bytes } in flat)) (laid_placed page store.directory.page at lines store.bytes)
+one_more_placed page at lines (NotAStore offset) = refl
+one_more_placed page at lines (Damaged offset) = refl
 
 -- no place lies behind an end
-pub none_within : (end count : ℕ) → AreWithin end (replicate count None)
-none_within end count = All-replicate (λ (place : Option ℕ). IfSome place (λ at. at + line_bytes Two ≤ end)) count None tt
+pub none_within : (page : PageSize) (end count : ℕ) → AreWithin page end (replicate count None)
+none_within page end count = All-replicate (λ (place : Option ℕ). IfSome place (λ at. at + line_bytes page ≤ end)) count None tt
 
 -- the begun lines behind another gate
-begun_placed : (begun : Option ℕ) (bank : Inside) (at : ℕ) → option_map (λ count. lines_from count (at + 8 + 11) (drop 10 bank.body)) begun ≡ option_map (placed (at + 19)) (option_map (buffered bank) begun)
+begun_placed : (begun : Option ℕ) (bank : Inside) (at : ℕ) → option_map (λ count. lines_from bank.page count (at + 8 + 11) (drop 10 bank.body)) begun ≡ option_map (placed bank.page (at + 19)) (option_map (buffered bank) begun)
 begun_placed None bank at = refl
 begun_placed (Some count) bank at =
     let from : at + 8 + 11 ≡ at + 19 = omega arith in
-    ap (λ (these : List RecordLine). Some these) (lines_placed count (at + 8 + 11) (bank.gate + 11) (drop 10 bank.body) ∙ ap (λ (n : ℕ). placed n (buffered bank count)) from)
+    ap (λ (these : List RecordLine). Some these) (lines_placed bank.page count (at + 8 + 11) (bank.gate + 11) (drop 10 bank.body) ∙ ap (λ (n : ℕ). placed bank.page n (buffered bank count)) from)
 
 -- the fields of a bank that was turned to
 abbrev pub turned_fields : Which → Inside → (base at : ℕ) → List (Option ℕ) → Inside
-turned_fields which bank base at newest = record { which = which; bank_bytes = bank.bank_bytes; base = base; count = 0; gate = at + 8; newest = newest; begun = bank.begun; body = bank.body }
+turned_fields which bank base at newest = record { which = which; page = bank.page; bank_bytes = bank.bank_bytes; base = base; count = 0; gate = at + 8; newest = newest; begun = bank.begun; body = bank.body }
 
 pub turned_is : (which : Which) (bank : Inside) (kept : KeptBank) (base at : ℕ) (newest : List (Option ℕ)) → kept_of bank ≡ kept → base ≡ (bank.base + bank.count) % 2 ^ 64 → at ≡ place_of which bank.bank_bytes → newest ≡ replicate (length bank.newest) None
     → kept_of (turned_fields which bank base at newest) ≡ turned which kept

@@ -3,16 +3,16 @@ use Rattle.std.proofs.Common.{ℕ, ◌+◌, ◌≤◌, List, [], ◌∷◌, ◌+
 use Rattle.std.specs.Prelude.{Option, Some, IfSome}
 use Rattle.std.proofs.lemmas.List.Elements.{All-nil, All-cons, All-append, All-take, All-drop}
 use Rattle.owned_list.specs.Overlay.{overlaid}
-use Rattle.line_geometry.specs.declared.directory.PageSize.TheVariants.{Two}
+use Rattle.line_geometry.specs.declared.directory.PageSize.{PageSize}
 use Rattle.store_format.specs.Header.{line_bytes}
 use Rattle.redo_journal.specs.Noted.{AreWithin}
 
-abbrev IsIn : ℕ → Option ℕ → Type 0
-IsIn end place = IfSome place (λ at. at + line_bytes Two ≤ end)
+abbrev IsIn : PageSize → ℕ → Option ℕ → Type 0
+IsIn page end place = IfSome place (λ at. at + line_bytes page ≤ end)
 
 -- one place more
-pub within-overlaid : (end line at : ℕ) (newest : List (Option ℕ)) → at + line_bytes Two ≤ end → AreWithin end newest → AreWithin end (overlaid newest line (Some at ∷ []))
-within-overlaid end line at newest fits are =
-    All-append (IsIn end) (take line newest ++ Some at ∷ []) (drop (line + length (Some at ∷ [])) newest)
-    (All-append (IsIn end) (take line newest) (Some at ∷ []) (All-take (IsIn end) line newest are) (All-cons (IsIn end) (Some at) [] fits (All-nil (IsIn end))))
-    (All-drop (IsIn end) (line + length (Some at ∷ [])) newest are)
+pub within-overlaid : (page : PageSize) (end line at : ℕ) (newest : List (Option ℕ)) → at + line_bytes page ≤ end → AreWithin page end newest → AreWithin page end (overlaid newest line (Some at ∷ []))
+within-overlaid page end line at newest fits are =
+    All-append (IsIn page end) (take line newest ++ Some at ∷ []) (drop (line + length (Some at ∷ [])) newest)
+    (All-append (IsIn page end) (take line newest) (Some at ∷ []) (All-take (IsIn page end) line newest are) (All-cons (IsIn page end) (Some at) [] fits (All-nil (IsIn page end))))
+    (All-drop (IsIn page end) (line + length (Some at ∷ [])) newest are)

@@ -1,6 +1,7 @@
 -- What a bank is that was read from the disk.
 use Rattle.std.specs.Prelude.{◌≡◌, ◌↔◌, ◌<◌, ℕ, List, length, slice_get, Some, None, IsSome}
 use Rattle.line_geometry.specs.Lines.{line_count}
+use Rattle.line_geometry.specs.declared.directory.PageSize.{PageSize}
 use Rattle.store_format.specs.declared.header.Which.{Which}
 use Rattle.store_format.specs.Header.{Header, number_at}
 use Rattle.store_format.specs.Bank.{Bank, RecordLine, Holds, Faulty, bank_held, bank_of}
@@ -14,15 +15,15 @@ use Rattle.redo_journal.specs.declared.fault.ReopenFault.TheVariants as reopenin
 use Rattle.redo_journal.specs.Kept.{KeptBank, place_of}
 use Rattle.redo_journal.specs.Noted.{AreNewest, IsNowhere}
 
--- what these bytes hold where such a bank of a store with so many lines lies
-abbrev pub bank_in : List ℕ → Which → (bank_bytes bound : ℕ) → Bank
-bank_in held which bank_bytes bound = bank_held held bound (place_of which bank_bytes) bank_bytes
+-- what these bytes hold where such a bank of a store with pages of a size and so many lines lies
+abbrev pub bank_in : List ℕ → PageSize → Which → (bank_bytes bound : ℕ) → Bank
+bank_in held page which bank_bytes bound = bank_held held page bound (place_of which bank_bytes) bank_bytes
 
 -- The bank is what these bytes hold where it lies: base, closed gate, number of records and newest places.
 pub record IsRead (held : List ℕ) (bank : KeptBank) : Type 0 where
   pub records : List (List RecordLine)
   pub base : number_at held (place_of bank.which bank.bank_bytes) 8 ≡ bank.base
-  pub holds : bank_in held bank.which bank.bank_bytes (length bank.newest) ≡ Holds bank.gate records
+  pub holds : bank_in held bank.page bank.which bank.bank_bytes (length bank.newest) ≡ Holds bank.gate records
   pub count : length records ≡ bank.count
   pub newest : AreNewest bank.newest records
 
@@ -40,7 +41,7 @@ pub record IsBankOf (header : Header) (which : Which) (bank : KeptBank) : Type 0
 
 -- a disk's fault is counted; damage is a fault of the bank in the bytes that are told
 abbrev pub IsReopenFault : {W : Type 0} → Ghosts W → W → W → Which → KeptBank → ReopenFault → Type 0
-IsReopenFault G old new which bank (reopening.Damaged offset) = IsSome (G.held old) → bank_in (held_of G old) which bank.bank_bytes (length bank.newest) ≡ Faulty offset
+IsReopenFault G old new which bank (reopening.Damaged offset) = IsSome (G.held old) → bank_in (held_of G old) bank.page which bank.bank_bytes (length bank.newest) ≡ Faulty offset
 IsReopenFault G old new which bank reopening.DiskFault = Rose (G.disk_faults old) (G.disk_faults new)
 
 -- the same for a bank that is opened: it is no other store, and memory is free

@@ -3,15 +3,15 @@ use Rattle.std.specs.Prelude.{ℕ, ◌+◌, List, [], ◌∷◌, ◌++◌, lengt
 use Rattle.std.specs.Option.{option_map}
 use Rattle.byteorder.specs.Endian.{big_bytes}
 use Rattle.store_format.specs.declared.header.Which.{Which}
-use Rattle.line_geometry.specs.declared.directory.PageSize.TheVariants.{Two}
+use Rattle.line_geometry.specs.declared.directory.PageSize.{PageSize}
 use Rattle.store_format.specs.Header.{entry_bytes}
 use Rattle.store_format.specs.Bank.{RecordLine}
 use Rattle.redo_journal.specs.Kept.{KeptBank, place_of, number_of}
 
 -- these lines one behind another, from an offset on
-abbrev pub placed : ℕ → List RecordLine → List RecordLine
-placed at [] = []
-placed at (line ∷ lines) = record line { at = at } ∷ placed (at + entry_bytes Two) lines
+abbrev pub placed : PageSize → ℕ → List RecordLine → List RecordLine
+placed page at [] = []
+placed page at (line ∷ lines) = record line { at = at } ∷ placed page (at + entry_bytes page) lines
 
 -- the bank at this place with the number as its base, no record, and the begun record behind its gate
 abbrev pub turned : Which → KeptBank → KeptBank
@@ -21,7 +21,7 @@ turned which bank = record bank {
   count = 0;
   gate = place_of which bank.bank_bytes + 8;
   newest = replicate (length bank.newest) None;
-  begun = option_map (placed (place_of which bank.bank_bytes + 19)) bank.begun;
+  begun = option_map (placed bank.page (place_of which bank.bank_bytes + 19)) bank.begun;
 }
 
 -- what a bank without records begins with: its base and a closed gate

@@ -18,17 +18,19 @@ use crate::keep::{Kept, keep_body, write_once};
 use crate::read::{Found, read_bank};
 use crate::record::{fill, forget, head_of_bank, note, word};
 use byteorder::{BigEndian, ByteOrder};
+use line_geometry::PageSize;
 use outside::{Failed, Outside};
 use owned_list::OwnedList;
 use std::alloc::{AllocError, Global};
 use std::marker::Model;
-use store_format::{ENTRY_BYTES, Header, Which};
+use store_format::{Header, Which, entries_bytes, entry_bytes};
 
 /// One bank of a store: its base number and the place of its closed gate, the newest place of each line of the store,
 /// and a record that is begun (docs/MODEL.md, "A bank that is kept").
 #[derive(Drop)]
 pub struct Bank {
     which: Which,
+    page: PageSize,
     bank_bytes: u32,
     base: u64,
     count: u32,
@@ -105,6 +107,7 @@ impl Bank {
         let lines = header.directory().line_count() as usize;
         Ok(Bank {
             which: Which::A,
+            page: header.directory().page(),
             bank_bytes,
             base: 0,
             count: 0,
@@ -139,7 +142,7 @@ impl Bank {
         self.count = 0;
         self.gate = at + 8;
         self.begun = None;
-        match read_bank(outside, &mut self.newest, at, self.bank_bytes) {
+        match read_bank(outside, &mut self.newest, self.page, at, self.bank_bytes) {
             Err(Failed) => Err(ReopenFault::DiskFault),
             Ok(Found::Faulty(offset)) => Err(ReopenFault::Damaged(offset)),
             Ok(Found::Holds { base, gate, count }) => {
@@ -156,6 +159,13 @@ impl Bank {
         ensures { result ≡ self.now.which }
     {
         self.which
+    }
+
+    /// The size of the store's pages.
+    pub fn page(&self) -> PageSize
+        ensures { result ≡ self.now.page }
+    {
+        self.page
     }
 
     /// The bytes of its record area.
@@ -210,7 +220,7 @@ impl Bank {
         if left < 12 {
             None
         } else {
-            Some(((left - 12) / ENTRY_BYTES as u64) as u32)
+            Some(((left - 12) / entry_bytes(self.page) as u64) as u32)
         }
     }
 
@@ -267,7 +277,7 @@ impl Bank {
         ensures { self.new ≡ with_line self.old line bytes.now }
     {
         let begun = self.begun.unwrap();
-        let at = 10 + ENTRY_BYTES * usize::from(begun);
+        let at = 10 + entries_bytes(self.page, begun) as usize;
         self.body.write(at, &word(line));
         self.body.write(at + 4, bytes);
         self.begun = Some(begun + 1);
@@ -297,18 +307,24 @@ impl Bank {
         ensures done { result ≡ Appended.Done → Tracks W.Outside self.old outside.old → IsAppended W.Outside self.old self.new outside.old outside.new }
     {
         let begun = self.begun.unwrap();
-        let bytes = 11 + ENTRY_BYTES as u64 * u64::from(begun);
+        let bytes = 11 + u64::from(entries_bytes(self.page, begun));
         if end_of(self.which, self.bank_bytes) < self.gate + bytes + 1 {
             return Appended::Full;
         }
         let due = number_of(self.base, self.count).wrapping_add(1);
         self.begun = None;
-        fill(&mut self.body, begun, due);
-        match keep_body(outside, self.gate, record_of(&self.body, begun)) {
+        fill(&mut self.body, self.page, begun, due);
+        match keep_body(outside, self.gate, record_of(&self.body, self.page, begun)) {
             Kept::Unwritten => Appended::Unwritten,
             Kept::Doubt => Appended::Doubt,
             Kept::Done => {
-                note(&mut self.newest, self.body.as_slice(), self.gate, begun);
+                note(
+                    &mut self.newest,
+                    self.body.as_slice(),
+                    self.page,
+                    self.gate,
+                    begun,
+                );
                 self.gate += bytes;
                 self.count += 1;
                 Appended::Done
@@ -350,9 +366,9 @@ fn end_of(which: Which, bank_bytes: u32) -> u64
 }
 
 /// The bytes of a record of so many lines, without its gate.
-fn record_of(body: &OwnedList<u8>, count: u16) -> &[u8]
-    requires { record_bytes count ≤ length body.now }
-    ensures { result.now ≡ take (record_bytes count) body.now }
+fn record_of(body: &OwnedList<u8>, page: PageSize, count: u16) -> &[u8]
+    requires { record_bytes page count ≤ length body.now }
+    ensures { result.now ≡ take (record_bytes page count) body.now }
 {
-    &body.as_slice()[..11 + ENTRY_BYTES * usize::from(count)]
+    &body.as_slice()[..11 + entries_bytes(page, count) as usize]
 }

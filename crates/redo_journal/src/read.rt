@@ -1,6 +1,5 @@
 // Reading the records of a bank.
 ghost use Rattle.std.specs.Prelude.{◌≡◌, ℕ, ◌+◌, ◌*◌, ◌==◌, ◌≤◌, ◌<◌, ◌^◌, length, drop, slice_index, None, IsSome, IfOk};
-ghost use Rattle.line_geometry.specs.declared.directory.PageSize.TheVariants.{Two};
 ghost use Rattle.store_format.specs.Header.{number_at, entry_bytes};
 ghost use Rattle.store_format.specs.Bank.{lines_from, wrong_line, gate_if, bank_held};
 ghost use Rattle.outside.specs.Causes.{HasCause};
@@ -11,9 +10,10 @@ ghost use Rattle.redo_journal.specs.Read.{IsGate, IsNext, IsBank, IsClosedIn};
 
 use crate::keep::OPEN;
 use byteorder::{BigEndian, ByteOrder};
+use line_geometry::PageSize;
 use outside::{Failed, Outside};
 use owned_list::OwnedList;
-use store_format::ENTRY_BYTES;
+use store_format::entries_bytes;
 
 /// What stands at a gate: nothing, a fault, or a record with a next gate.
 #[derive(Debug, Clone, Copy, PartialEq, Eq)]
@@ -34,6 +34,7 @@ pub enum Found {
 pub fn read_bank<W: Outside>(
     outside: &mut W,
     newest: &mut OwnedList<Option<u64>>,
+    page: PageSize,
     at: u64,
     bank_bytes: u32,
 ) -> Result<Found, Failed>
@@ -43,8 +44,8 @@ pub fn read_bank<W: Outside>(
     ensures asks { OnlyAsks W.Outside outside.old outside.new }
     ensures len { length newest.new ≡ length newest.old }
     ensures within { IfOk result (IsClosedIn (at + 8) (at + 8 + bank_bytes)) }
-    ensures placed { AreWithin (at + 8 + bank_bytes) newest.old → AreWithin (at + 8 + bank_bytes) newest.new }
-    ensures found { IfOk result (λ found. IsSome (W.held outside.old) → IsBank found newest.old newest.new (number_at (held_of W.Outside outside.old) at 8) (bank_held (held_of W.Outside outside.old) (length newest.old) at bank_bytes)) }
+    ensures placed { AreWithin page (at + 8 + bank_bytes) newest.old → AreWithin page (at + 8 + bank_bytes) newest.new }
+    ensures found { IfOk result (λ found. IsSome (W.held outside.old) → IsBank found newest.old newest.new (number_at (held_of W.Outside outside.old) at 8) (bank_held (held_of W.Outside outside.old) page (length newest.old) at bank_bytes)) }
     ensures cause { HasCause (W.disk_faults outside.old) (W.disk_faults outside.new) result }
 {
     let mut head = [0; 8];
@@ -54,7 +55,7 @@ pub fn read_bank<W: Outside>(
     let mut gate = at + 8;
     for count in 0..bank_bytes {
         let due = base.wrapping_add(u64::from(count) + 1);
-        match read_gate(outside, newest, end, due, gate)? {
+        match read_gate(outside, newest, page, end, due, gate)? {
             Gate::Closed => return Ok(Found::Holds { base, gate, count }),
             Gate::Wrong(offset) => return Ok(Found::Faulty(offset)),
             Gate::Sound(next) => gate = next,
@@ -67,6 +68,7 @@ pub fn read_bank<W: Outside>(
 fn read_gate<W: Outside>(
     outside: &mut W,
     newest: &mut OwnedList<Option<u64>>,
+    page: PageSize,
     end: u64,
     due: u64,
     gate: u64,
@@ -77,8 +79,8 @@ fn read_gate<W: Outside>(
     ensures asks { OnlyAsks W.Outside outside.old outside.new }
     ensures len { length newest.new ≡ length newest.old }
     ensures next { IfOk result (IsNext gate end) }
-    ensures placed { AreWithin end newest.old → AreWithin end newest.new }
-    ensures found { IfOk result (λ found. IsSome (W.held outside.old) → IsGate found gate newest.old newest.new (gate_if (slice_index (held_of W.Outside outside.old) gate == 0xA5) (length newest.old) end due gate (drop gate (held_of W.Outside outside.old)))) }
+    ensures placed { AreWithin page end newest.old → AreWithin page end newest.new }
+    ensures found { IfOk result (λ found. IsSome (W.held outside.old) → IsGate found gate newest.old newest.new (gate_if page (slice_index (held_of W.Outside outside.old) gate == 0xA5) (length newest.old) end due gate (drop gate (held_of W.Outside outside.old)))) }
     ensures cause { HasCause (W.disk_faults outside.old) (W.disk_faults outside.new) result }
 {
     let mut first = [0; 1];
@@ -92,14 +94,14 @@ fn read_gate<W: Outside>(
     let mut head = [0; 10];
     outside.read_at(gate + 1, &mut head)?;
     let count = BigEndian::read_u16(&head);
-    let next = gate + 11 + ENTRY_BYTES as u64 * u64::from(count);
+    let next = gate + 11 + u64::from(entries_bytes(page, count));
     if end < next + 1 {
         return Ok(Gate::Wrong(gate + 1));
     }
     if BigEndian::read_u64(&head[2..]) != due {
         return Ok(Gate::Wrong(gate + 3));
     }
-    match read_lines(outside, newest, gate + 11, count)? {
+    match read_lines(outside, newest, page, gate + 11, count)? {
         Some(offset) => Ok(Gate::Wrong(offset)),
         None => Ok(Gate::Sound(next)),
     }
@@ -109,21 +111,22 @@ fn read_gate<W: Outside>(
 fn read_lines<W: Outside>(
     outside: &mut W,
     newest: &mut OwnedList<Option<u64>>,
+    page: PageSize,
     at: u64,
     count: u16,
 ) -> Result<Option<u64>, Failed>
-    requires room { HoldsAtLeast W.Outside (at + entry_bytes Two * count) outside.old }
+    requires room { HoldsAtLeast W.Outside (at + entry_bytes page * count) outside.old }
     requires few { at < 2 ^ 20 }
     ensures asks { OnlyAsks W.Outside outside.old outside.new }
     ensures len { length newest.new ≡ length newest.old }
-    ensures placed { (end : ℕ) → at + entry_bytes Two * count ≤ end → AreWithin end newest.old → AreWithin end newest.new }
-    ensures fault { IfOk result (λ fault. IsSome (W.held outside.old) → fault ≡ wrong_line (length newest.old) 0 (lines_from count at (drop at (held_of W.Outside outside.old)))) }
-    ensures noted { IfOk result (λ fault. IsSome (W.held outside.old) → fault ≡ None → newest.new ≡ noted newest.old (lines_from count at (drop at (held_of W.Outside outside.old)))) }
+    ensures placed { (end : ℕ) → at + entry_bytes page * count ≤ end → AreWithin page end newest.old → AreWithin page end newest.new }
+    ensures fault { IfOk result (λ fault. IsSome (W.held outside.old) → fault ≡ wrong_line (length newest.old) 0 (lines_from page count at (drop at (held_of W.Outside outside.old)))) }
+    ensures noted { IfOk result (λ fault. IsSome (W.held outside.old) → fault ≡ None → newest.new ≡ noted newest.old (lines_from page count at (drop at (held_of W.Outside outside.old)))) }
     ensures cause { HasCause (W.disk_faults outside.old) (W.disk_faults outside.new) result }
 {
     let mut least = 0;
     for i in 0..count {
-        let place = at + ENTRY_BYTES as u64 * u64::from(i);
+        let place = at + u64::from(entries_bytes(page, i));
         let mut number = [0; 4];
         outside.read_at(place, &mut number)?;
         let line = BigEndian::read_u32(&number);

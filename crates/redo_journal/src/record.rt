@@ -1,28 +1,28 @@
 // The bytes of a record.
 ghost use Rattle.std.specs.Prelude.{◌≡◌, ℕ, ◌+◌, ◌*◌, ◌++◌, ◌≤◌, ◌<◌, ◌^◌, length, take, drop, replicate, slice_index, None};
 ghost use Rattle.byteorder.specs.Endian.{big_bytes};
-ghost use Rattle.line_geometry.specs.declared.directory.PageSize.TheVariants.{Two};
 ghost use Rattle.store_format.specs.Header.{number_at, entry_bytes};
 ghost use Rattle.store_format.specs.Bank.{lines_from, wrong_line};
 ghost use Rattle.redo_journal.specs.Noted.{noted, AreWithin};
 ghost use Rattle.redo_journal.specs.Turned.{head_bytes};
 
 use byteorder::{BigEndian, ByteOrder};
+use line_geometry::PageSize;
 use owned_list::OwnedList;
-use store_format::ENTRY_BYTES;
+use store_format::entries_bytes;
 
 /// Fills in the count and the number of a record, and the closed gate behind it.
-pub fn fill(body: &mut OwnedList<u8>, count: u16, due: u64)
-    requires { 11 + entry_bytes Two * count ≤ length body.old }
+pub fn fill(body: &mut OwnedList<u8>, page: PageSize, count: u16, due: u64)
+    requires { 11 + entry_bytes page * count ≤ length body.old }
     ensures len { length body.new ≡ length body.old }
     ensures counted { number_at body.new 0 2 ≡ count }
     ensures numbered { number_at body.new 2 8 ≡ due }
-    ensures lines { take (entry_bytes Two * count) (drop 10 body.new) ≡ take (entry_bytes Two * count) (drop 10 body.old) }
-    ensures closed { slice_index body.new (10 + entry_bytes Two * count) ≡ 0 }
+    ensures lines { take (entry_bytes page * count) (drop 10 body.new) ≡ take (entry_bytes page * count) (drop 10 body.old) }
+    ensures closed { slice_index body.new (10 + entry_bytes page * count) ≡ 0 }
 {
     let head = head_of(count, due);
     body.write(0, &head);
-    body.write(10 + ENTRY_BYTES * usize::from(count), &[0]);
+    body.write(10 + entries_bytes(page, count) as usize, &[0]);
 }
 
 /// The count and the number of a record.
@@ -54,16 +54,22 @@ pub fn word(number: u32) -> [u8; 4]
 }
 
 /// Notes the places of the lines of a record behind a gate.
-pub fn note(newest: &mut OwnedList<Option<u64>>, body: &[u8], gate: u64, count: u16)
+pub fn note(
+    newest: &mut OwnedList<Option<u64>>,
+    body: &[u8],
+    page: PageSize,
+    gate: u64,
+    count: u16,
+)
     requires gate { gate < 2 ^ 20 }
-    requires body { 10 + entry_bytes Two * count ≤ length body.now }
-    requires ordered { wrong_line (length newest.old) 0 (lines_from count (gate + 11) (drop 10 body.now)) ≡ None }
-    ensures value { newest.new ≡ noted newest.old (lines_from count (gate + 11) (drop 10 body.now)) }
+    requires body { 10 + entry_bytes page * count ≤ length body.now }
+    requires ordered { wrong_line (length newest.old) 0 (lines_from page count (gate + 11) (drop 10 body.now)) ≡ None }
+    ensures value { newest.new ≡ noted newest.old (lines_from page count (gate + 11) (drop 10 body.now)) }
     ensures len { length newest.new ≡ length newest.old }
-    ensures placed { (end : ℕ) → gate + 11 + entry_bytes Two * count ≤ end → AreWithin end newest.old → AreWithin end newest.new }
+    ensures placed { (end : ℕ) → gate + 11 + entry_bytes page * count ≤ end → AreWithin page end newest.old → AreWithin page end newest.new }
 {
     for i in 0..count {
-        let at = ENTRY_BYTES * usize::from(i);
+        let at = entries_bytes(page, i) as usize;
         let line = BigEndian::read_u32(&body[10 + at..]);
         newest.write(line as usize, &[Some(gate + 15 + at as u64)]);
     }

@@ -3,7 +3,7 @@ use super::*;
 use line_geometry::{Directory, PageSize};
 use outside::{Joint, MemoryDisk, MemoryScreen};
 use std::test::Fail;
-use store_format::{Header, LINE_BYTES, Which};
+use store_format::{Header, Which};
 
 #[test]
 fn a_bank_takes_a_record(rt: HostRuntime) -> Result<(), Fail> {
@@ -20,7 +20,7 @@ fn a_bank_takes_a_record(rt: HostRuntime) -> Result<(), Fail> {
     assert_eq!(rt; bank.number(), 0);
     assert_eq!(rt; bank.room(), Some(30));
     bank.record_start();
-    bank.record_line(3, &[7; LINE_BYTES]);
+    bank.record_line(3, &[7; 128]);
     assert_eq!(rt; bank.append(&mut disk), Appended::Done);
     assert_eq!(rt; bank.number(), 1);
     assert_eq!(rt; bank.newest(3), Some(279));

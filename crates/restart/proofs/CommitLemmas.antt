@@ -11,7 +11,8 @@ use Rattle.redo_journal.specs.Kept.{KeptBank, area_end, needed_end, begun_of, nu
 use Rattle.redo_journal.specs.Tracks.{IsEither, HoldsOneOf}
 use Rattle.redo_journal.specs.Turned.{placed, turned}
 use Rattle.redo_journal.proofs.TurnLemmas.{one_more_placed}
-use Rattle.checkpoint.specs.Home.{store_bytes}
+use Rattle.checkpoint.specs.Home.{home_place, store_bytes}
+use Rattle.line_geometry.specs.declared.directory.PageSize.{PageSize}
 use Rattle.restart.specs.Committed.{emptied, roomy, kept_by, number_after, IsKeptAfter, HoldsCommitted}
 use Rattle.restart.specs.Shows.{IsIntact}
 use Rattle.restart.proofs.ShowLemmas.{records_intact}
@@ -23,21 +24,21 @@ use Rattle.redo_journal.specs.declared.keep.Kept.{Kept}
 use Rattle.redo_journal.specs.declared.keep.Kept.TheVariants as keeping
 
 -- the begun record behind another gate
-begun_by : (begun : Option (List RecordLine)) (at : ℕ) → unwrap_or (option_map (placed at) begun) [] ≡ placed at (unwrap_or begun [])
-begun_by None at = refl
-begun_by (Some lines) at = refl
+begun_by : (begun : Option (List RecordLine)) (page : PageSize) (at : ℕ) → unwrap_or (option_map (placed page at) begun) [] ≡ placed page at (unwrap_or begun [])
+begun_by None page at = refl
+begun_by (Some lines) page at = refl
 
 -- it adds the same to what stands
 pub adds_same : (which : Which) (bank : KeptBank) (first second : Standing) → first ≡ second → one_more (begun_of (turned which bank)) first ≡ one_more (begun_of bank) second
 adds_same which bank first second same =
-    ap (λ (lines : List RecordLine). one_more lines first) (begun_by bank.begun _) ∙ one_more_placed _ (begun_of bank) first ∙ ap (one_more (begun_of bank)) same
+    ap (λ (lines : List RecordLine). one_more lines first) (begun_by bank.begun bank.page _) ∙ one_more_placed bank.page _ (begun_of bank) first ∙ ap (one_more (begun_of bank)) same
 
 pub either_same : (which : Which) (bank : KeptBank) (held mid image seen : List ℕ) → stands mid ≡ stands held → IsEither (begun_of (turned which bank)) mid image seen → IsEither (begun_of bank) held image seen
 either_same which bank held mid image seen same either = ⊎_elim (λ as_was. inl (as_was ∙ same)) (λ more. inr (more ∙ adds_same which bank (stands mid) (stands held) same)) either
 
 -- the store has as many bytes
 pub same_bytes : (which : Which) (bank : KeptBank) → store_bytes (turned which bank) ≡ store_bytes bank
-same_bytes which bank = omega (arith, length-replicate {A = Option ℕ} (length bank.newest) None)
+same_bytes which bank = ap (home_place bank) (length-replicate {A = Option ℕ} (length bank.newest) None)
 
 -- which bank the record is added to
 pub roomy_full : (bank : KeptBank) → area_end bank < needed_end bank → roomy bank ≡ emptied bank

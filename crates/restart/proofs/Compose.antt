@@ -7,7 +7,8 @@ use Rattle.std.proofs.lemmas.Bool.{cases_eq}
 use Rattle.std.proofs.lemmas.List.{drop-drop, drop-take, take-take, length-drop, length-take-le, places}
 use Rattle.line_geometry.specs.Directory.{page_count}
 use Rattle.line_geometry.specs.Lines.{line_count}
-use Rattle.line_geometry.specs.declared.directory.PageSize.TheVariants.{Two}
+use Rattle.line_geometry.specs.declared.directory.PageSize.{PageSize}
+use Rattle.store_format.proofs.Widths.{lines-below, lines-within}
 use Rattle.store_format.specs.Header.{Header, home_at, line_bytes}
 use Rattle.store_format.specs.Stands.{Standing, laid, home_of, stands}
 use Rattle.store_format.proofs.Stores.{stands_is}
@@ -20,62 +21,62 @@ use Rattle.restart.proofs.ShowLemmas.{shown_store}
 use Rattle.restart.specs.Page.{newest_over}
 
 -- the lines up to one are the newest, and those from it on are at home
-pub record Composed (image home : List ℕ) (newest : List (Option ℕ)) (first i : ℕ) (page : List ℕ) : Type 0 where
-  pub done : (k : ℕ) → k < i → bytes_of_line k page ≡ newest_bytes image home (first + k) (get_or newest (first + k) None)
-  pub left : (k : ℕ) → i ≤ k → k < 16 → bytes_of_line k page ≡ bytes_of_line (first + k) home
+pub record Composed (size : PageSize) (image home : List ℕ) (newest : List (Option ℕ)) (first i : ℕ) (page : List ℕ) : Type 0 where
+  pub done : (k : ℕ) → k < i → bytes_of_line size k page ≡ newest_bytes size image home (first + k) (get_or newest (first + k) None)
+  pub left : (k : ℕ) → i ≤ k → k < 16 → bytes_of_line size k page ≡ bytes_of_line size (first + k) home
 
 -- a line of a part of a list
-line_of_part : (bytes : List ℕ) (at k : ℕ) → k < 16 → bytes_of_line k (take 2048 (drop at bytes)) ≡ take (line_bytes Two) (drop (at + k * line_bytes Two) bytes)
-line_of_part bytes at k few =
-    let whole : 2048 ≡ k * line_bytes Two + (2048 - k * line_bytes Two) = omega arith in
-    ap (λ (n : ℕ). take (line_bytes Two) (drop (k * line_bytes Two) (take n (drop at bytes)))) whole
-    ∙ ap (λ (these : List ℕ). take (line_bytes Two) these) (drop-take (k * line_bytes Two) (2048 - k * line_bytes Two) (drop at bytes))
-    ∙ take-take (line_bytes Two) (2048 - k * line_bytes Two) (drop (k * line_bytes Two) (drop at bytes)) (omega arith)
-    ∙ ap (λ (these : List ℕ). take (line_bytes Two) these) (drop-drop (k * line_bytes Two) at bytes)
+line_of_part : (size : PageSize) (bytes : List ℕ) (at k : ℕ) → k < 16 → bytes_of_line size k (take (16 * line_bytes size) (drop at bytes)) ≡ take (line_bytes size) (drop (at + k * line_bytes size) bytes)
+line_of_part size bytes at k few =
+    let whole : (16 * line_bytes size) ≡ k * line_bytes size + ((16 * line_bytes size) - k * line_bytes size) = omega (arith, lines-below size k 16 few) in
+    ap (λ (n : ℕ). take (line_bytes size) (drop (k * line_bytes size) (take n (drop at bytes)))) whole
+    ∙ ap (λ (these : List ℕ). take (line_bytes size) these) (drop-take (k * line_bytes size) ((16 * line_bytes size) - k * line_bytes size) (drop at bytes))
+    ∙ take-take (line_bytes size) ((16 * line_bytes size) - k * line_bytes size) (drop (k * line_bytes size) (drop at bytes)) (omega (arith, lines-below size k 16 few))
+    ∙ ap (λ (these : List ℕ). take (line_bytes size) these) (drop-drop (k * line_bytes size) at bytes)
 
-pub composed_none : (image : List ℕ) (header : Header) (newest : List (Option ℕ)) (first : ℕ) (page : List ℕ) → page ≡ bytes_at image (home_at header first) 2048 → Composed image (home_of image header) newest first 0 page
+pub composed_none : (image : List ℕ) (header : Header) (newest : List (Option ℕ)) (first : ℕ) (page : List ℕ) → page ≡ bytes_at image (home_at header first) (16 * line_bytes header.directory.page) → Composed header.directory.page image (home_of image header) newest first 0 page
 composed_none image header newest first page is = record {
   done = λ k few. absurd (omega arith);
   left = λ k more few.
-      let place : home_at header first + k * line_bytes Two ≡ home_at header 0 + (first + k) * line_bytes Two = omega arith in
-      ap (bytes_of_line k) is
-      ∙ line_of_part image (home_at header first) k few
-      ∙ ap (λ (n : ℕ). take (line_bytes Two) (drop n image)) place
-      ∙ ap (λ (these : List ℕ). take (line_bytes Two) these) (sym (drop-drop ((first + k) * line_bytes Two) (home_at header 0) image));
+      let place : home_at header first + k * line_bytes header.directory.page ≡ home_at header 0 + (first + k) * line_bytes header.directory.page = omega arith in
+      ap (bytes_of_line header.directory.page k) is
+      ∙ line_of_part header.directory.page image (home_at header first) k few
+      ∙ ap (λ (n : ℕ). take (line_bytes header.directory.page) (drop n image)) place
+      ∙ ap (λ (these : List ℕ). take (line_bytes header.directory.page) these) (sym (drop-drop ((first + k) * line_bytes header.directory.page) (home_at header 0) image));
 }
 
-pub composed_more : (image home : List ℕ) (newest : List (Option ℕ)) (first i : ℕ) (page new : List ℕ) (place : Option ℕ) → i < 16 → length page ≡ 2048 → place ≡ get_or newest (first + i) None
-    → ((at : ℕ) → place ≡ Some at → at + line_bytes Two ≤ length image) → new ≡ newest_over (line_bytes Two) image place page (i * line_bytes Two) → Composed image home newest first i page → Composed image home newest first (i + 1) new
-composed_more image home newest first i page new None more long place_is within is composed = record {
+pub composed_more : (size : PageSize) (image home : List ℕ) (newest : List (Option ℕ)) (first i : ℕ) (page new : List ℕ) (place : Option ℕ) → i < 16 → length page ≡ (16 * line_bytes size) → place ≡ get_or newest (first + i) None
+    → ((at : ℕ) → place ≡ Some at → at + line_bytes size ≤ length image) → new ≡ newest_over (line_bytes size) image place page (i * line_bytes size) → Composed size image home newest first i page → Composed size image home newest first (i + 1) new
+composed_more size image home newest first i page new None more long place_is within is composed = record {
   done = λ k few. elim (cases_eq k i) [
     | inl same ↦
-        ap (λ (n : ℕ). bytes_of_line n new) same
-        ∙ ap (bytes_of_line i) is
+        ap (λ (n : ℕ). bytes_of_line size n new) same
+        ∙ ap (bytes_of_line size i) is
         ∙ composed.left i (omega arith) more
-        ∙ ap (newest_bytes image home (first + i)) place_is
-        ∙ ap (λ (n : ℕ). newest_bytes image home (first + n) (get_or newest (first + n) None)) (sym same)
-    | inr other ↦ ap (bytes_of_line k) is ∙ composed.done k (below k i few other)
+        ∙ ap (newest_bytes size image home (first + i)) place_is
+        ∙ ap (λ (n : ℕ). newest_bytes size image home (first + n) (get_or newest (first + n) None)) (sym same)
+    | inr other ↦ ap (bytes_of_line size k) is ∙ composed.done k (below k i few other)
   ];
-  left = λ k past few. ap (bytes_of_line k) is ∙ composed.left k (omega arith) few;
+  left = λ k past few. ap (bytes_of_line size k) is ∙ composed.left k (omega arith) few;
 }
   where
     below : (k i : ℕ) → k < i + 1 → (k ≡ i → ⊥) → k < i
     below k i few other = omega (arith, other)
-composed_more image home newest first i page new (Some at) more long place_is within is composed = record {
+composed_more size image home newest first i page new (Some at) more long place_is within is composed = record {
   done = λ k few. elim (cases_eq k i) [
     | inl same ↦
-        ap (λ (n : ℕ). bytes_of_line n new) same
-        ∙ ap (bytes_of_line i) is
-        ∙ same_line page (bytes_at image at (line_bytes Two)) i whole (omega (arith, long))
-        ∙ ap (newest_bytes image home (first + i)) place_is
-        ∙ ap (λ (n : ℕ). newest_bytes image home (first + n) (get_or newest (first + n) None)) (sym same)
-    | inr other ↦ ap (bytes_of_line k) is ∙ other_line page (bytes_at image at (line_bytes Two)) i k whole (omega (arith, long)) other ∙ composed.done k (below k i few other)
+        ap (λ (n : ℕ). bytes_of_line size n new) same
+        ∙ ap (bytes_of_line size i) is
+        ∙ same_line size page (bytes_at image at (line_bytes size)) i whole (omega (arith, long, lines-below size i 16 more))
+        ∙ ap (newest_bytes size image home (first + i)) place_is
+        ∙ ap (λ (n : ℕ). newest_bytes size image home (first + n) (get_or newest (first + n) None)) (sym same)
+    | inr other ↦ ap (bytes_of_line size k) is ∙ other_line size page (bytes_at image at (line_bytes size)) i k whole (omega (arith, long, lines-below size i 16 more)) other ∙ composed.done k (below k i few other)
   ];
-  left = λ k past few. ap (bytes_of_line k) is ∙ other_line page (bytes_at image at (line_bytes Two)) i k whole (omega (arith, long)) (behind k i past) ∙ composed.left k (omega arith) few;
+  left = λ k past few. ap (bytes_of_line size k) is ∙ other_line size page (bytes_at image at (line_bytes size)) i k whole (omega (arith, long, lines-below size i 16 more)) (behind k i past) ∙ composed.left k (omega arith) few;
 }
   where
-    whole : length (bytes_at image at (line_bytes Two)) ≡ line_bytes Two
-    whole = length-take-le (line_bytes Two) (drop at image) (omega (arith, length-drop at image, within at refl))
+    whole : length (bytes_at image at (line_bytes size)) ≡ line_bytes size
+    whole = length-take-le (line_bytes size) (drop at image) (omega (arith, length-drop at image, within at refl))
 
     below : (k i : ℕ) → k < i + 1 → (k ≡ i → ⊥) → k < i
     below k i few other = omega (arith, other)
@@ -102,35 +103,35 @@ nowhere newest first k long none few = by_place (get_or newest (first + k) None)
         cc
 
 -- where none of the sixteen lines is in the bank, the page at home is that of the store
-pub composed_at_home : (image home : List ℕ) (newest : List (Option ℕ)) (first : ℕ) (page : List ℕ) → first + 16 ≤ length newest → list_any is_some (slice_range newest first (first + 16)) ≡ false → Composed image home newest first 0 page → Composed image home newest first 16 page
-composed_at_home image home newest first page long none composed = record {
-  done = λ k few. composed.left k (omega arith) few ∙ ap (newest_bytes image home (first + k)) (sym (nowhere newest first k long none few));
+pub composed_at_home : (size : PageSize) (image home : List ℕ) (newest : List (Option ℕ)) (first : ℕ) (page : List ℕ) → first + 16 ≤ length newest → list_any is_some (slice_range newest first (first + 16)) ≡ false → Composed size image home newest first 0 page → Composed size image home newest first 16 page
+composed_at_home size image home newest first page long none composed = record {
+  done = λ k few. composed.left k (omega arith) few ∙ ap (newest_bytes size image home (first + k)) (sym (nowhere newest first k long none few));
   left = λ k past few. absurd (omega (arith, past, few));
 }
 
 -- with all sixteen lines the page is that of the store
-pub composed_all : (image home bytes : List ℕ) (newest : List (Option ℕ)) (places : ℕ → Option ℕ) (bound page_number : ℕ) (page : List ℕ) → Agree bound image home bytes places → ((k : ℕ) → k < bound → get_or newest k None ≡ places k) → page_number * 16 + 16 ≤ bound → length page ≡ 2048
-    → Composed image home newest (page_number * 16) 16 page → page ≡ take 2048 (drop (page_number * 2048) bytes)
-composed_all image home bytes newest places bound page_number page agree same within long composed =
-    same_lines 16 page (take 2048 (drop (page_number * 2048) bytes)) long (length-take-le 2048 (drop (page_number * 2048) bytes) (omega (arith, length-drop (page_number * 2048) bytes, agree.long, within)))
+pub composed_all : (size : PageSize) (image home bytes : List ℕ) (newest : List (Option ℕ)) (places : ℕ → Option ℕ) (bound page_number : ℕ) (page : List ℕ) → Agree size bound image home bytes places → ((k : ℕ) → k < bound → get_or newest k None ≡ places k) → page_number * 16 + 16 ≤ bound → length page ≡ (16 * line_bytes size)
+    → Composed size image home newest (page_number * 16) 16 page → page ≡ take (16 * line_bytes size) (drop (page_number * (16 * line_bytes size)) bytes)
+composed_all size image home bytes newest places bound page_number page agree same within long composed =
+    same_lines size 16 page (take (16 * line_bytes size) (drop (page_number * (16 * line_bytes size)) bytes)) long (length-take-le (16 * line_bytes size) (drop (page_number * (16 * line_bytes size)) bytes) (omega (arith, length-drop (page_number * (16 * line_bytes size)) bytes, agree.long, lines-within size (page_number * 16 + 16) bound within)))
     (λ k few.
-    let place : page_number * 2048 + k * line_bytes Two ≡ (page_number * 16 + k) * line_bytes Two = omega arith in
+    let place : page_number * (16 * line_bytes size) + k * line_bytes size ≡ (page_number * 16 + k) * line_bytes size = omega arith in
     composed.done k few
-    ∙ ap (newest_bytes image home (page_number * 16 + k)) (same (page_number * 16 + k) (omega (arith, within)))
+    ∙ ap (newest_bytes size image home (page_number * 16 + k)) (same (page_number * 16 + k) (omega (arith, within)))
     ∙ sym (agree.each (page_number * 16 + k) (omega (arith, within)))
-    ∙ ap (λ (n : ℕ). take (line_bytes Two) (drop n bytes)) (sym place)
-    ∙ sym (line_of_part bytes (page_number * 2048) k few))
+    ∙ ap (λ (n : ℕ). take (line_bytes size) (drop n bytes)) (sym place)
+    ∙ sym (line_of_part size bytes (page_number * (16 * line_bytes size)) k few))
 
 -- the page of a store that shows the bytes
-pub shown_page : (held : List ℕ) (store : KeptStore) (shows : Shows held store) (page : List ℕ) (page_number : ℕ) → page_number < page_count store.header.directory → length page ≡ 2048
-    → Composed held (home_of held store.header) store.bank.newest (page_number * 16) 16 page → page ≡ page_in (stands held) page_number
+pub shown_page : (held : List ℕ) (store : KeptStore) (shows : Shows held store) (page : List ℕ) (page_number : ℕ) → page_number < page_count store.header.directory → length page ≡ (16 * line_bytes store.header.directory.page)
+    → Composed store.header.directory.page held (home_of held store.header) store.bank.newest (page_number * 16) 16 page → page ≡ page_in (stands held) page_number
 shown_page held store shows page page_number within long composed =
     let is = shown_store held store shows in
-    let bytes = fold laid (home_of held store.header) shows.read.records in
-    composed_all held (home_of held store.header) bytes store.bank.newest (λ k. newest_place k shows.read.records) (line_count store.header.directory) page_number page (store_agrees held store.header store.bank.which store.bank.base store.bank.gate shows.read.records is)
+    let bytes = fold (laid store.header.directory.page) (home_of held store.header) shows.read.records in
+    composed_all store.header.directory.page held (home_of held store.header) bytes store.bank.newest (λ k. newest_place k shows.read.records) (line_count store.header.directory) page_number page (store_agrees held store.header store.bank.which store.bank.base store.bank.gate shows.read.records is)
     (λ k below. shows.read.newest k (omega (arith, below, shows.fits.lines))) (omega (arith, within)) long composed
     ∙ ap (λ (standing : Standing). page_in standing page_number) (sym (stands_is held store.header store.bank.which store.bank.base store.bank.gate shows.read.records is))
 
-pub placed_at : (place : Option ℕ) (at end : ℕ) → place ≡ Some at → IfSome place (λ those. those + line_bytes Two ≤ end) → at + line_bytes Two ≤ end
-placed_at None at end is within = cc
-placed_at (Some those) at end is within = let same : those ≡ at = cc in omega (arith, same, within)
+pub placed_at : (size : PageSize) (place : Option ℕ) (at end : ℕ) → place ≡ Some at → IfSome place (λ those. those + line_bytes size ≤ end) → at + line_bytes size ≤ end
+placed_at size None at end is within = cc
+placed_at size (Some those) at end is within = let same : those ≡ at = cc in omega (arith, same, within)

@@ -1,10 +1,11 @@
 -- What a store shows of bytes, and what these stand for.
-use Rattle.std.proofs.Common.{◌≡◌, ℕ, ◌+◌, ◌%◌, ◌^◌, ◌≤◌, List, [], length, take, refl, sym, ◌∙◌, ap, subst, arith, IsSome, IsTrue}
+use Rattle.std.proofs.Common.{◌≡◌, ℕ, ◌+◌, ◌*◌, ◌%◌, ◌^◌, ◌≤◌, List, [], length, take, refl, sym, ◌∙◌, ap, subst, arith, IsSome, IsTrue}
 use Rattle.std.specs.Prelude.{Option, None, fold, unwrap_or, Result, Ok, Err, IfErr}
 use Rattle.line_geometry.specs.Lines.{line_count}
 use Rattle.store_format.specs.declared.header.Which.{Which}
 use Rattle.store_format.specs.declared.header.Which.TheVariants.{A, B}
-use Rattle.store_format.specs.Header.{Header, bank_at, number_at, header_of, total}
+use Rattle.store_format.specs.Header.{Header, bank_at, number_at, header_of, total, line_bytes}
+use Rattle.line_geometry.specs.declared.directory.PageSize.{PageSize}
 use Rattle.store_format.specs.Bank.{RecordLine, Holds, Faulty, base_of, bank_of, bank_held}
 use Rattle.store_format.specs.Stands.{Stands, Damaged, stands, standing_if, standing_by, HasHeader, IsStore, chosen, laid, home_of}
 use Rattle.store_format.proofs.Stores.{stands_is, not_less}
@@ -29,11 +30,12 @@ use Rattle.restart.specs.Kept.{KeptStore, Fits, number_of}
 use Rattle.restart.specs.Shows.{Shows, IsIntact, IsReopened, Tracks, ShownStands}
 
 -- the bank of a header is the one that such a bank's size says
-pub bank_is : (held : List ℕ) (header : Header) (which : Which) (bytes bound : ℕ) → header.bank_bytes ≡ bytes → line_count header.directory ≡ bound → bank_of held header which ≡ bank_in held which bytes bound
-bank_is held header which bytes bound same lines =
-    ap (λ (n : ℕ). bank_held held n (bank_at header which) header.bank_bytes) lines
-    ∙ ap (λ (n : ℕ). bank_held held bound n header.bank_bytes) (place_is header which bytes same)
-    ∙ ap (bank_held held bound (place_of which bytes)) same
+pub bank_is : (held : List ℕ) (header : Header) (which : Which) (page : PageSize) (bytes bound : ℕ) → header.directory.page ≡ page → header.bank_bytes ≡ bytes → line_count header.directory ≡ bound → bank_of held header which ≡ bank_in held page which bytes bound
+bank_is held header which page bytes bound sized same lines =
+    ap (λ (those : PageSize). bank_held held those (line_count header.directory) (bank_at header which) header.bank_bytes) sized
+    ∙ ap (λ (n : ℕ). bank_held held page n (bank_at header which) header.bank_bytes) lines
+    ∙ ap (λ (n : ℕ). bank_held held page bound n header.bank_bytes) (place_is header which bytes same)
+    ∙ ap (bank_held held page bound (place_of which bytes)) same
 
 -- what a store shows is a store with the records of its bank
 pub shown_store : (held : List ℕ) (store : KeptStore) (shows : Shows held store) → IsStore held store.header store.bank.which store.bank.base store.bank.gate shows.read.records
@@ -43,14 +45,14 @@ shown_store held store shows = record {
   whole = shows.header.whole;
   chooses = shows.chosen_is;
   from = ap (λ (n : ℕ). number_at held n 8) (place_is store.header store.bank.which store.bank.bank_bytes shows.fits.bank_bytes) ∙ shows.read.base;
-  holds = bank_is held store.header store.bank.which store.bank.bank_bytes (length store.bank.newest) shows.fits.bank_bytes shows.fits.lines ∙ shows.read.holds;
+  holds = bank_is held store.header store.bank.which store.bank.page store.bank.bank_bytes (length store.bank.newest) shows.fits.page shows.fits.bank_bytes shows.fits.lines ∙ shows.read.holds;
 }
 
 pub shown_stands : ShownStands
 shown_stands held store shows = (
-  record { directory = store.header.directory; bytes = fold laid (home_of held store.header) shows.read.records },
+  record { directory = store.header.directory; bytes = fold (laid store.header.directory.page) (home_of held store.header) shows.read.records },
   stands_is held store.header store.bank.which store.bank.base store.bank.gate shows.read.records (shown_store held store shows)
-      ∙ ap (λ (n : ℕ). Stands ((store.bank.base + n) % 2 ^ 64) (record { directory = store.header.directory; bytes = fold laid (home_of held store.header) shows.read.records })) shows.read.count,
+      ∙ ap (λ (n : ℕ). Stands ((store.bank.base + n) % 2 ^ 64) (record { directory = store.header.directory; bytes = fold (laid store.header.directory.page) (home_of held store.header) shows.read.records })) shows.read.count,
 )
 
 -- a store that is tracked has a bank that is
@@ -69,7 +71,10 @@ bank_tracked G store outside tracks = record {
 
 -- a store whose bank is as the header says is as long as the bank thinks
 pub total_is : (header : Header) (bank : KeptBank) → Fits header bank → total header ≡ store_bytes bank
-total_is header bank fits = omega (arith, fits.bank_bytes, fits.lines)
+total_is header bank fits =
+    ap (λ (page : PageSize). 272 + 2 * header.bank_bytes + line_bytes page * line_count header.directory) fits.page
+    ∙ ap (λ (n : ℕ). 272 + 2 * n + line_bytes bank.page * line_count header.directory) fits.bank_bytes
+    ∙ ap (λ (n : ℕ). 272 + 2 * bank.bank_bytes + line_bytes bank.page * n) fits.lines
 
 -- a bank that is tracked under a header is the store's
 pub store_tracked : {W : Type 0} (G : Ghosts W) (header : Header) (bank : KeptBank) (outside : W) → Fits header bank → header_of (take 128 (held_of G outside)) ≡ header → journal.Tracks G bank outside
@@ -85,7 +90,7 @@ store_tracked G header bank outside fits said tracks =
         read = record {
           records = tracks.records;
           base = ap (λ (n : ℕ). number_at held n 8) (sym (place_is tracks.header bank.which bank.bank_bytes tracks.bank_bytes)) ∙ tracks.store.from;
-          holds = sym (bank_is held tracks.header bank.which bank.bank_bytes (length bank.newest) tracks.bank_bytes tracks.bound) ∙ tracks.store.holds;
+          holds = sym (bank_is held tracks.header bank.which bank.page bank.bank_bytes (length bank.newest) tracks.page tracks.bank_bytes tracks.bound) ∙ tracks.store.holds;
           count = tracks.count;
           newest = tracks.newest;
         };
@@ -136,8 +141,8 @@ reopening_fault G old mid new header bank (reopening.Damaged offset) fits asks i
     λ told.
     let still : IsSome (G.held mid) = subst (λ (those : Option (List ℕ)). IsSome those) (sym asks.held) told in
     let same : held_of G mid ≡ held_of G old = ap (λ (those : Option (List ℕ)). unwrap_or those []) asks.held in
-    bank_is (held_of G old) header (chosen (held_of G old)) bank.bank_bytes (length bank.newest) fits.bank_bytes fits.lines
-    ∙ ap (λ (held : List ℕ). bank_in held (chosen held) bank.bank_bytes (length bank.newest)) (sym same)
+    bank_is (held_of G old) header (chosen (held_of G old)) bank.page bank.bank_bytes (length bank.newest) fits.page fits.bank_bytes fits.lines
+    ∙ ap (λ (held : List ℕ). bank_in held bank.page (chosen held) bank.bank_bytes (length bank.newest)) (sym same)
     ∙ is still
 reopening_fault G old mid new header bank reopening.DiskFault fits asks is = omega (arith, is, asks.calls.disk)
 
@@ -174,10 +179,11 @@ pub reopened_holds : (held : List ℕ) (header : Header) (store : KeptStore) →
 reopened_holds held header store same is =
     let bank = store.bank in
     let bytes : header.bank_bytes ≡ bank.bank_bytes = ap (λ (that : Header). that.bank_bytes) (sym same) ∙ is.fits.bank_bytes in
+    let sized : header.directory.page ≡ bank.page = ap (λ (that : Header). that.directory.page) (sym same) ∙ is.fits.page in
     let lines : line_count header.directory ≡ length bank.newest = ap (λ (that : Header). line_count that.directory) (sym same) ∙ is.fits.lines in
     let base : base_of held header (chosen held) ≡ bank.base = ap (base_of held header) is.chosen_is ∙ ap (λ (n : ℕ). number_at held n 8) (place_is header bank.which bank.bank_bytes bytes) ∙ is.read.base in (
       bank.gate,
       is.read.records,
-      ap (bank_of held header) is.chosen_is ∙ bank_is held header bank.which bank.bank_bytes (length bank.newest) bytes lines ∙ is.read.holds,
+      ap (bank_of held header) is.chosen_is ∙ bank_is held header bank.which bank.page bank.bank_bytes (length bank.newest) sized bytes lines ∙ is.read.holds,
       ap (λ (n : ℕ). (bank.base + n) % 2 ^ 64) (sym is.read.count) ∙ ap (λ (n : ℕ). (n + length is.read.records) % 2 ^ 64) (sym base),
     )

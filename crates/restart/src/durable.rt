@@ -22,7 +22,7 @@ use outside::{Failed, Outside};
 use redo_journal::Kept;
 use std::alloc::Global;
 use std::marker::Model;
-use store_format::{Header, LINE_BYTES};
+use store_format::{Header, lines_bytes};
 
 /// A store on a disk: its header, and the bank that the selector chooses. It is what an opening found, with each
 /// commit since (docs/MODEL.md, "A store that is open").
@@ -202,14 +202,10 @@ impl Durable {
         if !self.banks.holds_some(first, 16) {
             return Ok(());
         }
+        let page = self.header.directory().page();
         for i in 0..16 {
-            read_newest(
-                &self.banks,
-                outside,
-                first + i,
-                into,
-                i as usize * LINE_BYTES,
-            )?;
+            let at = lines_bytes(page, i) as usize;
+            read_newest(&self.banks, outside, first + i, into, at)?;
         }
         Ok(())
     }

@@ -1,8 +1,6 @@
 // Pages of the committed store: home lines, with the newest lines of the bank over them.
 ghost use Rattle.std.specs.Prelude.{◌≡◌, ◌+◌, ◌≤◌, ◌<◌, length, slice_index_or, None, IsSome, IfSome, OnOk};
 ghost use Rattle.owned_list.specs.Overlay.{overlaid};
-ghost use Rattle.line_geometry.specs.declared.directory.PageSize.TheVariants.{Two};
-ghost use Rattle.store_format.specs.Header.{line_bytes};
 ghost use Rattle.outside.specs.Bytes.{bytes_at};
 ghost use Rattle.outside.specs.Causes.{HasCause};
 ghost use Rattle.outside.specs.Runs.{OnlyAsks, held_of};
@@ -12,7 +10,6 @@ ghost use Rattle.restart.specs.Page.{newest_over};
 
 use checkpoint::Banks;
 use outside::{Failed, Outside};
-use store_format::LINE_BYTES;
 
 /// Reads the newest bytes of a line, where the bank holds it, over a part of a page.
 pub fn read_newest<W: Outside>(
@@ -32,24 +29,25 @@ pub fn read_newest<W: Outside>(
 {
     match banks.newest(line) {
         None => Ok(()),
-        Some(place) => read_line(outside, place, page, at),
+        Some(place) => read_line(outside, place, page, at, banks.line_bytes()),
     }
 }
 
-/// Reads the bytes of a line at a place of the disk over a part of a page.
+/// Reads the bytes of a line, so many, at a place of the disk over a part of a page.
 fn read_line<W: Outside>(
     outside: &mut W,
     place: u64,
     page: &mut [u8],
     at: usize,
+    count: usize,
 ) -> Result<(), Failed>
-    requires room { HoldsAtLeast W.Outside (place + line_bytes Two) outside.old }
-    requires within { at + line_bytes Two ≤ length page.old }
+    requires room { HoldsAtLeast W.Outside (place + count) outside.old }
+    requires within { at + count ≤ length page.old }
     ensures asks { OnlyAsks W.Outside outside.old outside.new }
-    ensures read { OnOk result (IsSome (W.held outside.old) → page.new ≡ overlaid page.old at (bytes_at (held_of W.Outside outside.old) place (line_bytes Two))) }
+    ensures read { OnOk result (IsSome (W.held outside.old) → page.new ≡ overlaid page.old at (bytes_at (held_of W.Outside outside.old) place count)) }
     ensures cause { HasCause (W.disk_faults outside.old) (W.disk_faults outside.new) result }
 {
     let (_, rest) = page.split_at_mut(at);
-    let (line, _) = rest.split_at_mut(LINE_BYTES);
+    let (line, _) = rest.split_at_mut(count);
     outside.read_at(place, line)
 }

@@ -10,7 +10,7 @@ use outside::{Call, Joint, MemoryDisk, MemoryScreen, Refusal};
 use std::alloc::{AllocError, Global};
 use std::process::Abort;
 use std::test::Fail;
-use store_format::{Header, LINE_BYTES};
+use store_format::Header;
 
 // The bytes of one commit, of line 0 with the word 5 in front, at these offsets. All others are zero.
 const RECORD: [(usize, u8); 5] = [(264, 0xa5), (266, 1), (274, 1), (282, 5), (407, 0)];
@@ -107,7 +107,7 @@ fn images_stand_or_are_told_where_not(rt: HostRuntime) -> Result<(), Fail> {
 #[test]
 fn a_commit_is_kept_or_not(rt: HostRuntime) -> Result<(), Fail> {
     let alloc = rt.alloc();
-    let mut line = [0; LINE_BYTES];
+    let mut line = [0; 128];
     line[3] = 5;
     for (call, from, to, skip, wanted) in REFUSALS {
         let refused = vec![in alloc;
@@ -152,11 +152,11 @@ fn small_store(rt: &impl Abort, alloc: Global) -> Result<Vec<u8>, AllocError> {
 fn begin_lines(store: &mut Durable, count: u32)
     requires few { count < 256 }
     requires below { count ≤ line_count store.old.header.directory }
-    requires room { record_bytes count + 1 ≤ store.old.header.bank_bytes }
+    requires room { record_bytes PageSize.Two count + 1 ≤ store.old.header.bank_bytes }
     ensures header { store.new.header ≡ store.old.header }
     ensures begun { IsSome store.new.bank.begun }
 {
-    let mut line = [0; LINE_BYTES];
+    let mut line = [0; 128];
     store.record_start();
     for i in 0..count {
         line[3] = (count - i) as u8;

@@ -9,6 +9,7 @@ use Rattle.std.proofs.lemmas.List.FromFn.{get_or-map-range_with_len, length-map-
 use Rattle.std.proofs.lemmas.Grind.{same_number_lists}
 use Rattle.owned_list.specs.Overlay.{overlaid}
 use Rattle.owned_list.proofs.Overlay.{overlaid_before, overlaid_within, overlaid_behind}
+use Rattle.line_geometry.specs.declared.directory.PageSize.TheVariants.{Two}
 use Rattle.segment_regs.specs.declared.registers.Check.{Check}
 use Rattle.segment_regs.specs.declared.registers.Virtual.{Virtual}
 use Rattle.segment_regs.specs.Registers.{virtual_at, located_under, located_by}
@@ -74,11 +75,11 @@ others-stay xs a part other fits outside =
 
 -- where an access inside the bytes lies
 located-inside :
-    (size a n : ℕ) (store : Bool) → a / 2 ^ 28 ≡ 0 → a + n ≤ size → located_by (one_register size) a n store ≡ Ok (virtual_at 3840 a)
+    (size a n : ℕ) (store : Bool) → a / 2 ^ 28 ≡ 0 → a + n ≤ size → located_by (one_register size) a n store ≡ Ok (virtual_at Two 3840 a)
 located-inside size a n store first fits =
     let here : a % 2 ^ 28 ≡ a = omega arith in
-    ap (λ i. located_under (slice_index_or (one_register size) i None) (a % 2 ^ 28) n store) first
-    ∙ ap (λ o. located_under (slice_index_or (one_register size) 0 None) o n store) here
+    ap (λ i. located_under Two (slice_index_or (one_register size).list i None) (a % 2 ^ 28) n store) first
+    ∙ ap (λ o. located_under Two (slice_index_or (one_register size).list 0 None) o n store) here
     ∙ by_test (nat_le (a + n) size) inside store
   where
     inside : nat_le (a + n) size ≡ true
@@ -86,7 +87,7 @@ located-inside size a n store first fits =
 
     by_test :
         (test : Bool) → test ≡ true → (store : Bool)
-        → cond {A = Result Virtual Check} test (cond {A = Result Virtual Check} (store && false) (Err (record { 0 = 7 })) (Ok (virtual_at 3840 a))) (Err (record { 0 = 2 })) ≡ Ok (virtual_at 3840 a)
+        → cond {A = Result Virtual Check} test (cond {A = Result Virtual Check} (store && false) (Err (record { 0 = 7 })) (Ok (virtual_at Two 3840 a))) (Err (record { 0 = 2 })) ≡ Ok (virtual_at Two 3840 a)
     by_test true is true = refl
     by_test true is false = refl
     by_test false is store = absurd (cc)
@@ -99,19 +100,19 @@ find-never (x ∷ xs) = find-never xs
 answered-inside :
     (size : ℕ) (access : Access) (in_frame : Bool) → access.address / 2 ^ 28 ≡ 0 → access.address + access.bytes ≤ size
     → answered (one_register size) (λ at. in_frame) (λ at store. false) access
-    ≡ unless_absent_at (find (λ at. not in_frame) (bytes_of_range (virtual_at 3840 access.address) access.bytes)) None
+    ≡ unless_absent_at (find (λ at. not in_frame) (bytes_of_range Two (virtual_at Two 3840 access.address) access.bytes)) None
 answered-inside size access in_frame first fits =
-    ap (answered_at (λ at. in_frame) (λ at store. false) access) (located-inside size access.address access.bytes access.store first fits)
+    ap (answered_at Two (λ at. in_frame) (λ at store. false) access) (located-inside size access.address access.bytes access.store first fits)
     ∙ ap
-    (unless_absent_at (find (λ at. not in_frame) (bytes_of_range (virtual_at 3840 access.address) access.bytes)))
-    (find-never (bytes_of_range (virtual_at 3840 access.address) access.bytes))
+    (unless_absent_at (find (λ at. not in_frame) (bytes_of_range Two (virtual_at Two 3840 access.address) access.bytes)))
+    (find-never (bytes_of_range Two (virtual_at Two 3840 access.address) access.bytes))
 
 -- it is permitted where they are in a frame, or where it has no bytes
 pub permitted-there :
     (size : ℕ) (access : Access) (in_frame : Bool) → access.address / 2 ^ 28 ≡ 0 → access.address + access.bytes ≤ size → in_frame ≡ true
     → Probe.Permitted ≡ answered (one_register size) (λ at. in_frame) (λ at store. false) access
 permitted-there size access in_frame first fits there =
-    let range = bytes_of_range (virtual_at 3840 access.address) access.bytes in
+    let range = bytes_of_range Two (virtual_at Two 3840 access.address) access.bytes in
     sym (answered-inside size access in_frame first fits
     ∙ ap (λ b. unless_absent_at (find (λ at. not b) range) None) there
     ∙ ap (λ found. unless_absent_at found None) (find-never range))
@@ -121,26 +122,26 @@ pub permitted-empty :
     → Probe.Permitted ≡ answered (one_register size) (λ at. in_frame) (λ at store. false) access
 permitted-empty size access in_frame first fits none =
     sym (answered-inside size access in_frame first fits
-    ∙ ap (λ n. unless_absent_at (find (λ at. not in_frame) (bytes_of_range (virtual_at 3840 access.address) n)) None) none)
+    ∙ ap (λ n. unless_absent_at (find (λ at. not in_frame) (bytes_of_range Two (virtual_at Two 3840 access.address) n)) None) none)
 
 -- and else a fault at its first byte
 pub absent-first :
     (size : ℕ) (access : Access) (in_frame : Bool) → access.address / 2 ^ 28 ≡ 0 → access.address + access.bytes ≤ size
     → in_frame ≡ false → (access.bytes ≡ 0 → ⊥)
-    → Probe.Fault (Fault.Page (virtual_at 3840 access.address)) ≡ answered (one_register size) (λ at. in_frame) (λ at store. false) access
+    → Probe.Fault (Fault.Page (virtual_at Two 3840 access.address)) ≡ answered (one_register size) (λ at. in_frame) (λ at store. false) access
 absent-first size access in_frame first fits absent some =
     sym (answered-inside size access in_frame first fits
-    ∙ ap (λ b. unless_absent_at (find (λ at. not b) (bytes_of_range (virtual_at 3840 access.address) access.bytes)) None) absent
+    ∙ ap (λ b. unless_absent_at (find (λ at. not b) (bytes_of_range Two (virtual_at Two 3840 access.address) access.bytes)) None) absent
     ∙ of_first access.bytes some)
   where
     of_first :
         (n : ℕ) → (n ≡ 0 → ⊥)
-        → unless_absent_at (find (λ at. true) (bytes_of_range (virtual_at 3840 access.address) n)) None
-        ≡ Probe.Fault (Fault.Page (virtual_at 3840 access.address))
+        → unless_absent_at (find (λ at. true) (bytes_of_range Two (virtual_at Two 3840 access.address) n)) None
+        ≡ Probe.Fault (Fault.Page (virtual_at Two 3840 access.address))
     of_first zero some = absurd (some refl)
     of_first (suc n) some =
         let whole : access.address / 2048 * 2048 + access.address % 2048 + 0 ≡ access.address = omega (arith, div-add-mod' access.address 2048) in
-        ap (λ a. Probe.Fault (Fault.Page (virtual_at 3840 a))) whole
+        ap (λ a. Probe.Fault (Fault.Page (virtual_at Two 3840 a))) whole
 
 -- a permitted access lies inside the bytes
 pub permitted-fits :
@@ -150,14 +151,14 @@ permitted-fits size access in_frame permitted = by_register (access.address / 2 
   where
     Answered : ℕ → Type 0
     Answered i =
-        answered_at (λ at. in_frame) (λ at store. false) access
-        (located_under (slice_index_or (one_register size) i None) (access.address % 2 ^ 28) access.bytes access.store)
+        answered_at Two (λ at. in_frame) (λ at store. false) access
+        (located_under Two (slice_index_or (one_register size).list i None) (access.address % 2 ^ 28) access.bytes access.store)
         ≡ Probe.Permitted
 
     by_test :
         (inside : Bool) → nat_le (access.address % 2 ^ 28 + access.bytes) size ≡ inside
-        → answered_at (λ at. in_frame) (λ at store. false) access
-        (cond {A = Result Virtual Check} inside (cond {A = Result Virtual Check} (access.store && false) (Err (record { 0 = 7 })) (Ok (virtual_at 3840 (access.address % 2 ^ 28)))) (Err (record { 0 = 2 })))
+        → answered_at Two (λ at. in_frame) (λ at store. false) access
+        (cond {A = Result Virtual Check} inside (cond {A = Result Virtual Check} (access.store && false) (Err (record { 0 = 7 })) (Ok (virtual_at Two 3840 (access.address % 2 ^ 28)))) (Err (record { 0 = 2 })))
         ≡ Probe.Permitted
         → access.address % 2 ^ 28 + access.bytes ≤ size
     by_test true inside permitted = leb-true (access.address % 2 ^ 28 + access.bytes) size inside

@@ -2,6 +2,7 @@
 use Rattle.std.specs.Prelude.{refl, ℕ, zero, suc, ◌+◌, ◌/◌, ◌%◌, ◌^◌, nat_le, ◌&&◌, not, cond, Bool, true, false, slice_index_or, Option, Some, None, option_map, Result, Ok, Err}
 use Rattle.std.proofs.Common.{sym, subst}
 use Rattle.std.proofs.Math.ListN.{get_or-map}
+use Rattle.line_geometry.specs.declared.directory.PageSize.{PageSize}
 use Rattle.line_geometry.specs.Directory.{Layout, length_of, start_of}
 use Rattle.segment_regs.specs.declared.registers.Check.{Check}
 use Rattle.segment_regs.specs.declared.registers.SegmentRegister.{SegmentRegister}
@@ -22,13 +23,13 @@ no-check None None at = (tt, tt)
 no-check None (Some v) at = (tt, tt)
 no-check (Some v) refused at = (tt, tt)
 
-module _ (is_in_frame : Virtual → Bool) (refuses : Virtual → Bool → Bool) (access : Access) where
+module _ (page : PageSize) (is_in_frame : Virtual → Bool) (refuses : Virtual → Bool → Bool) (access : Access) where
   -- under register 0
   private-alike :
       (private offset : ℕ) (inside store : Bool)
       → ChecksAlike
-      (answered_at is_in_frame refuses access
-      (cond {A = Result Virtual Check} inside (cond {A = Result Virtual Check} (store && false) (Err (record { 0 = 7 })) (Ok (virtual_at private offset))) (Err (record { 0 = 2 }))))
+      (answered_at page is_in_frame refuses access
+      (cond {A = Result Virtual Check} inside (cond {A = Result Virtual Check} (store && false) (Err (record { 0 = 7 })) (Ok (virtual_at page private offset))) (Err (record { 0 = 2 }))))
       (cond inside (Private offset) (Refused 2))
   private-alike private offset true true = (no-check _ _ offset).0
   private-alike private offset true false = (no-check _ _ offset).0
@@ -38,8 +39,8 @@ module _ (is_in_frame : Virtual → Bool) (refuses : Virtual → Bool → Bool) 
   segment-alike :
       (segment offset place : ℕ) (inside refused : Bool)
       → ChecksAlike
-      (answered_at is_in_frame refuses access
-      (cond {A = Result Virtual Check} inside (cond {A = Result Virtual Check} refused (Err (record { 0 = 7 })) (Ok (virtual_at segment offset))) (Err (record { 0 = 2 }))))
+      (answered_at page is_in_frame refuses access
+      (cond {A = Result Virtual Check} inside (cond {A = Result Virtual Check} refused (Err (record { 0 = 7 })) (Ok (virtual_at page segment offset))) (Err (record { 0 = 2 }))))
       (cond inside (cond refused (Refused 7) (Shared place)) (Refused 2))
   segment-alike segment offset place true true = refl
   segment-alike segment offset place true false = (no-check _ _ place).1
@@ -48,8 +49,8 @@ module _ (is_in_frame : Virtual → Bool) (refuses : Virtual → Bool → Bool) 
   length-alike :
       (d : Layout) (w : Window) (length : Option ℕ) (offset bytes : ℕ) (store : Bool)
       → ChecksAlike
-      (answered_at is_in_frame refuses access
-      (located_under (option_map (λ length. record { segment = w.segment; bytes = length; write = w.write }) length) offset bytes store))
+      (answered_at page is_in_frame refuses access
+      (located_under page (option_map (λ length. record { segment = w.segment; bytes = length; write = w.write }) length) offset bytes store))
       (in_segment d w length offset bytes store)
   length-alike d w None offset bytes store = refl
   length-alike d w (Some length) offset bytes store =
@@ -58,7 +59,7 @@ module _ (is_in_frame : Virtual → Bool) (refuses : Virtual → Bool → Bool) 
   window-alike :
       (d : Layout) (w : Option Window) (offset bytes : ℕ) (store : Bool)
       → ChecksAlike
-      (answered_at is_in_frame refuses access (located_under (register_of_window d w) offset bytes store))
+      (answered_at page is_in_frame refuses access (located_under page (register_of_window d w) offset bytes store))
       (in_window d w offset bytes store)
   window-alike d None offset bytes store = refl
   window-alike d (Some w) offset bytes store = length-alike d w (length_of d w.segment) offset bytes store
@@ -66,18 +67,18 @@ module _ (is_in_frame : Virtual → Bool) (refuses : Virtual → Bool → Bool) 
   register-alike :
       (p : Program) (d : Layout) (private i offset bytes : ℕ) (store : Bool)
       → ChecksAlike
-      (answered_at is_in_frame refuses access (located_under (slice_index_or (registers_of_program p d private) i None) offset bytes store))
+      (answered_at page is_in_frame refuses access (located_under page (slice_index_or (registers_of_program p d private).list i None) offset bytes store))
       (in_register p d i offset bytes store)
   register-alike p d private zero offset bytes store = private-alike private offset (nat_le (offset + bytes) 16384) store
   register-alike p d private (suc i) offset bytes store =
       subst
-      (λ (r : Option SegmentRegister). ChecksAlike (answered_at is_in_frame refuses access (located_under r offset bytes store)) (in_register p d (suc i) offset bytes store))
+      (λ (r : Option SegmentRegister). ChecksAlike (answered_at page is_in_frame refuses access (located_under page r offset bytes store)) (in_register p d (suc i) offset bytes store))
       (sym (get_or-map (register_of_window d) p.windows i None))
       (window-alike d (slice_index_or p.windows i None) offset bytes store)
 
-  -- whatever its frames and entries are
-  pub checks-alike :
-      (p : Program) (d : Layout) (private : ℕ)
-      → ChecksAlike (answered (registers_of_program p d private) is_in_frame refuses access) (place_of p d access)
-  checks-alike p d private =
-      register-alike p d private (access.address / 2 ^ 28) (access.address % 2 ^ 28) access.bytes access.store
+-- whatever its frames and entries are
+pub checks-alike :
+    (is_in_frame : Virtual → Bool) (refuses : Virtual → Bool → Bool) (access : Access) (p : Program) (d : Layout) (private : ℕ)
+    → ChecksAlike (answered (registers_of_program p d private) is_in_frame refuses access) (place_of p d access)
+checks-alike is_in_frame refuses access p d private =
+    register-alike d.page is_in_frame refuses access p d private (access.address / 2 ^ 28) (access.address % 2 ^ 28) access.bytes access.store

@@ -32,7 +32,7 @@ window-segment directory (Some window) r stands = by_length (length_of directory
 -- so is what stands under each register of a program from 1 on
 pub register-window :
     (program : Program) (directory : Layout) (private i : ℕ) (r : SegmentRegister)
-    → slice_index_or (registers_of_program program directory private) (suc i) None ≡ Some r
+    → slice_index_or (registers_of_program program directory private).list (suc i) None ≡ Some r
     → length_of directory r.segment ≡ Some r.bytes
 register-window program directory private i r stands =
     window-segment directory (slice_index_or program.windows i None) r
@@ -60,14 +60,14 @@ found-low identifier bytes page (segment ∷ rest) all found =
 -- a segment that a legal directory has is below 3,840
 pub named-low :
     (segments : List (ℕ × ℕ)) (identifier bytes : ℕ) (page : PageSize) → IsLegal segments
-    → length_of (record { page = page; segments = segments }) identifier ≡ Some bytes → identifier < 3840
+    → length_of (record { page = page; segments = segments; fine = 0 }) identifier ≡ Some bytes → identifier < 3840
 named-low segments identifier bytes page legal found = found-low identifier bytes (page_bytes page) segments legal.in_range found
 
 -- and has at most 4 MiB
 pub bytes-low :
     (segments : List (ℕ × ℕ)) (identifier bytes : ℕ) (page : PageSize) → IsLegal segments
-    → length_of (record { page = page; segments = segments }) identifier ≡ Some bytes → bytes ≤ 2 ^ 22
+    → length_of (record { page = page; segments = segments; fine = 0 }) identifier ≡ Some bytes → bytes ≤ 2 ^ 22
 bytes-low segments identifier bytes page legal found =
-    let directory : Layout = record { page = page; segments = segments } in
+    let directory : Layout = record { page = page; segments = segments; fine = 0 } in
     let within : start_of directory identifier + bytes ≤ byte_count directory = segment-within directory identifier bytes found in
     omega (arith, within, legal-bytes directory legal)

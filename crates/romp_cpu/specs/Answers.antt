@@ -2,16 +2,16 @@
 use Rattle.std.specs.Prelude.{◌≢◌, ℕ, ◌+◌, ◌<◌, Bool, false, not, List, map, find, Option, Some, None, Result, Ok, Err}
 use Rattle.std.specs.List.{range_with_len}
 use Rattle.segment_regs.specs.declared.registers.Check.{Check}
-use Rattle.segment_regs.specs.declared.registers.SegmentRegister.{SegmentRegister}
+use Rattle.line_geometry.specs.declared.directory.PageSize.{PageSize}
 use Rattle.segment_regs.specs.declared.registers.Virtual.{Virtual}
-use Rattle.segment_regs.specs.Registers.{bytes_on, located_by}
+use Rattle.segment_regs.specs.Registers.{Registers, bytes_on, located_by}
 use Rattle.romp_cpu.specs.declared.storage.Access.{Access}
 use Rattle.romp_cpu.specs.declared.storage.Fault.{Fault}
 use Rattle.romp_cpu.specs.declared.storage.Probe.{Probe}
 
 -- where each byte of a range lies
-abbrev pub bytes_of_range : Virtual → (count : ℕ) → List Virtual
-bytes_of_range first count = map (bytes_on first) (range_with_len 0 count)
+abbrev pub bytes_of_range : PageSize → Virtual → (count : ℕ) → List Virtual
+bytes_of_range page first count = map (bytes_on page first) (range_with_len 0 count)
 
 -- the first byte that is refused, if there is one
 abbrev pub unless_refused_at : Option Virtual → Probe
@@ -24,24 +24,24 @@ unless_absent_at None refused = unless_refused_at refused
 unless_absent_at (Some at) refused = Probe.Fault (Fault.Page at)
 
 -- the answer to an access that lies at these bytes, or nowhere
-abbrev pub answered_at : (is_in_frame : Virtual → Bool) → (refuses : Virtual → Bool → Bool) → Access → Result Virtual Check → Probe
-answered_at is_in_frame refuses access (Err check) = Probe.Check check.0
-answered_at is_in_frame refuses access (Ok first) =
+abbrev pub answered_at : PageSize → (is_in_frame : Virtual → Bool) → (refuses : Virtual → Bool → Bool) → Access → Result Virtual Check → Probe
+answered_at page is_in_frame refuses access (Err check) = Probe.Check check.0
+answered_at page is_in_frame refuses access (Ok first) =
     unless_absent_at
-    (find (λ at. not (is_in_frame at)) (bytes_of_range first access.bytes))
-    (find (λ at. refuses at access.store) (bytes_of_range first access.bytes))
+    (find (λ at. not (is_in_frame at)) (bytes_of_range page first access.bytes))
+    (find (λ at. refuses at access.store) (bytes_of_range page first access.bytes))
 
 -- the answer to an access: a check as it is located; else the first page by address that is in no frame; else the first
 -- whose entry refuses; else it is permitted
-abbrev pub answered : List (Option SegmentRegister) → (is_in_frame : Virtual → Bool) → (refuses : Virtual → Bool → Bool) → Access → Probe
+abbrev pub answered : Registers → (is_in_frame : Virtual → Bool) → (refuses : Virtual → Bool → Bool) → Access → Probe
 answered registers is_in_frame refuses access =
-    answered_at is_in_frame refuses access (located_by registers access.address access.bytes access.store)
+    answered_at registers.page is_in_frame refuses access (located_by registers access.address access.bytes access.store)
 
 -- the same in each state
-abbrev pub answer_in : {S : Type 0} → (S → List (Option SegmentRegister)) → (S → Virtual → Bool) → (S → Virtual → Bool → Bool) → S → Access → Probe
+abbrev pub answer_in : {S : Type 0} → (S → Registers) → (S → Virtual → Bool) → (S → Virtual → Bool → Bool) → S → Access → Probe
 answer_in registers is_in_frame refuses state = answered (registers state) (is_in_frame state) (refuses state)
 
 -- an address names no byte of a range: no byte of it is at the same place as the address's byte
-abbrev pub IsOutside : List (Option SegmentRegister) → (address count other : ℕ) → Type 0
+abbrev pub IsOutside : Registers → (address count other : ℕ) → Type 0
 IsOutside registers address count other =
     (k : ℕ) → k < count → located_by registers other 1 false ≢ located_by registers (address + k) 1 false

@@ -1,7 +1,8 @@
 -- A storage that is one list of bytes under register 0.
 use Rattle.std.specs.Prelude.{ℕ, true, List, [], ◌∷◌, Option, Some}
-use Rattle.segment_regs.specs.declared.registers.SegmentRegister.{SegmentRegister}
+use Rattle.line_geometry.specs.declared.directory.PageSize.TheVariants.{Two}
+use Rattle.segment_regs.specs.Registers.{Registers}
 
--- one segment register, to read and write so many bytes
-abbrev pub one_register : ℕ → List (Option SegmentRegister)
-one_register size = Some (record { segment = 3840; bytes = size; write = true }) ∷ []
+-- one segment register over pages of 2,048 bytes, to read and write so many bytes
+abbrev pub one_register : ℕ → Registers
+one_register size = record { page = Two; list = Some (record { segment = 3840; bytes = size; write = true }) ∷ [] }

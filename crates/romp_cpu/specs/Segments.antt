@@ -2,7 +2,7 @@
 use Rattle.std.specs.Prelude.{ℕ, List, ◌∷◌, map, Option, Some, None, option_map}
 use Rattle.line_geometry.specs.Directory.{Layout, length_of}
 use Rattle.segment_regs.specs.declared.registers.SegmentRegister.{SegmentRegister}
-use Rattle.segment_regs.specs.Registers.{private_register}
+use Rattle.segment_regs.specs.Registers.{Registers, private_register}
 use Rattle.flat_machine.specs.declared.machine.Program.{Program}
 use Rattle.flat_machine.specs.declared.machine.Window.{Window}
 
@@ -15,5 +15,6 @@ register_of_window directory (Some window) =
     (length_of directory window.segment)
 
 -- the private segment under register 0, and the windows under the others
-abbrev pub registers_of_program : Program → Layout → (private : ℕ) → List (Option SegmentRegister)
-registers_of_program program directory private = Some (private_register private) ∷ map (register_of_window directory) program.windows
+abbrev pub registers_of_program : Program → Layout → (private : ℕ) → Registers
+registers_of_program program directory private =
+    record { page = directory.page; list = Some (private_register private) ∷ map (register_of_window directory) program.windows }

@@ -20,7 +20,7 @@ pub fn registers_of(program: &Program, directory: &Directory, private: u16) -> S
             present.push((register, under.segment, under.bytes, under.write));
         }
     }
-    SegmentRegs::new(private, &present)
+    SegmentRegs::new(directory.page(), private, &present)
 }
 
 /// What stands under the register of a window, if anything does.

@@ -1,5 +1,5 @@
 ghost use Rattle.std.specs.Prelude.{◌≡◌, ℕ, Bool, true, false, List, Option, length};
-ghost use Rattle.segment_regs.specs.declared.registers.SegmentRegister.{SegmentRegister};
+ghost use Rattle.segment_regs.specs.Registers.{Registers};
 ghost use Rattle.segment_regs.specs.declared.registers.Virtual.{Virtual};
 ghost use Rattle.romp_cpu.specs.declared.storage.Access.{Access};
 ghost use Rattle.romp_cpu.specs.declared.storage.Probe.{Probe};
@@ -46,7 +46,7 @@ pub trait Storage {
     ghost byte_at: { Self.State → ℕ → ℕ };
 
     /// The segment registers.
-    ghost registers: { Self.State → List (Option SegmentRegister) };
+    ghost registers: { Self.State → Registers };
 
     /// Whether the page of a byte is in a frame.
     ghost is_in_frame: { Self.State → Virtual → Bool };

@@ -5,4 +5,4 @@ mod registers;
 #[cfg(test)]
 mod tests;
 
-pub use registers::{Check, SegmentRegister, SegmentRegs, Virtual};
+pub use registers::{Check, SegmentRegister, SegmentRegs, Virtual, virtual_at};

@@ -10,6 +10,6 @@ pair_decides (a, b) (c, d) =
     (λ e. let parts = both.0 e in cc, λ e. both.1 (ap (λ p. p.0) e, ap (λ p. p.1) e))
 
 -- directories are the same where their pages and segments are
-pub layout_same : (a b : Layout) → a.page ≡ b.page → a.segments ≡ b.segments → a ≡ b
-layout_same a b page segments =
-    let e : record { page = a.page; segments = a.segments } ≡ record { page = b.page; segments = b.segments } = cc in e
+pub layout_same : (a b : Layout) → a.page ≡ b.page → a.segments ≡ b.segments → a.fine ≡ b.fine → a ≡ b
+layout_same a b page segments fine =
+    let e : record { page = a.page; segments = a.segments; fine = a.fine } ≡ record { page = b.page; segments = b.segments; fine = b.fine } = cc in e

@@ -210,5 +210,7 @@ impl<'j> Progress<'j> {
 fn is_same(one: &Directory, other: &Directory) -> bool
     ensures { IsTrue result ↔ (one.now ≡ other.now) }
 {
-    one.page() == other.page() && one.segments() == other.segments()
+    one.page() == other.page()
+        && one.segments() == other.segments()
+        && one.fine() == other.fine()
 }

@@ -22,7 +22,7 @@ pub or_second : (a b : Option ℕ) → is_some a ≡ false → option_or a b ≡
 or_second None b none = refl
 or_second (Some x) b none = cc
 
-option_or-assoc : {T : Type 0} (a b c : Option T) → option_or a (option_or b c) ≡ option_or (option_or a b) c
+pub option_or-assoc : {T : Type 0} (a b c : Option T) → option_or a (option_or b c) ≡ option_or (option_or a b) c
 option_or-assoc None b c = refl
 option_or-assoc (Some x) b c = refl
 
@@ -87,11 +87,11 @@ module _ (head : List ℕ) (length count i least room identifier pages at : ℕ)
   right_segment right also = sym (whole ∙ or_second _ _ right ∙ or_second _ _ also)
 
 -- one zero more
-pub zeros_more : (head : List ℕ) (length at : ℕ) → at < 128 → first_fault length (zeros head at (128 - at)) ≡ option_or (first_fault length (within at 1 (slice_index head at) 0 0 ∷ [])) (first_fault length (zeros head (at + 1) (128 - (at + 1))))
-zeros_more head length at more =
-    let fuel : 128 - at ≡ suc (128 - (at + 1)) = omega arith in
+pub zeros_more : (head : List ℕ) (length at to : ℕ) → at < to → first_fault length (zeros head at (to - at)) ≡ option_or (first_fault length (within at 1 (slice_index head at) 0 0 ∷ [])) (first_fault length (zeros head (at + 1) (to - (at + 1))))
+zeros_more head length at to more =
+    let fuel : to - at ≡ suc (to - (at + 1)) = omega arith in
     ap (λ (n : ℕ). first_fault length (zeros head at n)) fuel
-    ∙ first_fault-cons length (within at 1 (slice_index head at) 0 0) (zeros head (at + 1) (128 - (at + 1)))
+    ∙ first_fault-cons length (within at 1 (slice_index head at) 0 0) (zeros head (at + 1) (to - (at + 1)))
 
 -- a header's four first fields, its segments and its zeros
 pub six_faults : (length : ℕ) (a b c d : Field) (listed zeros : List Field)

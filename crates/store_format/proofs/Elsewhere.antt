@@ -28,8 +28,8 @@ module _ (image new : List ℕ) (from : ℕ) (same : drop from new ≡ drop from
       let here : gate + 0 ≡ gate = omega arith in
       let byte : slice_index new gate ≡ slice_index image gate =
       ap (λ (n : ℕ). slice_index new n) (sym here) ∙ sym (get_or-drop gate new 0 0) ∙ ap (λ (these : List ℕ). slice_index these 0) (later gate behind) ∙ get_or-drop gate image 0 0 ∙ ap (λ (n : ℕ). slice_index image n) here in
-      ap (λ (n : ℕ). gate_if (n == 0xA5) area.bound area.end ((number + 1) % 2 ^ 64) gate (drop gate new)) byte
-      ∙ ap (λ (these : List ℕ). gate_if (slice_index image gate == 0xA5) area.bound area.end ((number + 1) % 2 ^ 64) gate these) (later gate behind)
+      ap (λ (n : ℕ). gate_if area.page (n == 0xA5) area.bound area.end ((number + 1) % 2 ^ 64) gate (drop gate new)) byte
+      ∙ ap (λ (these : List ℕ). gate_if area.page (slice_index image gate == 0xA5) area.bound area.end ((number + 1) % 2 ^ 64) gate these) (later gate behind)
 
   holds_behind : (area : Area) (most number gate : ℕ) (at : Gate) → from ≤ gate → gate_at image area number gate ≡ at → holds_from new area most number at ≡ holds_from image area most number at
   unfolding holds_from
@@ -37,7 +37,7 @@ module _ (image new : List ℕ) (from : ℕ) (same : drop from new ≡ drop from
   holds_behind area most number gate (Wrong offset) behind is = refl
   holds_behind area zero number gate (Sound lines next) behind is = refl
   holds_behind area (suc most) number gate (Sound lines next) behind is =
-      let sound = sound_is (slice_index image gate == 0xA5) area.bound area.end ((number + 1) % 2 ^ 64) gate (drop gate image) lines next is in
+      let sound = sound_is area.page (slice_index image gate == 0xA5) area.bound area.end ((number + 1) % 2 ^ 64) gate (drop gate image) lines next is in
       let after : from ≤ next = omega (arith, sound.is_next) in
       ap (λ (g : Gate). preceded lines (holds_from new area most (number + 1) g)) (gate_behind area (number + 1) next after)
       ∙ ap (preceded lines) (holds_behind area most (number + 1) next (gate_at image area (number + 1) next) after refl)
@@ -108,9 +108,9 @@ store_empty header which base image has chooses from closed = record {
 
 -- two stores of one number and the same bytes stand for the same
 pub stands_alike : (header : Header) (image other : List ℕ) (which those : Which) (base from gate at : ℕ) (records more : List (List RecordLine)) → IsStore image header which base gate records → IsStore other header those from at more
-    → (base + length records) % 2 ^ 64 ≡ (from + length more) % 2 ^ 64 → fold laid (home_of image header) records ≡ fold laid (home_of other header) more → stands image ≡ stands other
+    → (base + length records) % 2 ^ 64 ≡ (from + length more) % 2 ^ 64 → fold (laid header.directory.page) (home_of image header) records ≡ fold (laid header.directory.page) (home_of other header) more → stands image ≡ stands other
 stands_alike header image other which those base from gate at records more first second number bytes =
     stands_is image header which base gate records first
-    ∙ ap (λ (n : ℕ). Stands n (let store : FlatStore = record { directory = header.directory; bytes = fold laid (home_of image header) records } in store)) number
+    ∙ ap (λ (n : ℕ). Stands n (let store : FlatStore = record { directory = header.directory; bytes = fold (laid header.directory.page) (home_of image header) records } in store)) number
     ∙ ap (λ (these : List ℕ). Stands ((from + length more) % 2 ^ 64) (let store : FlatStore = record { directory = header.directory; bytes = these } in store)) bytes
     ∙ sym (stands_is other header those from at more second)

@@ -7,7 +7,9 @@ use Rattle.std.proofs.lemmas.Bool.Decides.{nat_tests}
 use Rattle.std.proofs.lemmas.List.{get_or-drop, get_or_append_left, get_or-append_right, get_or_past, take-append-le, take_all, drop-replicate, length-take}
 use Rattle.byteorder.specs.Endian.{big_from}
 use Rattle.outside.specs.Bytes.{bytes_at}
-use Rattle.store_format.specs.Header.{Field, number_at, within, name_field, segments_at, segments_of, segment_fields, zeros, fields, first_fault, header_of}
+use Rattle.line_geometry.specs.declared.directory.PageSize.{PageSize}
+use Rattle.line_geometry.specs.declared.directory.PageSize.TheVariants.{Two, Four}
+use Rattle.store_format.specs.Header.{Header, page_of, spare_fields, Field, number_at, within, name_field, segments_at, segments_of, segment_fields, zeros, fields, first_fault, header_of}
 
 -- lists that read the same at each place
 abbrev Same : List ℕ → List ℕ → Type 0
@@ -49,28 +51,44 @@ same_zeros xs ys at (suc count) same =
     ap (λ (n : ℕ). within at 1 n 0 0 ∷ zeros xs (at + 1) count) (same at)
     ∙ ap (λ (rest : List Field). within at 1 (slice_index ys at) 0 0 ∷ rest) (same_zeros xs ys (at + 1) count same)
 
+-- a header by what its fields say
+abbrev pub made : ℕ → List (ℕ × ℕ) → ℕ → ℕ → Header
+made version segments fine bank_bytes = record { directory = record { page = page_of version; segments = segments; fine = fine }; bank_bytes = bank_bytes }
+
 pub same_header : (xs ys : List ℕ) → Same xs ys → header_of xs ≡ header_of ys
 same_header xs ys same =
-    ap (λ (n : ℕ). record { directory = record { page = (header_of xs).directory.page; segments = segments_of xs }; bank_bytes = n }) (same_number xs ys 12 4 same)
-    ∙ ap (λ (these : List (ℕ × ℕ)). record { directory = record { page = (header_of xs).directory.page; segments = these }; bank_bytes = number_at ys 12 4 }) (same_listed xs ys same)
+    ap (λ (n : ℕ). made n (segments_of xs) (number_at xs 76 2) (number_at xs 12 4)) (same_number xs ys 8 2 same)
+    ∙ ap (λ (these : List (ℕ × ℕ)). made (number_at ys 8 2) these (number_at xs 76 2) (number_at xs 12 4)) (same_listed xs ys same)
+    ∙ ap (λ (n : ℕ). made (number_at ys 8 2) (segments_of ys) n (number_at xs 12 4)) (same_number xs ys 76 2 same)
+    ∙ ap (made (number_at ys 8 2) (segments_of ys) (number_at ys 76 2)) (same_number xs ys 12 4 same)
+
+abbrev rest : PageSize → List ℕ → List (ℕ × ℕ) → List Field
+rest page image segments = segment_fields 16 1 1024 segments ++ spare_fields page image (length segments)
 
 -- the fields behind the name
 abbrev behind_name : List ℕ → List Field
 behind_name image =
-    within 8 2 (number_at image 8 2) 1 1
+    within 8 2 (number_at image 8 2) 1 2
     ∷ within 10 2 (number_at image 10 2) 1 15
     ∷ within 12 4 (number_at image 12 4) 4096 131072
-    ∷ (segment_fields 16 1 1024 (segments_of image) ++ zeros image (16 + 4 * length (segments_of image)) (112 - 4 * length (segments_of image)))
+    ∷ rest (page_of (number_at image 8 2)) image (segments_of image)
 
-abbrev rest : List ℕ → List (ℕ × ℕ) → List Field
-rest image segments = segment_fields 16 1 1024 segments ++ zeros image (16 + 4 * length segments) (112 - 4 * length segments)
+same_spare : (page : PageSize) (xs ys : List ℕ) (count : ℕ) → Same xs ys → spare_fields page xs count ≡ spare_fields page ys count
+same_spare Two xs ys count same = same_zeros xs ys (16 + 4 * count) (112 - 4 * count) same
+same_spare Four xs ys count same =
+    let front = zeros ys (16 + 4 * count) (60 - 4 * count) in
+    let most = 2 ^ count - 1 in
+    ap (λ (these : List Field). these ++ within 76 2 (number_at xs 76 2) 0 most ∷ zeros xs 78 50) (same_zeros xs ys (16 + 4 * count) (60 - 4 * count) same)
+    ∙ ap (λ (n : ℕ). front ++ within 76 2 n 0 most ∷ zeros xs 78 50) (same_number xs ys 76 2 same)
+    ∙ ap (λ (these : List Field). front ++ within 76 2 (number_at ys 76 2) 0 most ∷ these) (same_zeros xs ys 78 50 same)
 
 same_behind : (xs ys : List ℕ) → Same xs ys → behind_name xs ≡ behind_name ys
 same_behind xs ys same =
-    ap (λ (n : ℕ). within 8 2 n 1 1 ∷ within 10 2 (number_at xs 10 2) 1 15 ∷ within 12 4 (number_at xs 12 4) 4096 131072 ∷ rest xs (segments_of xs)) (same_number xs ys 8 2 same)
-    ∙ ap (λ (n : ℕ). within 8 2 (number_at ys 8 2) 1 1 ∷ within 10 2 n 1 15 ∷ within 12 4 (number_at xs 12 4) 4096 131072 ∷ rest xs (segments_of xs)) (same_number xs ys 10 2 same)
-    ∙ ap (λ (n : ℕ). within 8 2 (number_at ys 8 2) 1 1 ∷ within 10 2 (number_at ys 10 2) 1 15 ∷ within 12 4 n 4096 131072 ∷ rest xs (segments_of xs)) (same_number xs ys 12 4 same)
-    ∙ ap (λ (these : List Field). within 8 2 (number_at ys 8 2) 1 1 ∷ within 10 2 (number_at ys 10 2) 1 15 ∷ within 12 4 (number_at ys 12 4) 4096 131072 ∷ these) (ap (rest xs) (same_listed xs ys same) ∙ ap (λ (these : List Field). segment_fields 16 1 1024 (segments_of ys) ++ these) (same_zeros xs ys (16 + 4 * length (segments_of ys)) (112 - 4 * length (segments_of ys)) same))
+    let page = page_of (number_at ys 8 2) in
+    ap (λ (n : ℕ). within 8 2 n 1 2 ∷ within 10 2 (number_at xs 10 2) 1 15 ∷ within 12 4 (number_at xs 12 4) 4096 131072 ∷ rest (page_of n) xs (segments_of xs)) (same_number xs ys 8 2 same)
+    ∙ ap (λ (n : ℕ). within 8 2 (number_at ys 8 2) 1 2 ∷ within 10 2 n 1 15 ∷ within 12 4 (number_at xs 12 4) 4096 131072 ∷ rest page xs (segments_of xs)) (same_number xs ys 10 2 same)
+    ∙ ap (λ (n : ℕ). within 8 2 (number_at ys 8 2) 1 2 ∷ within 10 2 (number_at ys 10 2) 1 15 ∷ within 12 4 n 4096 131072 ∷ rest page xs (segments_of xs)) (same_number xs ys 12 4 same)
+    ∙ ap (λ (these : List Field). within 8 2 (number_at ys 8 2) 1 2 ∷ within 10 2 (number_at ys 10 2) 1 15 ∷ within 12 4 (number_at ys 12 4) 4096 131072 ∷ these) (ap (rest page xs) (same_listed xs ys same) ∙ ap (λ (these : List Field). segment_fields 16 1 1024 (segments_of ys) ++ these) (same_spare page xs ys (length (segments_of ys)) same))
 
 -- of a name that isn't whole the bytes don't matter
 same_name : (xs ys : List ℕ) (bytes : ℕ) (later : List Field) → (8 ≤ bytes → take 8 xs ≡ take 8 ys) → first_fault bytes (name_field xs ∷ later) ≡ first_fault bytes (name_field ys ∷ later)

@@ -1,14 +1,19 @@
 -- What a header without a fault says.
-use Rattle.std.proofs.Common.{◌≡◌, ℕ, ◌+◌, ◌*◌, ◌-◌, ◌≤◌, true, false, List, [], ◌∷◌, ◌++◌, length, take, ◌∙◌, ap, arith, inl, inr}
-use Rattle.std.specs.Prelude.{Option, None, Some, min, nat_lt, is_some, if◌then◌else◌}
-use Rattle.std.proofs.lemmas.Bool.{cases_lt}
+use Rattle.std.proofs.Common.{◌≡◌, ℕ, zero, suc, ◌+◌, ◌*◌, ◌-◌, ◌^◌, ◌<◌, ◌≤◌, slice_index, true, false, List, [], ◌∷◌, ◌++◌, length, take, ◌∙◌, ap, arith, inl, inr}
+use Rattle.std.specs.Prelude.{Option, None, Some, All, min, nat_lt, is_some, if◌then◌else◌}
+use Rattle.std.proofs.lemmas.Bool.{cases_lt, cases_eq}
 use Rattle.std.proofs.lemmas.Bool.Decides.{nat_tests}
-use Rattle.line_geometry.specs.Legal.{IsLegal}
-use Rattle.store_format.specs.Header.{Header, number_at, within, name_field, segments_of, segment_fields, zeros, fields, first_fault, header_of, total}
+use Rattle.line_geometry.specs.declared.directory.PageSize.{PageSize}
+use Rattle.line_geometry.specs.declared.directory.PageSize.TheVariants.{Two, Four}
+use Rattle.line_geometry.specs.Legal.{IsLegal, AreFlags, flag_count}
+use Rattle.store_format.specs.Header.{Header, number_at, within, name_field, segments_of, segment_fields, zeros, spare_fields, page_of, fields, first_fault, header_of, total}
 use Rattle.store_format.specs.Bank.{base_of, bank_of}
 use Rattle.store_format.specs.Stands.{Standing, NotAStore, stands, standing_if, standing_by, chosen}
 use Rattle.store_format.proofs.Checks.{none-append, right_number, length-segments_at}
-use Rattle.store_format.proofs.Segments.{segments_legal, stays_all}
+use Rattle.store_format.proofs.Segments.{Stays, right_within, segments_legal, stays_all}
+use Rattle.std.proofs.lemmas.List.Elements.{All-head, All-tail}
+use Rattle.std.proofs.lemmas.List.{get_or-drop}
+use Rattle.std.proofs.lemmas.Nat.{pow_pos}
 
 pub record IsSound (head : List ℕ) : Type 0 where
   pub some : 1 ≤ number_at head 10 2
@@ -16,12 +21,41 @@ pub record IsSound (head : List ℕ) : Type 0 where
   pub least_bank : 4096 ≤ number_at head 12 4
   pub most_bank : number_at head 12 4 ≤ 131072
   pub legal : IsLegal (segments_of head)
+  pub flags : AreFlags (page_of (number_at head 8 2)) (segments_of head) (number_at head 76 2)
+
+-- a byte among zeros
+zero_in : (head : List ℕ) (at bytes i : ℕ) → All Stays (zeros head at bytes) → at ≤ i → i < at + bytes → slice_index head i ≡ 0
+zero_in head at zero i stay low high = absurd (omega (arith, low, high))
+zero_in head at (suc bytes) i stay low high = elim (cases_eq i at) [
+  | inl same ↦
+      let none = right_within (slice_index head at) 0 0 (All-head Stays (within at 1 (slice_index head at) 0 0) (zeros head (at + 1) bytes) stay) in
+      ap (slice_index head) same ∙ omega (arith, none.1)
+  | inr other ↦ zero_in head (at + 1) bytes i (All-tail Stays (within at 1 (slice_index head at) 0 0) (zeros head (at + 1) bytes) stay) (above i low other) (omega (arith, high))
+]
+  where
+    above : (i : ℕ) → at ≤ i → (i ≡ at → ⊥) → at + 1 ≤ i
+    above i low other = omega (arith, low, other)
+
+-- flags without a fault are those of the segments
+flags_right : (page : PageSize) (head : List ℕ) (bytes count : ℕ) → count ≤ 15 → first_fault bytes (spare_fields page head count) ≡ None → number_at head 76 2 < 2 ^ flag_count page count
+flags_right Two head bytes count few none =
+    let stay = stays_all bytes (zeros head (16 + 4 * count) (112 - 4 * count)) none in
+    let high = zero_in head (16 + 4 * count) (112 - 4 * count) 76 stay (omega (arith, few)) (omega (arith, few)) in
+    let low = zero_in head (16 + 4 * count) (112 - 4 * count) 77 stay (omega (arith, few)) (omega (arith, few)) in
+    omega (arith, high, low, get_or-drop 76 head 0 0, get_or-drop 76 head 1 0)
+flags_right Four head bytes count few none =
+    let flags = within 76 2 (number_at head 76 2) 0 (2 ^ count - 1) in
+    let behind = none-append bytes (zeros head (16 + 4 * count) (60 - 4 * count)) (flags ∷ zeros head 78 50) none in
+    let flagged = none-append bytes (flags ∷ []) (zeros head 78 50) behind.1 in
+    let most = right_number bytes 76 2 (number_at head 76 2) 0 (2 ^ count - 1) (ap (λ (fault : Option ℕ). is_some fault) flagged.0) in
+    omega (arith, most.2, pow_pos count)
 
 pub sound_header : (head : List ℕ) (bytes : ℕ) → first_fault bytes (fields head) ≡ None → IsSound head
 sound_header head bytes none =
     let listed = segment_fields 16 1 1024 (segments_of head) in
-    let spare = zeros head (16 + 4 * length (segments_of head)) (112 - 4 * length (segments_of head)) in
-    let version = within 8 2 (number_at head 8 2) 1 1 in
+    let page = page_of (number_at head 8 2) in
+    let spare = spare_fields page head (length (segments_of head)) in
+    let version = within 8 2 (number_at head 8 2) 1 2 in
     let count = within 10 2 (number_at head 10 2) 1 15 in
     let bank = within 12 4 (number_at head 12 4) 4096 131072 in
     let behind_name = none-append bytes (name_field head ∷ version ∷ []) (count ∷ bank ∷ (listed ++ spare)) none in
@@ -37,6 +71,7 @@ sound_header head bytes none =
       least_bank = area.1;
       most_bank = area.2;
       legal = segments_legal (segments_of head) (omega (arith, number, many.1)) (omega (arith, number, many.2)) (stays_all bytes listed segments.0);
+      flags = flags_right page head bytes (length (segments_of head)) (omega (arith, number, many.2)) segments.1;
     }
 
 -- an image whose header has a fault, or that isn't as long as its header says, is no store

@@ -1,10 +1,10 @@
 // Reading the header of a store.
-ghost use Rattle.std.specs.Prelude.{◌≡◌, ◌≢◌, ℕ, ◌+◌, ◌-◌, ◌*◌, ◌≤◌, List, [], ◌∷◌, ◌++◌, length, take, replicate, None, IfOk, IfErr, IsSome};
+ghost use Rattle.std.specs.Prelude.{◌≡◌, ◌≢◌, ℕ, ◌+◌, ◌-◌, ◌*◌, ◌^◌, ◌≤◌, List, [], ◌∷◌, ◌++◌, length, take, replicate, None, IfOk, IfErr, IsSome};
 ghost use Rattle.outside.specs.Causes.{HasCause};
 ghost use Rattle.outside.specs.Runs.{OnlyAsks, held_of};
 ghost use Rattle.store_format.specs.Read.{IsHeaderFault};
 ghost use Rattle.store_format.specs.Stands.{HasHeader};
-ghost use Rattle.store_format.specs.Header.{number_at, within, name_field, segments_at, segment_fields, zeros, fields, first_fault, header_of};
+ghost use Rattle.store_format.specs.Header.{number_at, within, name_field, segments_at, segment_fields, zeros, spare_fields, page_of, fields, first_fault, header_of};
 
 use crate::Header;
 use byteorder::{BigEndian, ByteOrder};
@@ -80,11 +80,50 @@ fn header_fault(head: &[u8; HEADER_BYTES], length: u64) -> Option<u64>
     let segments = half_at(head, 10);
     let listed = segments.min(15);
     name_fault(head, length)
-        .or(number_fault(length, 8, 2, version.into(), 1, 1))
+        .or(number_fault(length, 8, 2, version.into(), 1, 2))
         .or(number_fault(length, 10, 2, segments.into(), 1, 15))
         .or(number_fault(length, 12, 4, bank_bytes_in(head), 4096, 131_072))
         .or(segments_fault(head, length, listed))
-        .or(zeros_fault(head, length, 16 + 4 * usize::from(listed)))
+        .or(spare_fault(head, length, page_of(version), listed))
+}
+
+/// The first fault behind so many entries: in the unused ones, the flags, and the zeros.
+fn spare_fault(
+    head: &[u8; HEADER_BYTES],
+    length: u64,
+    page: PageSize,
+    listed: u16,
+) -> Option<u64>
+    requires { listed ≤ 15 }
+    ensures { result ≡ first_fault length (spare_fields page head.now listed) }
+{
+    let from = 16 + 4 * usize::from(listed);
+    match page {
+        PageSize::Two => zeros_fault(head, length, from, HEADER_BYTES),
+        PageSize::Four => zeros_fault(head, length, from, 76)
+            .or(flags_fault(head, length, listed))
+            .or(zeros_fault(head, length, 78, HEADER_BYTES)),
+    }
+}
+
+/// The fault of the flags of so many segments.
+fn flags_fault(head: &[u8; HEADER_BYTES], length: u64, listed: u16) -> Option<u64>
+    requires { listed ≤ 15 }
+    ensures { result ≡ first_fault length (within 76 2 (number_at head.now 76 2) 0 (2 ^ listed - 1) ∷ []) }
+{
+    let most = (1u32 << listed) - 1;
+    number_fault(length, 76, 2, half_at(head, 76).into(), 0, most)
+}
+
+/// The size of the pages of a version.
+fn page_of(version: u16) -> PageSize
+    ensures { result ≡ page_of version }
+{
+    if version == 2 {
+        PageSize::Four
+    } else {
+        PageSize::Two
+    }
 }
 
 /// The fault of the name that a store begins with.
@@ -147,12 +186,13 @@ fn bank_bytes_in(head: &[u8; HEADER_BYTES]) -> u32
     BigEndian::read_u32(&head[12..])
 }
 
-/// The first of the bytes from an offset on that isn't zero.
-fn zeros_fault(head: &[u8; HEADER_BYTES], length: u64, from: usize) -> Option<u64>
-    requires { from ≤ 128 }
-    ensures { result ≡ first_fault length (zeros head.now from (128 - from)) }
+/// The first of the bytes from an offset up to another that isn't zero.
+fn zeros_fault(head: &[u8; HEADER_BYTES], length: u64, from: usize, to: usize) -> Option<u64>
+    requires some { from ≤ to }
+    requires few { to ≤ 128 }
+    ensures { result ≡ first_fault length (zeros head.now from (to - from)) }
 {
-    for at in from..HEADER_BYTES {
+    for at in from..to {
         let fault = number_fault(length, at, 1, head[at].into(), 0, 0);
         if fault.is_some() {
             return fault;
@@ -193,6 +233,8 @@ fn header_in(head: &[u8; HEADER_BYTES]) -> Header
     for i in 0..count {
         segments[usize::from(i)] = segment_at(head, 16 + 4 * usize::from(i));
     }
-    let directory = Directory::new(PageSize::Two, &segments[..usize::from(count)]).unwrap();
+    let page = page_of(half_at(head, 8));
+    let listed = &segments[..usize::from(count)];
+    let directory = Directory::with_fine(page, listed, half_at(head, 76)).unwrap();
     Header::new(directory, bank_bytes_in(head))
 }

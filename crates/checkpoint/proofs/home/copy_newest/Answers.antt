@@ -1,8 +1,7 @@
 use Rattle.std.proofs.Common.{◌≡◌, ℕ, get_or, sym, subst, ◌∙◌}
 use Rattle.std.specs.Prelude.{Option, None, Some, OnOk, IsSome}
 use Rattle.std.proofs.lemmas.Option.{get_or_from_slice_get}
-use Rattle.line_geometry.specs.declared.directory.PageSize.TheVariants.{Two}
-use Rattle.store_format.specs.Header.{line_bytes}
+use Rattle.redo_journal.specs.Kept.{line_bytes_of}
 use Rattle.outside.specs.Bytes.{Torn, written, bytes_at}
 use Rattle.outside.specs.Moments.{Follows}
 use Rattle.outside.specs.Runs.{held_of}
@@ -17,14 +16,14 @@ place g c = get_or_from_slice_get c.args.bank.now.newest c.args.line c.newest.re
 pub returns-in-Some-clause-crash : goal.returns-in-Some-clause-crash
 returns-in-Some-clause-crash g c honest told =
     let G = g.W.Outside in
-    subst (λ (place : Option ℕ). Follows (TornLine (line_bytes Two) place (home_place c.args.bank.now c.args.line)) G.moment G.left_since c.args.outside.now c.copy_line.new.outside) (sym (place g (goal.at.returns-in-Some-clause-crash g c).In-Some))
-    (subst (λ (at : ℕ). Follows (Torn at (line_bytes Two)) G.moment G.left_since c.args.outside.now c.copy_line.new.outside) c.home_place.ensures
+    subst (λ (place : Option ℕ). Follows (TornLine (line_bytes_of c.args.bank.now) place (home_place c.args.bank.now c.args.line)) G.moment G.left_since c.args.outside.now c.copy_line.new.outside) (sym (place g (goal.at.returns-in-Some-clause-crash g c).In-Some))
+    (subst (λ (at : ℕ). Follows (Torn at (line_bytes_of c.args.bank.now)) G.moment G.left_since c.args.outside.now c.copy_line.new.outside) c.home_place.ensures
     (subst (λ (n : ℕ). Follows (Torn c.home_place.result n) G.moment G.left_since c.args.outside.now c.copy_line.new.outside) c.requires.whole (c.copy_line.ensures.crash honest told)))
 
 pub returns-in-Some-clause-done : goal.returns-in-Some-clause-done
 returns-in-Some-clause-done g c =
     let G = g.W.Outside in
     let held = held_of G c.args.outside.now in
-    subst (λ (place : Option ℕ). OnOk c.copy_line.result (IsSome (G.held c.args.outside.now) → held_of G c.copy_line.new.outside ≡ copied (line_bytes Two) held place (home_place c.args.bank.now c.args.line))) (sym (place g (goal.at.returns-in-Some-clause-done g c).In-Some))
-    (subst (λ (at : ℕ). OnOk c.copy_line.result (IsSome (G.held c.args.outside.now) → held_of G c.copy_line.new.outside ≡ written held at (bytes_at held c.in-Some.place (line_bytes Two)))) c.home_place.ensures
+    subst (λ (place : Option ℕ). OnOk c.copy_line.result (IsSome (G.held c.args.outside.now) → held_of G c.copy_line.new.outside ≡ copied (line_bytes_of c.args.bank.now) held place (home_place c.args.bank.now c.args.line))) (sym (place g (goal.at.returns-in-Some-clause-done g c).In-Some))
+    (subst (λ (at : ℕ). OnOk c.copy_line.result (IsSome (G.held c.args.outside.now) → held_of G c.copy_line.new.outside ≡ written held at (bytes_at held c.in-Some.place (line_bytes_of c.args.bank.now)))) c.home_place.ensures
     (subst (λ (n : ℕ). OnOk c.copy_line.result (IsSome (G.held c.args.outside.now) → held_of G c.copy_line.new.outside ≡ written held c.home_place.result (bytes_at held c.in-Some.place n))) c.requires.whole c.copy_line.ensures.done))

@@ -46,7 +46,7 @@ covered g c tracks =
     (c.copy_newest.ensures.crash (subst (λ (b : Bool). IsTrue b) (sym before.calls.honest) tracks.sure.honest) (before.told tracks.sure.told))
     (λ image seen so. so)
     (λ from image seen so torn.
-    step_covered tracks.header bank.which bank.base bank.gate tracks.records (held_of G start) tracks.store big bank c.loop-line.line tracks.bank_bytes below _ (sym (tracks.newest c.loop-line.line (omega (arith, tracks.bound, below)))) from image so torn)
+    step_covered tracks.header bank.which bank.base bank.gate tracks.records (held_of G start) tracks.store big bank c.loop-line.line tracks.page tracks.bank_bytes below _ (sym (tracks.newest c.loop-line.line (omega (arith, tracks.bound, below)))) from image so torn)
 
 pub returns-in_err-copy_newest-clause-only : goal.returns-in_err-copy_newest-clause-only
 returns-in_err-copy_newest-clause-only g c = writes_on g.W.Outside g.met.W.Outside.fewer_later c.args.outside.now c.loop-line.outside c.copy_newest.new.outside c.loop-line.invariant.only c.copy_newest.ensures.only
@@ -67,7 +67,7 @@ loop-line-preserved g c =
       homed = λ tracks.
           let big = store_big tracks.header bank.which bank.base bank.gate tracks.records (held_of G start) tracks.store in
           let below : c.loop-line.line < line_count tracks.header.directory = omega (arith, tracks.bound, c.loop-line-test.true, c.lines-line-end.ensures) in
-          step_homed tracks.header bank.which bank.base bank.gate tracks.records (held_of G start) tracks.store big bank c.loop-line.line tracks.bank_bytes below _ (sym (tracks.newest c.loop-line.line (omega (arith, tracks.bound, below))))
+          step_homed tracks.header bank.which bank.base bank.gate tracks.records (held_of G start) tracks.store big bank c.loop-line.line tracks.page tracks.bank_bytes below _ (sym (tracks.newest c.loop-line.line (omega (arith, tracks.bound, below))))
           (held_of G c.loop-line.outside) (held_of G c.copy_newest.new.outside) (c.loop-line.invariant.homed tracks) (c.in_ok-copy_newest.ensures.done (before.told tracks.sure.told));
     }
 

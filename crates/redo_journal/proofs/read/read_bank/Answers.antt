@@ -23,12 +23,12 @@ due_is g c = omega (arith, c.from-in-loop-count.ensures)
 
 -- the gate that was read is that of the bytes held at the start
 same_gate : (g : Over) (c : goal.After-read_gate g)
-    → read_gate (held_of g.W.Outside c.loop-count.outside) (length c.loop-count.newest) (c.args.at + 8 + c.from.result) (due g c) c.loop-count.gate
-    ≡ read_gate (held_of g.W.Outside c.args.outside.now) (length c.args.newest.now) (c.args.at + 8 + c.args.bank_bytes) (due g c) c.loop-count.gate
+    → read_gate c.args.page (held_of g.W.Outside c.loop-count.outside) (length c.loop-count.newest) (c.args.at + 8 + c.from.result) (due g c) c.loop-count.gate
+    ≡ read_gate c.args.page (held_of g.W.Outside c.args.outside.now) (length c.args.newest.now) (c.args.at + 8 + c.args.bank_bytes) (due g c) c.loop-count.gate
 same_gate g c =
-    ap (λ (those : Option (List ℕ)). read_gate (unwrap_or those []) (length c.loop-count.newest) (c.args.at + 8 + c.from.result) (due g c) c.loop-count.gate) c.loop-count.invariant.asks.held
-    ∙ ap (λ (n : ℕ). read_gate (held_of g.W.Outside c.args.outside.now) n (c.args.at + 8 + c.from.result) (due g c) c.loop-count.gate) c.loop-count.invariant.len
-    ∙ ap (λ (n : ℕ). read_gate (held_of g.W.Outside c.args.outside.now) (length c.args.newest.now) (c.args.at + 8 + n) (due g c) c.loop-count.gate) c.from.ensures
+    ap (λ (those : Option (List ℕ)). read_gate c.args.page (unwrap_or those []) (length c.loop-count.newest) (c.args.at + 8 + c.from.result) (due g c) c.loop-count.gate) c.loop-count.invariant.asks.held
+    ∙ ap (λ (n : ℕ). read_gate c.args.page (held_of g.W.Outside c.args.outside.now) n (c.args.at + 8 + c.from.result) (due g c) c.loop-count.gate) c.loop-count.invariant.len
+    ∙ ap (λ (n : ℕ). read_gate c.args.page (held_of g.W.Outside c.args.outside.now) (length c.args.newest.now) (c.args.at + 8 + n) (due g c) c.loop-count.gate) c.from.ensures
 
 base_is : (g : Over) (c : goal.After-read_gate g) → IsSome (g.W.Outside.held c.args.outside.now) → c.read_u64-base.result ≡ number_at (held_of g.W.Outside c.args.outside.now) c.args.at 8
 base_is g c some =
@@ -39,14 +39,14 @@ base_is g c some =
 -- what the bank holds, behind the base that was read
 whole : (g : Over) (c : goal.After-read_gate g) → format.Bank
 whole g c =
-    format.holds_from (held_of g.W.Outside c.args.outside.now) (area_to (length c.args.newest.now) (c.args.at + 8 + c.args.bank_bytes)) c.args.bank_bytes c.read_u64-base.result
-    (gate_at (held_of g.W.Outside c.args.outside.now) (area_to (length c.args.newest.now) (c.args.at + 8 + c.args.bank_bytes)) c.read_u64-base.result (c.args.at + 8))
+    format.holds_from (held_of g.W.Outside c.args.outside.now) (area_to c.args.page (length c.args.newest.now) (c.args.at + 8 + c.args.bank_bytes)) c.args.bank_bytes c.read_u64-base.result
+    (gate_at (held_of g.W.Outside c.args.outside.now) (area_to c.args.page (length c.args.newest.now) (c.args.at + 8 + c.args.bank_bytes)) c.read_u64-base.result (c.args.at + 8))
 
-whole_is : (g : Over) (c : goal.After-read_gate g) → IsSome (g.W.Outside.held c.args.outside.now) → whole g c ≡ bank_held (held_of g.W.Outside c.args.outside.now) (length c.args.newest.now) c.args.at c.args.bank_bytes
+whole_is : (g : Over) (c : goal.After-read_gate g) → IsSome (g.W.Outside.held c.args.outside.now) → whole g c ≡ bank_held (held_of g.W.Outside c.args.outside.now) c.args.page (length c.args.newest.now) c.args.at c.args.bank_bytes
 unfolding whole
 whole_is g c some =
-    ap (λ (n : ℕ). format.holds_from (held_of g.W.Outside c.args.outside.now) (area_to (length c.args.newest.now) (c.args.at + 8 + c.args.bank_bytes)) c.args.bank_bytes n
-    (gate_at (held_of g.W.Outside c.args.outside.now) (area_to (length c.args.newest.now) (c.args.at + 8 + c.args.bank_bytes)) n (c.args.at + 8))) (base_is g c some)
+    ap (λ (n : ℕ). format.holds_from (held_of g.W.Outside c.args.outside.now) (area_to c.args.page (length c.args.newest.now) (c.args.at + 8 + c.args.bank_bytes)) c.args.bank_bytes n
+    (gate_at (held_of g.W.Outside c.args.outside.now) (area_to c.args.page (length c.args.newest.now) (c.args.at + 8 + c.args.bank_bytes)) n (c.args.at + 8))) (base_is g c some)
 
 still : (g : Over) (c : goal.After-read_gate g) → IsSome (g.W.Outside.held c.args.outside.now) → IsSome (g.W.Outside.held c.loop-count.outside)
 still g c some = subst (λ (those : Option (List ℕ)). IsSome those) (sym c.loop-count.invariant.asks.held) some
@@ -62,7 +62,7 @@ loop-count-init g c = record {
   placed = λ are. are;
   far = omega arith;
   inside = omega (arith, c.requires.some);
-  reaches = λ some. starts (held_of g.W.Outside c.args.outside.now) (length c.args.newest.now) (c.args.at + 8 + c.args.bank_bytes) c.args.bank_bytes c.read_u64-base.result (c.args.at + 8) c.args.newest.now (omega (arith, c.requires.some));
+  reaches = λ some. starts c.args.page (held_of g.W.Outside c.args.outside.now) (length c.args.newest.now) (c.args.at + 8 + c.args.bank_bytes) c.args.bank_bytes c.read_u64-base.result (c.args.at + 8) c.args.newest.now (omega (arith, c.requires.some));
 }
 
 pub returns-in_err-read_gate-clause-asks : goal.returns-in_err-read_gate-clause-asks
@@ -80,7 +80,7 @@ returns-in-Closed-clause-found g c some =
     let at = (goal.at.returns-in-Closed-clause-found g c).After-read_gate in
     let found = rw c.in-Closed.is at (c.in_ok-read_gate.ensures.found (still g at some)) in
     let are =
-    read_closed (held_of g.W.Outside c.args.outside.now) (length c.args.newest.now) (c.args.at + 8 + c.args.bank_bytes) c.args.bank_bytes c.read_u64-base.result (c.args.at + 8) c.loop-count.count c.loop-count.gate (due g at) c.args.newest.now c.loop-count.newest (c.loop-count.invariant.reaches some) (due_is g at)
+    read_closed c.args.page (held_of g.W.Outside c.args.outside.now) (length c.args.newest.now) (c.args.at + 8 + c.args.bank_bytes) c.args.bank_bytes c.read_u64-base.result (c.args.at + 8) c.loop-count.count c.loop-count.gate (due g at) c.args.newest.now c.loop-count.newest (c.loop-count.invariant.reaches some) (due_is g at)
     c.read_gate.new.newest (sym (same_gate g at) ∙ found.0) found.1 in
     (base_is g at some, record { records = are.records; holds = sym (whole_is g at some) ∙ are.holds; count_is = are.count_is; noted = are.noted })
 
@@ -90,7 +90,7 @@ returns-in-Wrong-clause-found g c some =
     let at = (goal.at.returns-in-Wrong-clause-found g c).After-read_gate in
     let found = rw c.in-Wrong.is at (c.in_ok-read_gate.ensures.found (still g at some)) in
     sym (whole_is g at some)
-    ∙ read_wrong (held_of g.W.Outside c.args.outside.now) (length c.args.newest.now) (c.args.at + 8 + c.args.bank_bytes) c.args.bank_bytes c.read_u64-base.result (c.args.at + 8) c.loop-count.count c.loop-count.gate (due g at) c.args.newest.now c.loop-count.newest (c.loop-count.invariant.reaches some) (due_is g at)
+    ∙ read_wrong c.args.page (held_of g.W.Outside c.args.outside.now) (length c.args.newest.now) (c.args.at + 8 + c.args.bank_bytes) c.args.bank_bytes c.read_u64-base.result (c.args.at + 8) c.loop-count.count c.loop-count.gate (due g at) c.args.newest.now c.loop-count.newest (c.loop-count.invariant.reaches some) (due_is g at)
     c.in-Wrong.offset (sym (same_gate g at) ∙ found)
 
 pub loop-count-preserved : goal.loop-count-preserved
@@ -101,10 +101,10 @@ loop-count-preserved g c =
       asks = asks_on g.W.Outside g.met.W.Outside.fewer_later c.args.outside.now c.loop-count.outside c.read_gate.new.outside c.loop-count.invariant.asks c.read_gate.ensures.asks;
       no_fault = c.in_ok-read_gate.ensures.cause.done ∙ c.loop-count.invariant.no_fault;
       len = c.read_gate.ensures.len ∙ c.loop-count.invariant.len;
-      placed = λ are. subst (λ (n : ℕ). AreWithin (c.args.at + 8 + n) c.loop-count.newest → AreWithin (c.args.at + 8 + n) c.read_gate.new.newest) c.from.ensures c.read_gate.ensures.placed (c.loop-count.invariant.placed are);
+      placed = λ are. subst (λ (n : ℕ). AreWithin c.args.page (c.args.at + 8 + n) c.loop-count.newest → AreWithin c.args.page (c.args.at + 8 + n) c.read_gate.new.newest) c.from.ensures c.read_gate.ensures.placed (c.loop-count.invariant.placed are);
       far = omega (arith, c.loop-count.invariant.far, next.0);
       inside = omega (arith, next.1, c.from.ensures);
       reaches = λ some. let found = rw c.in-Sound.is at (c.in_ok-read_gate.ensures.found (still g at some)) in
-          read_sound (held_of g.W.Outside c.args.outside.now) (length c.args.newest.now) (c.args.at + 8 + c.args.bank_bytes) c.args.bank_bytes c.read_u64-base.result (c.args.at + 8) c.loop-count.count c.loop-count.gate (due g at) c.args.newest.now c.loop-count.newest (c.loop-count.invariant.reaches some) (due_is g at)
+          read_sound c.args.page (held_of g.W.Outside c.args.outside.now) (length c.args.newest.now) (c.args.at + 8 + c.args.bank_bytes) c.args.bank_bytes c.read_u64-base.result (c.args.at + 8) c.loop-count.count c.loop-count.gate (due g at) c.args.newest.now c.loop-count.newest (c.loop-count.invariant.reaches some) (due_is g at)
           c.read_gate.new.newest found.0 c.in-Sound.next c.loop-count-test.true (sym (same_gate g at) ∙ found.1) found.2;
     }

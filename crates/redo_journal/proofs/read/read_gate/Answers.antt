@@ -1,6 +1,6 @@
 use Rattle.std.proofs.Common.{◌≡◌, ℕ, ◌+◌, ◌*◌, List, [], length, drop, sym, subst, ◌∙◌, ap, arith, IsSome}
 use Rattle.std.specs.Prelude.{Option, None, Some, unwrap_or, slice_index, ◌==◌}
-use Rattle.line_geometry.specs.declared.directory.PageSize.TheVariants.{Two}
+use Rattle.line_geometry.specs.declared.directory.PageSize.{PageSize}
 use Rattle.store_format.specs.Header.{entry_bytes}
 use Rattle.store_format.specs.Bank.{RecordLine, lines_from, wrong_line, gate_if, lined_gate}
 use Rattle.outside.specs.Bytes.{bytes_at}
@@ -8,32 +8,32 @@ use Rattle.outside.specs.Runs.{held_of, OnlyAsks}
 use Rattle.redo_journal.specs.Noted.{noted}
 use Rattle.store_format.proofs.Padded.{read_is}
 use Rattle.outside.proofs.Runs.{asks_on, asks_one}
-use Rattle.redo_journal.proofs.ReadLemmas.{first_read, gate_read}
+use Rattle.redo_journal.proofs.ReadLemmas.{first_read, gate_read, gate_misnumbered}
 use Rattle.redo_journal.proofs.read.read_gate.Given.{Over}
 use Rattle.redo_journal.proofs.read.read_gate.Goals as goal
 use Rattle.redo_journal.proofs.read.read_gate.Goals.{After-read_lines}
 
 -- the lines behind the gate
 lines : (g : Over) (c : goal.After-read_lines g) → List RecordLine
-lines g c = lines_from c.read_u16-count.result (c.args.gate + 11) (drop (c.args.gate + 11) (held_of g.W.Outside c.args.outside.now))
+lines g c = lines_from c.args.page c.read_u16-count.result (c.args.gate + 11) (drop (c.args.gate + 11) (held_of g.W.Outside c.args.outside.now))
 
 gate_is : (g : Over) (c : goal.After-read_lines g) → IsSome (g.W.Outside.held c.args.outside.now)
-    → gate_if (slice_index (held_of g.W.Outside c.args.outside.now) c.args.gate == 0xA5) (length c.args.newest.now) c.args.end c.args.due c.args.gate (drop c.args.gate (held_of g.W.Outside c.args.outside.now))
-    ≡ lined_gate (wrong_line (length c.args.newest.now) 0 (lines g c)) (lines g c) (c.args.gate + 11 + entry_bytes Two * c.read_u16-count.result)
+    → gate_if c.args.page (slice_index (held_of g.W.Outside c.args.outside.now) c.args.gate == 0xA5) (length c.args.newest.now) c.args.end c.args.due c.args.gate (drop c.args.gate (held_of g.W.Outside c.args.outside.now))
+    ≡ lined_gate (wrong_line (length c.args.newest.now) 0 (lines g c)) (lines g c) (c.args.gate + 11 + entry_bytes c.args.page * c.read_u16-count.result)
 unfolding lines
 gate_is g c some =
     let G = g.W.Outside in
     let first = read_is (G.held c.args.outside.now) c.read_at.new.into c.args.gate 1 some c.in_ok-read_at.ensures.read in
     let told = subst (λ (those : Option (List ℕ)). IsSome those) (sym c.read_at.ensures.held) some in
     let head = read_is (G.held c.read_at.new.self) c.read_at-2.new.into (c.args.gate + 1) 10 told c.in_ok-read_at-2.ensures.read ∙ ap (λ (those : Option (List ℕ)). bytes_at (unwrap_or those []) (c.args.gate + 1) 10) c.read_at.ensures.held in
-    gate_read (held_of G c.args.outside.now) c.read_at-2.new.into (length c.args.newest.now) c.args.end c.args.due c.args.gate c.read_u16-count.result c.read_u64.result head c.read_u16-count.ensures c.read_u64.ensures c.if-read_u64-due.false
+    gate_read c.args.page (held_of G c.args.outside.now) c.read_at-2.new.into (length c.args.newest.now) c.args.end c.args.due c.args.gate c.read_u16-count.result c.read_u64.result head c.read_u16-count.ensures c.read_u64.ensures c.if-read_u64-due.false
     (first_read (held_of G c.args.outside.now) c.read_at.new.into c.args.gate first c.if-first.false)
-    (omega (arith, c.if-end-next.false, c.from.ensures))
+    (omega (arith, c.if-end-next.false, c.from.ensures, c.entries_bytes.ensures.value))
 
 -- the bytes held by then are those at the start
-same : (g : Over) (c : goal.After-read_lines g) → lines_from c.read_u16-count.result (c.args.gate + 11) (drop (c.args.gate + 11) (held_of g.W.Outside c.read_at-2.new.self)) ≡ lines g c
+same : (g : Over) (c : goal.After-read_lines g) → lines_from c.args.page c.read_u16-count.result (c.args.gate + 11) (drop (c.args.gate + 11) (held_of g.W.Outside c.read_at-2.new.self)) ≡ lines g c
 unfolding lines
-same g c = ap (λ (those : Option (List ℕ)). lines_from c.read_u16-count.result (c.args.gate + 11) (drop (c.args.gate + 11) (unwrap_or those []))) (c.read_at-2.ensures.held ∙ c.read_at.ensures.held)
+same g c = ap (λ (those : Option (List ℕ)). lines_from c.args.page c.read_u16-count.result (c.args.gate + 11) (drop (c.args.gate + 11) (unwrap_or those []))) (c.read_at-2.ensures.held ∙ c.read_at.ensures.held)
 
 still : (g : Over) (c : goal.After-read_lines g) → IsSome (g.W.Outside.held c.args.outside.now) → IsSome (g.W.Outside.held c.read_at-2.new.self)
 still g c some = subst (λ (those : Option (List ℕ)). IsSome those) (sym (c.read_at-2.ensures.held ∙ c.read_at.ensures.held)) some
@@ -58,7 +58,7 @@ pub returns-in-Some-clause-found : goal.returns-in-Some-clause-found
 returns-in-Some-clause-found g c some =
     let at = (goal.at.returns-in-Some-clause-found g c).After-read_lines in
     let fault : wrong_line (length c.args.newest.now) 0 (lines g at) ≡ Some c.in-Some.offset = ap (wrong_line (length c.args.newest.now) 0) (sym (same g at)) ∙ sym (c.in_ok-offset.ensures.fault (still g at some)) ∙ c.in-Some.is in
-    gate_is g at some ∙ ap (λ (those : Option ℕ). lined_gate those (lines g at) (c.args.gate + 11 + entry_bytes Two * c.read_u16-count.result)) fault
+    gate_is g at some ∙ ap (λ (those : Option ℕ). lined_gate those (lines g at) (c.args.gate + 11 + entry_bytes c.args.page * c.read_u16-count.result)) fault
 
 pub returns-in-None-clause-found : goal.returns-in-None-clause-found
 returns-in-None-clause-found g c some =
@@ -66,11 +66,21 @@ returns-in-None-clause-found g c some =
     let fault : wrong_line (length c.args.newest.now) 0 (lines g at) ≡ None = ap (wrong_line (length c.args.newest.now) 0) (sym (same g at)) ∙ sym (c.in_ok-offset.ensures.fault (still g at some)) ∙ c.in-None.is in (
       lines g at,
       gate_is g at some
-          ∙ ap (λ (those : Option ℕ). lined_gate those (lines g at) (c.args.gate + 11 + entry_bytes Two * c.read_u16-count.result)) fault
-          ∙ ap (λ (n : ℕ). lined_gate None (lines g at) (c.args.gate + 11 + entry_bytes Two * n)) (sym c.from.ensures),
+          ∙ ap (λ (those : Option ℕ). lined_gate those (lines g at) (c.args.gate + 11 + entry_bytes c.args.page * c.read_u16-count.result)) fault
+          ∙ ap (λ (n : ℕ). lined_gate None (lines g at) (c.args.gate + 11 + n)) (sym (c.from.ensures ∙ c.entries_bytes.ensures.value)),
       c.in_ok-offset.ensures.noted (still g at some) c.in-None.is ∙ ap (noted c.args.newest.now) (same g at),
     )
 
 pub returns-then-read_u64-due-clause-asks : goal.returns-then-read_u64-due-clause-asks
 returns-then-read_u64-due-clause-asks g c =
     asks_on g.W.Outside g.met.W.Outside.fewer_later c.args.outside.now c.read_at.new.self c.read_at-2.new.self (asks_one g.W.Outside c.args.outside.now c.read_at.new.self c.read_at.ensures.held c.read_at.ensures.writes c.read_at.ensures.honest c.read_at.ensures.time c.read_at.ensures.once c.read_at.ensures.quiet c.read_at.ensures.crash c.read_at.ensures.cause.later c.read_at.ensures.puts) (asks_one g.W.Outside c.read_at.new.self c.read_at-2.new.self c.read_at-2.ensures.held c.read_at-2.ensures.writes c.read_at-2.ensures.honest c.read_at-2.ensures.time c.read_at-2.ensures.once c.read_at-2.ensures.quiet c.read_at-2.ensures.crash c.read_at-2.ensures.cause.later c.read_at-2.ensures.puts)
+
+pub returns-then-read_u64-due-clause-found : goal.returns-then-read_u64-due-clause-found
+returns-then-read_u64-due-clause-found g c some =
+    let G = g.W.Outside in
+    let first = read_is (G.held c.args.outside.now) c.read_at.new.into c.args.gate 1 some c.in_ok-read_at.ensures.read in
+    let told = subst (λ (those : Option (List ℕ)). IsSome those) (sym c.read_at.ensures.held) some in
+    let head = read_is (G.held c.read_at.new.self) c.read_at-2.new.into (c.args.gate + 1) 10 told c.in_ok-read_at-2.ensures.read ∙ ap (λ (those : Option (List ℕ)). bytes_at (unwrap_or those []) (c.args.gate + 1) 10) c.read_at.ensures.held in
+    gate_misnumbered c.args.page (held_of G c.args.outside.now) c.read_at-2.new.into (length c.args.newest.now) c.args.end c.args.due c.args.gate c.read_u16-count.result c.read_u64.result head c.read_u16-count.ensures c.read_u64.ensures c.if-read_u64-due.true
+    (first_read (held_of G c.args.outside.now) c.read_at.new.into c.args.gate first c.if-first.false)
+    (omega (arith, c.if-end-next.false, c.from.ensures, c.entries_bytes.ensures.value))

@@ -2,7 +2,7 @@ use Rattle.std.proofs.Common.{◌≡◌, ℕ, ◌+◌, ◌*◌, ◌≤◌, List,
 use Rattle.std.specs.Option.{ForSome}
 use Rattle.std.specs.Prelude.{Option, Some, unwrap_or, nat_le, nat_lt, ◌&&◌}
 use Rattle.owned_list.specs.Overlay.{overlaid}
-use Rattle.line_geometry.specs.declared.directory.PageSize.TheVariants.{Two}
+use Rattle.line_geometry.specs.declared.directory.PageSize.{PageSize}
 use Rattle.store_format.specs.Header.{entry_bytes}
 use Rattle.store_format.specs.Bank.{wrong_line}
 use Rattle.outside.specs.Bytes.{bytes_at}
@@ -13,17 +13,18 @@ use Rattle.outside.proofs.Runs.{asks_on, asks_one}
 use Rattle.redo_journal.proofs.WithinLemmas.{within-overlaid}
 use Rattle.store_format.proofs.Lines.{in_order}
 use Rattle.redo_journal.proofs.ReadLemmas.{lines_after, wrong_here, right_here, noted_here, is_low, is_high, reads_within}
+use Rattle.store_format.proofs.Widths.{entries-below}
 use Rattle.redo_journal.proofs.read.read_lines.Given.{Over}
 use Rattle.redo_journal.proofs.read.read_lines.Goals as goal
 use Rattle.redo_journal.proofs.read.read_lines.Goals.{After-read_u32-line, then-from-least-via-then-from-least, then-from-least-via-else-from-least+then-len-line}
 
-read : (g : Over) (c : goal.After-read_u32-line g) → IsSome (g.W.Outside.held c.args.outside.now) → c.read_at.new.into ≡ bytes_at (held_of g.W.Outside c.args.outside.now) (c.args.at + entry_bytes Two * c.loop-i.i) 4
+read : (g : Over) (c : goal.After-read_u32-line g) → IsSome (g.W.Outside.held c.args.outside.now) → c.read_at.new.into ≡ bytes_at (held_of g.W.Outside c.args.outside.now) (c.args.at + entry_bytes c.args.page * c.loop-i.i) 4
 read g c some =
     let same = c.loop-i.invariant.asks.held in
     let told = subst (λ (those : Option (List ℕ)). IsSome those) (sym same) some in
     read_is (g.W.Outside.held c.loop-i.outside) c.read_at.new.into _ 4 told c.in_ok-read_at.ensures.read
-    ∙ ap (λ (those : Option (List ℕ)). bytes_at (unwrap_or those []) (c.args.at + entry_bytes Two * c.from.result) 4) same
-    ∙ ap (λ (n : ℕ). bytes_at (held_of g.W.Outside c.args.outside.now) (c.args.at + entry_bytes Two * n) 4) c.from.ensures
+    ∙ ap (λ (those : Option (List ℕ)). bytes_at (unwrap_or those []) (c.args.at + c.from.result) 4) same
+    ∙ ap (λ (n : ℕ). bytes_at (held_of g.W.Outside c.args.outside.now) (c.args.at + n) 4) (c.from.ensures ∙ c.entries_bytes.ensures.value)
 
 -- the reads so far and this one
 asked : (g : Over) (c : goal.After-read_u32-line g) → OnlyAsks g.W.Outside c.args.outside.now c.read_at.new.self
@@ -38,13 +39,13 @@ returns-then-from-least-clause-fault g c some =
     let at = (goal.at.returns-then-from-least-clause-fault g c).After-read_u32-line in
     let held = held_of g.W.Outside c.args.outside.now in
     let bound = length c.loop-i.newest in
-    let place : Some (c.args.at + entry_bytes Two * c.from.result) ≡ Some (c.args.at + entry_bytes Two * c.loop-i.i) = ap (λ (n : ℕ). Some (c.args.at + entry_bytes Two * n)) c.from.ensures in
+    let place : Some (c.args.at + c.from.result) ≡ Some (c.args.at + entry_bytes c.args.page * c.loop-i.i) = ap (λ (n : ℕ). Some (c.args.at + n)) (c.from.ensures ∙ c.entries_bytes.ensures.value) in
     let wrong : nat_le c.loop-i.least c.read_u32-line.result && nat_lt c.read_u32-line.result bound ≡ false = elim c.then-from-least.branch [
       | then-from-least-via-then-from-least w ↦ is_low bound c.loop-i.least c.read_u32-line.result (omega (arith, w.if-from-least.true, c.from-in-loop-i.ensures))
       | then-from-least-via-else-from-least+then-len-line w ↦ is_high bound c.loop-i.least c.read_u32-line.result (omega (arith, w.if-len-line.true, w.len.ensures))
     ] in
     place
-    ∙ sym (wrong_here c.args.count c.loop-i.i c.args.at held c.read_at.new.into c.read_u32-line.result c.loop-i-test.true (read g at some) c.read_u32-line.ensures bound c.loop-i.least wrong)
+    ∙ sym (wrong_here c.args.page c.args.count c.loop-i.i c.args.at held c.read_at.new.into c.read_u32-line.result c.loop-i-test.true (read g at some) c.read_u32-line.ensures bound c.loop-i.least wrong)
     ∙ c.loop-i.invariant.fault some
 
 pub loop-i-preserved : goal.loop-i-preserved
@@ -54,27 +55,27 @@ loop-i-preserved g c =
     let bound = length c.loop-i.newest in
     let line = c.read_u32-line.result in
     let right = in_order bound c.loop-i.least line (omega (arith, c.if-from-least.false, c.from-in-loop-i.ensures)) (omega (arith, c.if-len-line.false, c.len.ensures)) in
-    let place : c.args.at + entry_bytes Two * c.from.result + 4 ≡ c.args.at + entry_bytes Two * c.loop-i.i + 4 = omega (arith, c.from.ensures) in
+    let place : c.args.at + c.from.result + 4 ≡ c.args.at + entry_bytes c.args.page * c.loop-i.i + 4 = omega (arith, c.from.ensures, c.entries_bytes.ensures.value) in
     record {
       asks = asked g at;
       no_fault = c.in_ok-read_at.ensures.cause.done ∙ c.loop-i.invariant.no_fault;
       placed = λ end few are.
-          subst (λ (these : List (Option ℕ)). AreWithin end these) (sym c.write.ensures.value)
-          (within-overlaid end line (c.args.at + entry_bytes Two * c.from.result + 4) c.loop-i.newest (omega (arith, few, c.from.ensures, c.loop-i-test.true)) (c.loop-i.invariant.placed end few are));
+          subst (λ (these : List (Option ℕ)). AreWithin c.args.page end these) (sym c.write.ensures.value)
+          (within-overlaid c.args.page end line (c.args.at + c.from.result + 4) c.loop-i.newest (omega (arith, few, c.from.ensures, c.entries_bytes.ensures.value, entries-below c.args.page c.loop-i.i c.args.count c.loop-i-test.true)) (c.loop-i.invariant.placed end few are));
       len = c.write.ensures.len ∙ c.loop-i.invariant.len;
       fault = λ some.
-          ap (λ (n : ℕ). wrong_line n (c.from-least.result + 1) (lines_after c.args.count (c.loop-i.i + 1) c.args.at held)) c.write.ensures.len
-          ∙ ap (λ (n : ℕ). wrong_line bound (n + 1) (lines_after c.args.count (c.loop-i.i + 1) c.args.at held)) c.from-least.ensures
-          ∙ sym (right_here c.args.count c.loop-i.i c.args.at held c.read_at.new.into line c.loop-i-test.true (read g at some) c.read_u32-line.ensures bound c.loop-i.least right)
+          ap (λ (n : ℕ). wrong_line n (c.from-least.result + 1) (lines_after c.args.page c.args.count (c.loop-i.i + 1) c.args.at held)) c.write.ensures.len
+          ∙ ap (λ (n : ℕ). wrong_line bound (n + 1) (lines_after c.args.page c.args.count (c.loop-i.i + 1) c.args.at held)) c.from-least.ensures
+          ∙ sym (right_here c.args.page c.args.count c.loop-i.i c.args.at held c.read_at.new.into line c.loop-i-test.true (read g at some) c.read_u32-line.ensures bound c.loop-i.least right)
           ∙ c.loop-i.invariant.fault some;
       noted = λ some.
-          ap (λ (these : List (Option ℕ)). noted these (lines_after c.args.count (c.loop-i.i + 1) c.args.at held)) c.write.ensures.value
-          ∙ ap (λ (n : ℕ). noted (overlaid c.loop-i.newest line (Some n ∷ [])) (lines_after c.args.count (c.loop-i.i + 1) c.args.at held)) place
-          ∙ sym (noted_here c.args.count c.loop-i.i c.args.at held c.read_at.new.into line c.loop-i-test.true (read g at some) c.read_u32-line.ensures c.loop-i.newest)
+          ap (λ (these : List (Option ℕ)). noted these (lines_after c.args.page c.args.count (c.loop-i.i + 1) c.args.at held)) c.write.ensures.value
+          ∙ ap (λ (n : ℕ). noted (overlaid c.loop-i.newest line (Some n ∷ [])) (lines_after c.args.page c.args.count (c.loop-i.i + 1) c.args.at held)) place
+          ∙ sym (noted_here c.args.page c.args.count c.loop-i.i c.args.at held c.read_at.new.into line c.loop-i-test.true (read g at some) c.read_u32-line.ensures c.loop-i.newest)
           ∙ c.loop-i.invariant.noted some;
     }
 
 pub read_at-requires : goal.read_at-requires
 read_at-requires g c =
-    reads_within (g.W.Outside.held c.loop-i.outside) (c.args.at + entry_bytes Two * c.from.result + 4) (c.args.at + entry_bytes Two * c.args.count) (omega (arith, c.from.ensures, c.loop-i-test.true))
-    (subst (λ (those : Option (List ℕ)). ForSome those (λ bytes. c.args.at + entry_bytes Two * c.args.count ≤ length bytes)) (sym c.loop-i.invariant.asks.held) c.requires.room)
+    reads_within (g.W.Outside.held c.loop-i.outside) (c.args.at + c.from.result + 4) (c.args.at + entry_bytes c.args.page * c.args.count) (omega (arith, c.from.ensures, c.entries_bytes.ensures.value, entries-below c.args.page c.loop-i.i c.args.count c.loop-i-test.true))
+    (subst (λ (those : Option (List ℕ)). ForSome those (λ bytes. c.args.at + entry_bytes c.args.page * c.args.count ≤ length bytes)) (sym c.loop-i.invariant.asks.held) c.requires.room)

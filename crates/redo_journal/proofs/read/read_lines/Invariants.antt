@@ -1,5 +1,5 @@
 use Rattle.std.proofs.Common.{◌≡◌, ℕ, ◌+◌, ◌*◌, ◌≤◌, length, drop, IsSome}
-use Rattle.line_geometry.specs.declared.directory.PageSize.TheVariants.{Two}
+use Rattle.line_geometry.specs.declared.directory.PageSize.{PageSize}
 use Rattle.store_format.specs.Header.{entry_bytes}
 use Rattle.store_format.specs.Bank.{lines_from, wrong_line}
 use Rattle.outside.specs.Runs.{OnlyAsks, held_of}
@@ -11,8 +11,8 @@ abbrev pub invariant-loop-i : goal.invariant-loop-i
 invariant-loop-i g l = record {
   asks : OnlyAsks g.W.Outside l.initial.outside l.outside;
   no_fault : g.W.Outside.disk_faults l.outside ≡ g.W.Outside.disk_faults l.initial.outside;
-  placed : (end : ℕ) → l.at + entry_bytes Two * l.count ≤ end → AreWithin end l.initial.newest → AreWithin end l.newest;
+  placed : (end : ℕ) → l.at + entry_bytes l.page * l.count ≤ end → AreWithin l.page end l.initial.newest → AreWithin l.page end l.newest;
   len : length l.newest ≡ length l.initial.newest;
-  fault : IsSome (g.W.Outside.held l.initial.outside) → wrong_line (length l.newest) l.least (lines_after l.count l.i l.at (held_of g.W.Outside l.initial.outside)) ≡ wrong_line (length l.initial.newest) 0 (lines_from l.count l.at (drop l.at (held_of g.W.Outside l.initial.outside)));
-  noted : IsSome (g.W.Outside.held l.initial.outside) → noted l.newest (lines_after l.count l.i l.at (held_of g.W.Outside l.initial.outside)) ≡ noted l.initial.newest (lines_from l.count l.at (drop l.at (held_of g.W.Outside l.initial.outside)));
+  fault : IsSome (g.W.Outside.held l.initial.outside) → wrong_line (length l.newest) l.least (lines_after l.page l.count l.i l.at (held_of g.W.Outside l.initial.outside)) ≡ wrong_line (length l.initial.newest) 0 (lines_from l.page l.count l.at (drop l.at (held_of g.W.Outside l.initial.outside)));
+  noted : IsSome (g.W.Outside.held l.initial.outside) → noted l.newest (lines_after l.page l.count l.i l.at (held_of g.W.Outside l.initial.outside)) ≡ noted l.initial.newest (lines_from l.page l.count l.at (drop l.at (held_of g.W.Outside l.initial.outside)));
 }

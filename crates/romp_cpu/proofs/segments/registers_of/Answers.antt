@@ -6,6 +6,7 @@ use Rattle.std.proofs.lemmas.Bool.Decides.{nat_tests}
 use Rattle.std.proofs.lemmas.List.Folds.{find-append}
 use Rattle.std.proofs.lemmas.List.FromFn.{fill_by_all}
 use Rattle.std.proofs.Math.ListN.{get_or-map}
+use Rattle.line_geometry.specs.declared.directory.PageSize.{PageSize}
 use Rattle.segment_regs.specs.declared.registers.SegmentRegister.{SegmentRegister}
 use Rattle.segment_regs.specs.Registers.{register_at, register_of, register_with, registers_with}
 use Rattle.line_geometry.specs.Directory.{Layout}
@@ -54,13 +55,14 @@ pushed-other windows window k other =
 listed :
     (program : Program) (directory : Layout) (private : ℕ) (windows : List (ℕ × ℕ × ℕ × Bool)) → length program.windows ≡ 15
     → ((k : ℕ) → k < 15 → register_at windows (suc k) ≡ register_of_window directory (get_or program.windows k None))
-    → registers_of_program program directory private ≡ registers_with private windows
+    → registers_of_program program directory private ≡ registers_with directory.page private windows
 listed program directory private windows size each =
-    fill_by_all (register_with private windows) (registers_of_program program directory private) 16 None
+    ap (λ (list : List (Option SegmentRegister)). record { page = directory.page; list = list })
+    (fill_by_all (register_with private windows) (registers_of_program program directory private).list 16 None
     (omega (arith, length-map program.windows (register_of_window directory)))
-    at
+    at)
   where
-    at : (k : ℕ) → k < 16 → get_or (registers_of_program program directory private) k None ≡ register_with private windows k
+    at : (k : ℕ) → k < 16 → get_or (registers_of_program program directory private).list k None ≡ register_with private windows k
     at zero below = refl
     at (suc k) below =
         let other : (suc k == 0) ≡ false = grind (arith, nat_tests) in
@@ -99,7 +101,8 @@ loop-place-preserved c =
 pub returns : goal.returns
 returns c =
     c.new.ensures
-    ∙ ap (registers_with c.args.private) c.deref.ensures.0
+    ∙ ap (λ (page : PageSize). registers_with page c.args.private c.deref.result.now) c.page.ensures
+    ∙ ap (registers_with c.args.directory.now.page c.args.private) c.deref.ensures.0
     ∙ sym
     (listed c.args.program.now c.args.directory.now c.args.private c.loop-place.present.items (omega arith)
     (λ k below. c.loop-place.invariant.each k (omega (arith, c.loop-place-test.false))))

@@ -1,15 +1,15 @@
 use Rattle.std.proofs.Common.{◌≡◌, ℕ, ◌+◌, ◌*◌, ◌<◌, ◌∷◌, [], ◌++◌, List, length, take, ◌∙◌, sym, ap, arith, subst, set, refl}
 use Rattle.std.specs.Prelude.{min, IfOk, Ok}
 use Rattle.std.proofs.lemmas.List.{take_more_set, length-set}
-use Rattle.line_geometry.specs.Legal.{IsLegal}
+use Rattle.line_geometry.specs.Legal.{IsLegal, AreFlags}
 use Rattle.line_geometry.specs.Directory.{Layout}
 use Rattle.line_geometry.specs.declared.directory.DirectoryFault.{DirectoryFault}
-use Rattle.line_geometry.specs.declared.directory.PageSize.TheVariants.{Two}
-use Rattle.store_format.specs.Header.{number_at, segments_at, segments_of}
+use Rattle.line_geometry.specs.declared.directory.PageSize.{PageSize}
+use Rattle.store_format.specs.Header.{number_at, segments_at, segments_of, page_of}
 use Rattle.store_format.proofs.Checks.{segments_at-more}
 use Rattle.store_format.proofs.Sound.{IsSound, sound_header}
 use Rattle.store_format.proofs.read.header_in.Goals as goal
-use Rattle.store_format.proofs.read.header_in.Goals.{After-half_at-count, After-new, After-bank_bytes_in}
+use Rattle.store_format.proofs.read.header_in.Goals.{After-half_at-count, After-with_fine, After-bank_bytes_in}
 
 sound : (c : goal.After-half_at-count) → IsSound c.args.head.now
 sound c = sound_header c.args.head.now c.requires.0 c.requires.1
@@ -36,31 +36,51 @@ loop-i-preserved c =
     }
 
 -- the segments that were read
-listed : (c : goal.After-new) → take c.from-2.result c.loop-i.segments ≡ segments_of c.args.head.now
+listed : (c : goal.After-with_fine) → take c.from-2.result c.loop-i.segments ≡ segments_of c.args.head.now
 listed c =
     let is = sound_header c.args.head.now c.requires.0 c.requires.1 in
     let count : c.from-2.result ≡ c.loop-i.i = omega (arith, c.from-2.ensures, c.loop-i-test.false, c.loop-i.auto.i-end) in
     let all : c.loop-i.i ≡ min (number_at c.args.head.now 10 2) 15 = omega (arith, c.half_at-count.ensures, is.few, c.loop-i-test.false, c.loop-i.auto.i-end) in
     ap (λ (n : ℕ). take n c.loop-i.segments) count ∙ c.loop-i.invariant.read ∙ ap (segments_at c.args.head.now 16) all
 
+-- the page size and the flags that were read
+sized : (c : goal.After-with_fine) → c.page_of-page.result ≡ page_of (number_at c.args.head.now 8 2)
+sized c = c.page_of-page.ensures ∙ ap page_of c.half_at.ensures
+
+flagged : (c : goal.After-with_fine) → AreFlags c.page_of-page.result (take c.from-2.result c.loop-i.segments) c.half_at-2.result
+flagged c =
+    let head = c.args.head.now in
+    let is = sound_header head c.requires.0 c.requires.1 in
+    subst (λ (page : PageSize). AreFlags page (take c.from-2.result c.loop-i.segments) c.half_at-2.result) (sym (sized c))
+    (subst (λ (these : List (ℕ × ℕ)). AreFlags (page_of (number_at head 8 2)) these c.half_at-2.result) (sym (listed c))
+    (subst (λ (fine : ℕ). AreFlags (page_of (number_at head 8 2)) (segments_of head) fine) (sym c.half_at-2.ensures) is.flags))
+
 pub unwrap-directory-requires : goal.unwrap-directory-requires
 unwrap-directory-requires c =
-    c.new.ensures.legal.1 (subst (λ (these : List (ℕ × ℕ)). IsLegal these) (sym (listed (goal.at.unwrap-directory-requires c).After-new)) (sound_header c.args.head.now c.requires.0 c.requires.1).legal)
+    let at = (goal.at.unwrap-directory-requires c).After-with_fine in
+    c.with_fine.ensures.legal.1
+    (subst (λ (these : List (ℕ × ℕ)). IsLegal these) (sym (listed at)) (sound_header c.args.head.now c.requires.0 c.requires.1).legal, flagged at)
 
 -- the directory that was made
-made : (c : goal.After-bank_bytes_in) → c.unwrap-directory.result ≡ record { page = Two; segments = segments_of c.args.head.now }
+made : (c : goal.After-bank_bytes_in) → c.unwrap-directory.result ≡ record { page = page_of (number_at c.args.head.now 8 2); segments = segments_of c.args.head.now; fine = number_at c.args.head.now 76 2 }
 made c =
-    let is : IfOk {E = DirectoryFault} (Ok c.unwrap-directory.result) (λ directory. directory ≡ record { page = Two; segments = take c.from-2.result c.loop-i.segments }) =
-    rw c.unwrap-directory.ensures at c.new.ensures.value in
-    is ∙ ap (λ (these : List (ℕ × ℕ)). record { page = Two; segments = these }) (listed (goal.at.new-requires-2 c).After-new)
+    let head = c.args.head.now in
+    let is : IfOk {E = DirectoryFault} (Ok c.unwrap-directory.result) (λ directory. directory ≡ record { page = c.page_of-page.result; segments = take c.from-2.result c.loop-i.segments; fine = c.half_at-2.result }) =
+    rw c.unwrap-directory.ensures at c.with_fine.ensures.value in
+    let at = (goal.at.new-requires c).After-with_fine in
+    is
+    ∙ ap (λ (page : PageSize). record { page = page; segments = take c.from-2.result c.loop-i.segments; fine = c.half_at-2.result }) (sized at)
+    ∙ ap (λ (these : List (ℕ × ℕ)). record { page = page_of (number_at head 8 2); segments = these; fine = c.half_at-2.result }) (listed at)
+    ∙ ap (λ (fine : ℕ). record { page = page_of (number_at head 8 2); segments = segments_of head; fine = fine }) c.half_at-2.ensures
 
-pub new-requires-2 : goal.new-requires-2
-new-requires-2 c =
+pub new-requires : goal.new-requires
+new-requires c =
     let sound = sound_header c.args.head.now c.requires.0 c.requires.1 in
-    record { page = ap (λ (directory : Layout). directory.page) (made c); least_bank = omega (arith, c.bank_bytes_in.ensures, sound.least_bank); most_bank = omega (arith, c.bank_bytes_in.ensures, sound.most_bank) }
+    record { least_bank = omega (arith, c.bank_bytes_in.ensures, sound.least_bank); most_bank = omega (arith, c.bank_bytes_in.ensures, sound.most_bank) }
 
 pub returns : goal.returns
 returns c =
-    sym (c.new-2.ensures.value
+    let head = c.args.head.now in
+    sym (c.new.ensures.value
     ∙ ap (λ (directory : Layout). record { directory = directory; bank_bytes = c.bank_bytes_in.result }) (made (goal.at.returns c).After-bank_bytes_in)
-    ∙ ap (λ (n : ℕ). record { directory = record { page = Two; segments = segments_of c.args.head.now }; bank_bytes = n }) c.bank_bytes_in.ensures)
+    ∙ ap (λ (n : ℕ). record { directory = record { page = page_of (number_at head 8 2); segments = segments_of head; fine = number_at head 76 2 }; bank_bytes = n }) c.bank_bytes_in.ensures)

@@ -1,9 +1,13 @@
-use Rattle.outside.specs.Runs.{held_of}
+use Rattle.outside.specs.Runs.{Leaves, held_of}
 use Rattle.std.proofs.Common.{subst}
 use Rattle.redo_journal.specs.Kept.{KeptBank, begun_of}
-use Rattle.redo_journal.specs.Tracks.{Tracks, HoldsOneOf}
+use Rattle.redo_journal.specs.Tracks.{Tracks, IsEither, HoldsOneOf}
 use Rattle.checkpoint.proofs.banks.Banks.append.Goals as goal
 
 pub returns-clause-records : goal.returns-clause-records
 returns-clause-records g c =
     subst (λ (bank : KeptBank). (tracks : Tracks g.W.Outside bank c.args.outside.now) → HoldsOneOf tracks.header bank.which bank.base tracks.records (begun_of bank) (held_of g.W.Outside c.append.new.outside)) c.self.view_is c.append.ensures.records
+
+pub returns-clause-crash : goal.returns-clause-crash
+returns-clause-crash g c =
+    subst (λ (bank : KeptBank). Tracks g.W.Outside bank c.args.outside.now → Leaves g.W.Outside (IsEither (begun_of bank) (held_of g.W.Outside c.args.outside.now)) c.args.outside.now c.append.new.outside) c.self.view_is c.append.ensures.crash

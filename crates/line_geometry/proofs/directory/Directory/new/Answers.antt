@@ -4,7 +4,7 @@ use Rattle.std.proofs.Common.{refl, sym}
 use Rattle.line_geometry.proofs.directory.Directory.new.Goals as goal
 
 pub invariant_of-result : goal.invariant_of-result
-invariant_of-result c = rw c.filled_up.ensures (kept-filled c.args.segments.now (legal-none c.args.segments.now (sym c.in-None.ensures)))
+invariant_of-result c = rw c.filled_up.ensures (kept-filled c.args.page c.args.segments.now (legal-none c.args.segments.now (sym c.in-None.ensures)))
 
 pub returns-in-Some-clause-legal : goal.returns-in-Some-clause-legal
 returns-in-Some-clause-legal c =

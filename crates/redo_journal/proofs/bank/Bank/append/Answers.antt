@@ -1,8 +1,9 @@
 use Rattle.std.proofs.Common.{◌≡◌, ℕ, ◌+◌, ◌*◌, ◌<◌, List, [], ◌∷◌, ◌++◌, length, drop, slice_set, refl, sym, subst, ◌∙◌, ap, arith, length-append}
 use Rattle.std.specs.Prelude.{Option}
-use Rattle.line_geometry.specs.declared.directory.PageSize.TheVariants.{Two}
+use Rattle.line_geometry.specs.declared.directory.PageSize.{PageSize}
 use Rattle.store_format.specs.Header.{entry_bytes}
-use Rattle.store_format.specs.Bank.{RecordLine, lines_from, wrong_line}
+use Rattle.store_format.specs.Bank.{RecordLine, lines_from, wrong_line, record_bytes}
+use Rattle.std.proofs.lemmas.List.{length-take-le}
 use Rattle.store_format.specs.Stands.{IsStore, stands, one_more}
 use Rattle.outside.specs.Runs.{held_of}
 use Rattle.redo_journal.specs.Noted.{noted, AreNewest}
@@ -27,7 +28,11 @@ count g c = unwrapped c.self.inside.begun c.unwrap-begun.result c.unwrap-begun.e
 pub fill-requires : goal.fill-requires
 fill-requires g c =
     let n = unwrapped c.self.inside.begun c.unwrap-begun.result c.unwrap-begun.ensures in
-    omega (arith, n, c.self.invariant.buffer, c.self.invariant.fits)
+    omega (arith, ap (λ (k : ℕ). entry_bytes c.self.inside.page * k) n, c.self.invariant.buffer, c.self.invariant.fits)
+
+-- the bytes of the lines that are begun
+sized : (g : Over) (c : goal.After-record_of g) → c.from-bytes.result ≡ entry_bytes c.self.inside.page * begun_count c.self.inside
+sized g c = c.from-bytes.ensures ∙ c.entries_bytes.ensures.value ∙ ap (λ (n : ℕ). entry_bytes c.self.inside.page * n) (sym (count g c))
 
 -- the bank's fields are tracked, and the body adds the begun record
 abbrev ready : (g : Over) (c : goal.After-record_of g) → Tracks g.W.Outside c.args.self.now c.args.outside.now → IsReadied g.W.Outside c.self.inside c.args.outside.now c.record_of.result.now
@@ -39,7 +44,7 @@ ready g c given =
       ready =
           make_ready g.W.Outside c.self.inside c.args.outside.now tracks c.self.invariant c.fill.new.body c.record_of.result.now _ (rw n c.record_of.ensures) c.fill.ensures.len (c.fill.ensures.counted ∙ sym n) c.fill.ensures.numbered (rw n c.fill.ensures.lines) (rw n c.fill.ensures.closed)
           (omega (arith, c.number_of-due.ensures))
-          (omega (arith, n, c.end_of.ensures.value, c.from.ensures, c.if-end_of-self.false));
+          (omega (arith, sized g c, c.end_of.ensures.value, c.if-end_of-self.false));
     }
 
 begun : (g : Over) (c : goal.After-record_of g) → begun_lines c.self.inside ≡ begun_of c.args.self.now
@@ -49,13 +54,13 @@ pub returns-then-end_of-self-clause-full : goal.returns-then-end_of-self-clause-
 returns-then-end_of-self-clause-full g c =
     let says = says_room c.self.inside c.args.self.now c.self.view_is in
     let n = unwrapped c.self.inside.begun c.unwrap-begun.result c.unwrap-begun.ensures in
-    (λ is. omega (arith, n, says.end, says.need, c.end_of.ensures.value, c.from.ensures, c.if-end_of-self.true), λ is. refl)
+    (λ is. omega (arith, ap (λ (k : ℕ). entry_bytes c.self.inside.page * k) n, says.end, says.need, c.end_of.ensures.value, c.from-bytes.ensures, c.entries_bytes.ensures.value, c.if-end_of-self.true), λ is. refl)
 
 -- the record fits
 not_full : (g : Over) (c : goal.After-record_of g) → area_end c.args.self.now < needed_end c.args.self.now → ⊥
 not_full g c full =
     let says = says_room c.self.inside c.args.self.now c.self.view_is in
-    omega (arith, count g c, full, says.end, says.need, c.end_of.ensures.value, c.from.ensures, c.if-end_of-self.false)
+    omega (arith, sized g c, full, says.end, says.need, c.end_of.ensures.value, c.if-end_of-self.false)
 
 pub note-requires-clause-ordered : goal.note-requires-clause-ordered
 note-requires-clause-ordered g c =
@@ -145,14 +150,14 @@ noted_lines : (g : Over) (c : goal.After-note g) → c.note.new.newest ≡ noted
 noted_lines g c =
     let bank = c.self.inside in
     let n = unwrapped bank.begun c.unwrap-begun.result c.unwrap-begun.ensures in
-    let lines : lines_from c.unwrap-begun.result (bank.gate + 11) (drop 10 c.as_slice.result.now) ≡ begun_lines bank = rw (← n) (filled_lines bank c.fill.new.body c.as_slice.result.now (rw n c.fill.ensures.lines) c.as_slice.ensures) in
+    let lines : lines_from bank.page c.unwrap-begun.result (bank.gate + 11) (drop 10 c.as_slice.result.now) ≡ begun_lines bank = rw (← n) (filled_lines bank c.fill.new.body c.as_slice.result.now (rw n c.fill.ensures.lines) c.as_slice.ensures) in
     c.note.ensures.value ∙ ap (noted bank.newest) lines
 
 pub returns-in-Done-clause-kept : goal.returns-in-Done-clause-kept
 returns-in-Done-clause-kept g c =
     let n = count g (goal.at.returns-in-Done-clause-kept g c).After-record_of in
     let bank = c.self.inside in
-    with_record_is bank c.args.self.now (bank.gate + (11 + entry_bytes Two * c.from.result)) c.note.new.newest c.self.view_is (omega (arith, n, c.from.ensures)) (noted_lines g (goal.at.returns-in-Done-clause-kept g c).After-note)
+    with_record_is bank c.args.self.now (bank.gate + (11 + c.from-bytes.result)) c.note.new.newest c.self.view_is (omega (arith, sized g (goal.at.returns-in-Done-clause-kept g c).After-record_of)) (noted_lines g (goal.at.returns-in-Done-clause-kept g c).After-note)
 
 pub returns-in-Done-clause-done : goal.returns-in-Done-clause-done
 returns-in-Done-clause-done g c is tracks =
@@ -162,7 +167,7 @@ returns-in-Done-clause-done g c is tracks =
     let bank = c.self.inside in
     let kept = c.keep_body.ensures.done c.in-Done.is (shut_gate g at tracks) in
     let held = held_of g.W.Outside c.keep_body.new.outside in
-    let gate : bank.gate + length c.record_of.result.now ≡ bank.gate + (11 + entry_bytes Two * c.from.result) = omega (arith, n, now.ready.good.bytes, c.from.ensures) in
+    let gate : bank.gate + length c.record_of.result.now ≡ bank.gate + (11 + c.from-bytes.result) = omega (arith, sized g at, ap length c.record_of.ensures, length-take-le (record_bytes bank.page c.unwrap-begun.result) c.fill.new.body (omega (arith, c.fill.ensures.len, c.self.invariant.buffer, c.self.invariant.fits, ap (λ (k : ℕ). entry_bytes bank.page * k) n)), ap (λ (k : ℕ). entry_bytes bank.page * k) n) in
     let store = after _ _ _ _ _ _ _ _ _ now.ready held kept.safe kept.shown in
     let noted_is = noted_lines g (goal.at.returns-in-Done-clause-done g c).After-note in
     record {
@@ -187,8 +192,8 @@ invariant_of-self-in-Done g c =
     record {
       some_bytes = old.some_bytes;
       few_bytes = old.few_bytes;
-      inside = omega (arith, c.end_of.ensures.value, c.from.ensures, c.if-end_of-self.false);
-      placed = c.note.ensures.placed (end_of c.self.inside.which c.self.inside.bank_bytes) (omega (arith, c.end_of.ensures.value, c.from.ensures, c.if-end_of-self.false)) old.placed;
+      inside = omega (arith, c.end_of.ensures.value, c.from-bytes.ensures, c.entries_bytes.ensures.value, c.if-end_of-self.false);
+      placed = c.note.ensures.placed (end_of c.self.inside.which c.self.inside.bank_bytes) (omega (arith, c.end_of.ensures.value, c.from-bytes.ensures, c.entries_bytes.ensures.value, c.if-end_of-self.false)) old.placed;
       few_lines = omega (arith, old.few_lines, c.note.ensures.len);
       few_records = omega (arith, old.few_records);
       buffer = c.fill.ensures.len ∙ old.buffer;

@@ -2,47 +2,60 @@ use Rattle.std.proofs.Common.{◌≡◌, ℕ, ◌+◌, ◌*◌, ◌<◌, ◌≤�
 use Rattle.std.specs.Prelude.{All, Some}
 use Rattle.byteorder.specs.Endian.{big_bytes}
 use Rattle.owned_list.specs.Overlay.{overlaid}
-use Rattle.line_geometry.specs.declared.directory.PageSize.TheVariants.{Two}
+use Rattle.line_geometry.specs.declared.directory.PageSize.{PageSize}
 use Rattle.store_format.specs.Header.{entry_bytes}
 use Rattle.store_format.specs.Bank.{RecordLine, lines_from, wrong_line, record_bytes}
 use Rattle.store_format.proofs.Lines.{wrong_line-push}
-use Rattle.redo_journal.specs.Kept.{KeptBank, begun_of, with_line}
+use Rattle.redo_journal.specs.Kept.{KeptBank, begun_of, with_line, record_bytes_of, line_bytes_of}
+use Rattle.redo_journal.specs.declared.bank.Bank.TheInside.{Inside}
 use Rattle.redo_journal.specs.Inside.{begun_count, begun_lines, kept_of}
 use Rattle.redo_journal.proofs.AppendLemmas.{begun_is, length-begun, is_begun, unwrapped}
 use Rattle.redo_journal.proofs.LineLemmas.{line_added, least_low}
 use Rattle.redo_journal.proofs.bank.Bank.record_line.Goals as goal
-use Rattle.redo_journal.proofs.bank.Bank.record_line.Goals.{After-from, After-write-2}
+use Rattle.redo_journal.proofs.bank.Bank.record_line.Goals.{After-write-2}
 
 pub unwrap-begun-requires : goal.unwrap-begun-requires
 unwrap-begun-requires c = is_begun c.self.inside c.args.self.now c.self.view_is c.requires.begun
 
-count : (c : goal.After-from) → begun_count c.self.inside ≡ c.unwrap-begun.result
-count c = unwrapped c.self.inside.begun c.unwrap-begun.result c.unwrap-begun.ensures
-
-room : (c : goal.After-from) → 12 + entry_bytes Two * (c.unwrap-begun.result + 1) ≤ c.self.inside.bank_bytes
-room c = omega (arith, count c, c.requires.room, ap (λ (bank : KeptBank). bank.bank_bytes) c.self.view_is, length-begun c.self.inside c.args.self.now c.self.view_is)
+-- the buffer has room for one line more
+has_room : (bank : Inside) (kept : KeptBank) (begun : ℕ) → kept_of bank ≡ kept → begun_count bank ≡ begun → record_bytes_of kept (length (begun_of kept) + 1) + 1 ≤ kept.bank_bytes
+    → 12 + entry_bytes bank.page * (begun + 1) ≤ bank.bank_bytes
+has_room bank kept begun is count fits =
+    let these : record_bytes_of (kept_of bank) (length (begun_of (kept_of bank)) + 1) + 1 ≤ bank.bank_bytes =
+    subst (λ (those : KeptBank). record_bytes_of those (length (begun_of those) + 1) + 1 ≤ those.bank_bytes) (sym is) fits in
+    omega (arith, these, ap (λ (n : ℕ). entry_bytes bank.page * n) (length-begun bank (kept_of bank) refl ∙ count))
 
 pub write-requires : goal.write-requires
-write-requires c = omega (arith, room (goal.at.write-requires c).After-from, c.self.invariant.buffer, c.from.ensures, ap length c.word.ensures)
+write-requires c =
+    let n = unwrapped c.self.inside.begun c.unwrap-begun.result c.unwrap-begun.ensures in
+    omega (arith, has_room c.self.inside c.args.self.now c.unwrap-begun.result c.self.view_is n c.requires.room, c.self.invariant.buffer, c.entries_bytes.ensures.value, ap length c.word.ensures)
 
 pub write-requires-2 : goal.write-requires-2
-write-requires-2 c = omega (arith, room (goal.at.write-requires-2 c).After-from, c.self.invariant.buffer, c.from.ensures, c.requires.whole, c.write.ensures.len)
+write-requires-2 c =
+    let n = unwrapped c.self.inside.begun c.unwrap-begun.result c.unwrap-begun.ensures in
+    omega (arith, has_room c.self.inside c.args.self.now c.unwrap-begun.result c.self.view_is n c.requires.room, c.self.invariant.buffer, c.entries_bytes.ensures.value, ap (λ (bank : KeptBank). line_bytes_of bank) c.self.view_is, c.requires.whole, c.write.ensures.len)
+
+count : (c : goal.After-write-2) → begun_count c.self.inside ≡ c.unwrap-begun.result
+count c = unwrapped c.self.inside.begun c.unwrap-begun.result c.unwrap-begun.ensures
+
+room : (c : goal.After-write-2) → 12 + entry_bytes c.self.inside.page * (c.unwrap-begun.result + 1) ≤ c.self.inside.bank_bytes
+room c = has_room c.self.inside c.args.self.now c.unwrap-begun.result c.self.view_is (count c) c.requires.room
 
 -- the begun lines with one more
-lines : (c : goal.After-write-2) → 12 + entry_bytes Two * (c.unwrap-begun.result + 1) ≤ c.self.inside.bank_bytes → begun_count c.self.inside ≡ c.unwrap-begun.result
-    → lines_from (c.unwrap-begun.result + 1) (c.self.inside.gate + 11) (drop 10 c.write-2.new.self)
-    ≡ begun_lines c.self.inside ++ record { line = c.args.line; at = c.self.inside.gate + record_bytes c.unwrap-begun.result; bytes = c.args.bytes.now } ∷ []
+lines : (c : goal.After-write-2) → 12 + entry_bytes c.self.inside.page * (c.unwrap-begun.result + 1) ≤ c.self.inside.bank_bytes → begun_count c.self.inside ≡ c.unwrap-begun.result
+    → lines_from c.self.inside.page (c.unwrap-begun.result + 1) (c.self.inside.gate + 11) (drop 10 c.write-2.new.self)
+    ≡ begun_lines c.self.inside ++ record { line = c.args.line; at = c.self.inside.gate + record_bytes c.self.inside.page c.unwrap-begun.result; bytes = c.args.bytes.now } ∷ []
 lines c fits n =
     let bank = c.self.inside in
     let count = c.unwrap-begun.result in
-    let at : 10 + entry_bytes Two * c.from.result ≡ 10 + entry_bytes Two * count = omega (arith, c.from.ensures) in
-    let body : c.write-2.new.self ≡ overlaid (overlaid bank.body (10 + entry_bytes Two * count) (big_bytes 4 c.args.line)) (10 + entry_bytes Two * count + 4) c.args.bytes.now =
+    let at : 10 + c.entries_bytes.result ≡ 10 + entry_bytes c.self.inside.page * count = omega (arith, c.entries_bytes.ensures.value) in
+    let body : c.write-2.new.self ≡ overlaid (overlaid bank.body (10 + entry_bytes c.self.inside.page * count) (big_bytes 4 c.args.line)) (10 + entry_bytes c.self.inside.page * count + 4) c.args.bytes.now =
     c.write-2.ensures.value
-    ∙ ap (λ (these : List ℕ). overlaid these (10 + entry_bytes Two * c.from.result + 4) c.args.bytes.now) (c.write.ensures.value ∙ ap (overlaid bank.body (10 + entry_bytes Two * c.from.result)) c.word.ensures)
+    ∙ ap (λ (these : List ℕ). overlaid these (10 + c.entries_bytes.result + 4) c.args.bytes.now) (c.write.ensures.value ∙ ap (overlaid bank.body (10 + c.entries_bytes.result)) c.word.ensures)
     ∙ ap (λ (n : ℕ). overlaid (overlaid bank.body n (big_bytes 4 c.args.line)) (n + 4) c.args.bytes.now) at in
-    ap (λ (these : List ℕ). lines_from (count + 1) (bank.gate + 11) (drop 10 these)) body
-    ∙ line_added bank.body c.args.bytes.now count bank.gate c.args.line c.requires.whole c.ranges.line.fits (omega (arith, c.self.invariant.buffer, fits))
-    ∙ ap (λ (n : ℕ). lines_from n (bank.gate + 11) (drop 10 bank.body) ++ record { line = c.args.line; at = bank.gate + record_bytes count; bytes = c.args.bytes.now } ∷ []) (sym n)
+    ap (λ (these : List ℕ). lines_from c.self.inside.page (count + 1) (bank.gate + 11) (drop 10 these)) body
+    ∙ line_added c.self.inside.page bank.body c.args.bytes.now count bank.gate c.args.line (c.requires.whole ∙ sym (ap (λ (kept : KeptBank). line_bytes_of kept) c.self.view_is)) c.ranges.line.fits (omega (arith, c.self.invariant.buffer, fits))
+    ∙ ap (λ (n : ℕ). lines_from c.self.inside.page n (bank.gate + 11) (drop 10 bank.body) ++ record { line = c.args.line; at = bank.gate + record_bytes c.self.inside.page count; bytes = c.args.bytes.now } ∷ []) (sym n)
 
 pub invariant_of-self : goal.invariant_of-self
 invariant_of-self c =
@@ -57,10 +70,10 @@ invariant_of-self c =
       few_lines = old.few_lines;
       few_records = old.few_records;
       buffer = c.write-2.ensures.len ∙ c.write.ensures.len ∙ old.buffer;
-      fits = room at.After-from;
+      fits = room at.After-write-2;
       ordered =
-          ap (wrong_line (length c.self.inside.newest) 0) (lines at.After-write-2 (room at.After-from) (count at.After-from))
-          ∙ wrong_line-push (length c.self.inside.newest) 0 (begun_lines c.self.inside) (record { line = c.args.line; at = c.self.inside.gate + record_bytes c.unwrap-begun.result; bytes = c.args.bytes.now }) old.ordered
+          ap (wrong_line (length c.self.inside.newest) 0) (lines at.After-write-2 (room at.After-write-2) (count at.After-write-2))
+          ∙ wrong_line-push (length c.self.inside.newest) 0 (begun_lines c.self.inside) (record { line = c.args.line; at = c.self.inside.gate + record_bytes c.self.inside.page c.unwrap-begun.result; bytes = c.args.bytes.now }) old.ordered
           (least_low 0 c.args.line (begun_lines c.self.inside) (omega arith) lines_ascend)
           (omega (arith, c.requires.below, ap (λ (bank : KeptBank). length bank.newest) c.self.view_is));
     }
@@ -70,9 +83,9 @@ returns c =
     let at = goal.at.returns c in
     let bank = c.self.inside in
     let same = begun_is bank (kept_of bank) refl in
-    let number : c.unwrap-begun.result ≡ length (begun_of (kept_of bank)) = sym (length-begun bank (kept_of bank) refl ∙ count at.After-from) in
+    let number : c.unwrap-begun.result ≡ length (begun_of (kept_of bank)) = sym (length-begun bank (kept_of bank) refl ∙ count at.After-write-2) in
     ap (λ (these : List RecordLine). record (kept_of bank) { begun = Some these })
-    (lines at.After-write-2 (room at.After-from) (count at.After-from)
-    ∙ ap (λ (n : ℕ). begun_lines bank ++ record { line = c.args.line; at = bank.gate + record_bytes n; bytes = c.args.bytes.now } ∷ []) number
-    ∙ ap (λ (these : List RecordLine). these ++ record { line = c.args.line; at = bank.gate + record_bytes (length (begun_of (kept_of bank))); bytes = c.args.bytes.now } ∷ []) same)
+    (lines at.After-write-2 (room at.After-write-2) (count at.After-write-2)
+    ∙ ap (λ (n : ℕ). begun_lines bank ++ record { line = c.args.line; at = bank.gate + record_bytes c.self.inside.page n; bytes = c.args.bytes.now } ∷ []) number
+    ∙ ap (λ (these : List RecordLine). these ++ record { line = c.args.line; at = bank.gate + record_bytes c.self.inside.page (length (begun_of (kept_of bank))); bytes = c.args.bytes.now } ∷ []) same)
     ∙ ap (λ (kept : KeptBank). with_line kept c.args.line c.args.bytes.now) c.self.view_is

@@ -1,6 +1,7 @@
-use Rattle.std.proofs.Common.{◌≡◌, ℕ, ◌+◌, List, length, drop, refl, sym, subst, ◌∙◌, ap, arith}
+use Rattle.std.proofs.Common.{◌≡◌, ℕ, ◌+◌, ◌*◌, List, length, drop, refl, sym, subst, ◌∙◌, ap, arith}
 use Rattle.std.specs.Prelude.{Option, None}
 use Rattle.std.proofs.lemmas.List.{length-replicate}
+use Rattle.store_format.specs.Header.{entry_bytes}
 use Rattle.store_format.specs.Bank.{RecordLine, wrong_line}
 use Rattle.redo_journal.specs.Kept.{KeptBank, end_of}
 use Rattle.redo_journal.specs.Noted.{AreWithin}
@@ -20,14 +21,14 @@ invariant_of-self c =
       some_bytes = old.some_bytes;
       few_bytes = old.few_bytes;
       inside = omega (arith, c.place_of.ensures.end, old.some_bytes);
-      placed = subst (λ (newest : List (Option ℕ)). AreWithin (end_of c.args.which bank.bank_bytes) newest) (sym c.forget.ensures) (none_within (end_of c.args.which bank.bank_bytes) (length bank.newest));
+      placed = subst (λ (newest : List (Option ℕ)). AreWithin c.self.inside.page (end_of c.args.which bank.bank_bytes) newest) (sym c.forget.ensures) (none_within c.self.inside.page (end_of c.args.which bank.bank_bytes) (length bank.newest));
       few_lines = omega (arith, old.few_lines, long);
       few_records = omega arith;
       buffer = old.buffer;
       fits = old.fits;
       ordered =
-          ap (λ (lines : List RecordLine). wrong_line (length c.forget.new.newest) 0 lines) (lines_placed count (at + 8 + 11) (bank.gate + 11) (drop 10 bank.body))
-          ∙ placed_order (length c.forget.new.newest) 0 (at + 8 + 11) (begun_lines bank) (ap (λ (n : ℕ). wrong_line n 0 (begun_lines bank)) long ∙ old.ordered);
+          ap (λ (lines : List RecordLine). wrong_line (length c.forget.new.newest) 0 lines) (lines_placed c.self.inside.page count (at + 8 + 11) (bank.gate + 11) (drop 10 bank.body))
+          ∙ placed_order c.self.inside.page (length c.forget.new.newest) 0 (at + 8 + 11) (begun_lines bank) (ap (λ (n : ℕ). wrong_line n 0 (begun_lines bank)) long ∙ old.ordered);
     }
 
 pub returns-clause-turned : goal.returns-clause-turned
@@ -37,7 +38,7 @@ returns-clause-turned c =
 pub returns-clause-fits : goal.returns-clause-fits
 returns-clause-fits c =
     let fields = turned_fields c.args.which c.self.inside c.number_of-self-inside.result c.place_of.result c.forget.new.newest in
-    omega (arith, length-begun fields (kept_of fields) refl, c.place_of.ensures.end, c.self.invariant.fits)
+    omega (arith, ap (λ (n : ℕ). entry_bytes c.self.inside.page * n) (length-begun fields (kept_of fields) refl), c.place_of.ensures.end, c.self.invariant.fits)
 
 pub returns-clause-shape : goal.returns-clause-shape
 returns-clause-shape c = record {

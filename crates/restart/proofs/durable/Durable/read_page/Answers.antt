@@ -1,7 +1,7 @@
 use Rattle.std.proofs.Common.{◌≡◌, ℕ, ◌+◌, ◌*◌, ◌≤◌, List, [], length, get_or, ap, subst, sym, IsSome, ◌∙◌, arith, refl, ◌<◌}
 use Rattle.std.specs.Prelude.{Option, None, unwrap_or}
-use Rattle.line_geometry.specs.Directory.{page_count}
-use Rattle.line_geometry.specs.declared.directory.PageSize.TheVariants.{Two}
+use Rattle.line_geometry.specs.Directory.{Layout, page_count}
+use Rattle.line_geometry.specs.declared.directory.PageSize.{PageSize}
 use Rattle.store_format.specs.Header.{home_at, total, line_bytes}
 use Rattle.store_format.specs.Stands.{home_of}
 use Rattle.outside.specs.Bytes.{bytes_at}
@@ -11,7 +11,7 @@ use Rattle.outside.proofs.Durable.{told_some}
 use Rattle.redo_journal.specs.Kept.{area_end}
 use Rattle.store_format.proofs.Padded.{read_is}
 use Rattle.restart.specs.Kept.{KeptStore}
-use Rattle.restart.specs.Shows.{Shows}
+use Rattle.restart.specs.Shows.{Shows, page_bytes}
 use Rattle.restart.proofs.Compose.{Composed, composed_none, composed_more, composed_at_home, shown_page, placed_at}
 use Rattle.restart.specs.Page.{newest_over}
 use Rattle.restart.proofs.ShowLemmas.{end_inside}
@@ -25,12 +25,12 @@ loop-i-init g c =
     record {
       asks = asks_one g.W.Outside c.args.outside.now c.read_at.new.self c.read_at.ensures.held c.read_at.ensures.writes c.read_at.ensures.honest c.read_at.ensures.time c.read_at.ensures.once c.read_at.ensures.quiet c.read_at.ensures.crash c.read_at.ensures.cause.later c.read_at.ensures.puts;
       no_fault = c.in_ok-read_at.ensures.cause.done;
-      len = c.read_at.auto.into ∙ c.requires.whole;
+      len = c.read_at.auto.into ∙ c.requires.whole ∙ ap (λ (store : KeptStore). page_bytes store.header.directory) (sym c.self.view_is);
       composed = λ told.
           composed_none held header c.self.inside.banks.newest (c.from-first.result * 16) c.read_at.new.into
           (read_is (G.held c.args.outside.now) c.read_at.new.into c.home_at.result (length c.args.into.now) told c.in_ok-read_at.ensures.read
           ∙ ap (λ (n : ℕ). bytes_at held n (length c.args.into.now)) c.home_at.ensures.value
-          ∙ ap (bytes_at held (home_at header (c.from-first.result * 16))) c.requires.whole);
+          ∙ ap (bytes_at held (home_at header (c.from-first.result * 16))) (c.requires.whole ∙ ap (λ (store : KeptStore). page_bytes store.header.directory) (sym c.self.view_is)));
     }
 
 pub loop-i-preserved : goal.loop-i-preserved
@@ -41,6 +41,8 @@ loop-i-preserved g c =
     let line = c.from-first.result * 16 + c.loop-i.i in
     let place = get_or bank.newest line None in
     let so_far = c.loop-i.invariant in
+    let sized : c.page-page.result ≡ c.self.inside.header.directory.page = c.page-page.ensures ∙ ap (λ (directory : Layout). directory.page) c.directory.ensures.value in
+    let at : c.lines_bytes-at.result ≡ c.loop-i.i * line_bytes c.self.inside.header.directory.page = omega (arith, c.lines_bytes-at.ensures.value, ap (λ (size : PageSize). line_bytes size * c.loop-i.i) sized) in
     let read = c.in_ok-read_newest.ensures in
     record {
       asks = asks_on G g.met.W.Outside.fewer_later c.args.outside.now c.loop-i.outside c.read_newest.new.outside so_far.asks read.asks;
@@ -52,9 +54,12 @@ loop-i-preserved g c =
           let room : total c.args.self.now.header ≤ length held = c.requires.room held (told_some (G.held c.args.outside.now) told) in
           let end : area_end bank ≤ total c.self.inside.header = end_inside c.self.inside.header bank.which bank.bank_bytes c.self.invariant.bank_bytes in
           let header : total c.self.inside.header ≡ total c.args.self.now.header = ap (λ (store : KeptStore). total store.header) c.self.view_is in
-          composed_more held (home_of held c.self.inside.header) bank.newest (c.from-first.result * 16) c.loop-i.i c.loop-i.into c.read_newest.new.page place c.loop-i-test.true so_far.len refl
-          (λ at is. let fits = placed_at place at (area_end bank) is read.placed in omega (arith, fits, end, header, room))
-          (read.read still ∙ ap (λ (image : List ℕ). newest_over (line_bytes Two) image place c.loop-i.into (c.loop-i.i * line_bytes Two)) same)
+          composed_more c.self.inside.header.directory.page held (home_of held c.self.inside.header) bank.newest (c.from-first.result * 16) c.loop-i.i c.loop-i.into c.read_newest.new.page place c.loop-i-test.true so_far.len refl
+          (λ at is. let fits = placed_at bank.page place at (area_end bank) is read.placed in omega (arith, fits, end, header, room, ap line_bytes c.self.invariant.page))
+          (read.read still
+          ∙ ap (λ (image : List ℕ). newest_over (line_bytes bank.page) image place c.loop-i.into c.lines_bytes-at.result) same
+          ∙ ap (λ (size : PageSize). newest_over (line_bytes size) held place c.loop-i.into c.lines_bytes-at.result) (sym c.self.invariant.page)
+          ∙ ap (newest_over (line_bytes c.self.inside.header.directory.page) held place c.loop-i.into) at)
           (so_far.composed told);
     }
 
@@ -66,15 +71,16 @@ returns-then-not-holds_some-clause-read g c shown =
     let shows : Shows held store = subst (λ (store : KeptStore). Shows held store) (sym c.self.view_is) shown.shows in
     let same : first ≡ c.args.page * 16 = omega (arith, c.from-first.ensures) in
     let within : c.args.page < page_count store.header.directory = subst (λ (store : KeptStore). c.args.page < page_count store.header.directory) (sym c.self.view_is) c.requires.page in
-    let whole = c.read_at.auto.into ∙ c.requires.whole in
+    let sized = c.requires.whole ∙ ap (λ (store : KeptStore). page_bytes store.header.directory) (sym c.self.view_is) in
+    let whole = c.read_at.auto.into ∙ sized in
     let read =
     read_is (g.W.Outside.held c.args.outside.now) c.read_at.new.into c.home_at.result (length c.args.into.now) shown.told c.in_ok-read_at.ensures.read
     ∙ ap (λ (n : ℕ). bytes_at held n (length c.args.into.now)) c.home_at.ensures.value
-    ∙ ap (bytes_at held (home_at store.header first)) c.requires.whole in
-    let at_home : Composed held (home_of held store.header) store.bank.newest first 16 c.read_at.new.into =
-    composed_at_home held (home_of held store.header) store.bank.newest first c.read_at.new.into (omega (arith, shows.fits.lines, within, same)) (sym c.holds_some.ensures ∙ c.if-not-holds_some.true) (composed_none held store.header store.bank.newest first c.read_at.new.into read) in
+    ∙ ap (bytes_at held (home_at store.header first)) sized in
+    let at_home : Composed store.header.directory.page held (home_of held store.header) store.bank.newest first 16 c.read_at.new.into =
+    composed_at_home store.header.directory.page held (home_of held store.header) store.bank.newest first c.read_at.new.into (omega (arith, shows.fits.lines, within, same)) (sym c.holds_some.ensures ∙ c.if-not-holds_some.true) (composed_none held store.header store.bank.newest first c.read_at.new.into read) in
     shown_page held store shows c.read_at.new.into c.args.page within whole
-    (subst (λ (n : ℕ). Composed held (home_of held store.header) store.bank.newest n 16 c.read_at.new.into) same at_home)
+    (subst (λ (n : ℕ). Composed store.header.directory.page held (home_of held store.header) store.bank.newest n 16 c.read_at.new.into) same at_home)
 
 pub returns-clause-read : goal.returns-clause-read
 returns-clause-read g c shown =
@@ -83,7 +89,7 @@ returns-clause-read g c shown =
     let first : c.from-first.result * 16 ≡ c.args.page * 16 = omega (arith, c.from-first.ensures) in
     let all : c.loop-i.i ≡ 16 = omega (arith, c.loop-i-test.false, c.loop-i.auto.i-end) in
     let within : c.args.page < page_count c.self.inside.header.directory = subst (λ (store : KeptStore). c.args.page < page_count store.header.directory) (sym c.self.view_is) c.requires.page in
-    let composed : Composed held (home_of held c.self.inside.header) c.self.inside.banks.newest (c.args.page * 16) 16 c.loop-i.into =
-    subst (λ (n : ℕ). Composed held (home_of held c.self.inside.header) c.self.inside.banks.newest n 16 c.loop-i.into) first
-    (subst (λ (n : ℕ). Composed held (home_of held c.self.inside.header) c.self.inside.banks.newest (c.from-first.result * 16) n c.loop-i.into) all (c.loop-i.invariant.composed shown.told)) in
+    let composed : Composed c.self.inside.header.directory.page held (home_of held c.self.inside.header) c.self.inside.banks.newest (c.args.page * 16) 16 c.loop-i.into =
+    subst (λ (n : ℕ). Composed c.self.inside.header.directory.page held (home_of held c.self.inside.header) c.self.inside.banks.newest n 16 c.loop-i.into) first
+    (subst (λ (n : ℕ). Composed c.self.inside.header.directory.page held (home_of held c.self.inside.header) c.self.inside.banks.newest (c.from-first.result * 16) n c.loop-i.into) all (c.loop-i.invariant.composed shown.told)) in
     shown_page held (record { header = c.self.inside.header; bank = c.self.inside.banks }) shows c.loop-i.into c.args.page within c.loop-i.invariant.len composed

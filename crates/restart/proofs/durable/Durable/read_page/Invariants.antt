@@ -1,4 +1,5 @@
-use Rattle.std.proofs.Common.{◌≡◌, length, IsSome}
+use Rattle.std.proofs.Common.{◌≡◌, ◌*◌, length, IsSome}
+use Rattle.store_format.specs.Header.{line_bytes}
 use Rattle.store_format.specs.Stands.{home_of}
 use Rattle.outside.specs.Runs.{OnlyAsks, held_of}
 use Rattle.restart.proofs.Compose.{Composed}
@@ -8,6 +9,6 @@ abbrev pub invariant-loop-i : goal.invariant-loop-i
 invariant-loop-i g l = record {
   asks : OnlyAsks g.W.Outside l.fn.outside l.outside;
   no_fault : g.W.Outside.disk_faults l.outside ≡ g.W.Outside.disk_faults l.fn.outside;
-  len : length l.into ≡ 2048;
-  composed : IsSome (g.W.Outside.held l.fn.outside) → Composed (held_of g.W.Outside l.fn.outside) (home_of (held_of g.W.Outside l.fn.outside) l.self-inside.header) l.self-inside.banks.newest l.first l.i l.into;
+  len : length l.into ≡ 16 * line_bytes l.self-inside.header.directory.page;
+  composed : IsSome (g.W.Outside.held l.fn.outside) → Composed l.self-inside.header.directory.page (held_of g.W.Outside l.fn.outside) (home_of (held_of g.W.Outside l.fn.outside) l.self-inside.header) l.self-inside.banks.newest l.first l.i l.into;
 }

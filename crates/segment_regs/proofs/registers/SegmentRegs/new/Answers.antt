@@ -1,6 +1,7 @@
-use Rattle.std.proofs.Common.{◌<◌, ◌≢◌, None, length, arith, get_or-set_other, get_or-set_same, below_more}
+use Rattle.std.proofs.Common.{◌<◌, ◌≢◌, List, Option, None, ap, length, arith, get_or-set_other, get_or-set_same, below_more}
 use Rattle.std.proofs.lemmas.List.{length-set}
 use Rattle.std.proofs.lemmas.List.FromFn.{fill_by_all}
+use Rattle.segment_regs.specs.declared.registers.SegmentRegister.{SegmentRegister}
 use Rattle.segment_regs.specs.Registers.{register_with}
 use Rattle.segment_regs.proofs.registers.SegmentRegs.new.Goals as goal
 
@@ -18,10 +19,11 @@ loop-number-preserved c =
 
 pub returns : goal.returns
 returns c =
-    fill_by_all
+    ap (λ (list : List (Option SegmentRegister)). record { page = c.args.page; list = list })
+    (fill_by_all
     (register_with c.args.private c.args.windows.now)
     c.loop-number.registers
     16
     None
     c.loop-number.invariant.long
-    (λ k below. c.loop-number.invariant.each k (omega (arith, c.loop-number-test.false)))
+    (λ k below. c.loop-number.invariant.each k (omega (arith, c.loop-number-test.false))))

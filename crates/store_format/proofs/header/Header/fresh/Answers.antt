@@ -14,4 +14,4 @@ returns-clause-stands c =
     c.in_ok-add_zeros.ensures.bytes
     ∙ ap (λ (these : List ℕ). these ++ replicate (c.total-total.result - vec_len c.write_header.new.image) 0) wrote.bytes
     ∙ ap (λ (n : ℕ). header_bytes header ++ replicate n 0) left in
-    ap stands bytes ∙ fresh_stands header wrote.ranges wrote.legal
+    ap stands bytes ∙ fresh_stands header wrote.ranges wrote.legal wrote.flags

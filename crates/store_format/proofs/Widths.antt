@@ -1,0 +1,39 @@
+-- Sums of lines and of entries, by the size of a page.
+use Rattle.std.proofs.Common.{◌≡◌, ℕ, ◌+◌, ◌*◌, ◌/◌, ◌<◌, ◌≤◌, refl, arith}
+use Rattle.line_geometry.specs.Segments.{page_bytes}
+use Rattle.line_geometry.specs.declared.directory.PageSize.{PageSize}
+use Rattle.line_geometry.specs.declared.directory.PageSize.TheVariants.{Two, Four}
+use Rattle.store_format.specs.Header.{line_bytes, entry_bytes}
+
+-- a line of a store and of its directory
+pub widths : (page : PageSize) → page_bytes page / 16 ≡ line_bytes page
+widths Two = refl
+widths Four = refl
+
+-- a page has sixteen lines
+pub page-lines : (page : PageSize) → page_bytes page ≡ 16 * line_bytes page
+page-lines Two = refl
+page-lines Four = refl
+
+pub line-some : (page : PageSize) → 128 ≤ line_bytes page
+line-some Two = omega arith
+line-some Four = omega arith
+
+pub line-few : (page : PageSize) → line_bytes page ≤ 256
+line-few Two = omega arith
+line-few Four = omega arith
+
+-- an entry behind others, of so many
+pub entries-below : (page : PageSize) (i count : ℕ) → i < count → entry_bytes page * i + entry_bytes page ≤ entry_bytes page * count
+entries-below Two i count below = omega (arith, below)
+entries-below Four i count below = omega (arith, below)
+
+-- a line behind others, of so many
+pub lines-below : (page : PageSize) (k bound : ℕ) → k < bound → k * line_bytes page + line_bytes page ≤ bound * line_bytes page
+lines-below Two k bound below = omega (arith, below)
+lines-below Four k bound below = omega (arith, below)
+
+-- lines of no more
+pub lines-within : (page : PageSize) (n bound : ℕ) → n ≤ bound → n * line_bytes page ≤ bound * line_bytes page
+lines-within Two n bound few = omega (arith, few)
+lines-within Four n bound few = omega (arith, few)
