@@ -7,7 +7,8 @@ use Rattle.line_geometry.specs.Lines.{line_count}
 use Rattle.line_geometry.specs.declared.directory.PageSize.{PageSize}
 use Rattle.store_format.specs.declared.header.Which.{Which}
 use Rattle.store_format.specs.declared.header.Which.TheVariants.{A, B}
-use Rattle.store_format.specs.Header.{Header, home_at, bank_at, line_bytes}
+use Rattle.line_geometry.specs.Segments.{line_bytes}
+use Rattle.store_format.specs.Header.{Header, home_at, bank_at}
 use Rattle.redo_journal.specs.Kept.{KeptBank, end_of, line_bytes_of}
 use Rattle.store_format.specs.Bank.{RecordLine}
 use Rattle.store_format.specs.Stands.{IsStore, laid, home_of}

@@ -2,7 +2,8 @@
 use Rattle.std.specs.Prelude.{◌≡◌, ℕ, ◌+◌, ◌*◌, ◌<◌, List, length, take, Option, None, Some}
 use Rattle.line_geometry.specs.Lines.{line_count}
 use Rattle.store_format.specs.declared.header.Which.TheVariants.{B}
-use Rattle.store_format.specs.Header.{Header, home_at, line_bytes}
+use Rattle.line_geometry.specs.Segments.{line_bytes}
+use Rattle.store_format.specs.Header.{Header, home_at}
 use Rattle.store_format.specs.Bank.{RecordLine}
 use Rattle.outside.specs.Bytes.{bytes_at, written, Torn}
 use Rattle.redo_journal.specs.Kept.{KeptBank, end_of, line_bytes_of}

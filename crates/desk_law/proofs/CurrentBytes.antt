@@ -9,9 +9,10 @@ use Rattle.std.proofs.Math.Seq.{drop-append-add, take-nil}
 use Rattle.std.proofs.lemmas.Bool.{cases_lt}
 use Rattle.std.proofs.lemmas.Grind.{same_number_lists}
 use Rattle.std.proofs.lemmas.List.{length-take, length-drop, take_at}
+use Rattle.line_geometry.specs.Segments.{line_bytes}
 use Rattle.line_geometry.specs.Directory.{Layout, byte_count}
 use Rattle.line_geometry.specs.FlatStore.{FlatStore, IsWhole}
-use Rattle.line_geometry.specs.Lines.{line_bytes, line_count}
+use Rattle.line_geometry.specs.Lines.{line_count}
 use Rattle.line_geometry.proofs.Within.{byte_count-lines, line-bytes-pos}
 use Rattle.flat_machine.specs.declared.machine.Plain.{Plain}
 use Rattle.flat_machine.specs.After.{after}
@@ -57,20 +58,20 @@ piece-at lb f low (suc n) (suc k) each below =
     ∙ ap f next
 
 -- a line within has all its bytes, and one beyond has none
-line-long : (d : Layout) (xs : List ℕ) (line : ℕ) → length xs ≡ byte_count d → line < line_count d → length (line_in d xs line) ≡ line_bytes d
+line-long : (d : Layout) (xs : List ℕ) (line : ℕ) → length xs ≡ byte_count d → line < line_count d → length (line_in d xs line) ≡ line_bytes d.page
 line-long d xs line whole below =
-    let fits : suc line * line_bytes d ≤ line_count d * line_bytes d = mul-le-mul_right (line_bytes d) (omega (arith, below)) in
-    ap (λ (part : List ℕ). length part) (line-part (line_bytes d) line xs)
-    ∙ length-take (line_bytes d) (drop (line * line_bytes d) xs)
-    ∙ ap (min (line_bytes d)) (length-drop (line * line_bytes d) xs)
+    let fits : suc line * line_bytes d.page ≤ line_count d * line_bytes d.page = mul-le-mul_right (line_bytes d.page) (omega (arith, below)) in
+    ap (λ (part : List ℕ). length part) (line-part (line_bytes d.page) line xs)
+    ∙ length-take (line_bytes d.page) (drop (line * line_bytes d.page) xs)
+    ∙ ap (min (line_bytes d.page)) (length-drop (line * line_bytes d.page) xs)
     ∙ omega (arith, fits, whole, byte_count-lines d)
 
 line-beyond : (d : Layout) (xs : List ℕ) (line : ℕ) → length xs ≡ byte_count d → line_count d ≤ line → line_in d xs line ≡ []
 line-beyond d xs line whole beyond =
-    let fits : line_count d * line_bytes d ≤ line * line_bytes d = mul-le-mul_right (line_bytes d) beyond in
-    line-part (line_bytes d) line xs
-    ∙ ap (take (line_bytes d)) (drop_of_length-le xs (omega (arith, fits, whole, byte_count-lines d)))
-    ∙ take-nil (line_bytes d)
+    let fits : line_count d * line_bytes d.page ≤ line * line_bytes d.page = mul-le-mul_right (line_bytes d.page) beyond in
+    line-part (line_bytes d.page) line xs
+    ∙ ap (take (line_bytes d.page)) (drop_of_length-le xs (omega (arith, fits, whole, byte_count-lines d)))
+    ∙ take-nil (line_bytes d.page)
 
 -- whoever wrote a line has a whole store
 writer-whole : (store : FlatStore) (one : Option Entry) → IsWhole store → length (option_map_or (bytes_of store) one store.bytes) ≡ byte_count store.directory
@@ -83,31 +84,31 @@ writer-whole store (Some entry) whole = by_state (after entry.runs.program entry
     by_state (Some state) at = after-whole entry.runs.program entry.runs.args store entry.rows state whole at
 
 -- pieces that are lines, end to end
-pub lines-joined : (d : Layout) (f : ℕ → List ℕ) → ((line : ℕ) → line < line_count d → length (f line) ≡ line_bytes d) → ((line : ℕ) → line_count d ≤ line → f line ≡ [])
+pub lines-joined : (d : Layout) (f : ℕ → List ℕ) → ((line : ℕ) → line < line_count d → length (f line) ≡ line_bytes d.page) → ((line : ℕ) → line_count d ≤ line → f line ≡ [])
     → (length (flat_map f (range_with_len 0 (line_count d))) ≡ byte_count d) × ((line : ℕ) → line_in d (flat_map f (range_with_len 0 (line_count d))) line ≡ f line)
 lines-joined d f full none = (
   long,
   λ line. elim (cases_lt line (line_count d)) [
     | inl below ↦
         let here : 0 + line ≡ line = omega arith in
-        line-part (line_bytes d) line (flat_map f (range_with_len 0 (line_count d)))
-        ∙ piece-at (line_bytes d) f 0 (line_count d) line each below
+        line-part (line_bytes d.page) line (flat_map f (range_with_len 0 (line_count d)))
+        ∙ piece-at (line_bytes d.page) f 0 (line_count d) line each below
         ∙ ap f here
     | inr beyond ↦ line-beyond d (flat_map f (range_with_len 0 (line_count d))) line long beyond ∙ sym (none line beyond)
   ],
 )
   where
-    each : (line : ℕ) → 0 ≤ line → line < 0 + line_count d → length (f line) ≡ line_bytes d
+    each : (line : ℕ) → 0 ≤ line → line < 0 + line_count d → length (f line) ≡ line_bytes d.page
     each line above below = full line (omega (arith, below))
 
     long : length (flat_map f (range_with_len 0 (line_count d))) ≡ byte_count d
-    long = pieces-long (line_bytes d) f 0 (line_count d) each ∙ sym (byte_count-lines d)
+    long = pieces-long (line_bytes d.page) f 0 (line_count d) each ∙ sym (byte_count-lines d)
 
 -- bytes of a store that have the same lines are the same
 pub same-lines : (d : Layout) (bytes other : List ℕ) → length bytes ≡ byte_count d → length other ≡ byte_count d → ((line : ℕ) → line_in d bytes line ≡ line_in d other line) → bytes ≡ other
 same-lines d bytes other long also same =
     same_number_lists bytes other (long ∙ sym also)
-    (λ k below. in_line (line_bytes d) (k / line_bytes d) k bytes other refl (line-bytes-pos d) (same (k / line_bytes d)))
+    (λ k below. in_line (line_bytes d.page) (k / line_bytes d.page) k bytes other refl (line-bytes-pos d) (same (k / line_bytes d.page)))
 
 pub bytes-current : (desk : Desk) → IsWhole desk.committed → IsCurrent desk.committed desk.active (current_bytes desk)
 bytes-current desk whole =
@@ -132,7 +133,7 @@ pub laid-is : (d : Layout) (lines from onto new : List ℕ) → length from ≡ 
 laid-is d lines from onto new from_long onto_long long each =
     let (joined_long, joined) =
     lines-joined d (λ line. if has lines line then line_in d from line else line_in d onto line)
-    (λ line below. by_test (λ (part : List ℕ). length part ≡ line_bytes d) (has lines line) (line_in d from line) (line_in d onto line) (line-long d from line from_long below) (line-long d onto line onto_long below))
+    (λ line below. by_test (λ (part : List ℕ). length part ≡ line_bytes d.page) (has lines line) (line_in d from line) (line_in d onto line) (line-long d from line from_long below) (line-long d onto line onto_long below))
     (λ line beyond. by_test (λ (part : List ℕ). part ≡ []) (has lines line) (line_in d from line) (line_in d onto line) (line-beyond d from line from_long beyond) (line-beyond d onto line onto_long beyond)) in
     same-lines d (laid d lines from onto) new joined_long long (λ line. joined line ∙ sym (each line))
   where

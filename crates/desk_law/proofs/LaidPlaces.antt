@@ -4,19 +4,19 @@ use Rattle.std.proofs.Common.{arith, ap, sym, ◌∙◌}
 use Rattle.std.proofs.lemmas.Nat.{div-mul-add}
 use Rattle.std.proofs.lemmas.List.{length-take, length-drop}
 use Rattle.std.proofs.lemmas.Grind.{same_number_lists}
-use Rattle.line_geometry.specs.Lines.{line_bytes}
+use Rattle.line_geometry.specs.Segments.{line_bytes}
 use Rattle.line_geometry.specs.FlatStore.{FlatStore}
 use Rattle.lock_rules.specs.Sets.{has}
 use Rattle.flat_machine.proofs.Ranges.{part, in_line}
 use Rattle.desk_law.specs.Beside.{IsLaid}
 
 -- a byte of a line that was laid, and of one that wasn't
-module _ (store : FlatStore) (lines from old new : List ℕ) (some : 0 < line_bytes store.directory) (is : IsLaid store lines from old new) where
-  pub place-laid : (place : ℕ) → has lines (place / line_bytes store.directory) ≡ true → slice_index new place ≡ slice_index from place
-  place-laid place inside = in_line (line_bytes store.directory) (place / line_bytes store.directory) place new from refl some (is.laid (place / line_bytes store.directory) inside)
+module _ (store : FlatStore) (lines from old new : List ℕ) (some : 0 < line_bytes store.directory.page) (is : IsLaid store lines from old new) where
+  pub place-laid : (place : ℕ) → has lines (place / line_bytes store.directory.page) ≡ true → slice_index new place ≡ slice_index from place
+  place-laid place inside = in_line (line_bytes store.directory.page) (place / line_bytes store.directory.page) place new from refl some (is.laid (place / line_bytes store.directory.page) inside)
 
-  pub place-kept : (place : ℕ) → has lines (place / line_bytes store.directory) ≡ false → slice_index new place ≡ slice_index old place
-  place-kept place out = in_line (line_bytes store.directory) (place / line_bytes store.directory) place new old refl some (is.kept (place / line_bytes store.directory) out)
+  pub place-kept : (place : ℕ) → has lines (place / line_bytes store.directory.page) ≡ false → slice_index new place ≡ slice_index old place
+  place-kept place out = in_line (line_bytes store.directory.page) (place / line_bytes store.directory.page) place new old refl some (is.kept (place / line_bytes store.directory.page) out)
 
 -- lists that are equal on each byte of a line have the line equal
 line-from : (lb line : ℕ) (xs ys : List ℕ) → 0 < lb → length xs ≡ length ys → ((k : ℕ) → k < lb → line * lb + k < length xs → slice_index xs (line * lb + k) ≡ slice_index ys (line * lb + k))
@@ -37,8 +37,8 @@ line-of lb line k short = div-mul-add line lb k short
 
 -- Bytes that were laid place by place are laid line by line.
 pub laid-places :
-    (store : FlatStore) (lines from old new : List ℕ) → 0 < line_bytes store.directory → length new ≡ length old → length from ≡ length old
-    → ((place : ℕ) → place < length old → slice_index new place ≡ (if has lines (place / line_bytes store.directory) then slice_index from place else slice_index old place))
+    (store : FlatStore) (lines from old new : List ℕ) → 0 < line_bytes store.directory.page → length new ≡ length old → length from ≡ length old
+    → ((place : ℕ) → place < length old → slice_index new place ≡ (if has lines (place / line_bytes store.directory.page) then slice_index from place else slice_index old place))
     → IsLaid store lines from old new
 laid-places store lines from old new some long from_long each = record {
   long = long;
@@ -51,14 +51,14 @@ laid-places store lines from old new some long from_long each = record {
 }
   where
     lb : ℕ
-    lb = line_bytes store.directory
+    lb = line_bytes store.directory.page
 
     pick : (b c : Bool) (x y : ℕ) → b ≡ c → (if b then x else y) ≡ (if c then x else y)
     pick b c x y e = ap (λ (t : Bool). if t then x else y) e
 
-    chosen : (line k : ℕ) → k < line_bytes store.directory → (b : Bool) → has lines line ≡ b
-        → (if has lines ((line * line_bytes store.directory + k) / line_bytes store.directory) then slice_index from (line * line_bytes store.directory + k) else slice_index old (line * line_bytes store.directory + k))
-        ≡ (if b then slice_index from (line * line_bytes store.directory + k) else slice_index old (line * line_bytes store.directory + k))
+    chosen : (line k : ℕ) → k < line_bytes store.directory.page → (b : Bool) → has lines line ≡ b
+        → (if has lines ((line * line_bytes store.directory.page + k) / line_bytes store.directory.page) then slice_index from (line * line_bytes store.directory.page + k) else slice_index old (line * line_bytes store.directory.page + k))
+        ≡ (if b then slice_index from (line * line_bytes store.directory.page + k) else slice_index old (line * line_bytes store.directory.page + k))
     chosen line k short b is =
-        pick (has lines ((line * line_bytes store.directory + k) / line_bytes store.directory)) b _ _
-        (ap (has lines) (line-of (line_bytes store.directory) line k short) ∙ is)
+        pick (has lines ((line * line_bytes store.directory.page + k) / line_bytes store.directory.page)) b _ _
+        (ap (has lines) (line-of (line_bytes store.directory.page) line k short) ∙ is)

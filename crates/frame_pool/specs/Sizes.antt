@@ -1,7 +1,7 @@
 -- The sizes of frames and lines, by the size of a page.
 use Rattle.std.specs.Prelude.{ℕ, ◌+◌, ◌*◌, ◌/◌, ◌^◌}
 use Rattle.line_geometry.specs.declared.directory.PageSize.{PageSize}
-use Rattle.line_geometry.specs.Segments.{page_bytes}
+use Rattle.line_geometry.specs.Segments.{page_bytes, line_bytes}
 
 -- the frames of private storage: 16,384 bytes for each of sixteen seats
 abbrev pub private_frames : PageSize → ℕ
@@ -13,7 +13,7 @@ frame_count size frames = private_frames size + frames
 
 -- the bytes of a line
 abbrev pub line_size : PageSize → ℕ
-line_size size = page_bytes size / 16
+line_size size = line_bytes size
 
 -- where a line of a frame or of a page begins
 abbrev pub line_place : PageSize → (whole line : ℕ) → ℕ

@@ -11,10 +11,7 @@ pub fn page_bytes(size: PageSize) -> usize
     ensures some { 2048 ≤ result }
     ensures few { result ≤ 4096 }
 {
-    match size {
-        PageSize::Two => 2048,
-        PageSize::Four => 4096,
-    }
+    usize::from(size.bytes())
 }
 
 /// The bytes of a line.
@@ -24,10 +21,7 @@ pub fn line_bytes(size: PageSize) -> usize
     ensures few { result ≤ 256 }
     ensures sixteen { result * 16 ≡ page_bytes size }
 {
-    match size {
-        PageSize::Two => 128,
-        PageSize::Four => 256,
-    }
+    usize::from(size.line_bytes())
 }
 
 /// The frames of private storage.

@@ -8,7 +8,8 @@ use Rattle.byteorder.specs.Numbers.{big_number-reads_back, big_from-take}
 use Rattle.owned_list.specs.Overlay.{overlaid}
 use Rattle.owned_list.proofs.Overlay.{length-overlaid}
 use Rattle.line_geometry.specs.declared.directory.PageSize.{PageSize}
-use Rattle.store_format.specs.Header.{line_bytes, entry_bytes}
+use Rattle.line_geometry.specs.Segments.{line_bytes}
+use Rattle.store_format.specs.Header.{entry_bytes}
 use Rattle.store_format.specs.Bank.{RecordLine, lines_from, record_bytes}
 use Rattle.store_format.proofs.Fronts.{same_lines, later_front, shorter_front}
 use Rattle.store_format.proofs.Lines.{line_at, lines_more, least_after}

@@ -11,7 +11,8 @@ use Rattle.byteorder.specs.Endian.{big_number}
 use Rattle.line_geometry.specs.Lines.{line_count}
 use Rattle.line_geometry.specs.declared.directory.PageSize.{PageSize}
 use Rattle.store_format.specs.declared.header.Which.{Which}
-use Rattle.store_format.specs.Header.{Header, home_at, bank_at, number_at, line_bytes, entry_bytes}
+use Rattle.line_geometry.specs.Segments.{line_bytes}
+use Rattle.store_format.specs.Header.{Header, home_at, bank_at, number_at, entry_bytes}
 use Rattle.store_format.specs.Bank.{RecordLine, lines_from, wrong_line, lines_of, count_of, Area, Gate, Closed, Wrong, Sound, Holds, gate_at, holds_from, bank_held}
 use Rattle.store_format.proofs.Stores.{area_within}
 use Rattle.store_format.specs.Stands.{laid, home_of, IsStore}

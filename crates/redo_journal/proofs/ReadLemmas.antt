@@ -7,7 +7,8 @@ use Rattle.byteorder.specs.Endian.{big_number}
 use Rattle.byteorder.specs.Numbers.{big_from-take}
 use Rattle.owned_list.specs.Overlay.{overlaid}
 use Rattle.line_geometry.specs.declared.directory.PageSize.{PageSize}
-use Rattle.store_format.specs.Header.{line_bytes, entry_bytes}
+use Rattle.line_geometry.specs.Segments.{line_bytes}
+use Rattle.store_format.specs.Header.{entry_bytes}
 use Rattle.store_format.specs.Bank.{RecordLine, lines_from, wrong_line, count_of, number_of, lines_of, record_bytes, head_fault, lined_gate, headed_gate, gate_if, Wrong}
 use Rattle.store_format.proofs.Fronts.{same_number_at}
 use Rattle.store_format.proofs.Stores.{fault_none, not_less}

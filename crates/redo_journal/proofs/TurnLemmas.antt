@@ -7,7 +7,8 @@ use Rattle.byteorder.specs.Endian.{big_number}
 use Rattle.owned_list.specs.Overlay.{overlaid}
 use Rattle.line_geometry.specs.declared.directory.PageSize.{PageSize}
 use Rattle.store_format.specs.declared.header.Which.{Which}
-use Rattle.store_format.specs.Header.{line_bytes, entry_bytes}
+use Rattle.line_geometry.specs.Segments.{line_bytes}
+use Rattle.store_format.specs.Header.{entry_bytes}
 use Rattle.store_format.proofs.Lines.{in_order}
 use Rattle.redo_journal.proofs.NoteLemmas.{first_in_order, low_of}
 use Rattle.store_format.specs.Bank.{RecordLine, lines_from, wrong_line}

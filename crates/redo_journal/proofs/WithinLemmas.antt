@@ -4,7 +4,7 @@ use Rattle.std.specs.Prelude.{Option, Some, IfSome}
 use Rattle.std.proofs.lemmas.List.Elements.{All-nil, All-cons, All-append, All-take, All-drop}
 use Rattle.owned_list.specs.Overlay.{overlaid}
 use Rattle.line_geometry.specs.declared.directory.PageSize.{PageSize}
-use Rattle.store_format.specs.Header.{line_bytes}
+use Rattle.line_geometry.specs.Segments.{line_bytes}
 use Rattle.redo_journal.specs.Noted.{AreWithin}
 
 abbrev IsIn : PageSize → ℕ → Option ℕ → Type 0

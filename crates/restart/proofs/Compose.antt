@@ -8,8 +8,10 @@ use Rattle.std.proofs.lemmas.List.{drop-drop, drop-take, take-take, length-drop,
 use Rattle.line_geometry.specs.Directory.{page_count}
 use Rattle.line_geometry.specs.Lines.{line_count}
 use Rattle.line_geometry.specs.declared.directory.PageSize.{PageSize}
+use Rattle.line_geometry.proofs.Within.{page-lines}
 use Rattle.store_format.proofs.Widths.{lines-below, lines-within}
-use Rattle.store_format.specs.Header.{Header, home_at, line_bytes}
+use Rattle.line_geometry.specs.Segments.{line_bytes}
+use Rattle.store_format.specs.Header.{Header, home_at}
 use Rattle.store_format.specs.Stands.{Standing, laid, home_of, stands}
 use Rattle.store_format.proofs.Stores.{stands_is}
 use Rattle.outside.specs.Bytes.{bytes_at}
@@ -130,6 +132,7 @@ shown_page held store shows page page_number within long composed =
     let bytes = fold (laid store.header.directory.page) (home_of held store.header) shows.read.records in
     composed_all store.header.directory.page held (home_of held store.header) bytes store.bank.newest (λ k. newest_place k shows.read.records) (line_count store.header.directory) page_number page (store_agrees held store.header store.bank.which store.bank.base store.bank.gate shows.read.records is)
     (λ k below. shows.read.newest k (omega (arith, below, shows.fits.lines))) (omega (arith, within)) long composed
+    ∙ ap (λ (n : ℕ). take n (drop (page_number * n) bytes)) (sym (page-lines store.header.directory.page))
     ∙ ap (λ (standing : Standing). page_in standing page_number) (sym (stands_is held store.header store.bank.which store.bank.base store.bank.gate shows.read.records is))
 
 pub placed_at : (size : PageSize) (place : Option ℕ) (at end : ℕ) → place ≡ Some at → IfSome place (λ those. those + line_bytes size ≤ end) → at + line_bytes size ≤ end

@@ -4,7 +4,8 @@ use Rattle.std.specs.Prelude.{Option, None, fold, unwrap_or, Result, Ok, Err, If
 use Rattle.line_geometry.specs.Lines.{line_count}
 use Rattle.store_format.specs.declared.header.Which.{Which}
 use Rattle.store_format.specs.declared.header.Which.TheVariants.{A, B}
-use Rattle.store_format.specs.Header.{Header, bank_at, number_at, header_of, total, line_bytes}
+use Rattle.line_geometry.specs.Segments.{line_bytes}
+use Rattle.store_format.specs.Header.{Header, bank_at, number_at, header_of, total}
 use Rattle.line_geometry.specs.declared.directory.PageSize.{PageSize}
 use Rattle.store_format.specs.Bank.{RecordLine, Holds, Faulty, base_of, bank_of, bank_held}
 use Rattle.store_format.specs.Stands.{Stands, Damaged, stands, standing_if, standing_by, HasHeader, IsStore, chosen, laid, home_of}

@@ -2,8 +2,8 @@
 use Rattle.std.specs.Prelude.{◌≡◌, ℕ, ◌*◌, List, [], take, drop, IsSome}
 use Rattle.line_geometry.specs.FlatStore.{FlatStore}
 use Rattle.store_format.specs.declared.header.Which.{Which}
-use Rattle.line_geometry.specs.Directory.{Layout}
-use Rattle.store_format.specs.Header.{Header, line_bytes}
+use Rattle.line_geometry.specs.Segments.{page_bytes}
+use Rattle.store_format.specs.Header.{Header}
 use Rattle.store_format.specs.Bank.{RecordLine}
 use Rattle.store_format.specs.Stands.{Standing, IsStore, Stands, NotAStore, Damaged, HasHeader, chosen, stands, one_more}
 use Rattle.outside.specs.declared.world.Outside.{Ghosts}
@@ -50,13 +50,9 @@ pub record Tracks {W : Type 0} (G : Ghosts W) (store : KeptStore) (outside : W) 
 abbrev pub ShownStands : Type 0
 ShownStands = (held : List ℕ) (store : KeptStore) → Shows held store → (flat : FlatStore) × (stands held ≡ Stands (number_of store) flat)
 
--- the bytes of a page: it has sixteen lines
-abbrev pub page_bytes : Layout → ℕ
-page_bytes directory = 16 * line_bytes directory.page
-
 -- the page of what stands
 abbrev pub page_in : Standing → ℕ → List ℕ
-page_in (Stands number store) page = take (page_bytes store.directory) (drop (page * page_bytes store.directory) store.bytes)
+page_in (Stands number store) page = take (page_bytes store.directory.page) (drop (page * page_bytes store.directory.page) store.bytes)
 page_in (NotAStore offset) page = []
 page_in (Damaged offset) page = []
 

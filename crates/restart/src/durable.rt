@@ -1,16 +1,18 @@
 ghost use Rattle.std.specs.Prelude.{◌≡◌, ◌≢◌, ◌+◌, ◌*◌, ◌%◌, ◌^◌, ◌≤◌, ◌<◌, [], All, length, slice_set, Some, None, IsTrue, IsSome, IfOk, IfErr, OnOk};
 ghost use Rattle.line_geometry.specs.Directory.{page_count};
+ghost use Rattle.line_geometry.specs.Segments.{page_bytes, line_bytes};
 ghost use Rattle.line_geometry.specs.Lines.{line_count};
 ghost use Rattle.store_format.specs.Header.{total};
 ghost use Rattle.store_format.specs.Stands.{stands, one_more, HasHeader};
 ghost use Rattle.outside.specs.Causes.{Rose, HasCause};
 ghost use Rattle.outside.specs.Runs.{OnlyAsks, Leaves, held_of};
 ghost use Rattle.redo_journal.specs.Held.{HoldsAtLeast, IsMoreBy, OnlyWrites};
-ghost use Rattle.redo_journal.specs.Kept.{KeptBank, area_end, begun_of, needed_end, with_line, line_bytes_of, record_bytes_of};
+ghost use Rattle.redo_journal.specs.Kept.{KeptBank, area_end, begun_of, needed_end, with_line};
+ghost use Rattle.store_format.specs.Bank.{record_bytes};
 ghost use Rattle.redo_journal.specs.Tracks.{IsEither};
 ghost use Rattle.restart.specs.Kept.{KeptStore, number_of};
 ghost use Rattle.checkpoint.specs.Moved.{IsSame, kept_after};
-ghost use Rattle.restart.specs.Shows.{Shows, IsShown, IsIntact, IsReopened, Tracks, IsCommitted, IsEmptied, page_bytes, page_in};
+ghost use Rattle.restart.specs.Shows.{Shows, IsShown, IsIntact, IsReopened, Tracks, IsCommitted, IsEmptied, page_in};
 ghost use Rattle.restart.specs.Committed.{roomy, number_after, IsKeptAfter, HoldsCommitted};
 ghost use Rattle.restart.specs.Faults.{IsOpenFault, IsReopenFault};
 
@@ -119,10 +121,10 @@ impl Durable {
     /// Adds a line to the record that is begun: a line of the store, above those before it.
     pub fn record_line(&mut self, line: u32, bytes: &[u8])
         requires begun { IsSome self.old.bank.begun }
-        requires whole { length bytes.now ≡ line_bytes_of self.old.bank }
+        requires whole { length bytes.now ≡ line_bytes self.old.header.directory.page }
         requires below { line < line_count self.old.header.directory }
         requires ascending { All (λ begun. begun.line < line) (begun_of self.old.bank) }
-        requires room { record_bytes_of self.old.bank (length (begun_of self.old.bank) + 1) + 1 ≤ self.old.header.bank_bytes }
+        requires room { record_bytes self.old.header.directory.page (length (begun_of self.old.bank) + 1) + 1 ≤ self.old.header.bank_bytes }
         ensures { self.new ≡ record self.old { bank = with_line self.old.bank line bytes.now } }
     {
         self.banks.record_line(line, bytes);
@@ -192,7 +194,7 @@ impl Durable {
     ) -> Result<(), Failed>
         requires room { HoldsAtLeast W.Outside (total self.now.header) outside.old }
         requires page { page < page_count self.now.header.directory }
-        requires whole { length into.old ≡ page_bytes self.now.header.directory }
+        requires whole { length into.old ≡ page_bytes self.now.header.directory.page }
         ensures asks { OnlyAsks W.Outside outside.old outside.new }
         ensures read { OnOk result (IsShown W.Outside self.now outside.old → into.new ≡ page_in (stands (held_of W.Outside outside.old)) page) }
         ensures cause { HasCause (W.disk_faults outside.old) (W.disk_faults outside.new) result }

@@ -54,7 +54,6 @@ const REFUSALS: [(Call, u64, u64, u32, Kept); 5] = [
 
 fn fresh_store(rt: &impl Abort, alloc: Global) -> Result<Vec<u8>, AllocError> {
     let directory = Directory::new(PageSize::Two, &[(1, 4), (2, 2)]).expect(rt, "a directory");
-    assert!(rt; directory.page() == PageSize::Two);
     Header::new(directory, 65_536).fresh(alloc)
 }
 
@@ -120,6 +119,7 @@ fn a_commit_is_kept_or_not(rt: HostRuntime) -> Result<(), Fail> {
         ]?;
         let mut disk = disk_of(alloc, fresh_store(&rt, alloc)?, refused);
         let mut store = Durable::open(alloc, &mut disk).expect(&rt, "a store");
+        assert!(rt; store.header().directory().page() == PageSize::Two);
         assert!(rt; store.header().directory().line_count() == 96);
         assert!(rt; store.header().bank_bytes() == 65_536);
         store.record_start();
@@ -144,7 +144,6 @@ fn a_commit_is_kept_or_not(rt: HostRuntime) -> Result<(), Fail> {
 // A store of 64 lines whose bank has room for one record of 31.
 fn small_store(rt: &impl Abort, alloc: Global) -> Result<Vec<u8>, AllocError> {
     let directory = Directory::new(PageSize::Two, &[(1, 4)]).expect(rt, "a directory");
-    assert!(rt; directory.page() == PageSize::Two);
     Header::new(directory, 4104).fresh(alloc)
 }
 
@@ -152,15 +151,16 @@ fn small_store(rt: &impl Abort, alloc: Global) -> Result<Vec<u8>, AllocError> {
 fn begin_lines(store: &mut Durable, count: u32)
     requires few { count < 256 }
     requires below { count ≤ line_count store.old.header.directory }
-    requires room { record_bytes PageSize.Two count + 1 ≤ store.old.header.bank_bytes }
+    requires room { record_bytes store.old.header.directory.page count + 1 ≤ store.old.header.bank_bytes }
     ensures header { store.new.header ≡ store.old.header }
     ensures begun { IsSome store.new.bank.begun }
 {
-    let mut line = [0; 128];
+    let mut line = [0; 256];
+    let width = store.header().line_bytes();
     store.record_start();
     for i in 0..count {
         line[3] = (count - i) as u8;
-        store.record_line(i, &line);
+        store.record_line(i, &line[..width]);
     }
 }
 
@@ -168,6 +168,7 @@ fn begin_lines(store: &mut Durable, count: u32)
 fn filled(rt: &impl Abort, alloc: Global) -> Result<Vec<u8>, AllocError> {
     let mut disk = disk_of(alloc, small_store(rt, alloc)?, Vec::new(alloc));
     let mut store = Durable::open(alloc, &mut disk).expect(rt, "a store");
+    assert!(rt; store.header().directory().page() == PageSize::Two);
     assert!(rt; store.header().directory().line_count() == 64);
     assert!(rt; store.header().bank_bytes() == 4104);
     begin_lines(&mut store, 31);
@@ -176,18 +177,20 @@ fn filled(rt: &impl Abort, alloc: Global) -> Result<Vec<u8>, AllocError> {
     Ok(disk.into_image())
 }
 
-// Puts the lines of the record where they follow each other, behind four bytes each with their number or without.
-fn set_lines(image: &mut Vec<u8>, from: usize, width: usize, numbered: bool) {
-    for i in 0..31usize {
-        let at = from.wrapping_add(width.wrapping_mul(i));
-        set(
-            image,
-            at.wrapping_add(width).wrapping_sub(125),
-            31u8.wrapping_sub(i as u8),
-        );
-        if numbered {
-            set(image, at.wrapping_add(3), i as u8);
-        }
+// Puts so many lines of the record where they follow each other, each of so many bytes behind four with its number.
+fn set_entries(image: &mut Vec<u8>, from: usize, count: u8, line: usize) {
+    for i in 0..count {
+        let at = from.wrapping_add(line.wrapping_add(4).wrapping_mul(usize::from(i)));
+        set(image, at.wrapping_add(3), i);
+        set(image, at.wrapping_add(7), count - i);
+    }
+}
+
+// Puts the same lines without their numbers.
+fn set_lines(image: &mut Vec<u8>, from: usize, count: u8, line: usize) {
+    for i in 0..count {
+        let at = from.wrapping_add(line.wrapping_mul(usize::from(i)));
+        set(image, at.wrapping_add(3), count - i);
     }
 }
 
@@ -221,7 +224,7 @@ fn a_commit_makes_its_own_room(rt: HostRuntime) -> Result<(), Fail> {
     for (at, byte) in [(264, 0xa5), (266, 31), (274, 1)] {
         set(&mut wanted, at, byte);
     }
-    set_lines(&mut wanted, 275, 132, true);
+    set_entries(&mut wanted, 275, 31, 128);
     assert_eq!(rt; filled(&rt, alloc)?.as_slice(), wanted.as_slice());
     for (changes, number) in CRASHES {
         let mut image = filled(&rt, alloc)?;
@@ -241,7 +244,7 @@ fn a_commit_makes_its_own_room(rt: HostRuntime) -> Result<(), Fail> {
     for (at, byte) in [(128, 1), (4375, 1), (4376, 0xa5), (4386, 2)] {
         set(&mut wanted, at, byte);
     }
-    set_lines(&mut wanted, 8480, 128, false);
+    set_lines(&mut wanted, 8480, 31, 128);
     let (disk, _) = disk.into_parts();
     assert_eq!(rt; disk.bytes(), wanted.as_slice());
     set(&mut wanted, 4376, 0);
@@ -268,5 +271,49 @@ fn a_fault_while_room_is_made_is_told(rt: HostRuntime) -> Result<(), Fail> {
         store.reopen(&mut disk).expect(&rt, "the store again");
         assert_eq!(rt; store.number(), number);
     }
+    Ok(())
+}
+
+// A store of 32 lines of 256 bytes, whose bank has room for one record of fifteen.
+fn wide_store(rt: &impl Abort, alloc: Global) -> Result<Vec<u8>, AllocError> {
+    let directory =
+        Directory::with_fine(PageSize::Four, &[(1, 1), (2, 1)], 2).expect(rt, "a directory");
+    Header::new(directory, 4096).fresh(alloc)
+}
+
+#[test]
+fn a_store_of_version_two_makes_its_own_room(rt: HostRuntime) -> Result<(), Fail> {
+    let alloc = rt.alloc();
+    let mut wanted = wide_store(&rt, alloc)?;
+    let mut disk = disk_of(alloc, wide_store(&rt, alloc)?, Vec::new(alloc));
+    let mut store = Durable::open(alloc, &mut disk).expect(&rt, "a store");
+    assert!(rt; store.header().directory().page() == PageSize::Four);
+    assert!(rt; store.header().directory().line_count() == 32);
+    assert!(rt; store.header().bank_bytes() == 4096);
+    assert_eq!(rt; store.header().most_lines(), 15);
+    begin_lines(&mut store, 15);
+    assert_eq!(rt; store.commit(&mut disk), Kept::Done);
+    store.record_start();
+    assert_eq!(rt; store.commit(&mut disk), Kept::Done);
+    assert_eq!(rt; store.number(), 2);
+    let mut page = [0; 4096];
+    assert!(rt; store.header().directory().page() == PageSize::Four);
+    assert!(rt; store.header().directory().pages() == 2);
+    store
+        .read_page(&mut disk, 0, &mut page)
+        .expect(&rt, "a page");
+    assert_eq!(rt; &page[256..260], [0, 0, 0, 14].as_slice());
+    for (at, byte) in [(264, 0xa5), (266, 15), (274, 1)] {
+        set(&mut wanted, at, byte);
+    }
+    set_entries(&mut wanted, 275, 15, 256);
+    for (at, byte) in [(128, 1), (4367, 1), (4368, 0xa5), (4378, 2)] {
+        set(&mut wanted, at, byte);
+    }
+    set_lines(&mut wanted, 8464, 15, 256);
+    let (disk, _) = disk.into_parts();
+    assert_eq!(rt; disk.bytes(), wanted.as_slice());
+    set(&mut wanted, 4368, 0);
+    assert_eq!(rt; number_of(alloc, wanted), Ok(1));
     Ok(())
 }

@@ -1,19 +1,9 @@
 -- Sums of lines and of entries, by the size of a page.
-use Rattle.std.proofs.Common.{◌≡◌, ℕ, ◌+◌, ◌*◌, ◌/◌, ◌<◌, ◌≤◌, refl, arith}
-use Rattle.line_geometry.specs.Segments.{page_bytes}
+use Rattle.std.proofs.Common.{◌≡◌, ℕ, ◌+◌, ◌*◌, ◌<◌, ◌≤◌, arith}
+use Rattle.line_geometry.specs.Segments.{line_bytes}
 use Rattle.line_geometry.specs.declared.directory.PageSize.{PageSize}
 use Rattle.line_geometry.specs.declared.directory.PageSize.TheVariants.{Two, Four}
-use Rattle.store_format.specs.Header.{line_bytes, entry_bytes}
-
--- a line of a store and of its directory
-pub widths : (page : PageSize) → page_bytes page / 16 ≡ line_bytes page
-widths Two = refl
-widths Four = refl
-
--- a page has sixteen lines
-pub page-lines : (page : PageSize) → page_bytes page ≡ 16 * line_bytes page
-page-lines Two = refl
-page-lines Four = refl
+use Rattle.store_format.specs.Header.{entry_bytes}
 
 pub line-some : (page : PageSize) → 128 ≤ line_bytes page
 line-some Two = omega arith

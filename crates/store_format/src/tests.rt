@@ -29,6 +29,17 @@ const CASES: [(Change, u64); 12] = [
     (Change::More, 143_632),
 ];
 
+// What version 2 says otherwise: behind the entries stand the flags.
+const WIDE_CASES: [(Change, u64); 7] = [
+    (Change::Byte(9, 1), 77),
+    (Change::Byte(9, 3), 8),
+    (Change::Byte(75, 1), 75),
+    (Change::Byte(77, 4), 76),
+    (Change::Cut(77), 77),
+    (Change::Byte(78, 1), 78),
+    (Change::More, 155_920),
+];
+
 fn changed(image: &mut Vec<u8>, change: Change) -> Result<(), AllocError> {
     match change {
         Change::Byte(at, byte) => {
@@ -51,8 +62,32 @@ fn disk_of(alloc: Global, image: Vec<u8>) -> Joint<MemoryDisk, MemoryScreen> {
 
 fn header_of(rt: &impl Abort) -> Header {
     let directory = Directory::new(PageSize::Two, &[(1, 4), (2, 2)]).expect(rt, "a directory");
-    assert!(rt; directory.page() == PageSize::Two);
     Header::new(directory, 65_536)
+}
+
+// The same with pages of 4,096 bytes; its second segment is fine.
+fn wide_header_of(rt: &impl Abort) -> Header {
+    let directory =
+        Directory::with_fine(PageSize::Four, &[(1, 4), (2, 2)], 2).expect(rt, "a directory");
+    Header::new(directory, 65_536)
+}
+
+fn told_where_wrong(
+    rt: &impl Abort,
+    alloc: Global,
+    header: &Header,
+    cases: &[(Change, u64)],
+) -> Result<(), AllocError> {
+    for (change, offset) in cases {
+        let mut image = header.fresh(alloc)?;
+        changed(&mut image, *change)?;
+        let mut disk = disk_of(alloc, image);
+        assert_eq!(rt;
+            read_header(&mut disk).err(),
+            Some(HeaderFault::NotAStore(*offset))
+        );
+    }
+    Ok(())
 }
 
 #[test]
@@ -64,15 +99,7 @@ fn a_header_is_read_with_its_faults(rt: HostRuntime) -> Result<(), Fail> {
     assert_eq!(rt; read.bank_bytes(), 65_536);
     assert_eq!(rt; read.total(), 143_632);
     assert_eq!(rt; read.directory().segments(), [(1, 4), (2, 2)].as_slice());
-    for (change, offset) in CASES {
-        let mut image = header.fresh(alloc)?;
-        changed(&mut image, change)?;
-        let mut disk = disk_of(alloc, image);
-        assert_eq!(rt;
-            read_header(&mut disk).err(),
-            Some(HeaderFault::NotAStore(offset))
-        );
-    }
+    told_where_wrong(&rt, alloc, &header, CASES.as_slice())?;
     let refused = vec![in alloc;
         Refusal {
             call: Call::Read,
@@ -86,5 +113,19 @@ fn a_header_is_read_with_its_faults(rt: HostRuntime) -> Result<(), Fail> {
         MemoryScreen::new(alloc, Vec::new(alloc)),
     );
     assert_eq!(rt; read_header(&mut disk).err(), Some(HeaderFault::DiskFault));
+    Ok(())
+}
+
+#[test]
+fn a_header_of_version_two_is_read_with_its_flags(rt: HostRuntime) -> Result<(), Fail> {
+    let alloc = rt.alloc();
+    let header = wide_header_of(&rt);
+    let mut disk = disk_of(alloc, header.fresh(alloc)?);
+    let read = read_header(&mut disk).expect(&rt, "a header");
+    assert_eq!(rt; read.total(), 155_920);
+    assert!(rt; read.directory().page() == PageSize::Four);
+    assert_eq!(rt; read.directory().fine(), 2);
+    assert_eq!(rt; read.most_lines(), 252);
+    told_where_wrong(&rt, alloc, &header, WIDE_CASES.as_slice())?;
     Ok(())
 }

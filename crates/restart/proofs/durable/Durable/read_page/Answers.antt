@@ -2,7 +2,9 @@ use Rattle.std.proofs.Common.{◌≡◌, ℕ, ◌+◌, ◌*◌, ◌≤◌, List,
 use Rattle.std.specs.Prelude.{Option, None, unwrap_or}
 use Rattle.line_geometry.specs.Directory.{Layout, page_count}
 use Rattle.line_geometry.specs.declared.directory.PageSize.{PageSize}
-use Rattle.store_format.specs.Header.{home_at, total, line_bytes}
+use Rattle.line_geometry.specs.Segments.{page_bytes, line_bytes}
+use Rattle.line_geometry.proofs.Within.{page-lines}
+use Rattle.store_format.specs.Header.{home_at, total}
 use Rattle.store_format.specs.Stands.{home_of}
 use Rattle.outside.specs.Bytes.{bytes_at}
 use Rattle.outside.specs.Runs.{held_of}
@@ -11,7 +13,7 @@ use Rattle.outside.proofs.Durable.{told_some}
 use Rattle.redo_journal.specs.Kept.{area_end}
 use Rattle.store_format.proofs.Padded.{read_is}
 use Rattle.restart.specs.Kept.{KeptStore}
-use Rattle.restart.specs.Shows.{Shows, page_bytes}
+use Rattle.restart.specs.Shows.{Shows}
 use Rattle.restart.proofs.Compose.{Composed, composed_none, composed_more, composed_at_home, shown_page, placed_at}
 use Rattle.restart.specs.Page.{newest_over}
 use Rattle.restart.proofs.ShowLemmas.{end_inside}
@@ -25,12 +27,12 @@ loop-i-init g c =
     record {
       asks = asks_one g.W.Outside c.args.outside.now c.read_at.new.self c.read_at.ensures.held c.read_at.ensures.writes c.read_at.ensures.honest c.read_at.ensures.time c.read_at.ensures.once c.read_at.ensures.quiet c.read_at.ensures.crash c.read_at.ensures.cause.later c.read_at.ensures.puts;
       no_fault = c.in_ok-read_at.ensures.cause.done;
-      len = c.read_at.auto.into ∙ c.requires.whole ∙ ap (λ (store : KeptStore). page_bytes store.header.directory) (sym c.self.view_is);
+      len = c.read_at.auto.into ∙ c.requires.whole ∙ ap (λ (store : KeptStore). page_bytes store.header.directory.page) (sym c.self.view_is) ∙ page-lines c.self.inside.header.directory.page;
       composed = λ told.
           composed_none held header c.self.inside.banks.newest (c.from-first.result * 16) c.read_at.new.into
           (read_is (G.held c.args.outside.now) c.read_at.new.into c.home_at.result (length c.args.into.now) told c.in_ok-read_at.ensures.read
           ∙ ap (λ (n : ℕ). bytes_at held n (length c.args.into.now)) c.home_at.ensures.value
-          ∙ ap (bytes_at held (home_at header (c.from-first.result * 16))) (c.requires.whole ∙ ap (λ (store : KeptStore). page_bytes store.header.directory) (sym c.self.view_is)));
+          ∙ ap (bytes_at held (home_at header (c.from-first.result * 16))) (c.requires.whole ∙ ap (λ (store : KeptStore). page_bytes store.header.directory.page) (sym c.self.view_is) ∙ page-lines c.self.inside.header.directory.page));
     }
 
 pub loop-i-preserved : goal.loop-i-preserved
@@ -71,7 +73,7 @@ returns-then-not-holds_some-clause-read g c shown =
     let shows : Shows held store = subst (λ (store : KeptStore). Shows held store) (sym c.self.view_is) shown.shows in
     let same : first ≡ c.args.page * 16 = omega (arith, c.from-first.ensures) in
     let within : c.args.page < page_count store.header.directory = subst (λ (store : KeptStore). c.args.page < page_count store.header.directory) (sym c.self.view_is) c.requires.page in
-    let sized = c.requires.whole ∙ ap (λ (store : KeptStore). page_bytes store.header.directory) (sym c.self.view_is) in
+    let sized = c.requires.whole ∙ ap (λ (store : KeptStore). page_bytes store.header.directory.page) (sym c.self.view_is) ∙ page-lines c.self.inside.header.directory.page in
     let whole = c.read_at.auto.into ∙ sized in
     let read =
     read_is (g.W.Outside.held c.args.outside.now) c.read_at.new.into c.home_at.result (length c.args.into.now) shown.told c.in_ok-read_at.ensures.read

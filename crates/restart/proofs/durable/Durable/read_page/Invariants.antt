@@ -1,5 +1,5 @@
 use Rattle.std.proofs.Common.{◌≡◌, ◌*◌, length, IsSome}
-use Rattle.store_format.specs.Header.{line_bytes}
+use Rattle.line_geometry.specs.Segments.{line_bytes}
 use Rattle.store_format.specs.Stands.{home_of}
 use Rattle.outside.specs.Runs.{OnlyAsks, held_of}
 use Rattle.restart.proofs.Compose.{Composed}
