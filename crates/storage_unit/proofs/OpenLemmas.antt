@@ -28,7 +28,7 @@ use Rattle.storage_unit.specs.Places.{place_of, place_at}
 use Rattle.storage_unit.specs.Reach.{is_resident, is_refused, is_in_frame, refuses}
 use Rattle.storage_unit.specs.Reached.{IsSound}
 use Rattle.storage_unit.specs.Rows.{HasWindows, IsOpenLine, IsOpen}
-use Rattle.storage_unit.proofs.PlaceLemmas.{never-refused}
+use Rattle.storage_unit.proofs.PlaceLemmas.{never-refused, registers-page}
 use Rattle.storage_unit.proofs.AnswerLemmas.{permitted-located, permitted-lines, lines-permitted, answered-private}
 use Rattle.storage_unit.proofs.LocatedLemmas.{lies-where}
 
@@ -87,10 +87,12 @@ module _ (f : Reach) (sound : IsSound f) (p : Program) (windows : HasWindows f p
   pub permitted-open : answered f.registers (is_in_frame f) (refuses f) access ≡ Probe.Permitted → IsOpen f (lines_of_access p f.directory access)
   permitted-open permitted =
       let (at, is) = permitted-located f.registers (is_in_frame f) (refuses f) access permitted in
-      let here : answered_at (is_in_frame f) (refuses f) access (Ok at) ≡ Probe.Permitted = ap (answered_at (is_in_frame f) (refuses f) access) (sym is) ∙ permitted in
+      let here : answered_at f.directory.page (is_in_frame f) (refuses f) access (Ok at) ≡ Probe.Permitted =
+      ap (λ page. answered_at page (is_in_frame f) (refuses f) access (Ok at)) (sym (registers-page f sound))
+      ∙ ap (answered_at f.registers.page (is_in_frame f) (refuses f) access) (sym is) ∙ permitted in
       by_store access.store (lines_at f.directory place access.bytes) (each place at (lies-at at is) here)
     where
-      each : (place : Located) (at : Virtual) → place_of f.directory at ≡ place → answered_at (is_in_frame f) (refuses f) access (Ok at) ≡ Probe.Permitted
+      each : (place : Located) (at : Virtual) → place_of f.directory at ≡ place → answered_at f.directory.page (is_in_frame f) (refuses f) access (Ok at) ≡ Probe.Permitted
           → (line : ℕ) → has (lines_at f.directory place access.bytes) line ≡ true → IsOpenLine f line access.store
       each (Private a) at lies here line inside = absurd (cc)
       each (Refused code) at lies here line inside = absurd (cc)
@@ -107,7 +109,8 @@ module _ (f : Reach) (sound : IsSound f) (p : Program) (windows : HasWindows f p
   pub open-permitted : (at : Virtual) → located_by f.registers access.address access.bytes access.store ≡ Ok at → IsOpen f (lines_of_access p f.directory access)
       → answered f.registers (is_in_frame f) (refuses f) access ≡ Probe.Permitted
   open-permitted at is opens =
-      ap (answered_at (is_in_frame f) (refuses f) access) is
+      ap (answered_at f.registers.page (is_in_frame f) (refuses f) access) is
+      ∙ ap (λ page. answered_at page (is_in_frame f) (refuses f) access (Ok at)) (registers-page f sound)
       ∙ by_place place (lies-at at is) (by_store access.store (lines_at f.directory place access.bytes) opens)
     where
       by_store : (store : Bool) (lines : List ℕ) → IsOpen f (if store then record { reads = []; writes = lines } else record { reads = lines; writes = [] })
@@ -117,7 +120,7 @@ module _ (f : Reach) (sound : IsSound f) (p : Program) (windows : HasWindows f p
 
       by_place : (place : Located) → place_of f.directory at ≡ place
           → ((line : ℕ) → has (lines_at f.directory place access.bytes) line ≡ true → IsOpenLine f line access.store)
-          → answered_at (is_in_frame f) (refuses f) access (Ok at) ≡ Probe.Permitted
+          → answered_at f.directory.page (is_in_frame f) (refuses f) access (Ok at) ≡ Probe.Permitted
       by_place (Private a) lies all = answered-private f at access.bytes access a refl lies
       by_place (Refused code) lies all = absurd (never-refused f.directory at code lies)
       by_place (Shared a) lies all = lines-permitted f at access.bytes access a refl lies (λ k below. let one = all (line_of f.directory (a + k)) (each-byte f.directory a access.bytes k below) in (sym (sound.seen.resident (page_of_line (line_of f.directory (a + k)))) ∙ one.resident, one.permits))

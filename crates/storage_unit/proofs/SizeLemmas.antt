@@ -35,6 +35,11 @@ pub byte-at : (size : PageSize) (n o : ℕ) → o < page_bytes size → (n * pag
 byte-at Two n o below = omega (arith, below)
 byte-at Four n o below = omega (arith, below)
 
+-- the byte of an offset behind so many whole pages
+pub byte-on-page : (size : PageSize) (start page o : ℕ) → start % page_bytes size ≡ 0 → o < page_bytes size → (start + (page * page_bytes size + o)) % page_bytes size ≡ o
+byte-on-page Two start page o whole below = omega (arith, whole, below)
+byte-on-page Four start page o whole below = omega (arith, whole, below)
+
 -- a place below so many pages lies in one of them
 pub page-less : (size : PageSize) (place count : ℕ) → place < count * page_bytes size → place / page_bytes size < count
 page-less Two place count below = omega (arith, below)
@@ -132,10 +137,39 @@ pub seat-page : (size : PageSize) (page byte count : ℕ) → 0 < count → page
 seat-page Two page byte count some fits = omega (arith, some, fits)
 seat-page Four page byte count some fits = omega (arith, some, fits)
 
--- the lines of a page
-pub line-whole : (size : PageSize) → page_bytes size / 16 * 16 ≡ page_bytes size
-line-whole Two = omega arith
-line-whole Four = omega arith
+-- frames of the store lie behind private storage
+pub frame-high : (size : PageSize) (frame : ℕ) → private_frames size ≤ frame → 262144 ≤ frame * page_bytes size
+frame-high Two frame high = omega (arith, high)
+frame-high Four frame high = omega (arith, high)
+
+-- a place among some bytes of one page is of their page
+pub page-between : (size : PageSize) (page o from n : ℕ) → o < page_bytes size → from % page_bytes size + n ≤ page_bytes size
+    → from ≤ page * page_bytes size + o → page * page_bytes size + o < from + n → page ≡ from / page_bytes size
+page-between Two page o from n less within above below = omega (arith, less, within, above, below)
+page-between Four page o from n less within above below = omega (arith, less, within, above, below)
+
+-- the line of a place, by its page and the line in it
+pub line-is : (size : PageSize) (place : ℕ) → place / (page_bytes size / 16) ≡ place / page_bytes size * 16 + place % page_bytes size / (page_bytes size / 16)
+line-is Two place = omega arith
+line-is Four place = omega arith
+
+pub line-few : (size : PageSize) (o : ℕ) → o < page_bytes size → o / (page_bytes size / 16) < 16
+line-few Two o below = omega (arith, below)
+line-few Four o below = omega (arith, below)
+
+-- lines ascend with places, and a place further than another by one lies at most one line further
+pub line-order : (size : PageSize) (low high : ℕ) → low ≤ high → low / (page_bytes size / 16) ≤ high / (page_bytes size / 16)
+line-order Two low high less = omega (arith, less)
+line-order Four low high less = omega (arith, less)
+
+pub line-next : (size : PageSize) (place : ℕ) → (place + 1) / (page_bytes size / 16) ≤ place / (page_bytes size / 16) + 1
+line-next Two place = omega arith
+line-next Four place = omega arith
+
+-- places some bytes on are in the same line
+pub same-line-on : (size : PageSize) (place k : ℕ) → place % (page_bytes size / 16) + k < page_bytes size / 16 → (place + k) / (page_bytes size / 16) ≡ place / (page_bytes size / 16)
+same-line-on Two place k within = omega (arith, within)
+same-line-on Four place k within = omega (arith, within)
 
 -- a byte of a frame is at one place
 pub spot-same :
