@@ -16,7 +16,8 @@ use Rattle.frame_pool.specs.Pool.{frame_at, with_bytes}
 use Rattle.frame_pool.specs.Sizes.{private_frames}
 use Rattle.storage_unit.specs.Bytes.{byte_in_frame, byte_over, bytes_over, private_bytes, is_marked}
 use Rattle.storage_unit.specs.Laws.{Fits}
-use Rattle.activations.proofs.SizeLemmas.{private-all, private-behind}
+use Rattle.storage_unit.proofs.SizeLemmas.{frame-high}
+use Rattle.activations.proofs.SizeLemmas.{private-all}
 
 -- a byte of a part of a list
 in-range : (xs : List ℕ) (from count k : ℕ) → k < count → slice_index (slice_range xs from (from + count)) k ≡ slice_index xs (from + k)
@@ -86,7 +87,7 @@ module _ (directory : Layout) (pool : Pool) (fits : Fits directory pool) (seat :
   store-frame place frame there =
       let first : private_frames directory.page ≤ frame =
       subst (λ (s : PageSize). private_frames s ≤ frame) fits.size (fits.seen.above (page_of directory place) frame (fits.seen.there (page_of directory place) frame there)) in
-      let behind = private-behind directory.page frame first in
+      let behind = frame-high directory.page frame first in
       overlaid_behind pool.bytes (seat * 16384) (first_bytes image) (frame * page_bytes directory.page + place % page_bytes directory.page) 0 (omega (arith, long-all, below)) (omega (arith, long-part, behind, below))
 
   -- and all see what they saw

@@ -43,12 +43,13 @@ use Rattle.storage_unit.specs.Bytes.{IsClean, private_bytes}
 use Rattle.storage_unit.specs.Laws.{Fits, Keeps, filled, page_in}
 use Rattle.storage_unit.proofs.BringKeeps.{bring-keeps}
 use Rattle.storage_unit.proofs.FailedBringKeeps.{failed-bring-keeps}
+use Rattle.storage_unit.proofs.SizeLemmas.{frame-high}
 use Rattle.storage_unit.proofs.UnitLemmas.{unit-sound, sound-fits}
 use Rattle.storage_unit.proofs.LeaveLemmas.{emptied-frame}
 use Rattle.storage_unit.proofs.StateLemmas.{laid-bytes, room-stays, emptied-stays}
 use Rattle.activations.specs.Fetching.{IsStoreOf, IsIn}
 use Rattle.activations.specs.Steps.{IsMoved}
-use Rattle.activations.proofs.SizeLemmas.{private-all, private-behind}
+use Rattle.activations.proofs.SizeLemmas.{private-all}
 
 -- a store stays open, with the same bytes, while the disk is only asked
 pub store-on : {W : Type 0} (G : Ghosts W) (fewer_later : FewerLater G) (store : KeptStore) (old new : W) (committed : List ℕ) → OnlyAsks G old new
@@ -119,7 +120,7 @@ module _ (directory : Layout) (old new : Pool) (page : ℕ) (keep : Option ℕ) 
   all-private = private-all new.page new.frames (length new.bytes) also.seen.bytes
 
   behind : (other : ℕ) → private_frames new.page ≤ other → 262144 ≤ other * page_bytes new.page
-  behind other above = private-behind new.page other above
+  behind other above = frame-high new.page other above
 
   front-read : (take 262144 read.bytes ≡ take 262144 new.bytes) × (262144 ≤ length read.bytes)
   front-read = front-over new.bytes (frame * page_bytes new.page) bytes 262144 (behind frame (subst (λ (s : PageSize). private_frames s ≤ frame) (fits.size ∙ sym also.size) came.above)) all-private

@@ -13,8 +13,9 @@ use Rattle.frame_pool.specs.Seen.{IsSeen}
 use Rattle.frame_pool.specs.Sizes.{frame_count, line_place, line_size}
 use Rattle.storage_unit.specs.Bytes.{byte_over, byte_in_frame, is_marked}
 use Rattle.storage_unit.proofs.ByteLemmas.{in-range, over-none, over-some}
+use Rattle.storage_unit.proofs.SizeLemmas.{page-of-line}
 use Rattle.activations.specs.Recorded.{line_told}
-use Rattle.activations.proofs.SizeLemmas.{line-there, page-of-place, place-in-page, place-in-line, rest-of-place}
+use Rattle.activations.proofs.SizeLemmas.{line-there, place-in-page, place-in-line, rest-of-place}
 
 -- part of a list
 part-long : (xs : List ℕ) (from count : ℕ) → from + count ≤ length xs → length (slice_range xs from (from + count)) ≡ count
@@ -47,7 +48,7 @@ module _ (size : PageSize) (d : Layout) (pool : Pool) (committed : List ℕ) (pl
   line = place / line_bytes size % 16
 
   page-is : page_of d place ≡ page
-  page-is = ap (λ (of : PageSize). place / page_bytes of) sized ∙ page-of-place size place
+  page-is = ap (λ (of : PageSize). place / page_bytes of) sized ∙ sym (page-of-line size place)
 
   of-frame : (frame : ℕ) → byte_in_frame d pool place frame ≡ slice_index pool.bytes (frame * page_bytes size + place % page_bytes size)
   of-frame frame = ap (λ (of : PageSize). slice_index pool.bytes (frame * page_bytes of + place % page_bytes of)) sized

@@ -3,18 +3,14 @@ use Rattle.std.proofs.Common.{◌≡◌, ℕ, ◌+◌, ◌-◌, ◌*◌, ◌/◌
 use Rattle.line_geometry.specs.declared.directory.PageSize.{PageSize}
 use Rattle.line_geometry.specs.declared.directory.PageSize.TheVariants.{Two, Four}
 use Rattle.line_geometry.specs.Segments.{page_bytes, line_bytes}
-use Rattle.frame_pool.specs.Sizes.{private_frames, frame_count, line_place}
+use Rattle.frame_pool.specs.Sizes.{frame_count, line_place}
 use Rattle.store_format.specs.Header.{entry_bytes}
 use Rattle.store_format.specs.Bank.{record_bytes}
 
--- the private frames have the first bytes, and those of the store lie behind them
+-- the private frames have the first bytes
 pub private-all : (size : PageSize) (frames bytes : ℕ) → bytes ≡ frame_count size frames * page_bytes size → 262144 ≤ bytes
 private-all Two frames bytes is = omega (arith, is)
 private-all Four frames bytes is = omega (arith, is)
-
-pub private-behind : (size : PageSize) (frame : ℕ) → private_frames size ≤ frame → 262144 ≤ frame * page_bytes size
-private-behind Two frame above = omega (arith, above)
-private-behind Four frame above = omega (arith, above)
 
 -- a line of one of so many pages lies in them
 pub line-there :
@@ -22,11 +18,7 @@ pub line-there :
 line-there Two whole line count bytes below few is = omega (arith, below, few, is)
 line-there Four whole line count bytes below few is = omega (arith, below, few, is)
 
--- the page of a place, and where it is in the page and in its line
-pub page-of-place : (size : PageSize) (place : ℕ) → place / page_bytes size ≡ place / line_bytes size / 16
-page-of-place Two place = omega arith
-page-of-place Four place = omega arith
-
+-- where a place is in its page and in its line
 pub place-in-page : (size : PageSize) (place : ℕ) → place / line_bytes size / 16 * page_bytes size + place % page_bytes size ≡ place
 place-in-page Two place = omega arith
 place-in-page Four place = omega arith
