@@ -6,7 +6,7 @@ use Rattle.std.proofs.lemmas.Bool.{cases_lt}
 use Rattle.std.proofs.lemmas.Bool.Decides.{nat_tests}
 use Rattle.line_geometry.specs.declared.directory.PageSize.{PageSize}
 use Rattle.line_geometry.specs.declared.directory.PageSize.TheVariants.{Two, Four}
-use Rattle.line_geometry.specs.Segments.{page_bytes}
+use Rattle.line_geometry.specs.Segments.{page_bytes, line_bytes}
 use Rattle.line_geometry.specs.Directory.{Layout}
 use Rattle.line_geometry.specs.Lines.{line_of}
 use Rattle.lock_rules.specs.Sets.{has}
@@ -33,8 +33,8 @@ use Rattle.storage_unit.proofs.AnswerLemmas.{permitted-located, permitted-lines,
 use Rattle.storage_unit.proofs.LocatedLemmas.{lies-where}
 
 -- each line from the first to the last of some bytes has one of them
-byte-of-line : (page : PageSize) (at more line : ℕ) → at / (page_bytes page / 16) ≤ line → line ≤ (at + more) / (page_bytes page / 16)
-    → (k : ℕ) × (k ≤ more) × ((at + k) / (page_bytes page / 16) ≡ line)
+byte-of-line : (page : PageSize) (at more line : ℕ) → at / line_bytes page ≤ line → line ≤ (at + more) / line_bytes page
+    → (k : ℕ) × (k ≤ more) × ((at + k) / line_bytes page ≡ line)
 byte-of-line Two at more line above below =
     elim (cases_lt at (line * 128)) [
       | inl later ↦ (line * 128 - at, omega (arith, below), omega (arith, later))
@@ -48,7 +48,7 @@ byte-of-line Four at more line above below =
 
 -- and each byte lies in one of them
 line-of-byte : (page : PageSize) (at more k : ℕ) → k ≤ more
-    → (at / (page_bytes page / 16) ≤ (at + k) / (page_bytes page / 16)) × ((at + k) / (page_bytes page / 16) ≤ (at + more) / (page_bytes page / 16))
+    → (at / line_bytes page ≤ (at + k) / line_bytes page) × ((at + k) / line_bytes page ≤ (at + more) / line_bytes page)
 line-of-byte Two at more k below = (omega arith, omega (arith, below))
 line-of-byte Four at more k below = (omega arith, omega (arith, below))
 

@@ -3,8 +3,8 @@ use Rattle.std.proofs.Common.{◌≡◌, ℕ, ◌+◌, ◌-◌, ◌*◌, ◌/◌
 use Rattle.std.specs.Prelude.{not, find}
 use Rattle.std.specs.List.{range_with_len}
 use Rattle.std.proofs.lemmas.Bool.{cases_lt}
-use Rattle.line_geometry.specs.Segments.{page_bytes}
-use Rattle.line_geometry.specs.Lines.{line_bytes, line_of}
+use Rattle.line_geometry.specs.Segments.{page_bytes, line_bytes}
+use Rattle.line_geometry.specs.Lines.{line_of}
 use Rattle.segment_regs.specs.declared.registers.Virtual.{Virtual}
 use Rattle.segment_regs.specs.Registers.{bytes_on}
 use Rattle.storage_unit.specs.declared.model.Reach.{Reach}
@@ -66,7 +66,7 @@ module _ (state : Reach) (sound : IsSound state) (first : Virtual) (n : ℕ) (so
         ]))
 
 -- bytes of the same line are refused alike
-pub same-line : (state : Reach) (place past rest k : ℕ) (store : Bool) → rest + (place + past) % line_bytes state.directory ≡ line_bytes state.directory → past ≤ k → k < past + rest
+pub same-line : (state : Reach) (place past rest k : ℕ) (store : Bool) → rest + (place + past) % line_bytes state.directory.page ≡ line_bytes state.directory.page → past ≤ k → k < past + rest
     → is_refused state (line_of state.directory (place + k)) store ≡ is_refused state (line_of state.directory (place + past)) store
 same-line state place past rest k store are above below =
     let on : place + past + (k - past) ≡ place + k = omega (arith, above) in

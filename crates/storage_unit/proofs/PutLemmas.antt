@@ -9,9 +9,9 @@ use Rattle.std.proofs.lemmas.List.FromFn.{get_or-map-range_with_len, length-map-
 use Rattle.std.proofs.lemmas.Grind.{same_number_lists}
 use Rattle.owned_list.specs.Overlay.{overlaid}
 use Rattle.owned_list.proofs.Overlay.{length-overlaid}
-use Rattle.line_geometry.specs.Segments.{page_bytes}
+use Rattle.line_geometry.specs.Segments.{page_bytes, line_bytes}
 use Rattle.line_geometry.specs.Directory.{Layout}
-use Rattle.line_geometry.specs.Lines.{line_bytes, line_of, page_of}
+use Rattle.line_geometry.specs.Lines.{line_of, page_of}
 use Rattle.line_geometry.specs.LineSets.{union, between, lines_where}
 use Rattle.line_geometry.proofs.LineSetLemmas.{where-alike, is_in_where-below}
 use Rattle.lock_rules.specs.Sets.{has}
@@ -179,10 +179,10 @@ module _ (d : Layout) (pool : Pool) (seen : IsSeen pool) (marks : AreOfPages poo
               apart (one (k / page_bytes d.page) frame (sym (seen.back page (k / page_bytes d.page) is) ∙ ap (frame_at pool) same ∙ seen.back (from / page_bytes d.page) frame there))))
 
   -- the lines of the first and the last of the bytes, by the page
-  first-line : line_of d from ≡ from / page_bytes d.page * 16 + from % page_bytes d.page / line_bytes d
+  first-line : line_of d from ≡ from / page_bytes d.page * 16 + from % page_bytes d.page / line_bytes d.page
   first-line = line-is d.page from
 
-  last-line : line_of d (from + length bytes - 1) ≡ from / page_bytes d.page * 16 + (from % page_bytes d.page + length bytes - 1) / line_bytes d
+  last-line : line_of d (from + length bytes - 1) ≡ from / page_bytes d.page * 16 + (from % page_bytes d.page + length bytes - 1) / line_bytes d.page
   last-line =
       let more = length bytes - 1 in
       let inside : from % page_bytes d.page + more < page_bytes d.page = omega (arith, some, within) in
@@ -190,8 +190,8 @@ module _ (d : Layout) (pool : Pool) (seen : IsSeen pool) (marks : AreOfPages poo
       let rest : from % page_bytes d.page + more ≡ from % page_bytes d.page + length bytes - 1 = omega (arith, some) in
       ap (line_of d) last
       ∙ line-is d.page (from + more)
-      ∙ ap (λ n. n * 16 + (from + more) % page_bytes d.page / line_bytes d) (same-page-on d.page from more inside)
-      ∙ ap (λ n. from / page_bytes d.page * 16 + n / line_bytes d) (rest-on d.page from more inside ∙ rest)
+      ∙ ap (λ n. n * 16 + (from + more) % page_bytes d.page / line_bytes d.page) (same-page-on d.page from more inside)
+      ∙ ap (λ n. from / page_bytes d.page * 16 + n / line_bytes d.page) (rest-on d.page from more inside ∙ rest)
 
   added : (base low high : ℕ) → nat_le low high ≡ nat_le (base + low) (base + high)
   added base low high = elim (cases_lt high low) [
@@ -209,8 +209,8 @@ module _ (d : Layout) (pool : Pool) (seen : IsSeen pool) (marks : AreOfPages poo
   part-lines : (line : ℕ) → line < 16 → has (lines_of_part d.page (from % page_bytes d.page) (length bytes)) line ≡ has (lines_at d (Shared from) (length bytes)) (from / page_bytes d.page * 16 + line)
   part-lines line few =
       let base = from / page_bytes d.page * 16 in
-      let low = from % page_bytes d.page / line_bytes d in
-      let high = (from % page_bytes d.page + length bytes - 1) / line_bytes d in
+      let low = from % page_bytes d.page / line_bytes d.page in
+      let high = (from % page_bytes d.page + length bytes - 1) / line_bytes d.page in
       let none : (length bytes == 0) ≡ false = grind (arith, nat_tests, some) in
       ap (λ (b : Bool). has (if b then [] else between low high) line) none
       ∙ is_in_where-below (λ x. nat_le low x && nat_le x high) line few
@@ -224,7 +224,7 @@ module _ (d : Layout) (pool : Pool) (seen : IsSeen pool) (marks : AreOfPages poo
       has-lines d from (length bytes) (page * 16 + line) some
       ∙ by_tests (nat_le (line_of d from) (page * 16 + line)) (nat_le (page * 16 + line) (line_of d (from + length bytes - 1))) refl refl
     where
-      high : (from % page_bytes d.page + length bytes - 1) / line_bytes d < 16
+      high : (from % page_bytes d.page + length bytes - 1) / line_bytes d.page < 16
       high = line-few d.page (from % page_bytes d.page + length bytes - 1) (omega (arith, some, within))
 
       by_tests : (low high : Bool) → nat_le (line_of d from) (page * 16 + line) ≡ low → nat_le (page * 16 + line) (line_of d (from + length bytes - 1)) ≡ high → (low && high) ≡ false

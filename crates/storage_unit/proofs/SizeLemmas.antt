@@ -3,7 +3,7 @@ use Rattle.std.proofs.Common.{◌≡◌, ℕ, ◌+◌, ◌-◌, ◌*◌, ◌/◌
 use Rattle.std.proofs.lemmas.Nat.{div-add-mod'}
 use Rattle.line_geometry.specs.declared.directory.PageSize.{PageSize}
 use Rattle.line_geometry.specs.declared.directory.PageSize.TheVariants.{Two, Four}
-use Rattle.line_geometry.specs.Segments.{page_bytes}
+use Rattle.line_geometry.specs.Segments.{page_bytes, line_bytes}
 use Rattle.line_geometry.specs.Directory.{Layout, byte_count, page_count}
 use Rattle.line_geometry.specs.Lines.{page_of}
 use Rattle.line_geometry.proofs.Within.{byte_count-pages}
@@ -149,25 +149,25 @@ page-between Two page o from n less within above below = omega (arith, less, wit
 page-between Four page o from n less within above below = omega (arith, less, within, above, below)
 
 -- the line of a place, by its page and the line in it
-pub line-is : (size : PageSize) (place : ℕ) → place / (page_bytes size / 16) ≡ place / page_bytes size * 16 + place % page_bytes size / (page_bytes size / 16)
+pub line-is : (size : PageSize) (place : ℕ) → place / line_bytes size ≡ place / page_bytes size * 16 + place % page_bytes size / line_bytes size
 line-is Two place = omega arith
 line-is Four place = omega arith
 
-pub line-few : (size : PageSize) (o : ℕ) → o < page_bytes size → o / (page_bytes size / 16) < 16
+pub line-few : (size : PageSize) (o : ℕ) → o < page_bytes size → o / line_bytes size < 16
 line-few Two o below = omega (arith, below)
 line-few Four o below = omega (arith, below)
 
 -- lines ascend with places, and a place further than another by one lies at most one line further
-pub line-order : (size : PageSize) (low high : ℕ) → low ≤ high → low / (page_bytes size / 16) ≤ high / (page_bytes size / 16)
+pub line-order : (size : PageSize) (low high : ℕ) → low ≤ high → low / line_bytes size ≤ high / line_bytes size
 line-order Two low high less = omega (arith, less)
 line-order Four low high less = omega (arith, less)
 
-pub line-next : (size : PageSize) (place : ℕ) → (place + 1) / (page_bytes size / 16) ≤ place / (page_bytes size / 16) + 1
+pub line-next : (size : PageSize) (place : ℕ) → (place + 1) / line_bytes size ≤ place / line_bytes size + 1
 line-next Two place = omega arith
 line-next Four place = omega arith
 
 -- places some bytes on are in the same line
-pub same-line-on : (size : PageSize) (place k : ℕ) → place % (page_bytes size / 16) + k < page_bytes size / 16 → (place + k) / (page_bytes size / 16) ≡ place / (page_bytes size / 16)
+pub same-line-on : (size : PageSize) (place k : ℕ) → place % line_bytes size + k < line_bytes size → (place + k) / line_bytes size ≡ place / line_bytes size
 same-line-on Two place k within = omega (arith, within)
 same-line-on Four place k within = omega (arith, within)
 
@@ -178,24 +178,24 @@ spot-same Two f g o p a b is = (omega (arith, a, b, is), omega (arith, a, b, is)
 spot-same Four f g o p a b is = (omega (arith, a, b, is), omega (arith, a, b, is))
 
 -- the page of a line, and the line in its page
-pub page-of-line : (size : PageSize) (place : ℕ) → place / (page_bytes size / 16) / 16 ≡ place / page_bytes size
+pub page-of-line : (size : PageSize) (place : ℕ) → place / line_bytes size / 16 ≡ place / page_bytes size
 page-of-line Two place = omega arith
 page-of-line Four place = omega arith
 
-pub line-in-page : (size : PageSize) (place : ℕ) → place / (page_bytes size / 16) % 16 ≡ place % page_bytes size / (page_bytes size / 16)
+pub line-in-page : (size : PageSize) (place : ℕ) → place / line_bytes size % 16 ≡ place % page_bytes size / line_bytes size
 line-in-page Two place = omega arith
 line-in-page Four place = omega arith
 
 -- a line of a page has its bytes
-pub line-of-rest : (size : PageSize) (o line : ℕ) → line * (page_bytes size / 16) ≤ o → o < line * (page_bytes size / 16) + page_bytes size / 16 → o / (page_bytes size / 16) ≡ line
+pub line-of-rest : (size : PageSize) (o line : ℕ) → line * line_bytes size ≤ o → o < line * line_bytes size + line_bytes size → o / line_bytes size ≡ line
 line-of-rest Two o line low high = omega (arith, low, high)
 line-of-rest Four o line low high = omega (arith, low, high)
 
-pub rest-of-line : (size : PageSize) (o line : ℕ) → o / (page_bytes size / 16) ≡ line → (line * (page_bytes size / 16) ≤ o) × (o < line * (page_bytes size / 16) + page_bytes size / 16)
+pub rest-of-line : (size : PageSize) (o line : ℕ) → o / line_bytes size ≡ line → (line * line_bytes size ≤ o) × (o < line * line_bytes size + line_bytes size)
 rest-of-line Two o line is = (omega (arith, is), omega (arith, is))
 rest-of-line Four o line is = (omega (arith, is), omega (arith, is))
 
-pub line-within : (size : PageSize) (line : ℕ) → line < 16 → line * (page_bytes size / 16) + page_bytes size / 16 ≤ page_bytes size
+pub line-within : (size : PageSize) (line : ℕ) → line < 16 → line * line_bytes size + line_bytes size ≤ page_bytes size
 line-within Two line below = omega (arith, below)
 line-within Four line below = omega (arith, below)
 

@@ -7,7 +7,7 @@ use Rattle.std.proofs.lemmas.Bool.Decides.{nat_tests}
 use Rattle.std.proofs.lemmas.List.{same_lists, length-append, get_or_append_left, get_or-append_right}
 use Rattle.std.proofs.lemmas.List.FromFn.{get_or-map-range_with_len, length-map-range_with_len}
 use Rattle.std.proofs.lemmas.Grind.{same_number_lists}
-use Rattle.line_geometry.specs.Segments.{page_bytes}
+use Rattle.line_geometry.specs.Segments.{page_bytes, line_bytes}
 use Rattle.line_geometry.specs.Directory.{start_of}
 use Rattle.line_geometry.specs.Lines.{line_of, page_of}
 use Rattle.line_geometry.specs.LineSets.{union, lines_where}
@@ -197,7 +197,7 @@ module _ (state : Reach) (sound : IsSound state) (place : Located) (first second
           let on : p + length first - 1 + 1 ≡ p + length first = omega (arith, some) in
           let a : line_of state.directory p ≤ line_of state.directory (p + length first) = line-order state.directory.page p (p + length first) (omega arith) in
           let b : line_of state.directory (p + length first) ≤ line_of state.directory (p + length first - 1) + 1 =
-          subst (λ n. n / (page_bytes state.directory.page / 16) ≤ line_of state.directory (p + length first - 1) + 1) on (line-next state.directory.page (p + length first - 1)) in
+          subst (λ n. n / line_bytes state.directory.page ≤ line_of state.directory (p + length first - 1) + 1) on (line-next state.directory.page (p + length first - 1)) in
           let c : line_of state.directory (p + length first - 1) ≤ line_of state.directory (p + (length first + length second) - 1) =
           line-order state.directory.page (p + length first - 1) (p + (length first + length second) - 1) (omega (arith, more)) in
           ap (λ n. (nat_le (line_of state.directory p) line && nat_le line (line_of state.directory (p + length first - 1))) || (nat_le (line_of state.directory (p + length first)) line && nat_le line (line_of state.directory n))) last

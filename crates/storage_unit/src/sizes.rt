@@ -1,6 +1,6 @@
 // Places, by the size of a page.
 ghost use Rattle.std.specs.Prelude.{◌≡◌, ◌+◌, ◌-◌, ◌*◌, ◌/◌, ◌%◌, ◌<◌, ◌≤◌, ◌^◌};
-ghost use Rattle.line_geometry.specs.Segments.{page_bytes};
+ghost use Rattle.line_geometry.specs.Segments.{page_bytes, line_bytes};
 ghost use Rattle.segment_regs.specs.Registers.{bytes_on};
 ghost use Rattle.frame_pool.specs.Sizes.{private_frames};
 ghost use Rattle.storage_unit.specs.Held.{seat_pages};
@@ -66,22 +66,10 @@ pub fn byte_past(page: PageSize, first: Virtual, past: u16) -> Virtual
     virtual_at(page, first.segment, offset_of(page, first) + u32::from(past))
 }
 
-/// How many bytes of its page begin with this one.
-#[inline(always)]
-pub fn rest_of_page(page: PageSize, byte: u16) -> u16
-    requires { byte < page_bytes page }
-    ensures { byte + result ≡ page_bytes page }
-{
-    match page {
-        PageSize::Two => 2048 - byte,
-        PageSize::Four => 4096 - byte,
-    }
-}
-
 /// How many bytes of its line begin with the one at a place of the store.
 #[inline(always)]
 pub fn rest_of_line(page: PageSize, place: u32) -> u16
-    ensures value { result + place % (page_bytes page / 16) ≡ page_bytes page / 16 }
+    ensures value { result + place % line_bytes page ≡ line_bytes page }
     ensures some { 1 ≤ result }
     ensures few { result ≤ 256 }
 {

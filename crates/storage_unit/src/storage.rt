@@ -18,7 +18,7 @@ ghost use Rattle.inverted_table.specs.Placed.{look_up};
 
 use super::model::Reach;
 use super::private::PRIVATE;
-use super::sizes::{byte_past, first_frame, offset_of, rest_of_line, rest_of_page};
+use super::sizes::{byte_past, first_frame, offset_of, rest_of_line};
 use super::unit::Unit;
 use byteorder::{BigEndian, ByteOrder};
 use romp_cpu::{Access, Attempt, Cpu, Fault, Probe, Storage};
@@ -42,7 +42,7 @@ impl Unit {
         requires { first.byte < page_bytes (reach_of self.now).directory.page }
         ensures { first.byte + result ≡ page_bytes (reach_of self.now).directory.page }
     {
-        rest_of_page(self.directory.page(), first.byte)
+        self.directory.page().bytes() - first.byte
     }
 
     /// The place of a byte of the store.
