@@ -72,8 +72,8 @@ impl Banks {
         }
     }
 
-    /// Reads the selector and the bank that it chooses again. A begun record is forgotten. After an error they have to
-    /// be reopened before they are used again.
+    /// Reads the selector and the bank that it chooses again. No record is begun after any answer. After an error they
+    /// have to be reopened before they are used again.
     ///
     /// # Errors
     ///
@@ -84,7 +84,7 @@ impl Banks {
         requires room { HoldsAtLeast W.Outside (store_bytes self.old) outside.old }
         ensures asks { OnlyAsks W.Outside outside.old outside.new }
         ensures shape { SameShape self.old self.new }
-        ensures begun { OnOk result (self.new.begun ≡ None) }
+        ensures begun { self.new.begun ≡ None }
         ensures read { OnOk result (IsSome (W.held outside.old) → IsChosen (held_of W.Outside outside.old) self.new) }
         ensures no_fault { OnOk result (W.disk_faults outside.new ≡ W.disk_faults outside.old) }
         ensures fault { IfErr result (IsReopenFault W.Outside outside.old outside.new self.old) }
@@ -92,7 +92,10 @@ impl Banks {
         ensures intact { IfErr result (λ fault. IsSome (W.held outside.old) → IsIntact (held_of W.Outside outside.old) self.old → fault ≡ ReopenFault.DiskFault) }
     {
         match read_selector(outside) {
-            Err(Failed) => Err(ReopenFault::DiskFault),
+            Err(Failed) => {
+                self.bank.record_drop();
+                Err(ReopenFault::DiskFault)
+            }
             Ok(which) => self.bank.reopen(which, outside),
         }
     }

@@ -84,7 +84,7 @@ impl Durable {
         self.banks.number()
     }
 
-    /// Reads the disk again, under the header that is kept. A begun record is forgotten.
+    /// Reads the disk again, under the header that is kept. No record is begun after any answer.
     ///
     /// # Errors
     ///
@@ -96,7 +96,7 @@ impl Durable {
         requires room { HoldsAtLeast W.Outside (total self.old.header) outside.old }
         ensures asks { OnlyAsks W.Outside outside.old outside.new }
         ensures header { self.new.header ≡ self.old.header }
-        ensures begun { OnOk result (self.new.bank.begun ≡ None) }
+        ensures begun { self.new.bank.begun ≡ None }
         ensures read { OnOk result (IsSome (W.held outside.old) → IsReopened (held_of W.Outside outside.old) self.new) }
         ensures shows { OnOk result (HasHeader (held_of W.Outside outside.old) self.old.header → IsSome (W.held outside.old) → Shows (held_of W.Outside outside.old) self.new) }
         ensures tracks { OnOk result (HasHeader (held_of W.Outside outside.old) self.old.header → IsTrue (W.is_honest outside.old) → IsSome (W.held outside.old) → Tracks W.Outside self.new outside.new) }
@@ -106,7 +106,10 @@ impl Durable {
         ensures intact { IfErr result (λ fault. IsSome (W.held outside.old) → IsIntact self.old.header (held_of W.Outside outside.old) → fault ≡ ReopenFault.DiskFault) }
     {
         match synced(outside) {
-            Err(Failed) => Err(ReopenFault::DiskFault),
+            Err(Failed) => {
+                self.banks.record_drop();
+                Err(ReopenFault::DiskFault)
+            }
             Ok(()) => self.banks.reopen(outside),
         }
     }

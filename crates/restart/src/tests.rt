@@ -281,18 +281,32 @@ fn wide_store(rt: &impl Abort, alloc: Global) -> Result<Vec<u8>, AllocError> {
     Header::new(directory, 4096).fresh(alloc)
 }
 
-#[test]
-fn a_store_of_version_two_makes_its_own_room(rt: HostRuntime) -> Result<(), Fail> {
-    let alloc = rt.alloc();
-    let mut wanted = wide_store(&rt, alloc)?;
-    let mut disk = disk_of(alloc, wide_store(&rt, alloc)?, Vec::new(alloc));
-    let mut store = Durable::open(alloc, &mut disk).expect(&rt, "a store");
+// That store with one record of fifteen lines.
+fn wide_filled(rt: &impl Abort, alloc: Global) -> Result<Vec<u8>, AllocError> {
+    let mut disk = disk_of(alloc, wide_store(rt, alloc)?, Vec::new(alloc));
+    let mut store = Durable::open(alloc, &mut disk).expect(rt, "a store");
     assert!(rt; store.header().directory().page() == PageSize::Four);
     assert!(rt; store.header().directory().line_count() == 32);
     assert!(rt; store.header().bank_bytes() == 4096);
     assert_eq!(rt; store.header().most_lines(), 15);
     begin_lines(&mut store, 15);
     assert_eq!(rt; store.commit(&mut disk), Kept::Done);
+    let (disk, _) = disk.into_parts();
+    Ok(disk.into_image())
+}
+
+#[test]
+fn a_store_of_version_two_makes_its_own_room(rt: HostRuntime) -> Result<(), Fail> {
+    let alloc = rt.alloc();
+    let mut wanted = wide_store(&rt, alloc)?;
+    for (at, byte) in [(264, 0xa5), (266, 15), (274, 1)] {
+        set(&mut wanted, at, byte);
+    }
+    set_entries(&mut wanted, 275, 15, 256);
+    assert_eq!(rt; wide_filled(&rt, alloc)?.as_slice(), wanted.as_slice());
+    let mut disk = disk_of(alloc, wide_filled(&rt, alloc)?, Vec::new(alloc));
+    let mut store = Durable::open(alloc, &mut disk).expect(&rt, "a store");
+    assert_eq!(rt; store.header().directory().fine(), 2);
     store.record_start();
     assert_eq!(rt; store.commit(&mut disk), Kept::Done);
     assert_eq!(rt; store.number(), 2);
@@ -303,10 +317,6 @@ fn a_store_of_version_two_makes_its_own_room(rt: HostRuntime) -> Result<(), Fail
         .read_page(&mut disk, 0, &mut page)
         .expect(&rt, "a page");
     assert_eq!(rt; &page[256..260], [0, 0, 0, 14].as_slice());
-    for (at, byte) in [(264, 0xa5), (266, 15), (274, 1)] {
-        set(&mut wanted, at, byte);
-    }
-    set_entries(&mut wanted, 275, 15, 256);
     for (at, byte) in [(128, 1), (4367, 1), (4368, 0xa5), (4378, 2)] {
         set(&mut wanted, at, byte);
     }

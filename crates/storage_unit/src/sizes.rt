@@ -63,7 +63,11 @@ pub fn byte_past(page: PageSize, first: Virtual, past: u16) -> Virtual
     requires { offset_of page first ≤ 2 ^ 22 }
     ensures { result ≡ bytes_on page first past }
 {
-    virtual_at(page, first.segment, offset_of(page, first) + u32::from(past))
+    virtual_at(
+        page,
+        first.segment,
+        offset_of(page, first) + u32::from(past),
+    )
 }
 
 /// How many bytes of its line begin with the one at a place of the store.

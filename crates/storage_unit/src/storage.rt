@@ -274,9 +274,7 @@ impl Storage for Unit {
         if self.runner == 0 {
             return Some(0);
         }
-        let bytes = self
-            .pool
-            .private_part(self.runner - 1, address as usize, 2);
+        let bytes = self.pool.private_part(self.runner - 1, address as usize, 2);
         Some(BigEndian::read_u16(bytes))
     }
 

@@ -1,0 +1,284 @@
+-- An instruction of each of the 85 rows, and its bytes and halfwords in literal numbers.
+use Rattle.std.specs.Prelude.{◌≡◌, ℕ, refl, List, [], ◌∷◌, map, Some, negsuc, pos}
+use Rattle.romp_table.specs.declared.inst.Inst.{Inst}
+use Rattle.romp_table.specs.declared.inst.Inst.TheVariants as Inst
+use Rattle.romp_table.specs.declared.inst.Op.TheVariants as Op
+use Rattle.romp_table.specs.Decode.{decoded, row_numbered}
+use Rattle.romp_table.specs.Encode.{encoded}
+use Rattle.romp_table.specs.declared.inst.Code.{Code}
+use Rattle.romp_table.specs.Rows.{row_of}
+
+abbrev instructions : List Inst
+instructions =
+    Inst.J Op.Jb 0 (negsuc 6)
+    ∷ Inst.J Op.Jnb 1 (pos 100)
+    ∷ Inst.S Op.Stcs 9 7 12
+    ∷ Inst.S Op.Sths 9 10 1
+    ∷ Inst.S Op.Sts 9 13 6
+    ∷ Inst.S Op.Lcs 9 0 11
+    ∷ Inst.S Op.Lhas 9 3 0
+    ∷ Inst.S Op.Ls 9 6 5
+    ∷ Inst.X Op.Cas 9 9 10
+    ∷ Inst.R Op.Ais 12 15
+    ∷ Inst.R Op.Inc 15 4
+    ∷ Inst.R Op.Sis 2 9
+    ∷ Inst.R Op.Dec 5 14
+    ∷ Inst.R Op.Cis 8 3
+    ∷ Inst.R Op.Clrbu 11 8
+    ∷ Inst.R Op.Clrbl 14 13
+    ∷ Inst.R Op.Setbu 1 2
+    ∷ Inst.R Op.Setbl 4 7
+    ∷ Inst.R Op.Sari 7 12
+    ∷ Inst.R Op.Sari16 10 1
+    ∷ Inst.R Op.Lis 13 6
+    ∷ Inst.R Op.Sri 0 11
+    ∷ Inst.R Op.Sri16 3 0
+    ∷ Inst.R Op.Sli 6 5
+    ∷ Inst.R Op.Sli16 9 10
+    ∷ Inst.R Op.Sar 12 15
+    ∷ Inst.R Op.Exts 15 4
+    ∷ Inst.R Op.Sf 2 9
+    ∷ Inst.R Op.Cl 5 14
+    ∷ Inst.R Op.C 8 3
+    ∷ Inst.R Op.Sr 11 8
+    ∷ Inst.R Op.Sl 14 13
+    ∷ Inst.R Op.Tgte 1 2
+    ∷ Inst.R Op.Tlt 4 7
+    ∷ Inst.R Op.Abs 7 12
+    ∷ Inst.R Op.A 10 1
+    ∷ Inst.R Op.S 13 6
+    ∷ Inst.R Op.O 0 11
+    ∷ Inst.R Op.Twoc 3 0
+    ∷ Inst.R Op.N 6 5
+    ∷ Inst.R Op.X 9 10
+    ∷ Inst.R Op.Bnbr 5 15
+    ∷ Inst.R Op.Bnbrx 0 4
+    ∷ Inst.R Op.Lhs 2 9
+    ∷ Inst.R Op.Balr 5 14
+    ∷ Inst.R Op.Balrx 8 3
+    ∷ Inst.R Op.Bbr 4 8
+    ∷ Inst.R Op.Bbrx 5 13
+    ∷ Inst.R Op.Ae 1 2
+    ∷ Inst.R Op.Se 4 7
+    ∷ Inst.R Op.Onec 7 12
+    ∷ Inst.BI Op.Bnb 3 (pos 0x6789A)
+    ∷ Inst.BI Op.Bnbx 4 (negsuc 0x12344)
+    ∷ Inst.BI Op.Bali 0 (pos 0x6789A)
+    ∷ Inst.BI Op.Balix 3 (negsuc 0x12344)
+    ∷ Inst.BI Op.Bb 1 (pos 0x6789A)
+    ∷ Inst.BI Op.Bbx 2 (negsuc 0x12344)
+    ∷ Inst.BA Op.Bala 0xABCE19
+    ∷ Inst.BA Op.Balax 0xABCE1A
+    ∷ Inst.D Op.Svc 0 0 0xCAA1
+    ∷ Inst.D Op.Ai 5 14 0xD218
+    ∷ Inst.D Op.Oiu 8 3 0xD98F
+    ∷ Inst.D Op.Oil 11 8 0xE106
+    ∷ Inst.D Op.Nilz 14 13 0xE87D
+    ∷ Inst.D Op.Nilo 1 2 0xEFF4
+    ∷ Inst.D Op.Xil 4 7 0xF76B
+    ∷ Inst.D Op.Cal 7 12 0xFEE2
+    ∷ Inst.D Op.Lm 10 1 0x0659
+    ∷ Inst.D Op.Lha 13 6 0x0DD0
+    ∷ Inst.D Op.Ti 5 11 0x1547
+    ∷ Inst.D Op.L 3 0 0x1CBE
+    ∷ Inst.D Op.Lc 6 5 0x2435
+    ∷ Inst.D Op.Aei 9 10 0x2BAC
+    ∷ Inst.D Op.Sfi 12 15 0x3323
+    ∷ Inst.D Op.Cli 0 4 0x3A9A
+    ∷ Inst.D Op.Ci 0 9 0x4211
+    ∷ Inst.D Op.Niuz 5 14 0x4988
+    ∷ Inst.D Op.Niuo 8 3 0x50FF
+    ∷ Inst.D Op.Xiu 11 8 0x5876
+    ∷ Inst.D Op.Cau 14 13 0x5FED
+    ∷ Inst.D Op.Stm 1 2 0x6764
+    ∷ Inst.D Op.Lh 4 7 0x6EDB
+    ∷ Inst.D Op.Sth 7 12 0x7652
+    ∷ Inst.D Op.St 10 1 0x7DC9
+    ∷ Inst.D Op.Stc 13 6 0x8540
+    ∷ []
+
+abbrev codes : List Code
+codes =
+    record { bytes = 0x08 ∷ 0xF9 ∷ 0x00 ∷ 0x00 ∷ []; len = 2 }
+    ∷ record { bytes = 0x01 ∷ 0x64 ∷ 0x00 ∷ 0x00 ∷ []; len = 2 }
+    ∷ record { bytes = 0x19 ∷ 0x7C ∷ 0x00 ∷ 0x00 ∷ []; len = 2 }
+    ∷ record { bytes = 0x29 ∷ 0xA1 ∷ 0x00 ∷ 0x00 ∷ []; len = 2 }
+    ∷ record { bytes = 0x39 ∷ 0xD6 ∷ 0x00 ∷ 0x00 ∷ []; len = 2 }
+    ∷ record { bytes = 0x49 ∷ 0x0B ∷ 0x00 ∷ 0x00 ∷ []; len = 2 }
+    ∷ record { bytes = 0x59 ∷ 0x30 ∷ 0x00 ∷ 0x00 ∷ []; len = 2 }
+    ∷ record { bytes = 0x79 ∷ 0x65 ∷ 0x00 ∷ 0x00 ∷ []; len = 2 }
+    ∷ record { bytes = 0x69 ∷ 0x9A ∷ 0x00 ∷ 0x00 ∷ []; len = 2 }
+    ∷ record { bytes = 0x90 ∷ 0xCF ∷ 0x00 ∷ 0x00 ∷ []; len = 2 }
+    ∷ record { bytes = 0x91 ∷ 0xF4 ∷ 0x00 ∷ 0x00 ∷ []; len = 2 }
+    ∷ record { bytes = 0x92 ∷ 0x29 ∷ 0x00 ∷ 0x00 ∷ []; len = 2 }
+    ∷ record { bytes = 0x93 ∷ 0x5E ∷ 0x00 ∷ 0x00 ∷ []; len = 2 }
+    ∷ record { bytes = 0x94 ∷ 0x83 ∷ 0x00 ∷ 0x00 ∷ []; len = 2 }
+    ∷ record { bytes = 0x98 ∷ 0xB8 ∷ 0x00 ∷ 0x00 ∷ []; len = 2 }
+    ∷ record { bytes = 0x99 ∷ 0xED ∷ 0x00 ∷ 0x00 ∷ []; len = 2 }
+    ∷ record { bytes = 0x9A ∷ 0x12 ∷ 0x00 ∷ 0x00 ∷ []; len = 2 }
+    ∷ record { bytes = 0x9B ∷ 0x47 ∷ 0x00 ∷ 0x00 ∷ []; len = 2 }
+    ∷ record { bytes = 0xA0 ∷ 0x7C ∷ 0x00 ∷ 0x00 ∷ []; len = 2 }
+    ∷ record { bytes = 0xA1 ∷ 0xA1 ∷ 0x00 ∷ 0x00 ∷ []; len = 2 }
+    ∷ record { bytes = 0xA4 ∷ 0xD6 ∷ 0x00 ∷ 0x00 ∷ []; len = 2 }
+    ∷ record { bytes = 0xA8 ∷ 0x0B ∷ 0x00 ∷ 0x00 ∷ []; len = 2 }
+    ∷ record { bytes = 0xA9 ∷ 0x30 ∷ 0x00 ∷ 0x00 ∷ []; len = 2 }
+    ∷ record { bytes = 0xAA ∷ 0x65 ∷ 0x00 ∷ 0x00 ∷ []; len = 2 }
+    ∷ record { bytes = 0xAB ∷ 0x9A ∷ 0x00 ∷ 0x00 ∷ []; len = 2 }
+    ∷ record { bytes = 0xB0 ∷ 0xCF ∷ 0x00 ∷ 0x00 ∷ []; len = 2 }
+    ∷ record { bytes = 0xB1 ∷ 0xF4 ∷ 0x00 ∷ 0x00 ∷ []; len = 2 }
+    ∷ record { bytes = 0xB2 ∷ 0x29 ∷ 0x00 ∷ 0x00 ∷ []; len = 2 }
+    ∷ record { bytes = 0xB3 ∷ 0x5E ∷ 0x00 ∷ 0x00 ∷ []; len = 2 }
+    ∷ record { bytes = 0xB4 ∷ 0x83 ∷ 0x00 ∷ 0x00 ∷ []; len = 2 }
+    ∷ record { bytes = 0xB8 ∷ 0xB8 ∷ 0x00 ∷ 0x00 ∷ []; len = 2 }
+    ∷ record { bytes = 0xBA ∷ 0xED ∷ 0x00 ∷ 0x00 ∷ []; len = 2 }
+    ∷ record { bytes = 0xBD ∷ 0x12 ∷ 0x00 ∷ 0x00 ∷ []; len = 2 }
+    ∷ record { bytes = 0xBE ∷ 0x47 ∷ 0x00 ∷ 0x00 ∷ []; len = 2 }
+    ∷ record { bytes = 0xE0 ∷ 0x7C ∷ 0x00 ∷ 0x00 ∷ []; len = 2 }
+    ∷ record { bytes = 0xE1 ∷ 0xA1 ∷ 0x00 ∷ 0x00 ∷ []; len = 2 }
+    ∷ record { bytes = 0xE2 ∷ 0xD6 ∷ 0x00 ∷ 0x00 ∷ []; len = 2 }
+    ∷ record { bytes = 0xE3 ∷ 0x0B ∷ 0x00 ∷ 0x00 ∷ []; len = 2 }
+    ∷ record { bytes = 0xE4 ∷ 0x30 ∷ 0x00 ∷ 0x00 ∷ []; len = 2 }
+    ∷ record { bytes = 0xE5 ∷ 0x65 ∷ 0x00 ∷ 0x00 ∷ []; len = 2 }
+    ∷ record { bytes = 0xE7 ∷ 0x9A ∷ 0x00 ∷ 0x00 ∷ []; len = 2 }
+    ∷ record { bytes = 0xE8 ∷ 0x5F ∷ 0x00 ∷ 0x00 ∷ []; len = 2 }
+    ∷ record { bytes = 0xE9 ∷ 0x04 ∷ 0x00 ∷ 0x00 ∷ []; len = 2 }
+    ∷ record { bytes = 0xEB ∷ 0x29 ∷ 0x00 ∷ 0x00 ∷ []; len = 2 }
+    ∷ record { bytes = 0xEC ∷ 0x5E ∷ 0x00 ∷ 0x00 ∷ []; len = 2 }
+    ∷ record { bytes = 0xED ∷ 0x83 ∷ 0x00 ∷ 0x00 ∷ []; len = 2 }
+    ∷ record { bytes = 0xEE ∷ 0x48 ∷ 0x00 ∷ 0x00 ∷ []; len = 2 }
+    ∷ record { bytes = 0xEF ∷ 0x5D ∷ 0x00 ∷ 0x00 ∷ []; len = 2 }
+    ∷ record { bytes = 0xF1 ∷ 0x12 ∷ 0x00 ∷ 0x00 ∷ []; len = 2 }
+    ∷ record { bytes = 0xF2 ∷ 0x47 ∷ 0x00 ∷ 0x00 ∷ []; len = 2 }
+    ∷ record { bytes = 0xF4 ∷ 0x7C ∷ 0x00 ∷ 0x00 ∷ []; len = 2 }
+    ∷ record { bytes = 0x88 ∷ 0x36 ∷ 0x78 ∷ 0x9A ∷ []; len = 4 }
+    ∷ record { bytes = 0x89 ∷ 0x4E ∷ 0xDC ∷ 0xBB ∷ []; len = 4 }
+    ∷ record { bytes = 0x8C ∷ 0x06 ∷ 0x78 ∷ 0x9A ∷ []; len = 4 }
+    ∷ record { bytes = 0x8D ∷ 0x3E ∷ 0xDC ∷ 0xBB ∷ []; len = 4 }
+    ∷ record { bytes = 0x8E ∷ 0x16 ∷ 0x78 ∷ 0x9A ∷ []; len = 4 }
+    ∷ record { bytes = 0x8F ∷ 0x2E ∷ 0xDC ∷ 0xBB ∷ []; len = 4 }
+    ∷ record { bytes = 0x8A ∷ 0xAB ∷ 0xCE ∷ 0x19 ∷ []; len = 4 }
+    ∷ record { bytes = 0x8B ∷ 0xAB ∷ 0xCE ∷ 0x1A ∷ []; len = 4 }
+    ∷ record { bytes = 0xC0 ∷ 0x00 ∷ 0xCA ∷ 0xA1 ∷ []; len = 4 }
+    ∷ record { bytes = 0xC1 ∷ 0x5E ∷ 0xD2 ∷ 0x18 ∷ []; len = 4 }
+    ∷ record { bytes = 0xC3 ∷ 0x83 ∷ 0xD9 ∷ 0x8F ∷ []; len = 4 }
+    ∷ record { bytes = 0xC4 ∷ 0xB8 ∷ 0xE1 ∷ 0x06 ∷ []; len = 4 }
+    ∷ record { bytes = 0xC5 ∷ 0xED ∷ 0xE8 ∷ 0x7D ∷ []; len = 4 }
+    ∷ record { bytes = 0xC6 ∷ 0x12 ∷ 0xEF ∷ 0xF4 ∷ []; len = 4 }
+    ∷ record { bytes = 0xC7 ∷ 0x47 ∷ 0xF7 ∷ 0x6B ∷ []; len = 4 }
+    ∷ record { bytes = 0xC8 ∷ 0x7C ∷ 0xFE ∷ 0xE2 ∷ []; len = 4 }
+    ∷ record { bytes = 0xC9 ∷ 0xA1 ∷ 0x06 ∷ 0x59 ∷ []; len = 4 }
+    ∷ record { bytes = 0xCA ∷ 0xD6 ∷ 0x0D ∷ 0xD0 ∷ []; len = 4 }
+    ∷ record { bytes = 0xCC ∷ 0x5B ∷ 0x15 ∷ 0x47 ∷ []; len = 4 }
+    ∷ record { bytes = 0xCD ∷ 0x30 ∷ 0x1C ∷ 0xBE ∷ []; len = 4 }
+    ∷ record { bytes = 0xCE ∷ 0x65 ∷ 0x24 ∷ 0x35 ∷ []; len = 4 }
+    ∷ record { bytes = 0xD1 ∷ 0x9A ∷ 0x2B ∷ 0xAC ∷ []; len = 4 }
+    ∷ record { bytes = 0xD2 ∷ 0xCF ∷ 0x33 ∷ 0x23 ∷ []; len = 4 }
+    ∷ record { bytes = 0xD3 ∷ 0x04 ∷ 0x3A ∷ 0x9A ∷ []; len = 4 }
+    ∷ record { bytes = 0xD4 ∷ 0x09 ∷ 0x42 ∷ 0x11 ∷ []; len = 4 }
+    ∷ record { bytes = 0xD5 ∷ 0x5E ∷ 0x49 ∷ 0x88 ∷ []; len = 4 }
+    ∷ record { bytes = 0xD6 ∷ 0x83 ∷ 0x50 ∷ 0xFF ∷ []; len = 4 }
+    ∷ record { bytes = 0xD7 ∷ 0xB8 ∷ 0x58 ∷ 0x76 ∷ []; len = 4 }
+    ∷ record { bytes = 0xD8 ∷ 0xED ∷ 0x5F ∷ 0xED ∷ []; len = 4 }
+    ∷ record { bytes = 0xD9 ∷ 0x12 ∷ 0x67 ∷ 0x64 ∷ []; len = 4 }
+    ∷ record { bytes = 0xDA ∷ 0x47 ∷ 0x6E ∷ 0xDB ∷ []; len = 4 }
+    ∷ record { bytes = 0xDC ∷ 0x7C ∷ 0x76 ∷ 0x52 ∷ []; len = 4 }
+    ∷ record { bytes = 0xDD ∷ 0xA1 ∷ 0x7D ∷ 0xC9 ∷ []; len = 4 }
+    ∷ record { bytes = 0xDE ∷ 0xD6 ∷ 0x85 ∷ 0x40 ∷ []; len = 4 }
+    ∷ []
+
+abbrev halfwords : List (ℕ × ℕ)
+halfwords =
+    (0x08F9, 0x0000)
+    ∷ (0x0164, 0x0000)
+    ∷ (0x197C, 0x0000)
+    ∷ (0x29A1, 0x0000)
+    ∷ (0x39D6, 0x0000)
+    ∷ (0x490B, 0x0000)
+    ∷ (0x5930, 0x0000)
+    ∷ (0x7965, 0x0000)
+    ∷ (0x699A, 0x0000)
+    ∷ (0x90CF, 0x0000)
+    ∷ (0x91F4, 0x0000)
+    ∷ (0x9229, 0x0000)
+    ∷ (0x935E, 0x0000)
+    ∷ (0x9483, 0x0000)
+    ∷ (0x98B8, 0x0000)
+    ∷ (0x99ED, 0x0000)
+    ∷ (0x9A12, 0x0000)
+    ∷ (0x9B47, 0x0000)
+    ∷ (0xA07C, 0x0000)
+    ∷ (0xA1A1, 0x0000)
+    ∷ (0xA4D6, 0x0000)
+    ∷ (0xA80B, 0x0000)
+    ∷ (0xA930, 0x0000)
+    ∷ (0xAA65, 0x0000)
+    ∷ (0xAB9A, 0x0000)
+    ∷ (0xB0CF, 0x0000)
+    ∷ (0xB1F4, 0x0000)
+    ∷ (0xB229, 0x0000)
+    ∷ (0xB35E, 0x0000)
+    ∷ (0xB483, 0x0000)
+    ∷ (0xB8B8, 0x0000)
+    ∷ (0xBAED, 0x0000)
+    ∷ (0xBD12, 0x0000)
+    ∷ (0xBE47, 0x0000)
+    ∷ (0xE07C, 0x0000)
+    ∷ (0xE1A1, 0x0000)
+    ∷ (0xE2D6, 0x0000)
+    ∷ (0xE30B, 0x0000)
+    ∷ (0xE430, 0x0000)
+    ∷ (0xE565, 0x0000)
+    ∷ (0xE79A, 0x0000)
+    ∷ (0xE85F, 0x0000)
+    ∷ (0xE904, 0x0000)
+    ∷ (0xEB29, 0x0000)
+    ∷ (0xEC5E, 0x0000)
+    ∷ (0xED83, 0x0000)
+    ∷ (0xEE48, 0x0000)
+    ∷ (0xEF5D, 0x0000)
+    ∷ (0xF112, 0x0000)
+    ∷ (0xF247, 0x0000)
+    ∷ (0xF47C, 0x0000)
+    ∷ (0x8836, 0x789A)
+    ∷ (0x894E, 0xDCBB)
+    ∷ (0x8C06, 0x789A)
+    ∷ (0x8D3E, 0xDCBB)
+    ∷ (0x8E16, 0x789A)
+    ∷ (0x8F2E, 0xDCBB)
+    ∷ (0x8AAB, 0xCE19)
+    ∷ (0x8BAB, 0xCE1A)
+    ∷ (0xC000, 0xCAA1)
+    ∷ (0xC15E, 0xD218)
+    ∷ (0xC383, 0xD98F)
+    ∷ (0xC4B8, 0xE106)
+    ∷ (0xC5ED, 0xE87D)
+    ∷ (0xC612, 0xEFF4)
+    ∷ (0xC747, 0xF76B)
+    ∷ (0xC87C, 0xFEE2)
+    ∷ (0xC9A1, 0x0659)
+    ∷ (0xCAD6, 0x0DD0)
+    ∷ (0xCC5B, 0x1547)
+    ∷ (0xCD30, 0x1CBE)
+    ∷ (0xCE65, 0x2435)
+    ∷ (0xD19A, 0x2BAC)
+    ∷ (0xD2CF, 0x3323)
+    ∷ (0xD304, 0x3A9A)
+    ∷ (0xD409, 0x4211)
+    ∷ (0xD55E, 0x4988)
+    ∷ (0xD683, 0x50FF)
+    ∷ (0xD7B8, 0x5876)
+    ∷ (0xD8ED, 0x5FED)
+    ∷ (0xD912, 0x6764)
+    ∷ (0xDA47, 0x6EDB)
+    ∷ (0xDC7C, 0x7652)
+    ∷ (0xDDA1, 0x7DC9)
+    ∷ (0xDED6, 0x8540)
+    ∷ []
+
+rows_written : map (λ inst. encoded inst) instructions ≡ codes
+unfolding row_of
+rows_written = refl
+
+rows_read : map (λ code. decoded code.0 code.1) halfwords ≡ map (λ inst. Some inst) instructions
+unfolding row_numbered
+rows_read = refl
