@@ -1,14 +1,2 @@
-pub mod CauseLemmas
-pub mod RunLemmas
-pub mod BigLemmas
-pub mod BundleLemmas
-pub mod NameLemmas
 pub mod PromiseLemmas
 pub mod WordLemmas
-pub mod ShowLemmas
-pub mod ShownLemmas
-pub mod MadeLemmas
-pub mod StopLemmas
-pub mod SeenLemmas
-pub mod CopyLemmas
-pub mod DrillLemmas

@@ -11,7 +11,7 @@ use Rattle.asm_parse.specs.Number.{number_in}
 use Rattle.asm_parse.proofs.NumberLemmas.{as_number}
 use Rattle.line_geometry.specs.Legal.{IsInRange}
 use Rattle.store_format.specs.Header.{Header}
-use Rattle.console.specs.declared.show.Range.{Range}
+use Rattle.store_calls.specs.declared.show.Range.{Range}
 use Rattle.console.specs.declared.words.Command.{Command}
 use Rattle.console.specs.declared.words.Command.TheVariants as command
 use Rattle.console.specs.Words.{AreNumbers, AreWithin, IsAlone, IsForm, IsNoForm, IsNumbered, IsOnStore, NamesStore, SaysNumber, number_of, number_said, numbers_of, spread, word_of}

@@ -1,17 +1,3 @@
-pub mod Statuses
 pub mod Words
-pub mod SourceText
-pub mod Opening
 pub mod Causes
-pub mod Handed
-pub mod Headline
 pub mod Listed
-pub mod Show
-pub mod New
-pub mod Drill
-pub mod Drilled
-pub mod Big
-pub mod Kept
-pub mod Bundled
-pub mod Audited
-pub mod Traced

@@ -1,14 +1,14 @@
 -- What a listing of a job's programs did.
-use Rattle.std.specs.Prelude.{◌≡◌, ℕ, List, [], Option, Result, Ok, Err}
+use Rattle.std.specs.Prelude.{◌≡◌, ℕ, List, [], Option, Ok}
 use Rattle.std.specs.List.{flat_map, zip, sum_by}
 use Rattle.outside.specs.declared.world.Outside.{Ghosts}
-use Rattle.outside.specs.declared.failed.Failed.{Failed}
 use Rattle.listing.specs.Listing.{listing_of, lines_in}
 use Rattle.listing.specs.Puts.{Puts, PutsTimes}
 use Rattle.job_text.specs.Grammar.{Content, job_of}
-use Rattle.console.specs.declared.status.Status.{Status}
-use Rattle.console.specs.declared.status.Status.TheVariants as status
-use Rattle.console.specs.SourceText.{IsWhole}
+use Rattle.call_status.specs.declared.status.Status.{Status}
+use Rattle.call_status.specs.declared.status.Status.TheVariants as status
+use Rattle.call_status.specs.Printed.{put_of}
+use Rattle.call_status.specs.SourceText.{IsWhole}
 
 -- the listings of a job's programs, each with its name, in the job's order
 abbrev pub listings_of : Content → List ℕ
@@ -17,11 +17,6 @@ listings_of content = flat_map (λ named. listing_of named.0 named.1.image named
 -- how many lines these are
 abbrev pub lines_listed : Content → ℕ
 lines_listed content = sum_by (λ parts. lines_in parts.image parts.windows) content.programs
-
--- how the puts went, by the status
-abbrev pub put_of : Status → Result (Unit {0}) Failed
-put_of status.PutFault = Err (record {})
-put_of _ = Ok tt
 
 -- the text was had whole and means a job; the listings of its programs are put, each line by one put, and the disk is left alone
 pub record ListsJob {W : Type 0} (G : Ghosts W) (left left_now : Option (List ℕ)) (before after : W) (status : Status) : Type 0 where

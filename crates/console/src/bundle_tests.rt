@@ -1,13 +1,30 @@
 //! Bundles of finished runs: what `audit` and `trace` say of each; the lines and places are worked out by hand.
-use super::crash_tests::{Left, run_on};
-use super::side_by_side_tests::{DAY, SIDE_BY_SIDE};
-use super::tests::PROGRAMS;
+use super::tests::{Left, call_well};
 use super::*;
-use outside::MemoryDisk;
 use std::alloc::{AllocError, Global};
-use std::process::Abort;
 use std::test::Fail;
 use text_line::TextLine;
+
+/// The programs that run.
+const PROGRAMS: &str = "\
+    program add\n.window 1, 1, rw\ncau r6, r0, 0x1000\nl r3, 0(r6)\na r3, r2\nst r3, 0(r6)\nsvc 0\nend\n\
+    program put\n.window 1, 1, rw\ncau r6, r0, 0x1000\nst r2, 2048(r6)\nst r2, 4096(r6)\nst r2, 6144(r6)\nsvc 0\nend\n\
+    program mv\n.window 1, 1, r\ncau r5, r0, 0x1000\nai r5, r5, 2040\nlm r3, 0(r5)\ncas r2, r5, r0\nsvc 1\nsvc 0\nend\n\
+    program dep\n.window 1, 1, rw\ncau r6, r0, 0x1000\na r6, r2\nl r7, 0(r6)\na r7, r3\nst r7, 0(r6)\nsvc 0\nend\n\
+    program move\n.window 1, 1, rw\ncau r6, r0, 0x1000\ncas r7, r6, r2\ncas r8, r6, r3\nl r9, 0(r7)\ns r9, r4\n\
+    jb lt, no\nst r9, 0(r7)\nl r9, 0(r8)\na r9, r4\nst r9, 0(r8)\nsvc 0\nno: svc 2\nend\n\
+    program sum\n.window 1, 1, r\ncau r6, r0, 0x1000\ncas r7, r6, r2\nl r9, 0(r7)\ncas r7, r6, r3\nl r2, 0(r7)\n\
+    a r2, r9\nsvc 1\nsvc 0\nend\n\
+    program null\nsvc 0\nend\n\
+    schedule\n";
+
+/// A day of four accounts: deposits, transfers of which one gives up, a sum that waits, two transfers that wait for each other, and
+/// a crash while two are active.
+const DAY: &str =
+    "begin dep 0 100\nbegin dep 128 50\nbegin dep 2048 7\nbegin dep 4096 9\ndrain 1 50\nbegin move 0 2048 30\n\
+    begin move 128 0 60\nbegin sum 0 2048\nbegin null\nturn 5 7\nturn 7 50\nturn 6 50\ndrain 1 50\ncheckpoint\n\
+    begin move 2048 4096 37\nbegin move 4096 2048 9\nturn 9 7\nturn 10 7\nturn 9 50\nturn 10 50\n\
+    begin move 4096 2048 9\nbegin dep 0 1\nturn 9 50\nturn 12 5\ncrash\nbegin sum 0 4096\nturn 13 50\n";
 
 /// What ran on the store of `try`.
 #[derive(Clone, Copy)]
@@ -23,9 +40,9 @@ enum Running {
 /// The parts of the job's text.
 fn parts_of(running: Running) -> &'static [&'static str] {
     match running {
-        Running::Add => &[PROGRAMS, "begin add 5\nturn 1 9\nend\n"],
-        Running::Move => &[PROGRAMS, "begin put 7\nturn 1 9\nbegin mv\nturn 2 9\nend\n"],
-        Running::Day => &["frames 4\n", SIDE_BY_SIDE, DAY, "end\n"],
+        Running::Add => &["frames 2\n", PROGRAMS, "begin add 5\nturn 1 9\nend\n"],
+        Running::Move => &["frames 2\n", PROGRAMS, "begin put 7\nturn 1 9\nbegin mv\nturn 2 9\nend\n"],
+        Running::Day => &["frames 4\n", PROGRAMS, DAY, "end\n"],
     }
 }
 
@@ -145,16 +162,10 @@ fn bundle<'a>(
     [head.as_slice(), job, report, opening, closing].concat(alloc)
 }
 
-/// The words over this source, on a disk with these bytes.
-fn call(alloc: Global, words: &[&str], text: &[u8], held: Vec<u8>) -> Result<Left, AllocError> {
-    let disk = MemoryDisk::new(alloc, held, Vec::new(alloc));
-    run_on(alloc, disk, Vec::new(alloc), words, text)
-}
-
 /// What the words of a row come to on its bundle.
 fn called(alloc: Global, row: &Row) -> Result<Left, AllocError> {
     let job = parts_of(row.running).concat(alloc)?;
-    let mut ran = call(alloc, &["try"], job.as_bytes(), try_store(alloc)?)?;
+    let mut ran = call_well(alloc, &["try"], job.as_bytes(), try_store(alloc)?)?;
     if let Some(report) = row.report {
         ran.printed = Vec::from_slice(alloc, report.as_bytes())?;
     }
@@ -163,7 +174,7 @@ fn called(alloc: Global, row: &Row) -> Result<Left, AllocError> {
         ran.held = try_store(alloc)?;
     }
     let text = bundle(alloc, job.as_bytes(), &ran.printed, &opening, &ran.held)?;
-    call(alloc, row.words, &text, Vec::new(alloc))
+    call_well(alloc, row.words, &text, Vec::new(alloc))
 }
 
 #[test]

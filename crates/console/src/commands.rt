@@ -1,39 +1,30 @@
-ghost use Rattle.std.specs.Prelude.{◌≡◌, ◌≤◌, ◌⊎◌, ◌↔◌, ℕ, List, [], length, vec_capacity, IfOk, IfErr, OnOk, Ok, None};
+ghost use Rattle.std.specs.Prelude.{◌≡◌, ◌⊎◌, ◌↔◌, ℕ, [], None};
 ghost use Rattle.outside.specs.Causes.{Rose};
 ghost use Rattle.desk.specs.Answers.{order_told};
-ghost use Rattle.job_text.specs.Grammar.{job_of, content_of};
-ghost use Rattle.job_text.specs.Ready.{IsReady};
-ghost use Rattle.schedule_replay.specs.Asked.{begins_in};
-ghost use Rattle.console.specs.SourceText.{IsWhole};
 ghost use Rattle.store_format.specs.Header.{Header};
-ghost use Rattle.console.specs.Audited.{Audited};
-ghost use Rattle.console.specs.Causes.{IsComplete, ReadsBy, OpensBy, IsOf, IsOfEvents, IsOfReading, status_of};
-ghost use Rattle.console.specs.Handed.{HandsOn};
-ghost use Rattle.console.specs.Headline.{Happened, HappenedTo};
-ghost use Rattle.console.specs.Drilled.{Drilled};
+ghost use Rattle.call_status.specs.Reading.{ReadsBy};
+ghost use Rattle.store_calls.specs.New.{Made};
+ghost use Rattle.store_calls.specs.Show.{Shown};
+ghost use Rattle.job_calls.specs.Big.{Loaded};
+ghost use Rattle.job_calls.specs.Causes.{OpensBy};
+ghost use Rattle.job_calls.specs.Handed.{HandsOn};
+ghost use Rattle.job_calls.specs.Headline.{Happened};
+ghost use Rattle.drills.specs.Drilled.{Drilled};
+ghost use Rattle.bundle_calls.specs.Audited.{Audited};
+ghost use Rattle.bundle_calls.specs.Traced.{TracedFrom};
+ghost use Rattle.console.specs.Causes.{IsComplete, IsOf};
 ghost use Rattle.console.specs.Listed.{Listed};
-ghost use Rattle.console.specs.New.{Made};
-ghost use Rattle.console.specs.Show.{Shown};
-ghost use Rattle.console.specs.Big.{Loaded};
-ghost use Rattle.console.specs.Traced.{TracedFrom};
 ghost use Rattle.console.specs.Words.{IsForm, IsNoForm, OpensSession, ReadsBundle, ReadsJob, RunsJob};
 
-use super::audit::audit_source;
-use super::big::run_load;
-use super::drill::drill_job;
-use super::list::list_job;
-use super::new::make;
-use super::show::{Range, show};
-use super::source_text::{MOST_OF_JOB, read_text};
-use super::status::{Ended, Status};
-use super::trace::trace_source;
+use super::list::list_source;
 use super::words::{Command, command_of};
-use desk::{Committed, Event};
-use job_text::{Job, read_job};
+use bundle_calls::{audit_source, trace_source};
+use call_status::Status;
+use drills::drill_source;
+use job_calls::{Ended, run_load, run_source};
 use outside::{Outside, Source};
-use schedule_replay::replay;
 use std::alloc::Global;
-use supervisor::Session;
+use store_calls::{Range, make_store, show_range};
 
 /// All that the program does: it takes the words of the command line, without the program's name, and the source, disk
 /// and screen that are handed in, and answers how it ended (docs/FORMATS.md, "Words" and "Statuses").
@@ -77,107 +68,15 @@ pub fn console<S: Source, W: Outside>(
         return Ended::without_events(alloc, Status::Usage);
     };
     match command {
-        Command::Try | Command::Run => match read(alloc, job) {
-            Err(status) => Ended::without_events(alloc, status),
-            Ok(job) => try_job(alloc, job, outside),
-        },
-        Command::List => match read(alloc, job) {
-            Err(status) => Ended::without_events(alloc, status),
-            Ok(job) => list_job(alloc, &job, outside),
-        },
-        Command::Drill => match read(alloc, job) {
-            Err(status) => Ended::without_events(alloc, status),
-            Ok(job) => drill_job(alloc, &job, outside),
-        },
-        Command::Show(range) => Ended::without_events(alloc, show(alloc, range, outside)),
-        Command::New(header) => Ended::without_events(alloc, make(alloc, &header, outside)),
+        Command::Try | Command::Run => run_source(alloc, job, outside),
+        Command::List => Ended::without_events(alloc, list_source(alloc, job, outside)),
+        Command::Drill => Ended::without_events(alloc, drill_source(alloc, job, outside)),
+        Command::Show(range) => Ended::without_events(alloc, show_range(alloc, range, outside)),
+        Command::New(header) => Ended::without_events(alloc, make_store(alloc, &header, outside)),
         Command::Big(transfers) => run_load(alloc, transfers, outside),
         Command::Audit => Ended::without_events(alloc, audit_source(alloc, job, outside)),
         Command::Trace(activation) => {
             Ended::without_events(alloc, trace_source(alloc, job, activation, outside))
         }
     }
-}
-
-/// The job of the source.
-fn read<S: Source>(alloc: Global, source: &mut S) -> Result<Job, Status>
-    ensures read { ReadsBy (S.left source.old) (S.left source.new) (S.faults source.old) (S.faults source.new) (status_of result) }
-    ensures unfailed { OnOk result (S.faults source.new ≡ S.faults source.old) }
-    ensures only { IfErr result IsOfReading }
-    ensures means { IfOk result (λ job. (text : List ℕ) × IsWhole (S.left source.old) (S.left source.new) text × (job_of text ≡ Ok (content_of job))) }
-    ensures ready { IfOk result IsReady }
-{
-    let text = read_text(alloc, source, MOST_OF_JOB)?;
-    Ok(read_job(alloc, &text)?)
-}
-
-/// The store is opened, and the events of the job run. All memory is taken before the first of them.
-pub fn try_job<W: Outside>(alloc: Global, job: Job, outside: &mut W) -> Ended
-    requires { IsReady job }
-    ensures opened { OpensBy W.Outside outside.old outside.new result.status }
-    ensures unfailed { result.status ≡ Status.Done → W.put_faults outside.new ≡ W.put_faults outside.old }
-    ensures put { result.status ≡ Status.PutFault → Rose (W.put_faults outside.old) (W.put_faults outside.new) }
-    ensures disk { result.status ≡ Status.DiskFault → Rose (W.disk_faults outside.old) (W.disk_faults outside.new) }
-    ensures happened { HappenedTo W.Outside job outside.old outside.new (order_told result.order.items) result.session result.status }
-    ensures handed { HandsOn (order_told result.order.items) result.session result.status }
-    ensures only { IsOfEvents result.status }
-{
-    let begins = begins_in(&job.events);
-    match Vec::with_capacity(alloc, begins as usize) {
-        Ok(order) => run_job(alloc, job, begins, order, outside),
-        Err(error) => Ended::without_events(alloc, Status::from(error)),
-    }
-}
-
-/// The same, with room in the order for so many begins.
-fn run_job<W: Outside>(
-    alloc: Global,
-    job: Job,
-    begins: u32,
-    order: Vec<Committed>,
-    outside: &mut W,
-) -> Ended
-    requires ready { IsReady job }
-    requires begins { begins ≡ begins_in job.events.items }
-    requires none { order.items ≡ [] }
-    requires room { begins ≤ vec_capacity order }
-    ensures opened { OpensBy W.Outside outside.old outside.new result.status }
-    ensures unfailed { result.status ≡ Status.Done → W.put_faults outside.new ≡ W.put_faults outside.old }
-    ensures put { result.status ≡ Status.PutFault → Rose (W.put_faults outside.old) (W.put_faults outside.new) }
-    ensures disk { result.status ≡ Status.DiskFault → Rose (W.disk_faults outside.old) (W.disk_faults outside.new) }
-    ensures happened { HappenedTo W.Outside job outside.old outside.new (order_told result.order.items) result.session result.status }
-    ensures handed { HandsOn (order_told result.order.items) result.session result.status }
-    ensures only { IsOfEvents result.status }
-{
-    let mut session = match Session::open(alloc, outside, job.programs, job.frames, begins) {
-        Ok(session) => session,
-        Err(fault) => return Ended::without_events(alloc, Status::from(fault)),
-    };
-    let replayed = replay(&mut session, &job.names, &job.events, outside);
-    Ended {
-        status: Status::from(replayed),
-        order: filled(order, session.order()),
-        session: Some(session),
-    }
-}
-
-/// A list with no commits, and room for these, filled with them. It takes no memory.
-pub(crate) fn filled(mut order: Vec<Committed>, commits: &[Committed]) -> Vec<Committed>
-    requires none { order.items ≡ [] }
-    requires room { length commits.now ≤ vec_capacity order }
-    ensures { result.items ≡ commits.now }
-{
-    let _ = order.extend_from_slice(commits);
-    order
-}
-
-/// How many of the events are begins.
-pub(crate) fn begins_in(events: &[Event]) -> u32
-    requires { length events.now ≤ 10000 }
-    ensures { result ≡ begins_in events.now }
-{
-    events
-        .iter()
-        .filter(|event| matches!(event, Event::Begin { .. }))
-        .count() as u32
 }

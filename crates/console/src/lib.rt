@@ -1,33 +1,17 @@
-//! The console: the one call that does all that the program does (docs/MODEL.md).
+//! The console: the one call that does all that the program does (docs/MODEL.md). It reads the words and hands on.
 #![tactic(auto)]
 
-mod audit;
-mod big;
-mod bundle;
 mod commands;
-mod drill;
-mod job_copy;
-mod kept;
 mod list;
-mod new;
-mod opening;
-mod show;
-mod source_text;
-mod status;
-mod stops;
-mod trace;
 mod words;
 
+pub use call_status::{Status, status_text};
 pub use commands::console;
-pub use opening::try_store;
-pub use status::{Ended, Status, status_text};
-pub use stops::{Stop, drill_stop};
+pub use drills::{Stop, drill_stop};
+pub use job_calls::Ended;
+pub use store_calls::try_store;
 
 #[cfg(test)]
 mod bundle_tests;
-#[cfg(test)]
-mod crash_tests;
-#[cfg(test)]
-mod side_by_side_tests;
 #[cfg(test)]
 mod tests;

@@ -1,30 +1,33 @@
 // The listing of a job's programs.
-ghost use Rattle.std.specs.Prelude.{◌≡◌, ◌⊎◌, [], length, None};
+ghost use Rattle.std.specs.Prelude.{◌≡◌, [], length};
+ghost use Rattle.outside.specs.Causes.{Rose};
 ghost use Rattle.listing.specs.Puts.{Puts, PutsTimes};
 ghost use Rattle.job_text.specs.Grammar.{content_of};
-ghost use Rattle.console.specs.Listed.{listings_of, lines_listed, put_of};
+ghost use Rattle.call_status.specs.Reading.{ReadsBy};
+ghost use Rattle.call_status.specs.Statuses.{IsOfLines};
+ghost use Rattle.console.specs.Listed.{Listed, listings_of, lines_listed};
 
-use super::status::{Ended, Status};
+use call_status::{Status, job_from};
 use job_text::Job;
 use listing::put_program;
-use outside::{Failed, Outside};
+use outside::{Failed, Outside, Source};
 use std::alloc::Global;
 
-/// Lists the programs of a job, in its order.
-pub fn list_job<W: Outside>(alloc: Global, job: &Job, outside: &mut W) -> Ended
-    requires { length job.now.names.items ≡ length job.now.programs.items }
-    ensures puts { Puts W.Outside (listings_of (content_of job.now)) outside.old outside.new (put_of result.status) }
-    ensures times { PutsTimes W.Outside (lines_listed (content_of job.now)) outside.old outside.new (put_of result.status) }
-    ensures order { result.order.items ≡ [] }
-    ensures session { result.session ≡ None }
-    ensures unfailed { result.status ≡ Status.Done → W.put_faults outside.new ≡ W.put_faults outside.old }
-    ensures only { (result.status ≡ Status.Done) ⊎ (result.status ≡ Status.PutFault) }
+/// Lists the programs of a source's job, in its order.
+pub fn list_source<S: Source, W: Outside>(alloc: Global, source: &mut S, outside: &mut W) -> Status
+    ensures read { ReadsBy (S.left source.old) (S.left source.new) (S.faults source.old) (S.faults source.new) result }
+    ensures listed { Listed W.Outside (S.left source.old) (S.left source.new) outside.old outside.new [] result }
+    ensures unfailed { result ≡ Status.Done → (S.faults source.new ≡ S.faults source.old) × (W.put_faults outside.new ≡ W.put_faults outside.old) }
+    ensures put { result ≡ Status.PutFault → Rose (W.put_faults outside.old) (W.put_faults outside.new) }
+    ensures only { IsOfLines result }
 {
-    let status = match put_programs(job, outside) {
-        Ok(()) => Status::Done,
-        Err(Failed) => Status::PutFault,
-    };
-    Ended::without_events(alloc, status)
+    match job_from(alloc, source) {
+        Err(status) => status,
+        Ok(job) => match put_programs(&job, outside) {
+            Ok(()) => Status::Done,
+            Err(Failed) => Status::PutFault,
+        },
+    }
 }
 
 /// Puts the listings of a job's programs, one after another.

@@ -4,9 +4,9 @@ ghost use Rattle.line_geometry.specs.Legal.{IsLegal, IsInRange};
 ghost use Rattle.store_format.specs.Header.{Header as Layout, HasRanges};
 ghost use Rattle.console.specs.Words.{IsForm, IsNoForm, AreWithin, AreNumbers, IsAlone, IsNumbered, IsOnStore, number_said, word_of, numbers_of, number_of, spread};
 
-use super::show::Range;
 use arrayvec::ArrayVec;
 use line_geometry::{Directory, PageSize};
+use store_calls::Range;
 use store_format::Header;
 
 /// The most numbers that a form has: the bytes of a bank, and fifteen segments with their pages.

@@ -1,20 +1,16 @@
 -- A session that has just opened.
-use Rattle.std.proofs.Common.{◌≡◌, ℕ, ◌+◌, ◌*◌, ◌%◌, ◌^◌, List, [], length, take, sym, ◌∙◌, ap, arith, Option}
-use Rattle.std.specs.Prelude.{false, unwrap_or, fold}
+use Rattle.std.proofs.Common.{◌≡◌, ℕ, ◌+◌, ◌%◌, ◌^◌, List, [], length, take, sym, ◌∙◌, ap, arith, Option}
+use Rattle.std.specs.Prelude.{false, unwrap_or}
 use Rattle.std.proofs.Math.Nat.{mod-mod}
 use Rattle.line_geometry.specs.Directory.{Layout, byte_count}
-use Rattle.line_geometry.specs.FlatStore.{FlatStore}
-use Rattle.line_geometry.proofs.Within.{byte_count-lines}
 use Rattle.flat_machine.specs.declared.machine.Program.{Program}
 use Rattle.outside.specs.declared.world.Outside.{Ghosts}
 use Rattle.outside.specs.Runs.{OnlyAsks, held_of}
 use Rattle.store_format.specs.Header.{header_of, most_lines}
-use Rattle.store_format.specs.Stands.{Stands, stands, laid, home_of}
-use Rattle.store_format.proofs.Stores.{stands_is}
-use Rattle.redo_journal.proofs.Newest.{store_agrees}
+use Rattle.store_format.specs.Stands.{Stands, stands}
 use Rattle.restart.specs.Kept.{KeptStore, number_of}
 use Rattle.restart.specs.Shows.{Shows, Tracks}
-use Rattle.restart.proofs.ShowLemmas.{shown_store}
+use Rattle.restart.proofs.StoodLemmas.{committed_in, committed-long, stood-store}
 use Rattle.desk.specs.declared.answers.Committed.{Committed}
 use Rattle.desk.specs.Answers.{order_told}
 use Rattle.desk.specs.Desk.{opened}
@@ -24,26 +20,6 @@ use Rattle.activations.specs.Begins.{Begins, idle}
 use Rattle.supervisor.specs.declared.session.Session.{Session}
 use Rattle.supervisor.specs.Opened.{HasStood, IsOpened}
 use Rattle.supervisor.specs.Session.{activity, desk_of}
-
--- the committed bytes of a store that bytes show
-pub committed_in : (held : List ℕ) (store : KeptStore) → Shows held store → List ℕ
-committed_in held store shows = fold (laid store.header.directory.page) (home_of held store.header) shows.read.records
-
--- the bytes stand for the store's number and these
-pub stood-store : (held : List ℕ) (store : KeptStore) (shows : Shows held store)
-    → stands held ≡ Stands (number_of store) (record { directory = store.header.directory; bytes = committed_in held store shows })
-unfolding committed_in
-stood-store held store shows =
-    let flat : FlatStore = record { directory = store.header.directory; bytes = fold (laid store.header.directory.page) (home_of held store.header) shows.read.records } in
-    stands_is held store.header store.bank.which store.bank.base store.bank.gate shows.read.records (shown_store held store shows)
-    ∙ ap (λ (n : ℕ). Stands ((store.bank.base + n) % 2 ^ 64) flat) shows.read.count
-
--- and they are as many as its directory says
-pub committed-long : (held : List ℕ) (store : KeptStore) (shows : Shows held store) → length (committed_in held store shows) ≡ byte_count store.header.directory
-unfolding committed_in
-committed-long held store shows =
-    let agree = store_agrees held store.header store.bank.which store.bank.base store.bank.gate shows.read.records (shown_store held store shows) in
-    agree.long ∙ sym (byte_count-lines store.header.directory)
 
 pub has-stood : (held : List ℕ) (store : KeptStore) → Shows held store → HasStood store.header held
 has-stood held store shows = (

@@ -1,24 +1,24 @@
-use Rattle.std.proofs.Common.{◌≡◌, ℕ, List, [], inl, inr, ap, subst, sym}
+use Rattle.std.proofs.Common.{◌≡◌, ℕ, List, [], inl, inr, subst, sym}
 use Rattle.desk.specs.Answers.{order_told}
 use Rattle.desk.specs.declared.answers.Committed.{Committed}
 use Rattle.store_format.specs.Header.{Header}
-use Rattle.console.specs.declared.show.Range.{Range}
-use Rattle.console.specs.declared.status.Status.{Status}
+use Rattle.call_status.specs.declared.status.Status.{Status}
+use Rattle.store_calls.specs.declared.show.Range.{Range}
+use Rattle.store_calls.specs.New.{Made}
+use Rattle.store_calls.specs.Show.{Shown}
+use Rattle.job_calls.specs.Big.{Loaded}
+use Rattle.bundle_calls.specs.Traced.{TracedFrom}
 use Rattle.console.specs.declared.words.Command.{Command}
-use Rattle.console.specs.Drilled.{DrilledBy}
-use Rattle.console.specs.Big.{Loaded}
-use Rattle.console.specs.New.{Made}
-use Rattle.console.specs.Show.{Shown}
-use Rattle.console.specs.Traced.{TracedFrom}
 use Rattle.console.specs.Words.{IsForm}
-use Rattle.console.proofs.DrillLemmas.{drilled-text, drilled-unread, none-put}
 use Rattle.console.proofs.PromiseLemmas.{no_promise}
-use Rattle.console.proofs.RunLemmas.{happens}
 use Rattle.console.proofs.WordLemmas.{one_header, one_load, one_range, one_trace}
 use Rattle.console.proofs.commands.console.Goals as goal
 
 pub returns-in_default-clause-listed : goal.returns-in_default-clause-listed
 returns-in_default-clause-listed g c = λ lists. absurd (c.in_default.ensures Command.List lists)
+
+pub returns-in_default-clause-drilled : goal.returns-in_default-clause-drilled
+returns-in_default-clause-drilled g c = λ drills. absurd (c.in_default.ensures Command.Drill drills)
 
 pub returns-in_default-clause-shown : goal.returns-in_default-clause-shown
 returns-in_default-clause-shown g c = λ range shows. absurd (c.in_default.ensures (Command.Show range) shows)
@@ -63,59 +63,29 @@ returns-in-Trace-clause-traced g c = λ activation traces.
     let same : c.in-Trace.activation ≡ activation = one_trace c.args.words.now c.in-Trace.activation activation asked traces in
     let ended = c.without_events-in-Trace.ensures in
     subst (λ (status : Status). TracedFrom G activation left left_now faults faults_now before after (order_told c.without_events-in-Trace.result.order.items) status) (sym ended.status)
-    (subst (λ (number : ℕ). TracedFrom G number left left_now faults faults_now before after (order_told c.without_events-in-Trace.result.order.items) c.trace_source.result) same
-    (let done : TracedFrom G c.in-Trace.activation left left_now faults faults_now before after (order_told c.without_events-in-Trace.result.order.items) c.trace_source.result =
-    record { no_order = ap order_told ended.order; by_status = c.trace_source.ensures.traced } in done))
-
-pub returns-in-Ok-clause-happened : goal.returns-in-Ok-clause-happened
-returns-in-Ok-clause-happened g c = λ runs.
-    let (text, whole, means) = c.in-Ok.ensures.means in
-    happens g.W.Outside (g.S.Source.left c.args.job.now) (g.S.Source.left c.read.new.source) c.args.outside.now c.try_job.new.outside text c.in-Ok.job
-    (order_told c.try_job.result.order.items) c.try_job.result.session c.try_job.result.status whole means c.try_job.ensures.happened
+    (subst (λ (order : List Committed). TracedFrom G activation left left_now faults faults_now before after (order_told order) c.trace_source.result) (sym ended.order)
+    (subst (λ (number : ℕ). TracedFrom G number left left_now faults faults_now before after [] c.trace_source.result) same c.trace_source.ensures.traced))
 
 pub returns-in-Show-clause-shown : goal.returns-in-Show-clause-shown
 returns-in-Show-clause-shown g c = λ range shows.
     let G = g.W.Outside in
     let before = c.args.outside.now in
-    let after = c.show.new.outside in
+    let after = c.show_range.new.outside in
     let asked : IsForm (Command.Show c.in-Show.range) c.args.words.now = subst (λ (form : Command). IsForm form c.args.words.now) c.in-Show.is c.in-Some.ensures in
     let same : c.in-Show.range ≡ range = one_range c.args.words.now c.in-Show.range range asked shows in
     let ended = c.without_events-in-Show.ensures in
     subst (λ (status : Status). Shown G range before after (order_told c.without_events-in-Show.result.order.items) status) (sym ended.status)
-    (subst (λ (order : List Committed). Shown G range before after (order_told order) c.show.result) (sym ended.order)
-    (subst (λ (these : Range). Shown G these before after [] c.show.result) same c.show.ensures.shown))
+    (subst (λ (order : List Committed). Shown G range before after (order_told order) c.show_range.result) (sym ended.order)
+    (subst (λ (these : Range). Shown G these before after [] c.show_range.result) same c.show_range.ensures.shown))
 
 pub returns-in-New-clause-made : goal.returns-in-New-clause-made
 returns-in-New-clause-made g c = λ header makes.
     let G = g.W.Outside in
     let before = c.args.outside.now in
-    let after = c.make.new.outside in
+    let after = c.make_store.new.outside in
     let asked : IsForm (Command.New c.in-New.header) c.args.words.now = subst (λ (form : Command). IsForm form c.args.words.now) c.in-New.is c.in-Some.ensures in
     let same : c.in-New.header ≡ header = one_header c.args.words.now c.in-New.header header asked makes in
     let ended = c.without_events-in-New.ensures in
     subst (λ (status : Status). Made G header before after (order_told c.without_events-in-New.result.order.items) status) (sym ended.status)
-    (subst (λ (order : List Committed). Made G header before after (order_told order) c.make.result) (sym ended.order)
-    (subst (λ (these : Header). Made G these before after [] c.make.result) same c.make.ensures.made))
-
-pub returns-in_default-clause-drilled : goal.returns-in_default-clause-drilled
-returns-in_default-clause-drilled g c = λ drills. absurd (c.in_default.ensures Command.Drill drills)
-
-pub returns-in-Err-read-2-clause-drilled : goal.returns-in-Err-read-2-clause-drilled
-returns-in-Err-read-2-clause-drilled g c = λ drills.
-    let G = g.W.Outside in
-    let left = g.S.Source.left c.args.job.now in
-    let left_now = g.S.Source.left c.read-in-Drill.new.source in
-    let before = c.args.outside.now in
-    let ended = c.without_events-in-Err-read-2.ensures in
-    record {
-      no_order = ap order_told ended.order;
-      by_status = subst (λ (status : Status). DrilledBy G left left_now before before status) (sym ended.status) (drilled-unread G left left_now before c.in-Err-read-2.status (none-put G before) c.in-Err-read-2.ensures.only);
-    }
-
-pub returns-in-Ok-read-2-clause-drilled : goal.returns-in-Ok-read-2-clause-drilled
-returns-in-Ok-read-2-clause-drilled g c = λ drills.
-    let (text, whole, means) = c.in-Ok-read-2.ensures.means in
-    record {
-      no_order = ap order_told c.drill_job.ensures.order;
-      by_status = drilled-text g.W.Outside c.in-Ok-read-2.job c.args.outside.now c.drill_job.new.outside (g.S.Source.left c.args.job.now) (g.S.Source.left c.read-in-Drill.new.source) text c.drill_job.result.status whole means c.drill_job.ensures.did;
-    }
+    (subst (λ (order : List Committed). Made G header before after (order_told order) c.make_store.result) (sym ended.order)
+    (subst (λ (these : Header). Made G these before after [] c.make_store.result) same c.make_store.ensures.made))

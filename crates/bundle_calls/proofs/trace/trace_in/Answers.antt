@@ -1,0 +1,40 @@
+use Rattle.std.proofs.Common.{ℕ, List, sym, subst}
+use Rattle.std.specs.Prelude.{Ok, Err}
+use Rattle.report_text.specs.declared.owned.OwnedLine.{OwnedLine}
+use Rattle.serial_audit.specs.Audit.{report_told}
+use Rattle.touch_trace.specs.declared.answer.TraceFault.{TraceFault}
+use Rattle.touch_trace.specs.declared.answer.TraceFault.TheVariants as fault
+use Rattle.touch_trace.specs.Trace.{IsAnswer}
+use Rattle.bundle_calls.specs.Traced.{status_of_trace, IsFound, IsUntraced}
+use Rattle.bundle_calls.proofs.trace.trace_in.Goals as goal
+
+pub returns-in-Ok : goal.returns-in-Ok
+returns-in-Ok c =
+    let parts = c.in_ok-opened.opened in
+    record {
+      bundle = parts.bundle;
+      job = parts.job;
+      report = parts.report.items;
+      opening = parts.opening;
+      opened = c.in_ok-opened.ensures.opened;
+      told = subst (λ (lines : List OwnedLine). IsAnswer parts.job parts.opening (report_told lines) c.args.activation (Ok c.in-Ok.trace)) c.deref.ensures.value c.in-Ok.ensures;
+    }
+
+-- why there is none, as a status
+untraced : (bytes : List ℕ) (activation : ℕ) (why : TraceFault) → IsFound bytes activation (Err why) → IsUntraced bytes activation (status_of_trace why)
+untraced bytes activation fault.NoCommit found = found
+untraced bytes activation (fault.NotSerial place) found = found
+untraced bytes activation fault.Memory found = tt
+
+pub returns : goal.returns
+returns c =
+    let parts = c.in_ok-opened.opened in
+    subst (IsUntraced c.args.bytes.now c.args.activation) (sym c.status_of_trace.ensures)
+    (untraced c.args.bytes.now c.args.activation c.in-Err.fault (record {
+      bundle = parts.bundle;
+      job = parts.job;
+      report = parts.report.items;
+      opening = parts.opening;
+      opened = c.in_ok-opened.ensures.opened;
+      told = subst (λ (lines : List OwnedLine). IsAnswer parts.job parts.opening (report_told lines) c.args.activation (Err c.in-Err.fault)) c.deref.ensures.value c.in-Err.ensures;
+    }))

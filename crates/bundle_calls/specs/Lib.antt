@@ -1,0 +1,4 @@
+pub mod Kept
+pub mod Bundled
+pub mod Audited
+pub mod Traced

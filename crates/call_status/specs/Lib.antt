@@ -1,0 +1,5 @@
+pub mod Statuses
+pub mod SourceText
+pub mod Reading
+pub mod Opening
+pub mod Printed

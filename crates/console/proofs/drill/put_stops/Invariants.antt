@@ -1,6 +1,0 @@
-use Rattle.console.proofs.DrillLemmas.{IsPut}
-use Rattle.console.proofs.drill.put_stops.Given as goal
-
--- the lines of the stops so far are put
-abbrev pub invariant-loop-stops : goal.invariant-loop-stops
-invariant-loop-stops g l = IsPut g.W.Outside l.initial.outside l.outside l.stops

@@ -1,6 +1,0 @@
-use Rattle.console.proofs.SeenLemmas.{IsCounted}
-use Rattle.console.proofs.stops.commits_in.Given as goal
-
--- what was counted, and what is still to be counted from the start of the line
-abbrev pub invariant-loop-index : goal.invariant-loop-index
-invariant-loop-index l = IsCounted l.printed l.start l.index l.count

@@ -1,0 +1,195 @@
+-- What a drill's stops come to, and what is put of them.
+use Rattle.std.proofs.Common.{◌≡◌, inl, inr, ℕ, zero, suc, ◌+◌, ◌*◌, ◌%◌, ◌<◌, ◌≤◌, Bool, true, false, List, [], ◌∷◌, ◌++◌, length, refl, sym, ◌∙◌, ap, subst, rules, arith, append_assoc, append-nil, length-append}
+use Rattle.std.specs.Prelude.{◌^◌, min, All, Result, Ok, Vec}
+use Rattle.std.specs.declared.alloc.Global.{Global}
+use Rattle.std.proofs.lemmas.Bool.{cases_lt}
+use Rattle.line_geometry.specs.FlatStore.{FlatStore}
+use Rattle.line_geometry.specs.Legal.{IsInRange, IsLegal}
+use Rattle.store_format.specs.Header.{HasRanges, fresh}
+use Rattle.store_format.specs.Stands.{Standing, Stands, stands}
+use Rattle.store_format.proofs.Fresh.{fresh_stands}
+use Rattle.job_text.specs.declared.job.Job.{Job}
+use Rattle.outside.specs.declared.world.Outside.{Ghosts}
+use Rattle.outside.specs.declared.failed.Failed.{Failed}
+use Rattle.outside.specs.Runs.{FewerLater}
+use Rattle.listing.specs.Puts.{Puts, PutsTimes}
+use Rattle.listing.proofs.PutsLemmas.{puts_on, puts_same, times_on}
+use Rattle.call_status.specs.declared.status.Status.{Status}
+use Rattle.call_status.specs.declared.status.Status.TheVariants as status
+use Rattle.drills.specs.declared.drill.Pair.{Pair}
+use Rattle.drills.specs.declared.stops.Stop.{Stop}
+use Rattle.desk.specs.declared.answers.Committed.{Committed}
+use Rattle.std.proofs.lemmas.List.{length-map}
+use Rattle.drills.specs.Drill.{IsStop, fine_order}
+use Rattle.outside.specs.Causes.{Rose}
+use Rattle.std.specs.Prelude.{Option}
+use Rattle.job_text.specs.Grammar.{content_of, job_of}
+use Rattle.call_status.specs.Statuses.{IsOfReading}
+use Rattle.call_status.specs.SourceText.{IsWhole}
+use Rattle.drills.specs.Drilled.{DrilledBy, DrilledTo, IsPair, PutsFirst, PutsStops, PutsWhole, broken, last_line, pair_lines, stop_lines, try_flat, try_order, well}
+use Rattle.call_status.specs.Opening.{IsStanding}
+use Rattle.store_calls.specs.TryStore.{try_layout}
+
+-- what stands for one number and store stands for no other number
+pub one-number : (one two : ℕ) (first second : FlatStore) → Stands one first ≡ Stands two second → one ≡ two
+one-number one two first second is = cc
+
+-- the store of `try` stands for nothing
+try-in-range : All IsInRange try_layout.directory.segments
+try-in-range zero d below = (omega arith, omega arith, omega arith, omega arith)
+try-in-range (suc zero) d below = (omega arith, omega arith, omega arith, omega arith)
+try-in-range (suc (suc k)) d below = absurd (omega arith)
+
+try-legal : IsLegal try_layout.directory.segments
+try-legal = record { some = omega arith; few = omega arith; in_range = try-in-range; ascending = search rules; pages = omega arith }
+
+try-ranges : HasRanges try_layout
+try-ranges = record { page = refl; least_bank = omega arith; most_bank = omega arith }
+
+pub try-stands : (image : List ℕ) → image ≡ fresh try_layout → stands image ≡ Stands 0 try_flat
+try-stands image is = ap (λ (bytes : List ℕ). stands bytes) is ∙ fresh_stands try_layout try-ranges try-legal
+
+pub try-standing : (image : List ℕ) → image ≡ fresh try_layout → IsStanding image
+try-standing image is = (0, try_flat, try-stands image is)
+
+-- an order is short
+order-short : (order : Vec Committed Global) → length order.items < 2 ^ 64
+order-short order = omega (arith, order.ok.0, order.ok.1, order.small)
+
+-- a stop's image stands for as many commits as it has
+module _ (job : Job) (image : List ℕ) (stop : Stop) (is : IsStop job image 0 try_flat stop) where
+  small : (0 + is.j) % 2 ^ 64 ≡ is.j
+  small = let few = order-short stop.order in omega (arith, few, is.few)
+
+  pub stop-stands : stands stop.image.items ≡ Stands is.j is.left
+  stop-stands = is.stood ∙ ap (λ (n : ℕ). let that : Standing = Stands n is.left in that) small
+
+  pub stop-standing : IsStanding stop.image.items
+  stop-standing = (is.j, is.left, stop-stands)
+
+  pub stop-found : (number : ℕ) → ((number_there : ℕ) (store : FlatStore) → stands stop.image.items ≡ Stands number_there store → number ≡ number_there) → stop.seen ≤ number
+  stop-found number there = omega (arith, there is.j is.left stop-stands, is.told)
+
+  -- where the write wasn't reached, for all
+  pub stop-all : image ≡ fresh try_layout → stop.reached ≡ false → is.j ≡ length (try_order job)
+  stop-all bytes un =
+      is.all un
+      ∙ sym (length-map stop.order.items (λ (commit : Committed). (commit.activation, commit.steps)))
+      ∙ ap (λ (order : List (ℕ × ℕ)). length order) (is.whole un)
+      ∙ ap (λ (these : List ℕ). length (fine_order job these try_flat)) bytes
+
+-- lines of one write more
+pub stop_lines-append : (write : ℕ) (pairs : List Pair) (pair : Pair) → stop_lines write (pairs ++ pair ∷ []) ≡ stop_lines write pairs ++ pair_lines (write + length pairs) pair
+stop_lines-append write [] pair =
+    append-nil (pair_lines write pair) ∙ ap (λ (n : ℕ). pair_lines n pair) (let same : write ≡ write + 0 = omega arith in same)
+stop_lines-append write (first ∷ pairs) pair =
+    ap (λ (behind : List ℕ). pair_lines write first ++ behind) (stop_lines-append (write + 1) pairs pair ∙ ap (λ (n : ℕ). stop_lines (write + 1) pairs ++ pair_lines n pair) (let same : write + 1 + length pairs ≡ write + length (first ∷ pairs) = omega arith in same))
+    ∙ sym (append_assoc (pair_lines write first) (stop_lines (write + 1) pairs) (pair_lines (write + length (first ∷ pairs)) pair))
+
+-- what was put so far
+module _ {W : Type 0} (G : Ghosts W) where
+  pub record IsPut (before after : W) (count : ℕ) : Type 0 where
+    pub pairs : List Pair
+    pub many : length pairs ≡ count
+    pub each : All IsPair pairs
+    pub puts : Puts G (stop_lines 1 pairs) before after well
+    pub times : PutsTimes G (2 * length pairs) before after well
+
+  pub none-put : (w : W) → IsPut w w 0
+  none-put w = record { pairs = []; many = refl; each = λ k d below. absurd (omega (arith, below)); puts = search rules; times = λ told. omega arith }
+
+  abbrev pub as-first : (before after : W) (count : ℕ) → count ≤ 256 → IsPut before after count → PutsFirst G before after well
+  as-first before after count few put = record { pairs = put.pairs; stops = record { few = omega (arith, few, put.many); each = put.each }; puts = put.puts; times = put.times }
+
+  -- all that there are
+  pub all-put : (job : Job) (before after : W) (count : ℕ) → count ≤ 256 → min 256 (2 * length (try_order job)) ≤ count → IsPut before after count → PutsStops G job before after (Ok count)
+  all-put job before after count few enough put = (as-first before after count few put, put.many, enough)
+
+  one-pair : (pairs : List Pair) (pair : Pair) → All IsPair pairs → IsPair pair → All IsPair (pairs ++ pair ∷ [])
+  one-pair [] pair each this zero d below = this
+  one-pair [] pair each this (suc k) d below = absurd (omega arith)
+  one-pair (first ∷ pairs) pair each this zero d below = each zero d (omega arith)
+  one-pair (first ∷ pairs) pair each this (suc k) d below = one-pair pairs pair (λ k d within. each (suc k) d (omega (arith, within))) this k d (omega (arith, below))
+
+  module _ (fewer_later : FewerLater G) where
+    pair-put : {T : Type 0} (before mid after : W) (count : ℕ) (pair : Pair) (result : Result T Failed) (put : IsPut before mid count) → Puts G (pair_lines (count + 1) pair) mid after result → Puts G (stop_lines 1 (put.pairs ++ pair ∷ [])) before after result
+    pair-put before mid after count pair result put puts =
+        puts_same G before after (stop_lines 1 put.pairs ++ pair_lines (1 + length put.pairs) pair) (stop_lines 1 (put.pairs ++ pair ∷ [])) result (sym (stop_lines-append 1 put.pairs pair))
+        (puts_on G fewer_later before mid after (stop_lines 1 put.pairs) (pair_lines (1 + length put.pairs) pair) tt result put.puts
+        (subst (λ (n : ℕ). Puts G (pair_lines n pair) mid after result) (let same : count + 1 ≡ 1 + length put.pairs = omega (arith, put.many) in same) puts))
+
+    -- one pair more
+    pub put-more : (before mid after : W) (count : ℕ) (pair : Pair) → IsPair pair → Puts G (pair_lines (count + 1) pair) mid after well → PutsTimes G 2 mid after well → IsPut before mid count → IsPut before after (count + 1)
+    put-more before mid after count pair this puts times put =
+        let more : length (put.pairs ++ pair ∷ []) ≡ length put.pairs + 1 = length-append put.pairs (pair ∷ []) in
+        record {
+          pairs = put.pairs ++ pair ∷ [];
+          many = omega (arith, more, put.many);
+          each = one-pair put.pairs pair put.each this;
+          puts = pair-put before mid after count pair well put puts;
+          times = subst (λ (n : ℕ). PutsTimes G n before after well) (let same : 2 * length put.pairs + 2 ≡ 2 * length (put.pairs ++ pair ∷ []) = omega (arith, more) in same)
+              (times_on G before mid after (2 * length put.pairs) 2 (stop_lines 1 put.pairs) tt well put.puts put.times times);
+        }
+
+    -- and one that wasn't put whole
+    pub put-broken : (before mid after : W) (count : ℕ) (pair : Pair) → count < 256 → IsPair pair → Puts G (pair_lines (count + 1) pair) mid after broken → IsPut before mid count → PutsFirst G before after broken
+    put-broken before mid after count pair few this puts put =
+        let more : length (put.pairs ++ pair ∷ []) ≡ length put.pairs + 1 = length-append put.pairs (pair ∷ []) in
+        record {
+          pairs = put.pairs ++ pair ∷ [];
+          stops = record { few = omega (arith, more, put.many, few); each = one-pair put.pairs pair put.each this };
+          puts = pair-put before mid after count pair broken put puts;
+          times = tt;
+        }
+
+    -- the last line
+    pub whole-put : (job : Job) (before mid after : W) (count number : ℕ) (result : Result (Unit {0}) Failed) → PutsStops G job before mid (Ok count) → number ≡ length (try_order job) → Puts G (last_line count number) mid after result → PutsTimes G 1 mid after result
+        → PutsWhole G job before after result
+    whole-put job before mid after count number result (put, many, enough) is puts times = record {
+      pairs = put.pairs;
+      stops = put.stops;
+      number = number;
+      number_is = is;
+      enough = subst (λ (n : ℕ). min 256 (2 * n) ≤ length put.pairs) (sym is) (omega (arith, enough, many));
+      puts = puts_on G fewer_later before mid after (stop_lines 1 put.pairs) (last_line (length put.pairs) number) tt result put.puts
+          (subst (λ (n : ℕ). Puts G (last_line n number) mid after result) (sym many) puts);
+      times = times_on G before mid after (2 * length put.pairs) 1 (stop_lines 1 put.pairs) tt result put.puts put.times times;
+    }
+
+-- what is reached wherever there are enough, and wasn't
+pub unreached : (reached : Bool) (count write : ℕ) → reached ≡ false → (write ≤ count → reached ≡ true) → count < write
+unreached reached count write un where_enough =
+    elim (cases_lt count write) [
+      | inl fewer ↦ fewer
+      | inr enough ↦ absurd (let is : true ≡ false = sym (where_enough enough) ∙ un in cc)
+    ]
+
+-- how the puts of a drill went, by its status
+module _ {W : Type 0} (G : Ghosts W) (job : Job) (before after : W) where
+  pub drill-rose : (status : Status) → DrilledTo G job before after status → status ≡ Status.PutFault → Rose (G.put_faults before) (G.put_faults after)
+  drill-rose status.PutFault (inl first) is = first.puts.only.cause.failed
+  drill-rose status.PutFault (inr whole) is = whole.puts.only.cause.failed
+  drill-rose status.Done did is = absurd (cc)
+  drill-rose status.NoMemory did is = absurd (cc)
+  drill-rose _ did is = absurd did
+
+  pub drill-same : (status : Status) → DrilledTo G job before after status → status ≡ Status.Done → G.put_faults after ≡ G.put_faults before
+  drill-same status.Done did is = did.puts.only.cause.done
+  drill-same status.PutFault did is = absurd (cc)
+  drill-same status.NoMemory did is = absurd (cc)
+  drill-same _ did is = absurd did
+
+  -- of a text that means the job
+  pub drilled-text : (left left_now : Option (List ℕ)) (text : List ℕ) (status : Status) → IsWhole left left_now text → job_of text ≡ Ok (content_of job) → DrilledTo G job before after status → DrilledBy G left left_now before after status
+  drilled-text left left_now text status.Done whole means did = record { text = text; whole = whole; job = job; means = means; did = did }
+  drilled-text left left_now text status.PutFault whole means did = record { text = text; whole = whole; job = job; means = means; did = did }
+  drilled-text left left_now text status.NoMemory whole means did = did
+  drilled-text left left_now text _ whole means did = absurd did
+
+-- nothing was put of a job that wasn't read
+pub drilled-unread : {W : Type 0} (G : Ghosts W) (left left_now : Option (List ℕ)) (w : W) (status : Status) → IsPut G w w 0 → IsOfReading status → DrilledBy G left left_now w w status
+drilled-unread G left left_now w (status.Job line kind) none is = refl
+drilled-unread G left left_now w status.SourceFault none is = refl
+drilled-unread G left left_now w status.TooBig none is = refl
+drilled-unread G left left_now w status.NoMemory none is = as-first G w w 0 (omega arith) none
+drilled-unread G left left_now w _ none is = absurd is

@@ -1,0 +1,4 @@
+pub mod StopLemmas
+pub mod SeenLemmas
+pub mod CopyLemmas
+pub mod DrillLemmas

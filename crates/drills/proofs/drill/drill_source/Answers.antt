@@ -1,0 +1,26 @@
+use Rattle.std.proofs.Common.{refl}
+use Rattle.drills.proofs.DrillLemmas.{drill-rose, drill-same, drilled-text, drilled-unread, none-put}
+use Rattle.drills.proofs.drill.drill_source.Goals as goal
+
+pub returns-in-Err-clause-drilled : goal.returns-in-Err-clause-drilled
+returns-in-Err-clause-drilled g c =
+    let G = g.W.Outside in
+    let before = c.args.outside.now in
+    record {
+      no_order = refl;
+      by_status = drilled-unread G (g.S.Source.left c.args.source.now) (g.S.Source.left c.job_from.new.source) before c.in-Err.status (none-put G before) c.in-Err.ensures.only;
+    }
+
+pub returns-in-Ok-clause-drilled : goal.returns-in-Ok-clause-drilled
+returns-in-Ok-clause-drilled g c =
+    let (text, whole, means) = c.in-Ok.ensures.means in
+    record {
+      no_order = refl;
+      by_status = drilled-text g.W.Outside c.in-Ok.job c.args.outside.now c.drill.new.outside (g.S.Source.left c.args.source.now) (g.S.Source.left c.job_from.new.source) text c.drill.result whole means c.drill.ensures.did;
+    }
+
+pub returns-in-Ok-clause-unfailed : goal.returns-in-Ok-clause-unfailed
+returns-in-Ok-clause-unfailed g c = λ is. (c.in-Ok.ensures.unfailed, drill-same g.W.Outside c.in-Ok.job c.args.outside.now c.drill.new.outside c.drill.result c.drill.ensures.did is)
+
+pub returns-in-Ok-clause-put : goal.returns-in-Ok-clause-put
+returns-in-Ok-clause-put g c = λ is. drill-rose g.W.Outside c.in-Ok.job c.args.outside.now c.drill.new.outside c.drill.result c.drill.ensures.did is

@@ -1,0 +1,28 @@
+use Rattle.std.proofs.Common.{◌*◌, ◌≤◌, length, ap, subst, List, ℕ, sym}
+use Rattle.drills.specs.Drill.{IsStop, fine_order}
+use Rattle.drills.specs.Drilled.{try_flat, try_order}
+use Rattle.drills.proofs.DrillLemmas.{stop-found, stop-standing, try-standing, try-stands, unreached}
+use Rattle.drills.proofs.drill.found_at.Goals as goal
+
+pub drill_stop-requires-clause-stands : goal.drill_stop-requires-clause-stands
+drill_stop-requires-clause-stands c = try-standing c.in_ok-try_store.field-0.items c.in_ok-try_store.ensures.bytes
+
+pub number_in-requires : goal.number_in-requires
+number_in-requires c =
+    let image = c.in_ok-try_store.field-0.items in
+    stop-standing c.args.job.now image c.in_ok-stop.stop (c.in_ok-stop.ensures.stop 0 try_flat (try-stands image c.in_ok-try_store.ensures.bytes))
+
+pub returns-in_ok-number : goal.returns-in_ok-number
+returns-in_ok-number c =
+    let job = c.args.job.now in
+    let image = c.in_ok-try_store.field-0.items in
+    let is : IsStop job image 0 try_flat c.in_ok-stop.stop = c.in_ok-stop.ensures.stop 0 try_flat (try-stands image c.in_ok-try_store.ensures.bytes) in
+    stop-found job image c.in_ok-stop.stop is c.in_ok-number.number c.in_ok-number.ensures
+
+pub returns-else-stop : goal.returns-else-stop
+returns-else-stop c =
+    let job = c.args.job.now in
+    let image = c.in_ok-try_store.field-0.items in
+    let bytes = c.in_ok-try_store.ensures.bytes in
+    unreached c.in_ok-stop.stop.reached (2 * length (try_order job)) c.args.write c.if-stop.false
+    (λ due. c.in_ok-stop.ensures.reached 0 try_flat (try-stands image bytes) (subst (λ (n : ℕ). c.args.write ≤ 2 * n) (ap (λ (these : List ℕ). length (fine_order job these try_flat)) (sym bytes)) due))

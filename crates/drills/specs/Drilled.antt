@@ -1,0 +1,119 @@
+-- What a drill did: a job was stopped at each of its writes in turn, each time on a store of its own.
+use Rattle.std.specs.Prelude.{◌≡◌, ℕ, ◌+◌, ◌*◌, ◌≤◌, min, ◌⊎◌, List, [], ◌∷◌, ◌++◌, codes, decimal, length, replicate, All, Option, Result, Ok, Err}
+use Rattle.outside.specs.declared.world.Outside.{Ghosts}
+use Rattle.outside.specs.declared.failed.Failed.{Failed}
+use Rattle.line_geometry.specs.Directory.{byte_count}
+use Rattle.line_geometry.specs.FlatStore.{FlatStore}
+use Rattle.store_format.specs.Header.{fresh}
+use Rattle.listing.specs.Puts.{Puts, PutsTimes}
+use Rattle.job_text.specs.declared.job.Job.{Job}
+use Rattle.job_text.specs.Grammar.{job_of, content_of}
+use Rattle.drills.specs.declared.drill.Found.{Found}
+use Rattle.drills.specs.declared.drill.Pair.{Pair}
+use Rattle.call_status.specs.declared.status.Status.{Status}
+use Rattle.call_status.specs.declared.status.Status.TheVariants as status
+use Rattle.drills.specs.Drill.{fine_order}
+use Rattle.store_calls.specs.TryStore.{try_layout}
+use Rattle.call_status.specs.SourceText.{IsWhole}
+
+-- the line of a stop at the write with this number, at which so much was left
+abbrev pub stop_line : (write : ℕ) → (left : List ℕ) → Found → List ℕ
+stop_line write left found =
+    codes "stop " ++ decimal write ++ codes " " ++ left ++ codes " seen " ++ decimal found.seen ++ codes " number " ++ decimal found.number ++ codes "\n"
+
+-- the lines of the two stops at a write
+abbrev pub pair_lines : (write : ℕ) → Pair → List ℕ
+pair_lines write pair = stop_line write (codes "old") pair.old ++ stop_line write (codes "torn") pair.torn
+
+-- the lines of the stops at writes from this number on
+abbrev pub stop_lines : (write : ℕ) → List Pair → List ℕ
+stop_lines write [] = []
+stop_lines write (pair ∷ pairs) = pair_lines write pair ++ stop_lines (write + 1) pairs
+
+-- the last line: how many writes there were, and the number after a run that isn't stopped
+abbrev pub last_line : (stops number : ℕ) → List ℕ
+last_line stops number = codes "drill " ++ decimal stops ++ codes " number " ++ decimal number ++ codes "\n"
+
+-- the store of `try`, with number 0
+abbrev pub try_flat : FlatStore
+try_flat = record { directory = try_layout.directory; bytes = replicate (byte_count try_layout.directory) 0 }
+
+-- the commits of a job on the store of `try`, where all its events go well
+abbrev pub try_order : Job → List (ℕ × ℕ)
+try_order job = fine_order job (fresh try_layout) try_flat
+
+-- restart finds no smaller a number than commit lines were seen
+abbrev pub IsFound : Found → Type 0
+IsFound found = found.seen ≤ found.number
+
+-- and so at both stops at a write
+pub record IsPair (pair : Pair) : Type 0 where
+  pub old : IsFound pair.old
+  pub torn : IsFound pair.torn
+
+-- stops at the first of a job's writes, 256 at most
+pub record AreStops (pairs : List Pair) : Type 0 where
+  pub few : length pairs ≤ 256
+  pub each : All IsPair pairs
+
+-- the lines of stops at the first writes are put, each by one put, or a prefix of them where a put failed
+pub record PutsFirst {W T : Type 0} (G : Ghosts W) (before after : W) (result : Result T Failed) : Type 0 where
+  pub pairs : List Pair
+  pub stops : AreStops pairs
+  pub puts : Puts G (stop_lines 1 pairs) before after result
+  pub times : PutsTimes G (2 * length pairs) before after result
+
+-- The lines of all stops and the last line are put, each by one put, or a prefix of them where a put failed. There are as many stops as the
+-- job has writes, and so no fewer than two for each commit, or 256; the last number is that of the job's commits.
+pub record PutsWhole {W T : Type 0} (G : Ghosts W) (job : Job) (before after : W) (result : Result T Failed) : Type 0 where
+  pub pairs : List Pair
+  pub stops : AreStops pairs
+  pub number : ℕ
+  pub number_is : number ≡ length (try_order job)
+  pub enough : min 256 (2 * number) ≤ length pairs
+  pub puts : Puts G (stop_lines 1 pairs ++ last_line (length pairs) number) before after result
+  pub times : PutsTimes G (2 * length pairs + 1) before after result
+
+-- puts that went well, and one that failed
+abbrev pub well : Result (Unit {0}) Failed
+well = Ok tt
+
+abbrev pub broken : Result (Unit {0}) Failed
+broken = Err (record {})
+
+-- what putting the stops came to: so many writes, or a put that failed, or no memory
+abbrev pub PutsStops : {W : Type 0} → Ghosts W → Job → W → W → Result ℕ Status → Type 0
+PutsStops G job before after (Ok count) = (put : PutsFirst G before after well) × (length put.pairs ≡ count) × (min 256 (2 * length (try_order job)) ≤ count)
+PutsStops G job before after (Err status.PutFault) = PutsFirst G before after broken
+PutsStops G job before after (Err status.NoMemory) = PutsFirst G before after well
+PutsStops G job before after (Err _) = ⊥
+
+-- what a drill of a job did, by its status; other statuses don't come
+abbrev pub DrilledTo : {W : Type 0} → Ghosts W → Job → W → W → Status → Type 0
+DrilledTo G job before after status.Done = PutsWhole G job before after well
+DrilledTo G job before after status.PutFault = PutsFirst G before after broken ⊎ PutsWhole G job before after broken
+DrilledTo G job before after status.NoMemory = PutsFirst G before after well
+DrilledTo G job before after _ = ⊥
+
+-- the text was had whole and means a job, which was drilled
+pub record DrillsJob {W : Type 0} (G : Ghosts W) (left left_now : Option (List ℕ)) (before after : W) (status : Status) : Type 0 where
+  pub text : List ℕ
+  pub whole : IsWhole left left_now text
+  pub job : Job
+  pub means : job_of text ≡ Ok (content_of job)
+  pub did : DrilledTo G job before after status
+
+-- what a drill did, by its status: the lines are put or a put failed, or memory was wanting, or nothing outside was called
+abbrev pub DrilledBy : {W : Type 0} → Ghosts W → Option (List ℕ) → Option (List ℕ) → W → W → Status → Type 0
+DrilledBy G left left_now before after status.Done = DrillsJob G left left_now before after status.Done
+DrilledBy G left left_now before after status.PutFault = DrillsJob G left left_now before after status.PutFault
+DrilledBy G left left_now before after status.NoMemory = PutsFirst G before after well
+DrilledBy G left left_now before after (status.Job line kind) = after ≡ before
+DrilledBy G left left_now before after status.SourceFault = after ≡ before
+DrilledBy G left left_now before after status.TooBig = after ≡ before
+DrilledBy G left left_now before after _ = ⊥
+
+-- what a drill did; it has no order
+pub record Drilled {W : Type 0} (G : Ghosts W) (left left_now : Option (List ℕ)) (before after : W) (order : List (ℕ × ℕ)) (status : Status) : Type 0 where
+  pub no_order : order ≡ []
+  pub by_status : DrilledBy G left left_now before after status

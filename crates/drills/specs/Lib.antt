@@ -1,0 +1,2 @@
+pub mod Drill
+pub mod Drilled

@@ -1,0 +1,120 @@
+// A job that runs on a disk in memory until the disk stops.
+ghost use Rattle.std.specs.Prelude.{◌≡◌, ◌⊎◌, ◌*◌, ◌-◌, ◌<◌, ◌≤◌, ◌^◌, ℕ, true, false, length, min, IfOk, OnOk};
+ghost use Rattle.outside.specs.Causes.{Rose};
+ghost use Rattle.outside.specs.MemoryDisk.{disk_held, disk_writes, disk_faults};
+ghost use Rattle.outside.specs.MemoryScreen.{screen_printed};
+ghost use Rattle.line_geometry.specs.FlatStore.{FlatStore};
+ghost use Rattle.store_format.specs.Stands.{Stands, stands};
+ghost use Rattle.desk.specs.Seen.{commits_seen};
+ghost use Rattle.job_text.specs.Ready.{IsReady};
+ghost use Rattle.desk.specs.Answers.{order_told};
+ghost use Rattle.drills.specs.Drill.{IsLeft, IsStop, fine_order};
+ghost use Rattle.call_status.specs.Opening.{IsStanding, StandsAt};
+
+use super::job_copy::copy_of;
+use call_status::Status;
+use desk::Committed;
+use job_calls::{Ended, try_job};
+use job_text::Job;
+use outside::{Joint, MemoryDisk, MemoryScreen, Outside};
+use std::alloc::{AllocError, Global};
+
+/// What a job left on a disk that stops at a write.
+#[derive(Debug, Drop)]
+pub struct Stop {
+    /// Whether the run came to that write.
+    pub reached: bool,
+    /// How many commit lines were put whole.
+    pub seen: u32,
+    /// The commits whose gate write began, in order.
+    pub order: Vec<Committed>,
+    /// What the disk held at the end, which is one of its crash images.
+    pub image: Vec<u8>,
+}
+
+/// Runs a job on a disk in memory that holds these bytes and stops at the write with this number, counted from 1. The outcome
+/// is what that write leaves at the front of its range (docs/MODEL.md, "A drill").
+///
+/// # Errors
+///
+/// Only where there is no memory.
+pub fn drill_stop(
+    alloc: Global,
+    job: &Job,
+    image: Vec<u8>,
+    write: u32,
+    outcome: Vec<u8>,
+) -> Result<Stop, AllocError>
+    requires ready { IsReady job.now }
+    requires write { 1 ≤ write }
+    requires stands { IsStanding image.items }
+    ensures stop { (number : ℕ) (store : FlatStore) → stands image.items ≡ Stands number store → IfOk result (IsStop job.now image.items number store) }
+    ensures reached { (number : ℕ) (store : FlatStore) → stands image.items ≡ Stands number store → write ≤ 2 * length (fine_order job.now image.items store) → IfOk result (λ stop. stop.reached ≡ true) }
+{
+    let mut disk = MemoryDisk::new(alloc, image, Vec::new(alloc));
+    disk.fuse(write, outcome);
+    let mut outside = Joint::new(disk, MemoryScreen::new(alloc, Vec::new(alloc)));
+    let ended = run_copy(alloc, job, &mut outside)?;
+    let (disk, screen) = outside.into_parts();
+    told(ended, disk, &screen, write)
+}
+
+/// Runs a job, and keeps it.
+fn run_copy<W: Outside>(alloc: Global, job: &Job, outside: &mut W) -> Result<Ended, AllocError>
+    requires { IsReady job.now }
+    ensures left { (number : ℕ) (store : FlatStore) → StandsAt W.Outside outside.old number store → IfOk result (λ ended. IsLeft W.Outside job.now number store outside.old outside.new (order_told ended.order.items) ended.status) }
+    ensures disk { IfOk result (λ ended. ended.status ≡ Status.DiskFault → Rose (W.disk_faults outside.old) (W.disk_faults outside.new)) }
+{
+    Ok(try_job(alloc, copy_of(alloc, job)?, outside))
+}
+
+/// What a run told, over a disk that was to stop at this write and a screen.
+fn told(
+    ended: Ended,
+    disk: MemoryDisk,
+    screen: &MemoryScreen,
+    write: u32,
+) -> Result<Stop, AllocError>
+    ensures reached { IfOk result (λ stop. stop.reached ≡ false → (disk_faults disk ≡ 0) × (disk_writes disk < write)) }
+    ensures seen { IfOk result (λ stop. stop.seen ≤ commits_seen (screen_printed screen.now)) }
+    ensures order { IfOk result (λ stop. stop.order.items ≡ ended.order.items) }
+    ensures image { IfOk result (λ stop. stop.image.items ≡ disk_held disk) }
+    ensures status { OnOk result ((ended.status ≡ Status.Done) ⊎ (ended.status ≡ Status.DiskFault)) }
+{
+    if disk.starved() || screen.starved() {
+        return Err(AllocError);
+    }
+    match ended.status {
+        Status::Done | Status::DiskFault => Ok(Stop {
+            reached: disk.faults() > 0 || disk.writes() >= u64::from(write),
+            seen: count(screen.printed()),
+            order: ended.order,
+            image: disk.into_image(),
+        }),
+        _ => Err(AllocError),
+    }
+}
+
+/// How many whole commit lines stand in these bytes, or the most that are counted.
+fn count(printed: &[u8]) -> u32
+    ensures { result ≡ min (commits_seen printed.now) (2 ^ 32 - 1) }
+{
+    u32::try_from(commits_in(printed)).unwrap_or(u32::MAX)
+}
+
+/// How many whole commit lines stand in these bytes.
+fn commits_in(printed: &[u8]) -> usize
+    ensures { result ≡ commits_seen printed.now }
+{
+    let mut count = 0;
+    let mut start = 0;
+    for (index, byte) in printed.iter().enumerate() {
+        if *byte == b'\n' {
+            if printed[start..index].starts_with(b"commit ") {
+                count += 1;
+            }
+            start = index + 1;
+        }
+    }
+    count
+}

@@ -1,0 +1,303 @@
+-- A load on the store that a disk stands for.
+use Rattle.std.proofs.Common.{◌≡◌, ℕ, ◌*◌, ◌≤◌, ⊎_elim, true, false, List, [], ◌∷◌, ◌++◌, length, take, refl, sym, ◌∙◌, ap, subst, arith, append-nil, append_assoc, Option}
+use Rattle.std.specs.Prelude.{codes, decimal, All, Bool, Some, Result, Ok, Err, IsSome, IsTrue, unwrap_or, count_by}
+use Rattle.std.specs.List.{fold}
+use Rattle.outside.specs.declared.world.Outside.{Ghosts}
+use Rattle.outside.specs.declared.failed.Failed.{Failed}
+use Rattle.outside.specs.Bytes.{AreTold, Prints}
+use Rattle.outside.specs.Causes.{RoseBy}
+use Rattle.outside.specs.Durable.{IsSure}
+use Rattle.outside.specs.Moments.{Elapses}
+use Rattle.outside.specs.Runs.{CallsDisk, FewerLater, Leaves, OnlyAsks, held_of}
+use Rattle.outside.proofs.Runs.{elapses-trans, leaves_on}
+use Rattle.line_geometry.specs.FlatStore.{FlatStore}
+use Rattle.flat_machine.specs.declared.machine.Program.{Program}
+use Rattle.flat_machine.specs.Serial.{Activation}
+use Rattle.store_format.specs.Header.{header_of, most_lines}
+use Rattle.store_format.specs.Stands.{Standing, Stands}
+use Rattle.desk.specs.declared.event.Event.{Event}
+use Rattle.desk.specs.Commits.{begun, is_commit, commit_lines, serial_lines, IsSerial}
+use Rattle.desk.specs.Desk.{Desk}
+use Rattle.desk.specs.Instruction.{Word}
+use Rattle.desk.specs.Lines.{Line, printed, spaced}
+use Rattle.hex.specs.Hex.{encode_lower}
+use Rattle.desk.specs.Lines as line
+use Rattle.desk.specs.Report.{event_lines}
+use Rattle.desk.specs.Run.{run, faulted, IsRunOf}
+use Rattle.desk.specs.Kept.{WritesMore, records_in, most_records}
+use Rattle.run_law.specs.Headline.{IsPrefix}
+use Rattle.run_law.specs.Left.{IsLeft}
+use Rattle.run_law.proofs.HeadlineLemmas.{left_is_prefix}
+use Rattle.supervisor.specs.Opened.{IsOpened}
+use Rattle.supervisor.specs.Session.{activity, order_of}
+use Rattle.supervisor.specs.declared.session.Session.{Session}
+use Rattle.supervisor.specs.contracts.supervisor.SessionSupervisor.TheImpl.{ghosts}
+use Rattle.schedule_replay.specs.declared.quietly.Quiet.{Quiet}
+use Rattle.schedule_replay.specs.declared.quietly.Quiet.TheVariants as quiet
+use Rattle.schedule_replay.specs.Quiet.{IsLasting, RunsQuietly, Tells, is_rollback, is_shut, out_after}
+use Rattle.schedule_replay.specs.Ran.{InDoubt}
+use Rattle.schedule_replay.proofs.PutsLemmas.{PrintedNow}
+use Rattle.listing.specs.Puts.{Puts, PutsTimes}
+use Rattle.job_text.specs.declared.job.Job.{Job}
+use Rattle.job_text.specs.Big.{IsBigJob, big_events}
+use Rattle.job_text.proofs.BigLemmas.{events_all}
+use Rattle.call_status.specs.declared.status.Status.{Status}
+use Rattle.call_status.specs.declared.status.Status.TheVariants as status
+use Rattle.job_calls.specs.Big.{HasBigRun, IsToldBy, Loaded, LoadedBy, RanBig, big_line, last_out, line_for}
+use Rattle.call_status.specs.Statuses.{IsPastOpening}
+use Rattle.job_calls.specs.Causes.{OpensBy}
+use Rattle.call_status.specs.Printed.{put_of, PrintsBy}
+use Rattle.job_calls.specs.Headline.{job_desk}
+use Rattle.call_status.specs.Opening.{IsStanding, StandsAt}
+use Rattle.job_calls.proofs.RunLemmas.{RanFrom, Facts, first_desk, has-opened, number-small, given, wanted, these, is_run, ordered, closes, serial_run, rose, all-fine, calm-now, writes-now, leaves-now, records-now, shown-now, doubt-leaves}
+
+-- only the commit lines tell what was printed last
+out_filtered : (last : List ℕ) (lines : List Line) → fold out_after last lines ≡ fold out_after last (commit_lines lines)
+out_filtered last [] = refl
+out_filtered last (line.Commit activation number steps out ∷ lines) = out_filtered out lines
+out_filtered last (other ∷ lines) = out_filtered last lines
+
+-- the last commit line of a run that ends open is that of its programs run one after another
+pub last_serial : (activations : List Activation) (number : ℕ) (store : FlatStore) (order : List (ℕ × ℕ)) (lines : List Line) (committed : FlatStore) (closed : Bool) → IsSerial activations number store order lines committed closed → closed ≡ false → last_out lines ≡ last_out (serial_lines activations number order store)
+last_serial activations number store order lines committed closed is still =
+    let all : is.done ≡ order = sym (append-nil is.done) ∙ ap (λ (behind : List (ℕ × ℕ)). is.done ++ behind) (sym (is.none_open still)) ∙ sym is.order_is in
+    out_filtered [] lines ∙ ap last_out is.lines_are ∙ ap (λ (those : List (ℕ × ℕ)). last_out (serial_lines activations number those store)) all
+
+module _ {W : Type 0} (G : Ghosts W) (fewer_later : FewerLater G) where
+  -- bytes that were sure are, after a put
+  sure_put : {T : Type 0} (bytes : List ℕ) (before after : W) (result : Result T Failed) → Puts G bytes before after result → IsSure G before → IsSure G after
+  sure_put bytes before after result puts sure = record {
+    honest = subst (λ b. IsTrue b) (sym puts.only.honest) sure.honest;
+    told = subst (λ (those : Option (List ℕ)). IsSome those) (sym puts.only.held) sure.told;
+    durable = λ image seen left.
+        let from = puts.images image seen (fewer_later after (G.moment before) (G.moment after) image seen puts.only.time.later left) in
+        subst (λ (those : Option (List ℕ)). AreTold those image) (sym puts.only.held) (sure.durable image from.0 from.1);
+  }
+
+  -- each image that a put left is one that was left before it
+  image_before : {T : Type 0} (bytes : List ℕ) (start before after : W) (result : Result T Failed) → Elapses G.moment G.left_since start before → Puts G bytes before after result → (image seen : List ℕ) → G.left_since after (G.moment start) image seen → (other : List ℕ) × G.left_since before (G.moment start) image other
+  image_before bytes start before after result time puts image seen left =
+      ⊎_elim (λ was. (seen, was))
+      (λ since. let from = puts.images image seen since in (from.0, fewer_later before (G.moment start) (G.moment before) image from.0 time.later from.1))
+      (puts.only.time.nothing_else (G.moment start) image seen time.later left)
+
+-- the line of a tally is that of its lines
+line_told : (transfers commits rollbacks : ℕ) (last : List ℕ) (lines : List Line) → Tells (record { commits = commits; rollbacks = rollbacks }) [] last lines → big_line transfers commits rollbacks last ≡ line_for transfers lines
+line_told transfers commits rollbacks last lines tells =
+    ap (λ (n : ℕ). big_line transfers n rollbacks last) tells.commits
+    ∙ ap (λ (n : ℕ). big_line transfers (count_by is_commit lines) n last) tells.rollbacks
+    ∙ ap (λ (out : List ℕ). big_line transfers (count_by is_commit lines) (count_by is_rollback lines) out) tells.last
+
+-- a run as it stands a little later, where nothing of it changed
+abbrev ran_until : {W : Type 0} (G : Ghosts W) (programs : List Program) (number : ℕ) (events : List Event) (first : Desk) (new : Session) (start between after : W) (last : List ℕ) (quiet : Quiet)
+    → RunsQuietly ghosts G programs number events first new start between last quiet → G.held after ≡ G.held between → G.writes after ≡ G.writes between → G.disk_faults after ≡ G.disk_faults between → (IsSure G between → IsSure G after)
+    → (new.closed ≡ true → (front : List (Event × Word)) (event : Event) → InDoubt G programs number first front event between → InDoubt G programs number first front event after)
+    → RanFrom G [] programs number events first new start after
+ran_until G programs number events first new start between after last quiet runs held writes disk sure doubt = record {
+  taken = runs.ran.taken;
+  rest = runs.rest;
+  is_run = record { prefix = ap (λ (front : List Event). front ++ runs.rest) runs.ran.events_taken ∙ runs.whole; each_open = runs.ran.each_open };
+  closes = runs.ran.closes;
+  ordered = runs.ran.ordered;
+  still = λ still.
+      let kept = runs.ran.still still in
+      (sure kept.0, subst (λ (those : Option (List ℕ)). ghosts.shows new (unwrap_or those []) (run programs runs.ran.taken first)) (sym held) kept.1);
+  records = λ still. subst (λ (those : Option (List ℕ)). records_in (unwrap_or those []) ≤ most_records (event_lines [] programs number runs.ran.taken first) (records_in (held_of G start))) (sym held) (runs.ran.records still);
+  faults = subst (λ (n : ℕ). RoseBy (faulted runs.ran.taken) (G.disk_faults start) n) (sym disk) runs.ran.faults;
+  calm = λ none. disk ∙ runs.ran.calm none;
+  writes = subst (λ (told : Option ℕ). WritesMore (G.writes start) told (2 * count_by is_commit (event_lines [] programs number runs.ran.taken first))) (sym writes) runs.ran.writes;
+  doubt = λ shut front event is. doubt (runs.ran.closes ∙ shut) front event (runs.ran.doubt shut front event is);
+}
+
+module _ {W : Type 0} (G : Ghosts W) (fewer_later : FewerLater G) (printed_now : PrintedNow G) (transfers : ℕ) (job : Job) (before start between after : W) (desk new : Session) (number : ℕ) (store : FlatStore)
+    (standing : StandsAt G before number store) (opens : IsOpened G job.frames before start desk) (asks : OnlyAsks G before start) (programs_are : (activity desk).programs ≡ job.programs.items) (same_opened : new.opened ≡ desk.opened)
+    (same_honest : G.is_honest after ≡ G.is_honest start) (time : Elapses G.moment G.left_since start after) (asks-calm : G.disk_faults start ≡ G.disk_faults before)
+    (last : List ℕ) (quiet : Quiet) (runs : RunsQuietly ghosts G (activity desk).programs desk.opened job.events.items (first_desk G job.frames before start desk opens asks) new start between last quiet)
+    (held : G.held after ≡ G.held between) (writes : G.writes after ≡ G.writes between) (disk : G.disk_faults after ≡ G.disk_faults between) (sure : IsSure G between → IsSure G after)
+    (doubt : new.closed ≡ true → (front : List (Event × Word)) (event : Event) → InDoubt G (activity desk).programs desk.opened (first_desk G job.frames before start desk opens asks) front event between → InDoubt G (activity desk).programs desk.opened (first_desk G job.frames before start desk opens asks) front event after)
+    (images : (image seen : List ℕ) → G.left_since after (G.moment start) image seen → (other : List ℕ) × G.left_since between (G.moment start) image other) where
+  abbrev half : RanFrom G [] (activity desk).programs desk.opened job.events.items (first_desk G job.frames before start desk opens asks) new start after
+  half = ran_until G (activity desk).programs desk.opened job.events.items (first_desk G job.frames before start desk opens asks) new start between after last quiet runs held writes disk sure doubt
+
+  abbrev first : Desk
+  first = job_desk job (held_of G before) store
+
+  runs_are : IsRunOf job.programs.items job.events.items first runs.ran.taken runs.rest
+  runs_are = is_run G fewer_later printed_now job before start after desk new number store standing opens asks programs_are same_opened same_honest time asks-calm [] half
+
+  orders_are : order_of new ≡ (run job.programs.items runs.ran.taken first).order
+  orders_are = ordered G fewer_later printed_now job before start after desk new number store standing opens asks programs_are same_opened same_honest time asks-calm [] half
+
+  abbrev activations : List Activation
+  activations = begun job.programs.items job.events.items
+
+  abbrev facts : Facts
+  facts = given G fewer_later printed_now job before start after desk new number store standing opens asks programs_are same_opened same_honest time asks-calm
+
+  abbrev wants : Facts
+  wants = wanted G fewer_later printed_now job before start after desk new number store standing opens asks programs_are same_opened same_honest time asks-calm
+
+  facts_are : facts ≡ wants
+  facts_are = these G fewer_later printed_now job before start after desk new number store standing opens asks programs_are same_opened same_honest time asks-calm
+
+  serial_is : IsSerial activations number store (order_of new) (event_lines [] job.programs.items number runs.ran.taken first) (run job.programs.items runs.ran.taken first).committed (run job.programs.items runs.ran.taken first).closed
+  serial_is = serial_run G fewer_later printed_now job before start after desk new number store standing opens asks programs_are same_opened same_honest time asks-calm [] half
+
+  closes_are : new.closed ≡ (run job.programs.items runs.ran.taken first).closed
+  closes_are = closes G fewer_later printed_now job before start after desk new number store standing opens asks programs_are same_opened same_honest time asks-calm [] half
+
+  crash_any : Leaves G (λ image seen. IsPrefix activations number store (order_of new) [] image []) before after
+  crash_any =
+      leaves_on G fewer_later before start after asks.calls.time time (λ (image seen : List ℕ). IsPrefix activations number store (order_of new) [] image [])
+      (λ image seen left. record {
+        j = 0;
+        few = omega arith;
+        since = [];
+        seen_is = refl;
+        told = omega arith;
+        left = store;
+        leaves = refl;
+        stood = standing.images image seen (asks.crash standing.told image seen left)
+            ∙ ap (λ (n : ℕ). let that : Standing = Stands n store in that) (sym (number-small G fewer_later printed_now job before start after desk new number store standing opens asks programs_are same_opened same_honest time asks-calm));
+      })
+      (λ image seen left.
+      let other = images image seen left in
+      subst (λ (order : List (ℕ × ℕ)). IsPrefix activations number store order [] image []) (sym orders_are)
+      (left_is_prefix job.programs.items number job.frames 16 (most_lines (header_of (take 128 (held_of G before)))) store job.events.items runs.ran.taken runs.rest [] [] image [] runs_are
+      (subst (λ (f : Facts). IsLeft f.programs f.number f.start runs.ran.taken [] [] image []) facts_are (runs.ran.left image other.0 other.1))))
+
+  -- the run of a load, by its status
+  pub has_big_run : (now : Status) → (IsPastOpening now → (is_shut quiet ≡ false) × PrintsBy (G.printed before) (G.printed after) (line_for transfers (event_lines [] (activity desk).programs desk.opened runs.ran.taken (first_desk G job.frames before start desk opens asks))) now) → (now ≡ Status.DiskFault → is_shut quiet ≡ true)
+      → HasBigRun G transfers job number store before after (order_of new) (Some new) now
+  has_big_run now past shut = record {
+    taken = runs.ran.taken;
+    rest = runs.rest;
+    is_run = runs_are;
+    order_is = orders_are;
+    ends = record {
+      session = new;
+      answered = refl;
+      ordered = refl;
+      closes = closes_are;
+      shows = λ still. (shown-now G fewer_later printed_now job before start after desk new number store standing opens asks programs_are same_opened same_honest time asks-calm [] half still).1;
+    };
+    all = λ opened. runs.all (past opened).0;
+    still_open = λ opened. sym closes_are ∙ runs.closed ∙ (past opened).0;
+    shut = λ is. sym closes_are ∙ runs.closed ∙ shut is;
+    told = λ opened. subst (λ (f : Facts). PrintsBy (G.printed before) (G.printed after) (line_for transfers (event_lines [] f.programs f.number runs.ran.taken f.start)) now) facts_are (past opened).1;
+    last = λ opened. last_serial activations number store (order_of new) _ _ _ serial_is (sym closes_are ∙ runs.closed ∙ (past opened).0);
+    faults = rose G fewer_later printed_now job before start after desk new number store standing opens asks programs_are same_opened same_honest time asks-calm [] half;
+    all_fine = all-fine G fewer_later printed_now job before start after desk new number store standing opens asks programs_are same_opened same_honest time asks-calm [] half;
+    calm = calm-now G fewer_later printed_now job before start after desk new number store standing opens asks programs_are same_opened same_honest time asks-calm [] half;
+    writes = writes-now G fewer_later printed_now job before start after desk new number store standing opens asks programs_are same_opened same_honest time asks-calm [] half;
+    serial_run = serial_is;
+    leaves = leaves-now G fewer_later printed_now job before start after desk new number store standing opens asks programs_are same_opened same_honest time asks-calm [] half;
+    records = records-now G fewer_later printed_now job before start after desk new number store standing opens asks programs_are same_opened same_honest time asks-calm [] half;
+    crash = crash_any;
+    doubt = doubt-leaves G fewer_later printed_now job before start after desk new number store standing opens asks programs_are same_opened same_honest time asks-calm [] half;
+  }
+
+prints_now : (now : Status) → IsPastOpening now → (old new : Option (List ℕ)) (bytes : List ℕ) → Prints old new bytes (put_of now) → PrintsBy old new bytes now
+prints_now status.Done past old new bytes prints = prints
+prints_now status.PutFault past old new bytes prints = prints
+prints_now _ past old new bytes prints = absurd past
+
+-- a status behind the opening is no store's fault
+opens_past : {W : Type 0} (G : Ghosts W) (before after : W) (now : Status) → ((offset : ℕ) → now ≡ Status.Store offset → ⊥) → (IsPastOpening now → IsSome (G.held before) → IsStanding (held_of G before)) → OpensBy G before after now
+opens_past G before after now other stood = record {
+  no_store = λ offset same told. absurd (other offset same);
+  store = stood;
+  never = λ honest told standing offset same. other offset same;
+}
+
+loaded_past : {W : Type 0} (G : Ghosts W) (transfers : ℕ) (before after : W) (order : List (ℕ × ℕ)) (session : Option Session) (now : Status) → IsPastOpening now → RanBig G transfers before after order session now → PutsTimes G 1 before after (put_of now) → LoadedBy G transfers before after order session now
+loaded_past G transfers before after order session status.Done past ran times = (ran, times)
+loaded_past G transfers before after order session status.PutFault past ran times = ran
+loaded_past G transfers before after order session _ past ran times = absurd past
+
+times_since : {W T : Type 0} (G : Ghosts W) (before start between after : W) (result : Result T Failed) → OnlyAsks G before start → CallsDisk G start between → PutsTimes G 1 between after result → PutsTimes G 1 before after result
+times_since G before start between after (Ok value) asks calls times = λ told.
+    let there : IsSome (G.printed between) = subst (λ (those : Option (List ℕ)). IsSome those) (sym (calls.quiet.same ∙ asks.calls.quiet.same)) told in
+    let more = times there in
+    omega (arith, more, calls.puts, asks.calls.puts)
+times_since G before start between after (Err failed) asks calls times = tt
+
+-- what a load did, by how its run ended
+module _ {W : Type 0} (G : Ghosts W) (fewer_later : FewerLater G) (printed_now : PrintedNow G) (transfers : ℕ) (job : Job) (is_load : IsBigJob transfers job) (before start between : W) (desk new : Session)
+    (opens : IsTrue (G.is_honest before) → IsSome (G.held before) → IsOpened G job.frames before start desk) (asks : OnlyAsks G before start) (programs_are : (activity desk).programs ≡ job.programs.items) (same_opened : new.opened ≡ desk.opened) (asks-calm : G.disk_faults start ≡ G.disk_faults before)
+    (stood : IsSome (G.held before) → IsStanding (held_of G before)) (last : List ℕ) (calls : CallsDisk G start between) where
+  abbrev Ran : Quiet → Type 0
+  Ran quiet = (first : Desk) → IsSure G start → ghosts.shows desk (held_of G start) first → RunsQuietly ghosts G (activity desk).programs desk.opened job.events.items first new start between last quiet
+
+  pub loaded : (quiet : Quiet) → Ran quiet → (after : W) (now : Status) → IsToldBy G transfers quiet last between after now → Loaded G transfers before after (order_of new) (Some new) now
+  loaded (quiet.Ended commits rollbacks) runs after now (past, puts, times) =
+      let later : Elapses G.moment G.left_since start after = elapses-trans G fewer_later start between after calls.time puts.only.time in
+      let honest : G.is_honest after ≡ G.is_honest start = puts.only.honest ∙ calls.honest in
+      record {
+        honest = honest ∙ asks.calls.honest;
+        time = elapses-trans G fewer_later before start after asks.calls.time later;
+        opens = opens_past G before after now (λ offset is. subst IsPastOpening is past) (λ opened told. stood told);
+        by_status = loaded_past G transfers before after (order_of new) (Some new) now past
+            (record {
+              job = job;
+              is_load = is_load;
+              has_run = λ number store standing.
+                  let opened = opens standing.honest standing.told in
+                  let begins = has-opened G job.frames before start desk opened asks in
+                  let run = runs (first_desk G job.frames before start desk opened asks) begins.sure begins.shows in
+                  let lines : List Line = event_lines [] (activity desk).programs desk.opened run.ran.taken (first_desk G job.frames before start desk opened asks) in
+                  has_big_run G fewer_later printed_now transfers job before start between after desk new number store standing opened asks programs_are same_opened honest later asks-calm last (quiet.Ended commits rollbacks) run puts.only.held puts.only.writes puts.only.disk
+                  (sure_put G fewer_later (big_line transfers commits rollbacks last) between after (put_of now) puts)
+                  (λ shut. absurd (let no : ⊥ = let still : new.closed ≡ false = run.closed in cc in no))
+                  (image_before G fewer_later (big_line transfers commits rollbacks last) start between after (put_of now) calls.time puts)
+                  now
+                  (λ opened. (
+                    refl,
+                    subst (λ (told : Option (List ℕ)). PrintsBy told (G.printed after) (line_for transfers lines) now) (calls.quiet.same ∙ asks.calls.quiet.same)
+                        (subst (λ (bytes : List ℕ). PrintsBy (G.printed between) (G.printed after) bytes now) (line_told transfers commits rollbacks last lines run.tells) (prints_now now past (G.printed between) (G.printed after) (big_line transfers commits rollbacks last) puts.printed)),
+                  ))
+                  (λ is. absurd (subst IsPastOpening is past));
+            })
+            (times_since G before start between after (put_of now) asks calls times);
+      }
+  loaded quiet.Closed runs after now (shut, same) =
+      subst (λ (status : Status). Loaded G transfers before after (order_of new) (Some new) status) (sym shut)
+      (subst (λ (w : W). Loaded G transfers before w (order_of new) (Some new) Status.DiskFault) (sym same) (record {
+        honest = calls.honest ∙ asks.calls.honest;
+        time = elapses-trans G fewer_later before start between asks.calls.time calls.time;
+        opens = opens_past G before between Status.DiskFault (λ offset is. cc) (λ opened told. stood told);
+        by_status = (
+          record {
+            job = job;
+            is_load = is_load;
+            has_run = λ number store standing.
+                let opened = opens standing.honest standing.told in
+                let begins = has-opened G job.frames before start desk opened asks in
+                has_big_run G fewer_later printed_now transfers job before start between between desk new number store standing opened asks programs_are same_opened calls.honest calls.time asks-calm last quiet.Closed (runs (first_desk G job.frames before start desk opened asks) begins.sure begins.shows) refl refl refl
+                (λ sure. sure) (λ shut front event is. is) (λ image seen left. (seen, left)) Status.DiskFault (λ opened. absurd opened) (λ is. refl);
+          },
+          calls.quiet.same ∙ asks.calls.quiet.same,
+        );
+      }))
+
+-- the events of a load have no crash
+pub lasting : (transfers : ℕ) → All IsLasting (big_events transfers)
+lasting transfers = events_all IsLasting (λ program args small. tt) (λ activation limit small. tt) transfers
+
+-- the text of the line, part by part
+shown_hex : (out : List ℕ) → 1 ≤ length out → encode_lower out ≡ printed out
+shown_hex [] some = absurd (omega arith)
+shown_hex (byte ∷ out) some = refl
+
+joined : (one two three shown : List ℕ) → ((((((codes "big" ++ 32 ∷ one) ++ 32 ∷ codes "commits") ++ 32 ∷ two) ++ 32 ∷ codes "rollbacks") ++ 32 ∷ three) ++ 32 ∷ codes "out") ++ 32 ∷ shown ++ 10 ∷ []
+    ≡ spaced (codes "big" ∷ one ∷ codes "commits" ∷ two ∷ codes "rollbacks" ∷ three ∷ codes "out" ∷ shown ∷ [])
+joined one two three shown = simp append_assoc
+
+pub big_text : (a b c d e f : List ℕ) (m n k transfers commits rollbacks : ℕ) (out : List ℕ) → a ≡ codes "big" → b ≡ a ++ 32 ∷ decimal m → c ≡ b ++ 32 ∷ codes "commits" ++ 32 ∷ decimal n → d ≡ c ++ 32 ∷ codes "rollbacks" ++ 32 ∷ decimal k → e ≡ d ++ 32 ∷ codes "out" → f ≡ e ++ 32 ∷ encode_lower out
+    → m ≡ transfers → n ≡ commits → k ≡ rollbacks → 1 ≤ length out → f ++ 10 ∷ [] ≡ big_line transfers commits rollbacks out
+big_text a b c d e f m n k transfers commits rollbacks out first second third fourth fifth sixth same_m same_n same_k some =
+    let whole : f ≡ ((((((codes "big" ++ 32 ∷ decimal m) ++ 32 ∷ codes "commits") ++ 32 ∷ decimal n) ++ 32 ∷ codes "rollbacks") ++ 32 ∷ decimal k) ++ 32 ∷ codes "out") ++ 32 ∷ encode_lower out =
+    sixth ∙ ap (λ (t : List ℕ). t ++ 32 ∷ encode_lower out) (fifth ∙ ap (λ (t : List ℕ). t ++ 32 ∷ codes "out") (fourth ∙ ap (λ (t : List ℕ). t ++ 32 ∷ codes "rollbacks" ++ 32 ∷ decimal k) (third ∙ ap (λ (t : List ℕ). t ++ 32 ∷ codes "commits" ++ 32 ∷ decimal n) (second ∙ ap (λ (t : List ℕ). t ++ 32 ∷ decimal m) first)))) in
+    ap (λ (t : List ℕ). t ++ 10 ∷ []) whole ∙ joined (decimal m) (decimal n) (decimal k) (encode_lower out)
+    ∙ ap (λ (t : List ℕ). spaced (codes "big" ∷ decimal m ∷ codes "commits" ∷ decimal n ∷ codes "rollbacks" ∷ decimal k ∷ codes "out" ∷ t ∷ [])) (shown_hex out some)
+    ∙ ap (λ (x : ℕ). big_line x n k out) same_m ∙ ap (λ (x : ℕ). big_line transfers x k out) same_n ∙ ap (λ (x : ℕ). big_line transfers commits x out) same_k

@@ -1,0 +1,4 @@
+pub mod CauseLemmas
+pub mod RunLemmas
+pub mod BigLemmas
+pub mod NameLemmas

@@ -1,0 +1,330 @@
+-- What runs on the store that a disk stands for.
+use Rattle.std.proofs.Common.{◌≡◌, ℕ, ◌+◌, ◌*◌, ◌%◌, ◌^◌, ◌≤◌, inl, inr, Bool, true, false, List, [], ◌∷◌, ◌++◌, length, take, refl, sym, ◌∙◌, ap, subst, arith, append-nil, Option, Some, None}
+use Rattle.std.specs.Prelude.{Result, Ok, Err, IsErr, IsSome, IsTrue, unwrap_or, count_by}
+use Rattle.std.proofs.lemmas.Bool.{cases_lt}
+use Rattle.outside.specs.declared.world.Outside.{Ghosts}
+use Rattle.outside.specs.declared.failed.Failed.{Failed}
+use Rattle.outside.specs.Bytes.{AreTold, Prints}
+use Rattle.outside.specs.Causes.{Rose, RoseBy}
+use Rattle.outside.specs.Durable.{IsSure}
+use Rattle.outside.specs.Moments.{Elapses}
+use Rattle.outside.specs.Runs.{OnlyAsks, FewerLater, Leaves, held_of}
+use Rattle.outside.proofs.Prints.{prints_well, prints_broken}
+use Rattle.outside.proofs.Runs.{elapses-trans, leaves_on}
+use Rattle.line_geometry.specs.FlatStore.{FlatStore}
+use Rattle.flat_machine.specs.declared.machine.Program.{Program}
+use Rattle.flat_machine.specs.Serial.{Activation, serial}
+use Rattle.store_format.specs.Header.{header_of, most_lines}
+use Rattle.store_format.specs.Stands.{Standing, Stands, stands}
+use Rattle.restart.specs.Kept.{number_of}
+use Rattle.desk.specs.declared.event.Event.{Event}
+use Rattle.desk.specs.Crash.{standing_of}
+use Rattle.desk.specs.Desk.{Desk, opened}
+use Rattle.desk.specs.Instruction.{Word, Doubt}
+use Rattle.desk.specs.Kept.{WritesMore, records_in, most_records, tells_fault}
+use Rattle.desk.specs.Run.{run, faulted, IsRunOf}
+use Rattle.desk.specs.Lines.{line_text, Open}
+use Rattle.desk.specs.Report.{report, report_lines, event_lines, number_after}
+use Rattle.desk.specs.Commits.{begun, is_commit, IsSerial}
+use Rattle.desk.proofs.SerialLaw.{run-serial}
+use Rattle.run_law.specs.Headline.{IsPrefix}
+use Rattle.run_law.specs.Left.{IsLeft}
+use Rattle.run_law.proofs.HeadlineLemmas.{left_is_prefix, doubt_is_whole}
+use Rattle.supervisor.specs.Opened.{IsOpened}
+use Rattle.supervisor.specs.Session.{activity, desk_of, order_of}
+use Rattle.supervisor.specs.Shown.{Shown}
+use Rattle.supervisor.specs.ShownLaws.{shown-stands}
+use Rattle.supervisor.specs.declared.session.Session.{Session}
+use Rattle.supervisor.specs.contracts.supervisor.SessionSupervisor.TheImpl.{ghosts}
+use Rattle.schedule_replay.specs.declared.events.Replayed.{Replayed}
+use Rattle.schedule_replay.specs.declared.events.Replayed.TheVariants as replayed
+use Rattle.schedule_replay.specs.Puts.{PutsTimes, shown_of}
+use Rattle.schedule_replay.specs.Ran.{PrintsEarlier, HasOpened, InDoubt, text_of}
+use Rattle.schedule_replay.specs.Replays.{Reports, Replays}
+use Rattle.schedule_replay.proofs.CountLemmas.{on_ok_as}
+use Rattle.schedule_replay.proofs.PutsLemmas.{PrintedNow}
+use Rattle.job_text.specs.declared.job.Job.{Job}
+use Rattle.job_text.specs.Grammar.{job_of, content_of}
+use Rattle.call_status.specs.declared.status.Status.{Status}
+use Rattle.call_status.specs.declared.status.Status.TheVariants as status
+use Rattle.job_calls.specs.Causes.{status_of_replay}
+use Rattle.call_status.specs.Opening.{StandsAt}
+use Rattle.call_status.specs.SourceText.{IsWhole}
+use Rattle.job_calls.specs.Headline.{HasRun, DoubtStands, Happened, HappenedTo, put_by, names_of, job_desk}
+
+-- what stands for one number and store stands for no other
+same-number : (one two : ℕ) (first second : FlatStore) → Stands one first ≡ Stands two second → one ≡ two
+same-number one two first second is = cc
+
+same-store : (one two : ℕ) (first second : FlatStore) → Stands one first ≡ Stands two second → first ≡ second
+same-store one two first second is = cc
+
+-- what is told, if it is told
+told-is : (told : Option (List ℕ)) (bytes : List ℕ) → IsSome told → AreTold told bytes → bytes ≡ unwrap_or told []
+told-is None bytes some is = absurd (cc)
+told-is (Some those) bytes some is = is
+
+-- a desk opened on the bytes of a disk
+module _ {W : Type 0} (G : Ghosts W) (frames : ℕ) (before start : W) (desk : Session) (opens : IsOpened G frames before start desk) (asks : OnlyAsks G before start) where
+  abbrev pub first_desk : Desk
+  first_desk = opened frames 16 (most_lines desk.store.header) opens.store
+
+  pub number-fits : (desk.opened + 0) % 2 ^ 64 ≡ desk.opened
+  number-fits =
+      let over = opens.shows.over in
+      let same : held_of G start ≡ held_of G before = ap (λ (held : Option (List ℕ)). unwrap_or held []) asks.held in
+      let number : number_of desk.store ≡ desk.opened = same-number (number_of desk.store) desk.opened (record { directory = desk.store.header.directory; bytes = over.committed }) opens.store (sym over.stood ∙ ap (λ (held : List ℕ). stands held) same ∙ opens.stood) in
+      let after : number_of desk.store ≡ number_after desk.opened (desk_of desk over.committed) = over.number in
+      ap (λ (d : Desk). number_after desk.opened d) opens.shows.is ∙ sym after ∙ number
+
+  pub has-opened : HasOpened ghosts G desk start first_desk
+  has-opened = record { sure = opens.sure; shows = opens.shows; number = number-fits }
+
+-- a run of the first of events from an opened desk, without what was put
+pub record RanFrom {W : Type 0} (G : Ghosts W) (names : List (List ℕ)) (programs : List Program) (number : ℕ) (events : List Event) (first : Desk) (new : Session) (start after : W) : Type 0 where
+  pub taken : List (Event × Word)
+  pub rest : List Event
+  pub is_run : IsRunOf programs events first taken rest
+  pub closes : new.closed ≡ (run programs taken first).closed
+  pub ordered : order_of new ≡ (run programs taken first).order
+  pub still : (run programs taken first).closed ≡ false → IsSure G after × ghosts.shows new (held_of G after) (run programs taken first)
+  pub records : (run programs taken first).closed ≡ false → records_in (held_of G after) ≤ most_records (event_lines names programs number taken first) (records_in (held_of G start))
+  pub faults : RoseBy (faulted taken) (G.disk_faults start) (G.disk_faults after)
+  pub calm : count_by tells_fault (event_lines names programs number taken first) ≡ 0 → G.disk_faults after ≡ G.disk_faults start
+  pub writes : WritesMore (G.writes start) (G.writes after) (2 * count_by is_commit (event_lines names programs number taken first))
+  pub doubt : (run programs taken first).closed ≡ true → (front : List (Event × Word)) (event : Event) → taken ≡ front ++ (event, Doubt) ∷ [] → InDoubt G programs number first front event after
+
+-- what a run begins with
+pub record Facts : Type 0 where
+  pub programs : List Program
+  pub start : Desk
+  pub number : ℕ
+
+module _ {W : Type 0} (G : Ghosts W) (fewer_later : FewerLater G) (printed_now : PrintedNow G) (job : Job) (before start after : W) (desk new : Session) (number : ℕ) (store : FlatStore)
+    (standing : StandsAt G before number store) (opens : IsOpened G job.frames before start desk) (asks : OnlyAsks G before start) (programs_are : (activity desk).programs ≡ job.programs.items) (same_opened : new.opened ≡ desk.opened)
+    (same_honest : G.is_honest after ≡ G.is_honest start) (time : Elapses G.moment G.left_since start after) (asks-calm : G.disk_faults start ≡ G.disk_faults before) where
+  abbrev pub begins_with : Desk
+  begins_with = job_desk job (held_of G before) store
+
+  pub number-is : desk.opened ≡ number
+  number-is = same-number desk.opened number opens.store store (sym opens.stood ∙ standing.stood)
+
+  -- the programs, the desk and the number of the run are the job's
+  abbrev pub given : Facts
+  given = record { programs = (activity desk).programs; start = first_desk G job.frames before start desk opens asks; number = desk.opened }
+
+  abbrev pub wanted : Facts
+  wanted = record { programs = job.programs.items; start = begins_with; number = number }
+
+  pub these : given ≡ wanted
+  these = λ i. record {
+    programs = programs_are i;
+    start = opened job.frames 16 (most_lines (sym opens.header i)) (same-store desk.opened number opens.store store (sym opens.stood ∙ standing.stood) i);
+    number = number-is i;
+  }
+
+  pub number-small : (number + 0) % 2 ^ 64 ≡ number
+  number-small = subst (λ (n : ℕ). (n + 0) % 2 ^ 64 ≡ n) number-is (number-fits G job.frames before start desk opens asks)
+
+  shown-same : shown_of G start ≡ shown_of G before
+  shown-same = ap (λ (told : Option (List ℕ)). unwrap_or told []) asks.calls.quiet.same
+
+  -- the opening left what stood
+  opening-left : (order : List (ℕ × ℕ)) → IsSome (G.printed before) → Leaves G (IsPrefix (begun job.programs.items job.events.items) number store order (shown_of G before)) before start
+  opening-left order told image seen left =
+      let earlier = asks.crash standing.told image seen left in
+      record {
+        j = 0;
+        few = omega arith;
+        since = [];
+        seen_is = told-is (G.printed before) seen told (printed_now before image seen earlier) ∙ sym (append-nil (shown_of G before));
+        told = omega arith;
+        left = store;
+        leaves = refl;
+        stood = standing.images image seen earlier ∙ ap (λ (n : ℕ). let that : Standing = Stands n store in that) (sym number-small);
+      }
+
+  -- the same of a run from the opening, in the job's words
+  module _ (names : List (List ℕ)) (half : RanFrom G names (activity desk).programs desk.opened job.events.items (first_desk G job.frames before start desk opens asks) new start after) where
+    pub is_run : IsRunOf job.programs.items job.events.items begins_with half.taken half.rest
+    is_run = subst (λ (f : Facts). IsRunOf f.programs job.events.items f.start half.taken half.rest) these half.is_run
+
+    abbrev pub ends : Desk
+    ends = run job.programs.items half.taken begins_with
+
+    pub closes : new.closed ≡ ends.closed
+    closes = subst (λ (f : Facts). new.closed ≡ (run f.programs half.taken f.start).closed) these half.closes
+
+    pub ordered : (order_of new) ≡ ends.order
+    ordered = subst (λ (f : Facts). (order_of new) ≡ (run f.programs half.taken f.start).order) these half.ordered
+
+    abbrev pub commits : List Activation
+    commits = begun job.programs.items job.events.items
+
+    pub serial_run : IsSerial commits number store (order_of new) (event_lines names job.programs.items number half.taken begins_with) ends.committed ends.closed
+    serial_run =
+        subst (λ (order : List (ℕ × ℕ)). IsSerial commits number store order (event_lines names job.programs.items number half.taken begins_with) ends.committed ends.closed)
+        (sym ordered)
+        (run-serial names job.programs.items number job.frames 16 (most_lines (header_of (take 128 (held_of G before)))) store job.events.items half.taken half.rest is_run)
+
+    pub rose : RoseBy (faulted half.taken) (G.disk_faults before) (G.disk_faults after)
+    rose = omega (arith, asks.calls.disk, half.faults)
+
+    pub all-fine : (Rose (G.disk_faults before) (G.disk_faults after) → ⊥) → faulted half.taken ≡ 0
+    all-fine none =
+        elim (cases_lt 0 (faulted half.taken)) [
+          | inl some ↦ absurd (none (omega (arith, some, rose)))
+          | inr none_more ↦ omega arith
+        ]
+
+    pub shown-now : ends.closed ≡ false → IsSure G after × Shown new (held_of G after) ends
+    shown-now still = subst (λ (f : Facts). (run f.programs half.taken f.start).closed ≡ false → IsSure G after × ghosts.shows new (held_of G after) (run f.programs half.taken f.start)) these half.still still
+
+    -- while the desk is open
+    pub leaves-now : ends.closed ≡ false → IsSure G after × ((left : FlatStore) × (serial commits (order_of new) store ≡ Some left) × (stands (held_of G after) ≡ Stands ((number + length (order_of new)) % 2 ^ 64) left))
+    leaves-now still =
+        let shown = shown-now still in
+        let none : serial_run.doubt ≡ [] = serial_run.none_open still in
+        let all : (order_of new) ≡ serial_run.done = serial_run.order_is ∙ ap (λ (behind : List (ℕ × ℕ)). serial_run.done ++ behind) none ∙ append-nil serial_run.done in
+        let stood : stands (held_of G after) ≡ standing_of new.opened ends = shown-stands new (held_of G after) ends shown.1 in (
+          shown.0,
+          (
+            ends.committed,
+            ap (λ (order : List (ℕ × ℕ)). serial commits order store) all ∙ serial_run.leaves,
+            stood
+                ∙ ap (λ (n : ℕ). standing_of n ends) (same_opened ∙ number-is)
+                ∙ ap (λ (order : List (ℕ × ℕ)). let that : Standing = Stands ((number + length order) % 2 ^ 64) ends.committed in that) (sym ordered),
+          ),
+        )
+
+    -- a doubt
+    pub doubt-leaves : ends.closed ≡ true → (front : List (Event × Word)) (event : Event) → half.taken ≡ front ++ (event, Doubt) ∷ [] → DoubtStands G job number store (order_of new) after
+    doubt-leaves shut front event is =
+        let doubted = subst (λ (f : Facts). (run f.programs half.taken f.start).closed ≡ true → (front : List (Event × Word)) (event : Event) → half.taken ≡ front ++ (event, Doubt) ∷ [] → InDoubt G f.programs f.number f.start front event after) these half.doubt shut front event is in
+        let ran = subst (λ (taken : List (Event × Word)). IsRunOf job.programs.items job.events.items begins_with taken half.rest) is is_run in
+        let whole = doubt_is_whole job.programs.items number job.frames 16 (most_lines (header_of (take 128 (held_of G before)))) store job.events.items front event half.rest ran doubted.0 in
+        let order : (run job.programs.items (front ++ (event, Doubt) ∷ []) begins_with).order ≡ (order_of new) = ap (λ (taken : List (Event × Word)). (run job.programs.items taken begins_with).order) (sym is) ∙ sym ordered in (
+          doubted.1.0,
+          whole.0,
+          ap (λ (those : List (ℕ × ℕ)). serial commits those store) (sym order) ∙ whole.1,
+          λ image seen left. doubted.1.1 image seen left ∙ whole.2 ∙ ap (λ (those : List (ℕ × ℕ)). let that : Standing = Stands ((number + length those) % 2 ^ 64) whole.0 in that) order,
+        )
+
+    pub calm-now : count_by tells_fault (event_lines names job.programs.items number half.taken begins_with) ≡ 0 → G.disk_faults after ≡ G.disk_faults before
+    calm-now none = subst (λ (f : Facts). count_by tells_fault (event_lines names f.programs f.number half.taken f.start) ≡ 0 → G.disk_faults after ≡ G.disk_faults start) these half.calm none ∙ asks-calm
+
+    pub writes-now : WritesMore (G.writes before) (G.writes after) (2 * count_by is_commit (event_lines names job.programs.items number half.taken begins_with))
+    writes-now =
+        subst (λ (told : Option ℕ). WritesMore told (G.writes after) (2 * count_by is_commit (event_lines names job.programs.items number half.taken begins_with))) asks.writes
+        (subst (λ (f : Facts). WritesMore (G.writes start) (G.writes after) (2 * count_by is_commit (event_lines names f.programs f.number half.taken f.start))) these half.writes)
+
+    pub records-now : ends.closed ≡ false → records_in (held_of G after) ≤ most_records (event_lines names job.programs.items number half.taken begins_with) (records_in (held_of G before))
+    records-now still =
+        subst (λ (those : Option (List ℕ)). records_in (held_of G after) ≤ most_records (event_lines names job.programs.items number half.taken begins_with) (records_in (unwrap_or those []))) asks.held
+        (subst (λ (f : Facts). (run f.programs half.taken f.start).closed ≡ false → records_in (held_of G after) ≤ most_records (event_lines names f.programs f.number half.taken f.start) (records_in (held_of G start))) these half.records still)
+
+  module _ (result : Result Bool Failed) (put : Result ℕ Failed) (now : Status) (reports : Reports ghosts G (names_of job) (activity desk).programs desk.opened job.events.items (first_desk G job.frames before start desk opens asks) new start after (λ closed. closed) result) where
+    abbrev half : RanFrom G (names_of job) (activity desk).programs desk.opened job.events.items (first_desk G job.frames before start desk opens asks) new start after
+    half = record {
+      taken = reports.taken;
+      rest = reports.rest;
+      is_run = reports.is_run;
+      closes = reports.closes;
+      ordered = reports.ordered;
+      still = reports.still;
+      records = reports.records;
+      faults = reports.faults;
+      calm = reports.calm;
+      writes = reports.writes;
+      doubt = reports.doubt;
+    }
+
+    abbrev names : List (List ℕ)
+    names = names_of job
+
+    -- a crash
+    crash-leaves : IsSome (G.printed before) → Leaves G (IsPrefix (commits names half) number store (order_of new) (shown_of G before)) before after
+    crash-leaves told =
+        let P = IsPrefix (commits names half) number store (order_of new) (shown_of G before) in
+        let still : IsSome (G.printed start) = subst (λ (those : Option (List ℕ)). IsSome those) (sym asks.calls.quiet.same) told in
+        leaves_on G fewer_later before start after asks.calls.time time P (opening-left (order_of new) told)
+        (λ image seen left.
+        subst (λ (order : List (ℕ × ℕ)). IsPrefix (commits names half) number store order (shown_of G before) image seen) (sym (ordered names half))
+        (subst (λ (printed : List ℕ). IsPrefix (commits names half) number store (ends names half).order printed image seen) shown-same
+        (left_is_prefix job.programs.items number job.frames 16 (most_lines (header_of (take 128 (held_of G before)))) store job.events.items reports.taken reports.rest
+        (report (names_of job) job.programs.items number reports.taken reports.rest begins_with) (shown_of G start) image seen (is_run names half)
+        (subst (λ (f : Facts). IsLeft f.programs f.number f.start reports.taken (report (names_of job) f.programs f.number reports.taken reports.rest f.start) (shown_of G start) image seen) these (reports.left still image seen left)))))
+
+    -- the opening puts nothing
+    times-since : (put : Result ℕ Failed) → PutsTimes G (length (report_lines (names_of job) job.programs.items number reports.taken reports.rest begins_with)) start after put → PutsTimes G (length (report_lines (names_of job) job.programs.items number reports.taken reports.rest begins_with)) before after put
+    times-since (Err failed) times = tt
+    times-since (Ok value) times = λ told.
+        let more = times (subst (λ (those : Option (List ℕ)). IsSome those) (sym asks.calls.quiet.same) told) in
+        omega (arith, more, asks.calls.puts)
+
+    pub has_run : put_by now put → ((one two : Option (List ℕ)) (bytes : List ℕ) → Prints one two bytes result → Prints one two bytes put) → (IsErr result → IsErr put)
+        → (now ≡ Status.Done → (new.closed ≡ false) × (reports.rest ≡ [])) → (now ≡ Status.DiskFault → new.closed ≡ true)
+        → HasRun G job number store before after (order_of new) (Some new) now
+    has_run put_is turns fails ended shut = record {
+      taken = reports.taken;
+      rest = reports.rest;
+      is_run = is_run names half;
+      order_is = ordered names half;
+      ends = record { session = new; answered = refl; ordered = refl; closes = closes names half; shows = λ still. (shown-now names half still).1 };
+      all = λ is. (ended is).1;
+      still_open = λ is. sym (closes names half) ∙ (ended is).0;
+      shut = λ is. sym (closes names half) ∙ shut is;
+      put = put;
+      put_is = put_is;
+      printed = subst (λ (told : Option (List ℕ)). Prints told (G.printed after) (report (names_of job) job.programs.items number reports.taken reports.rest begins_with) put) asks.calls.quiet.same
+          (turns (G.printed start) (G.printed after) (report (names_of job) job.programs.items number reports.taken reports.rest begins_with)
+          (subst (λ (f : Facts). Prints (G.printed start) (G.printed after) (report (names_of job) f.programs f.number reports.taken reports.rest f.start) result) these reports.printed));
+      earlier = subst (λ (told : Option (List ℕ)). PrintsEarlier told (G.printed after) (λ front. line_text (Open number) ++ text_of (names_of job) job.programs.items number front begins_with) reports.taken) asks.calls.quiet.same
+          (subst (λ (f : Facts). PrintsEarlier (G.printed start) (G.printed after) (λ front. line_text (Open f.number) ++ text_of (names_of job) f.programs f.number front f.start) reports.taken) these reports.earlier);
+      times = times-since put (on_ok_as _ result put fails (subst (λ (f : Facts). PutsTimes G (length (report_lines (names_of job) f.programs f.number reports.taken reports.rest f.start)) start after result) these reports.times));
+      faults = rose names half;
+      all_fine = all-fine names half;
+      calm = calm-now names half;
+      writes = writes-now names half;
+      serial_run = serial_run names half;
+      leaves = leaves-now names half;
+      records = records-now names half;
+      crash = crash-leaves;
+      doubt = doubt-leaves names half;
+      honest = same_honest ∙ asks.calls.honest;
+      time = elapses-trans G fewer_later before start after asks.calls.time time;
+    }
+
+-- what was replayed on a desk that was opened, by how that ended
+module _ {W : Type 0} (G : Ghosts W) (fewer_later : FewerLater G) (printed_now : PrintedNow G) (job : Job) (before start after : W) (desk new : Session)
+    (opens : IsTrue (G.is_honest before) → IsSome (G.held before) → IsOpened G job.frames before start desk) (asks : OnlyAsks G before start) (programs_are : (activity desk).programs ≡ job.programs.items) (same_opened : new.opened ≡ desk.opened)
+    (same_honest : G.is_honest after ≡ G.is_honest start) (time : Elapses G.moment G.left_since start after) (asks-calm : G.disk_faults start ≡ G.disk_faults before)
+    (result : Replayed) (replays : (first : Desk) → HasOpened ghosts G desk start first → Replays ghosts G (names_of job) (activity desk).programs desk.opened job.events.items first new start after result) where
+  abbrev replayed-from : (number : ℕ) (store : FlatStore) (standing : StandsAt G before number store) → Replays ghosts G (names_of job) (activity desk).programs desk.opened job.events.items (first_desk G job.frames before start desk (opens standing.honest standing.told) asks) new start after result
+  replayed-from number store standing = replays (first_desk G job.frames before start desk (opens standing.honest standing.told) asks) (has-opened G job.frames before start desk (opens standing.honest standing.told) asks)
+
+  pub happened-by : (that : Replayed) → result ≡ that → HappenedTo G job before after (order_of new) (Some new) (status_of_replay that)
+  happened-by replayed.Ended is = λ number store standing.
+      let reports = subst (λ (those : Replayed). Replays ghosts G (names_of job) (activity desk).programs desk.opened job.events.items (first_desk G job.frames before start desk (opens standing.honest standing.told) asks) new start after those) is (replayed-from number store standing) in
+      has_run G fewer_later printed_now job before start after desk new number store standing (opens standing.honest standing.told) asks programs_are same_opened same_honest time asks-calm
+      (Ok false) (Ok 0) status.Done reports refl (λ one two bytes prints. prints_well one two bytes false 0 prints) (λ is. is) (λ is. (reports.closed, reports.all refl)) (λ is. absurd (cc))
+  happened-by replayed.Closed is = λ number store standing.
+      let reports = subst (λ (those : Replayed). Replays ghosts G (names_of job) (activity desk).programs desk.opened job.events.items (first_desk G job.frames before start desk (opens standing.honest standing.told) asks) new start after those) is (replayed-from number store standing) in
+      has_run G fewer_later printed_now job before start after desk new number store standing (opens standing.honest standing.told) asks programs_are same_opened same_honest time asks-calm
+      (Ok true) (Ok 0) status.DiskFault reports refl (λ one two bytes prints. prints_well one two bytes true 0 prints) (λ is. is) (λ is. absurd (cc)) (λ is. reports.closed)
+  happened-by (replayed.Damaged offset) is = λ number store standing.
+      subst (λ (those : Replayed). Replays ghosts G (names_of job) (activity desk).programs desk.opened job.events.items (first_desk G job.frames before start desk (opens standing.honest standing.told) asks) new start after those) is (replayed-from number store standing)
+  happened-by replayed.PutFault is = λ number store standing.
+      let (failed, reports) = subst (λ (those : Replayed). Replays ghosts G (names_of job) (activity desk).programs desk.opened job.events.items (first_desk G job.frames before start desk (opens standing.honest standing.told) asks) new start after those) is (replayed-from number store standing) in
+      has_run G fewer_later printed_now job before start after desk new number store standing (opens standing.honest standing.told) asks programs_are same_opened same_honest time asks-calm
+      (Err failed) (Err failed) status.PutFault reports (failed, refl) (λ one two bytes prints. prints_broken {T = Bool} {U = ℕ} (Err failed) (Err failed) refl refl one two bytes prints) (λ is. is) (λ is. absurd (cc)) (λ is. absurd (cc))
+
+-- what happened to the job of a text
+pub happens : {W : Type 0} (G : Ghosts W) (left left_now : Option (List ℕ)) (before after : W) (text : List ℕ) (job : Job) (order : List (ℕ × ℕ)) (session : Option Session) (now : Status)
+    → IsWhole left left_now text → job_of text ≡ Ok (content_of job) → HappenedTo G job before after order session now → Happened G left left_now before after order session now
+happens G left left_now before after text job order session status.Done whole means did = record { text = text; whole = whole; job = job; means = means; has_run = did }
+happens G left left_now before after text job order session status.PutFault whole means did = record { text = text; whole = whole; job = job; means = means; has_run = did }
+happens G left left_now before after text job order (Some session) status.DiskFault whole means did = record { text = text; whole = whole; job = job; means = means; has_run = did }
+happens G left left_now before after text job order None status.DiskFault whole means did = did
+happens G left left_now before after text job order session (status.Store offset) whole means did = did
+happens G left left_now before after text job order session _ whole means did = did

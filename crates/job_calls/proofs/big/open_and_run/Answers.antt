@@ -1,0 +1,68 @@
+use Rattle.std.proofs.Common.{◌≡◌, ◌≤◌, ◌∙◌, ap, sym, subst, arith, length, vec_len, get_or, All, List, ℕ, Some}
+use Rattle.std.proofs.lemmas.List.{length-map}
+use Rattle.std.proofs.lemmas.List.Sums.{count_by-le-length}
+use Rattle.flat_machine.specs.declared.machine.Program.{Program}
+use Rattle.desk.specs.Answers.{order_told}
+use Rattle.desk.specs.Desk.{Desk}
+use Rattle.desk.specs.declared.event.Event.{Event}
+use Rattle.outside.specs.Durable.{IsSure}
+use Rattle.outside.specs.Runs.{held_of}
+use Rattle.job_text.specs.Ready.{IsEventAmong}
+use Rattle.supervisor.specs.Session.{activity}
+use Rattle.supervisor.specs.contracts.supervisor.SessionSupervisor.TheImpl.{ghosts}
+use Rattle.schedule_replay.specs.Asked.{is_turn, begins_in, turns_in}
+use Rattle.schedule_replay.specs.Quiet.{IsLasting, RunsQuietly}
+use Rattle.job_calls.specs.Big.{Loaded}
+use Rattle.job_calls.proofs.NameLemmas.{asked-among}
+use Rattle.job_calls.proofs.BigLemmas.{lasting, loaded}
+use Rattle.job_calls.proofs.big.open_and_run.Goals as goal
+
+pub run_quiet-quiet-requires-clause-ready : goal.run_quiet-quiet-requires-clause-ready
+run_quiet-quiet-requires-clause-ready g c =
+    let made = c.in-Ok.ensures.new in
+    let ready = c.requires.ready in
+    let events = c.deref.ensures.value in
+    let begins : begins_in c.deref.result.now ≡ c.args.begins = ap (λ (these : List Event). begins_in these) events ∙ sym c.requires.begins in
+    let turns : turns_in c.deref.result.now ≤ length c.deref.result.now = count_by-le-length is_turn c.deref.result.now in
+    let few : length c.deref.result.now ≡ length c.args.job.events.items = ap (λ (these : List Event). length these) events in
+    let programs : length c.args.job.programs.items ≡ length (activity c.in-Ok.session).programs = sym (ap (λ (these : List Program). length these) made.programs_are) in
+    record {
+      sound = made.sound;
+      asked = λ k d within. asked-among (length (activity c.in-Ok.session).programs) (get_or c.deref.result.now k d)
+          (subst (λ (n : ℕ). IsEventAmong n (get_or c.deref.result.now k d)) programs
+          (subst (λ (these : List Event). All (IsEventAmong (length c.args.job.programs.items)) these) (sym events) ready.events k d within));
+      begins = omega (arith, made.none_given, begins, made.begins_are);
+      turns = omega (arith, turns, few, ready.few, made.no_turns);
+      bytes = c.in-Ok.ensures.room;
+    }
+
+pub run_quiet-quiet-requires-clause-lasting : goal.run_quiet-quiet-requires-clause-lasting
+run_quiet-quiet-requires-clause-lasting g c =
+    subst (λ (these : List Event). All IsLasting these) (sym (c.deref.ensures.value ∙ c.requires.load.events)) (lasting c.args.transfers)
+
+-- no more commits than begins
+pub filled-requires-clause-room : goal.filled-requires-clause-room
+filled-requires-clause-room g c =
+    let new = c.run_quiet-quiet.new.desk in
+    let told : length (order_told c.order.result.now) ≡ length (order_told new.order.items) = ap length c.order.ensures in
+    let few : vec_len new.order ≤ new.begins = c.run_quiet-quiet.ensures.sound.room.commits in
+    let begins : new.begins ≡ c.in-Ok.session.begins = c.run_quiet-quiet.ensures.begins in
+    omega (arith, told, length-map {B = ℕ × ℕ} c.order.result.now (λ commit. (commit.activation, commit.steps)), length-map {B = ℕ × ℕ} new.order.items (λ commit. (commit.activation, commit.steps)), new.order.ok.0, few, begins, c.in-Ok.ensures.new.begins_are, c.requires.room)
+
+pub returns-clause-loaded : goal.returns-clause-loaded
+returns-clause-loaded g c =
+    let G = g.W.Outside in
+    let job = c.args.job in
+    let desk = c.in-Ok.session in
+    let new = c.run_quiet-quiet.new.desk in
+    let before = c.args.outside.now in
+    let start = c.open.new.outside in
+    let between = c.run_quiet-quiet.new.outside in
+    let last = c.as_slice.result.now in
+    let quiet = c.run_quiet-quiet.result in
+    let runs : (first : Desk) → IsSure G start → ghosts.shows desk (held_of G start) first → RunsQuietly ghosts G (activity desk).programs desk.opened job.events.items first new start between last quiet = λ first sure shows.
+    subst (λ (bytes : List ℕ). RunsQuietly ghosts G (activity desk).programs desk.opened job.events.items first new start between bytes quiet) (sym c.as_slice.ensures.value)
+    (subst (λ (events : List Event). RunsQuietly ghosts G (activity desk).programs desk.opened events first new start between c.run_quiet-quiet.new.last.items quiet) c.deref.ensures.value (c.run_quiet-quiet.ensures.runs first sure shows)) in
+    subst (λ (order : List (ℕ × ℕ)). Loaded G c.args.transfers before c.tell.new.outside order (Some new) c.tell.result) (sym (ap order_told c.filled.ensures ∙ c.order.ensures))
+    (loaded G g.met.W.Outside.fewer_later g.met.W.Outside.printed_now c.args.transfers job c.requires.load before start between desk new c.in-Ok.ensures.opened c.in-Ok.ensures.asks c.in-Ok.ensures.new.programs_are c.run_quiet-quiet.ensures.opened c.in-Ok.ensures.unfailed
+    (λ told. (c.in-Ok.ensures.told told).1) last c.run_quiet-quiet.ensures.calls quiet runs c.tell.new.outside c.tell.result c.tell.ensures)

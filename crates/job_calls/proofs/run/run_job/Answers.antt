@@ -1,0 +1,113 @@
+use Rattle.std.proofs.Common.{◌≡◌, ◌∙◌, ap, sym, ◌≤◌, subst, arith, length, vec_len, get_or, All, List, ℕ, refl, Some}
+use Rattle.std.specs.Prelude.{map}
+use Rattle.std.proofs.lemmas.List.{length-map}
+use Rattle.std.proofs.lemmas.List.Sums.{count_by-le-length}
+use Rattle.arrayvec.specs.ArrayVec.{ArrayVec}
+use Rattle.outside.specs.declared.world.Outside.{Ghosts}
+use Rattle.flat_machine.specs.declared.machine.Program.{Program}
+use Rattle.desk.specs.Answers.{order_told}
+use Rattle.desk.specs.Desk.{Desk}
+use Rattle.desk.specs.Seen.{IsUnbroken}
+use Rattle.desk.specs.declared.event.Event.{Event}
+use Rattle.job_text.specs.Ready.{IsEventAmong}
+use Rattle.job_text.specs.declared.job.Job.{Job}
+use Rattle.supervisor.specs.Session.{activity}
+use Rattle.supervisor.specs.declared.session.Session.{Session}
+use Rattle.supervisor.specs.contracts.supervisor.SessionSupervisor.TheImpl.{ghosts}
+use Rattle.schedule_replay.specs.Asked.{is_turn, begins_in, turns_in}
+use Rattle.schedule_replay.specs.Ran.{HasOpened}
+use Rattle.schedule_replay.specs.Replays.{Replays}
+use Rattle.schedule_replay.specs.declared.events.Replayed.{Replayed}
+use Rattle.call_status.specs.declared.status.Status.{Status}
+use Rattle.job_calls.specs.Causes.{status_of_replay, OpensBy}
+use Rattle.job_calls.specs.Headline.{HappenedTo, names_of}
+use Rattle.job_calls.proofs.CauseLemmas.{opens-by, put-rose, put-same, disk-rose}
+use Rattle.job_calls.proofs.NameLemmas.{name-unbroken, asked-among}
+use Rattle.job_calls.proofs.RunLemmas.{happened-by, has-opened, first_desk}
+use Rattle.job_calls.proofs.run.run_job.Goals as goal
+
+pub replay-replayed-requires-clause-ready : goal.replay-replayed-requires-clause-ready
+replay-replayed-requires-clause-ready g c =
+    let made = c.in-Ok.ensures.new in
+    let ready = c.requires in
+    let events = c.deref-2.ensures.value in
+    let begins : begins_in c.deref-2.result.now ≡ c.args.begins = ap (λ (these : List Event). begins_in these) events ∙ sym c.requires.begins in
+    let turns : turns_in c.deref-2.result.now ≤ length c.deref-2.result.now = count_by-le-length is_turn c.deref-2.result.now in
+    let few : length c.deref-2.result.now ≡ length c.args.job.events.items = ap (λ (these : List Event). length these) events in
+    let programs : length c.args.job.programs.items ≡ length (activity c.in-Ok.session).programs = sym (ap (λ (these : List Program). length these) made.programs_are) in
+    record {
+      sound = made.sound;
+      asked = λ k d within. asked-among (length (activity c.in-Ok.session).programs) (get_or c.deref-2.result.now k d)
+          (subst (λ (n : ℕ). IsEventAmong n (get_or c.deref-2.result.now k d)) programs
+          (subst (λ (these : List Event). All (IsEventAmong (length c.args.job.programs.items)) these) (sym events) ready.ready.events k d within));
+      begins = omega (arith, made.none_given, begins, made.begins_are);
+      turns = omega (arith, turns, few, c.requires.ready.few, made.no_turns);
+      bytes = c.in-Ok.ensures.room;
+    }
+
+pub replay-replayed-requires-clause-unbroken : goal.replay-replayed-requires-clause-unbroken
+replay-replayed-requires-clause-unbroken g c =
+    subst (λ (names : List (ArrayVec ℕ)). All (λ (name : ArrayVec ℕ). IsUnbroken name.items) names) (sym c.deref.ensures.value)
+    (λ k d within. name-unbroken (get_or c.args.job.names.items k d).items (c.requires.ready.names k d within))
+
+-- no more commits than begins
+pub filled-requires-clause-room : goal.filled-requires-clause-room
+filled-requires-clause-room g c =
+    let new = c.replay-replayed.new.desk in
+    let told : length (order_told c.order.result.now) ≡ length (order_told new.order.items) = ap length c.order.ensures in
+    let few : vec_len new.order ≤ new.begins = c.replay-replayed.ensures.sound.room.commits in
+    let begins : new.begins ≡ c.in-Ok.session.begins = c.replay-replayed.ensures.begins in
+    omega (arith, told, length-map {B = ℕ × ℕ} c.order.result.now (λ commit. (commit.activation, commit.steps)), length-map {B = ℕ × ℕ} new.order.items (λ commit. (commit.activation, commit.steps)), new.order.ok.0, few, begins, c.in-Ok.ensures.new.begins_are, c.requires.room)
+
+-- what was replayed, in the job's words
+replays : {W : Type 0} (G : Ghosts W) (names : List (List ℕ)) (events : List Event) (job : Job) (desk new : Session) (start after : W) (result : Replayed)
+    → names ≡ names_of job → events ≡ job.events.items
+    → ((first : Desk) → HasOpened ghosts G desk start first → Replays ghosts G names (activity desk).programs desk.opened events first new start after result)
+    → (first : Desk) → HasOpened ghosts G desk start first → Replays ghosts G (names_of job) (activity desk).programs desk.opened job.events.items first new start after result
+replays G names events job desk new start after result same_names same_events did =
+    subst (λ (those : List (List ℕ)). (first : Desk) → HasOpened ghosts G desk start first → Replays ghosts G those (activity desk).programs desk.opened job.events.items first new start after result) same_names
+    (subst (λ (those : List Event). (first : Desk) → HasOpened ghosts G desk start first → Replays ghosts G names (activity desk).programs desk.opened those first new start after result) same_events did)
+
+pub returns-clause-opened : goal.returns-clause-opened
+returns-clause-opened g c =
+    let G = g.W.Outside in
+    let before = c.args.outside.now in
+    let start = c.open.new.outside in
+    let after = c.replay-replayed.new.outside in
+    let result = c.replay-replayed.result in
+    subst (λ (now : Status). OpensBy G before after now) (sym c.status_of_replay.ensures)
+    (opens-by G before start after c.in-Ok.session c.replay-replayed.new.desk result c.in-Ok.ensures.told c.replay-replayed.ensures.ends
+    (λ offset is honest told.
+    let opens = c.in-Ok.ensures.opened honest told in
+    subst (λ (those : Replayed). Replays ghosts G (map (λ name. name.items) c.deref.result.now) (activity c.in-Ok.session).programs c.in-Ok.session.opened c.deref-2.result.now (first_desk G c.args.job.frames before start c.in-Ok.session opens c.in-Ok.ensures.asks) c.replay-replayed.new.desk start after those) is
+    (c.replay-replayed.ensures.replays (first_desk G c.args.job.frames before start c.in-Ok.session opens c.in-Ok.ensures.asks) (has-opened G c.args.job.frames before start c.in-Ok.session opens c.in-Ok.ensures.asks))))
+
+pub returns-clause-put : goal.returns-clause-put
+returns-clause-put g c = λ is.
+    let rose = put-rose g.W.Outside c.open.new.outside c.replay-replayed.new.outside c.in-Ok.session c.replay-replayed.new.desk c.replay-replayed.result c.replay-replayed.ensures.ends (sym c.status_of_replay.ensures ∙ is) in
+    omega (arith, rose, c.in-Ok.ensures.asks.calls.put)
+
+pub returns-clause-unfailed : goal.returns-clause-unfailed
+returns-clause-unfailed g c = λ is.
+    put-same g.W.Outside c.open.new.outside c.replay-replayed.new.outside c.in-Ok.session c.replay-replayed.new.desk c.replay-replayed.result c.replay-replayed.ensures.ends (sym c.status_of_replay.ensures ∙ is) ∙ c.in-Ok.ensures.asks.calls.put
+
+pub returns-clause-happened : goal.returns-clause-happened
+returns-clause-happened g c =
+    let G = g.W.Outside in
+    let job = c.args.job in
+    let desk = c.in-Ok.session in
+    let new = c.replay-replayed.new.desk in
+    let before = c.args.outside.now in
+    let start = c.open.new.outside in
+    let after = c.replay-replayed.new.outside in
+    let result = c.replay-replayed.result in
+    let did = replays G _ c.deref-2.result.now job desk new start after result (ap (map (λ name. name.items)) c.deref.ensures.value) c.deref-2.ensures.value c.replay-replayed.ensures.replays in
+    subst (λ (now : Status). HappenedTo G job before after (order_told c.filled.result.items) (Some new) now) (sym c.status_of_replay.ensures)
+    (subst (λ (order : List (ℕ × ℕ)). HappenedTo G job before after order (Some new) (status_of_replay result)) (sym (ap order_told c.filled.ensures ∙ c.order.ensures))
+    (happened-by G g.met.W.Outside.fewer_later g.met.W.Outside.printed_now job before start after desk new c.in-Ok.ensures.opened c.in-Ok.ensures.asks c.in-Ok.ensures.new.programs_are c.replay-replayed.ensures.opened
+    c.replay-replayed.ensures.honest c.replay-replayed.ensures.time c.in-Ok.ensures.unfailed result did result refl))
+
+pub returns-clause-disk : goal.returns-clause-disk
+returns-clause-disk g c = λ is.
+    let rose = disk-rose g.W.Outside c.open.new.outside c.replay-replayed.new.outside c.in-Ok.session c.replay-replayed.new.desk c.replay-replayed.result c.in-Ok.ensures.new.still_open c.replay-replayed.ensures.ends (sym c.status_of_replay.ensures ∙ is) in
+    omega (arith, rose, c.in-Ok.ensures.asks.calls.disk)

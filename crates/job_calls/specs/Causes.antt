@@ -1,0 +1,36 @@
+-- How a call that runs events ends, and what the bytes of its disk tell of that.
+use Rattle.std.specs.Prelude.{◌≡◌, ◌≢◌, ◌⊎◌, ℕ, IsSome, IsTrue}
+use Rattle.outside.specs.declared.world.Outside.{Ghosts}
+use Rattle.outside.specs.Runs.{held_of}
+use Rattle.schedule_replay.specs.declared.events.Replayed.{Replayed}
+use Rattle.schedule_replay.specs.declared.events.Replayed.TheVariants as replayed
+use Rattle.call_status.specs.declared.status.Status.{Status}
+use Rattle.call_status.specs.declared.status.Status.TheVariants as status
+use Rattle.call_status.specs.Opening.{IsFaultAt, IsFaultSince, IsStanding}
+use Rattle.call_status.specs.Statuses.{IsOfOpening, IsPastOpening}
+
+-- the status of a replay
+abbrev pub status_of_replay : Replayed → Status
+status_of_replay replayed.Ended = Status.Done
+status_of_replay replayed.Closed = Status.DiskFault
+status_of_replay (replayed.Damaged offset) = Status.Store offset
+status_of_replay replayed.PutFault = Status.PutFault
+
+-- What the bytes of a disk tell of the status with which a job ran on it. An honest disk whose bytes stand is never told otherwise.
+pub record OpensBy {W : Type 0} (G : Ghosts W) (before now : W) (status : Status) : Type 0 where
+  pub no_store : (offset : ℕ) → status ≡ Status.Store offset → IsSome (G.held before) → IsFaultAt (held_of G before) offset ⊎ (IsSome (G.held now) → IsFaultSince (held_of G before) (held_of G now) offset)
+  pub store : IsPastOpening status → IsSome (G.held before) → IsStanding (held_of G before)
+  pub never : IsTrue (G.is_honest before) → IsSome (G.held before) → IsStanding (held_of G before) → (offset : ℕ) → status ≢ Status.Store offset
+
+-- a status of events that run on a disk's store
+abbrev pub IsOfEvents : Status → Type 0
+IsOfEvents status.Done = Unit {0}
+IsOfEvents status.PutFault = Unit {0}
+IsOfEvents other = IsOfOpening other
+
+-- a status of a command that runs a job
+abbrev pub IsOfRun : Status → Type 0
+IsOfRun (status.Job line kind) = Unit {0}
+IsOfRun status.SourceFault = Unit {0}
+IsOfRun status.TooBig = Unit {0}
+IsOfRun other = IsOfEvents other

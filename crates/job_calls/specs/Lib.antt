@@ -1,0 +1,4 @@
+pub mod Causes
+pub mod Handed
+pub mod Headline
+pub mod Big

@@ -1,0 +1,19 @@
+use Rattle.std.proofs.Common.{◌≡◌, ◌<◌, ◌≤◌, ◌-◌, ◌%◌, length}
+use Rattle.std.specs.Prelude.{Ok}
+use Rattle.outside.specs.Runs.{held_of}
+use Rattle.store_format.specs.Stands.{stands}
+use Rattle.restart.specs.Shows.{IsShown}
+use Rattle.store_calls.specs.Show.{PutsBytes, bytes_in}
+use Rattle.store_calls.proofs.show.put_range.Given as goal
+
+-- the bytes so far are put
+abbrev pub invariant-parts : goal.invariant-parts
+invariant-parts g l = record {
+  inside : l.done ≤ l.range.count;
+  whole : l.done < l.range.count → l.done % 16 ≡ 0;
+  puts : PutsBytes g.W.Outside l.store l.at l.range.from l.done l.initial.outside l.outside (Ok tt);
+  long : IsShown g.W.Outside l.store l.initial.outside → length (bytes_in (stands (held_of g.W.Outside l.initial.outside)) l.at l.done) ≡ l.done;
+}
+
+abbrev pub decreases-parts : goal.decreases-parts
+decreases-parts g l = l.range.count - l.done

@@ -1,0 +1,3 @@
+pub mod TryStore
+pub mod Show
+pub mod New

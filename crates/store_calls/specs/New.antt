@@ -1,0 +1,69 @@
+-- What making a store did.
+use Rattle.std.specs.Prelude.{◌≡◌, ℕ, ◌+◌, ◌<◌, List, [], ◌++◌, codes, decimal, length, Some, IsSome, IsTrue}
+use Rattle.std.specs.Option.{option_map}
+use Rattle.outside.specs.declared.world.Outside.{Ghosts}
+use Rattle.outside.specs.Bytes.{Torn}
+use Rattle.outside.specs.Durable.{IsSure}
+use Rattle.outside.specs.Moments.{Elapses}
+use Rattle.outside.specs.Runs.{OnlyAsks, Leaves, held_of}
+use Rattle.store_format.specs.Header.{Header, total, fresh}
+use Rattle.call_status.specs.declared.status.Status.{Status}
+use Rattle.call_status.specs.declared.status.Status.TheVariants as status
+use Rattle.call_status.specs.Printed.{PrintsBy, PutsOnce}
+
+-- the line of a new store: how many bytes it has
+abbrev pub new_line : Header → List ℕ
+new_line header = codes "new " ++ decimal (total header) ++ codes "\n"
+
+-- The disk was empty, where it tells its bytes, and holds these now, which are sure where it is honest too; one write succeeded.
+pub record IsWrittenWhole {W : Type 0} (G : Ghosts W) (bytes : List ℕ) (old new : W) : Type 0 where
+  pub held : IsSome (G.held old) → held_of G old ≡ [] → G.held new ≡ Some bytes
+  pub sure : IsTrue (G.is_honest old) → IsSome (G.held old) → IsSure G new
+  pub writes : G.writes new ≡ option_map (λ count. count + 1) (G.writes old)
+
+-- The bytes are those of a store with nothing in it, where they are told, and sure where the disk is honest too; one write succeeded.
+pub record IsFresh {W : Type 0} (G : Ghosts W) (header : Header) (before after : W) : Type 0 where
+  pub empty : IsSome (G.held before) → held_of G before ≡ []
+  pub held : IsSome (G.held before) → G.held after ≡ Some (fresh header)
+  pub sure : IsTrue (G.is_honest before) → IsSome (G.held before) → IsSure G after
+  pub writes : G.writes after ≡ option_map (λ count. count + 1) (G.writes before)
+
+-- a disk that tells its bytes holds others now at most among so many from the front
+abbrev pub IsTornBy : {W : Type 0} → Ghosts W → ℕ → W → W → Type 0
+IsTornBy G count old new = IsSome (G.held old) → IsSome (G.held new) × Torn 0 count (held_of G old) (held_of G new)
+
+-- the same of the bytes of a store
+abbrev pub IsTorn : {W : Type 0} → Ghosts W → Header → W → W → Type 0
+IsTorn G header before after = IsTornBy G (total header) before after
+
+-- whenever a crash comes, it leaves what one may have left at the start, or that with any bytes among so many from the front
+abbrev pub LeavesTorn : {W : Type 0} → Ghosts W → ℕ → W → W → Type 0
+LeavesTorn G count before after =
+    IsTrue (G.is_honest before) → IsSome (G.held before)
+    → Leaves G (λ image seen. (start : List ℕ) × (begun : List ℕ) × G.left_since before (G.moment before) start begun × Torn 0 count start image) before after
+
+-- what it did, by the status; other statuses don't come
+abbrev pub MadeBy : {W : Type 0} → Ghosts W → Header → W → W → Status → Type 0
+MadeBy G header before after status.Done = IsFresh G header before after × PrintsBy (G.printed before) (G.printed after) (new_line header) status.Done × PutsOnce G before after
+MadeBy G header before after status.PutFault = IsFresh G header before after × PrintsBy (G.printed before) (G.printed after) (new_line header) status.PutFault
+MadeBy G header before after status.DiskFault = (G.printed after ≡ G.printed before) × IsTorn G header before after
+MadeBy G header before after status.Exists = OnlyAsks G before after × (IsSome (G.held before) → 0 < length (held_of G before))
+MadeBy G header before after status.NoMemory = OnlyAsks G before after
+MadeBy G header before after _ = ⊥
+
+-- what it did; there is no order
+pub record Made {W : Type 0} (G : Ghosts W) (header : Header) (before after : W) (order : List (ℕ × ℕ)) (status : Status) : Type 0 where
+  pub no_order : order ≡ []
+  pub honest : G.is_honest after ≡ G.is_honest before
+  pub time : Elapses G.moment G.left_since before after
+  pub crash : LeavesTorn G (total header) before after
+  pub by_status : MadeBy G header before after status
+
+-- a status of making a store
+abbrev pub IsOfNew : Status → Type 0
+IsOfNew status.Done = Unit {0}
+IsOfNew status.PutFault = Unit {0}
+IsOfNew status.DiskFault = Unit {0}
+IsOfNew status.Exists = Unit {0}
+IsOfNew status.NoMemory = Unit {0}
+IsOfNew _ = ⊥

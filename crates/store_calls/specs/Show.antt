@@ -1,0 +1,114 @@
+-- What printing bytes of a store did.
+use Rattle.std.specs.Prelude.{◌≡◌, ◌⊎◌, ℕ, ◌+◌, ◌≤◌, List, [], length, Some, IsSome, Result, Ok, Err, OnOk, IfErr}
+use Rattle.std.specs.Int.{div_ceil}
+use Rattle.outside.specs.declared.world.Outside.{Ghosts}
+use Rattle.outside.specs.Bytes.{Prints, bytes_at}
+use Rattle.outside.specs.Causes.{Rose}
+use Rattle.outside.specs.Moments.{Elapses}
+use Rattle.outside.specs.Runs.{OnlyAsks, held_of}
+use Rattle.line_geometry.specs.Directory.{Layout, length_of, start_of}
+use Rattle.line_geometry.specs.FlatStore.{FlatStore}
+use Rattle.store_format.specs.Stands.{Standing, Stands, NotAStore, Damaged, stands}
+use Rattle.restart.specs.Kept.{KeptStore}
+use Rattle.restart.specs.Shows.{IsShown}
+use Rattle.listing.specs.Listing.{row_lines}
+use Rattle.call_status.specs.declared.status.Status.{Status}
+use Rattle.call_status.specs.declared.status.Status.TheVariants as status
+use Rattle.store_calls.specs.declared.show.Range.{Range}
+use Rattle.call_status.specs.Opening.{IsFaultAt}
+use Rattle.call_status.specs.Printed.{PrintsBy}
+use Rattle.call_status.specs.Statuses.{IsOfOpening}
+
+-- the range lies in a segment of the directory
+abbrev pub IsInside : Layout → Range → Type 0
+IsInside directory range = (bytes : ℕ) × (length_of directory range.segment ≡ Some bytes) × (range.from + range.count ≤ bytes)
+
+-- so many bytes of what stands, from a place on
+abbrev pub bytes_in : Standing → ℕ → ℕ → List ℕ
+bytes_in (Stands number store) at count = bytes_at store.bytes at count
+bytes_in (NotAStore offset) at count = []
+bytes_in (Damaged offset) at count = []
+
+-- the rows of a range of a store: each begins with the offset in the segment of its first byte
+abbrev pub rows_of : FlatStore → Range → List ℕ
+rows_of store range = row_lines range.from (bytes_at store.bytes (start_of store.directory range.segment + range.from) range.count)
+
+-- Calls that ask the disk, and puts: the bytes held stay, and each image that a crash may have left since is one that it may have left at the start.
+pub record OnlyShows {W : Type 0} (G : Ghosts W) (old new : W) : Type 0 where
+  pub held : G.held new ≡ G.held old
+  pub writes : G.writes new ≡ G.writes old
+  pub honest : G.is_honest new ≡ G.is_honest old
+  pub time : Elapses G.moment G.left_since old new
+  pub disk : G.disk_faults old ≤ G.disk_faults new
+  pub put : G.put_faults old ≤ G.put_faults new
+  pub told : IsSome (G.printed old) → IsSome (G.printed new)
+  pub images : IsSome (G.held old) → (image seen : List ℕ) → G.left_since new (G.moment old) image seen → (start : List ℕ) × G.left_since old (G.moment old) image start
+
+-- how puts of these bytes went, by the result: all are printed, or a prefix of them
+abbrev pub PutsDone : {W : Type 0} → Ghosts W → List ℕ → W → W → Result (Unit {0}) Status → Type 0
+PutsDone G bytes old new (Ok done) = Prints {T = Unit {0}} (G.printed old) (G.printed new) bytes (Ok tt)
+PutsDone G bytes old new (Err status) = Prints {T = Unit {0}} (G.printed old) (G.printed new) bytes (Err (record {}))
+
+-- why it stopped: the disk's or the screen's count rose
+abbrev pub StopsBy : {W : Type 0} → Ghosts W → W → W → Status → Type 0
+StopsBy G old new status.DiskFault = Rose (G.disk_faults old) (G.disk_faults new)
+StopsBy G old new status.PutFault = Rose (G.put_faults old) (G.put_faults new)
+StopsBy G old new _ = ⊥
+
+-- What printing so many bytes of a kept store from a place on did, in rows that begin with this offset: of a store that told bytes show the
+-- rows of its bytes are printed, each by one put, or a prefix of them.
+pub record PutsBytes {W : Type 0} (G : Ghosts W) (store : KeptStore) (at offset count : ℕ) (old new : W) (result : Result (Unit {0}) Status) : Type 0 where
+  pub only : OnlyShows G old new
+  pub printed : IsShown G store old → PutsDone G (row_lines offset (bytes_in (stands (held_of G old)) at count)) old new result
+  pub times : OnOk result (IsSome (G.printed old) → (G.moment new).puts ≡ (G.moment old).puts + div_ceil count 16)
+  pub unfailed : OnOk result (G.put_faults new ≡ G.put_faults old)
+  pub stops : IfErr result (StopsBy G old new)
+
+-- so many bytes were read
+abbrev pub AreRead : {W : Type 0} → Ghosts W → KeptStore → ℕ → ℕ → W → Type 0
+AreRead G store at count old = IsShown G store old → length (bytes_in (stands (held_of G old)) at count) ≡ count
+
+-- and they were put, or nothing was
+abbrev pub HasRead : {W : Type 0} → Ghosts W → KeptStore → ℕ → ℕ → W → W → Result (Unit {0}) Status → Type 0
+HasRead G store at count old new (Ok done) = AreRead G store at count old
+HasRead G store at count old new (Err status) = (G.printed new ≡ G.printed old) ⊎ AreRead G store at count old
+
+-- the told bytes stand for a store that has the range
+abbrev pub HasRange : {W : Type 0} → Ghosts W → Range → W → Type 0
+HasRange G range before = IsSome (G.held before) → (number : ℕ) × (store : FlatStore) × (stands (held_of G before) ≡ Stands number store) × IsInside store.directory range
+
+-- and for one that hasn't
+abbrev pub HasNoRange : {W : Type 0} → Ghosts W → Range → W → Type 0
+HasNoRange G range before = IsSome (G.held before) → (number : ℕ) × (store : FlatStore) × (stands (held_of G before) ≡ Stands number store) × (IsInside store.directory range → ⊥)
+
+-- where the told bytes stand for a store: its rows are printed, or a prefix of them
+abbrev pub PrintsRows : {W : Type 0} → Ghosts W → Range → W → W → Status → Type 0
+PrintsRows G range before after status =
+    IsSome (G.held before) → (number : ℕ) (store : FlatStore) → stands (held_of G before) ≡ Stands number store → PrintsBy (G.printed before) (G.printed after) (rows_of store range) status
+
+-- each row by one put
+abbrev pub PutsRows : {W : Type 0} → Ghosts W → Range → W → W → Type 0
+PutsRows G range before after = IsSome (G.printed before) → (G.moment after).puts ≡ (G.moment before).puts + div_ceil range.count 16
+
+-- what it did, by the status; other statuses don't come
+abbrev pub ShownBy : {W : Type 0} → Ghosts W → Range → W → W → Status → Type 0
+ShownBy G range before after status.Done = HasRange G range before × PrintsRows G range before after status.Done × PutsRows G range before after
+ShownBy G range before after status.PutFault = HasRange G range before × PrintsRows G range before after status.PutFault
+ShownBy G range before after status.DiskFault = PrintsRows G range before after status.DiskFault
+ShownBy G range before after status.NoRange = OnlyAsks G before after × HasNoRange G range before
+ShownBy G range before after (status.Store offset) = OnlyAsks G before after × (IsSome (G.held before) → IsFaultAt (held_of G before) offset)
+ShownBy G range before after status.NoMemory = OnlyAsks G before after
+ShownBy G range before after _ = ⊥
+
+-- what it did; it writes nothing
+pub record Shown {W : Type 0} (G : Ghosts W) (range : Range) (before after : W) (order : List (ℕ × ℕ)) (status : Status) : Type 0 where
+  pub no_order : order ≡ []
+  pub only : OnlyShows G before after
+  pub by_status : ShownBy G range before after status
+
+-- a status of printing bytes of a store
+abbrev pub IsOfShow : Status → Type 0
+IsOfShow status.Done = Unit {0}
+IsOfShow status.PutFault = Unit {0}
+IsOfShow status.NoRange = Unit {0}
+IsOfShow other = IsOfOpening other

@@ -1,0 +1,291 @@
+//! One job and each way in which it can end, and texts that are no job; the expected bytes are worked out by hand.
+use call_status::Status;
+use desk::Committed;
+use job_calls::run_source;
+use outside::{Call, Joint, MemoryDisk, MemoryScreen, MemorySource, Refusal};
+use std::alloc::{AllocError, Global};
+use std::process::Abort;
+use std::test::Fail;
+use store_calls::try_store;
+
+/// One program that adds 5 to the first word of segment 1, and a turn of a hundred rows for it.
+const ONE_ADD: &[u8] =
+    b"frames 2\nprogram add5\n.window 1, 1, rw\n.word 0xD8601000\n.word 0xCD360000\n.word 0xC1330005\n.word 0xDD360000\n.word 0xC0000000\nend\nschedule\nbegin add5\nturn 1 100\nend\n";
+
+/// The same with a turn of three rows.
+const THREE_ROWS: &[u8] =
+    b"frames 2\nprogram add5\n.window 1, 1, rw\n.word 0xD8601000\n.word 0xCD360000\n.word 0xC1330005\n.word 0xDD360000\n.word 0xC0000000\nend\nschedule\nbegin add5\nturn 1 3\nend\n";
+
+/// Where the first record of bank A has its gate.
+const GATE: usize = 264;
+
+/// The record that the job leaves: an open gate, one line, number 1, line 0, and its first word. Zeros follow.
+const RECORD: [u8; 19] = [0xA5, 0, 1, 0, 0, 0, 0, 0, 0, 0, 1, 0, 0, 0, 0, 0, 0, 0, 5];
+
+/// The same behind a closed gate.
+const BODY: [u8; 19] = [0, 0, 1, 0, 0, 0, 0, 0, 0, 0, 1, 0, 0, 0, 0, 0, 0, 0, 5];
+
+/// The job's one commit.
+const COMMIT: Committed = Committed {
+    activation: 1,
+    steps: 5,
+};
+
+/// The bytes of a source.
+#[derive(Clone, Copy)]
+enum Text {
+    Bytes(&'static [u8]),
+    Zeros(usize),
+}
+
+/// What is handed in, what fails, and what it comes to.
+#[derive(Clone, Copy)]
+struct Case {
+    name: &'static str,
+    text: Text,
+    failing_reads: &'static [u32],
+    other_byte: Option<usize>,
+    failing_sync: Option<u32>,
+    failing_put: Option<u32>,
+    status: Status,
+    printed: &'static [u8],
+    order: &'static [Committed],
+    record: [u8; 19],
+}
+
+/// A program of two sources, of which the second has a routine that stores.
+const TWO_SOURCES: &[u8] =
+    b"frames 2\nprogram two\n.window 1, 1, rw\ncau r6, r0, 0x1000\nbali r15, put\nsvc 0\n.part\n.export put\nput: st r2, 0(r6)\nbnbr pz, r15\n; last\nend\nschedule\nbegin two 9\nturn 1 9\nend\n";
+
+/// The record of its commit.
+const NINE: [u8; 19] = [0xA5, 0, 1, 0, 0, 0, 0, 0, 0, 0, 1, 0, 0, 0, 0, 0, 0, 0, 9];
+
+/// Nothing fails, and nothing comes of it.
+const PLAIN: Case = Case {
+    name: "",
+    text: Text::Bytes(ONE_ADD),
+    failing_reads: &[],
+    other_byte: None,
+    failing_sync: None,
+    failing_put: None,
+    status: Status::Done,
+    printed: b"",
+    order: &[],
+    record: [0; 19],
+};
+
+const CASES: [Case; 13] = [
+    Case {
+        name: "one add",
+        printed: b"open 0\nbegin 1 add5\nturn 1 ran 5 page 1 lock 2\ncommit 1 number 1 steps 5 out -\nend 1\n",
+        order: &[COMMIT],
+        record: RECORD,
+        ..PLAIN
+    },
+    Case {
+        name: "two sources",
+        text: Text::Bytes(TWO_SOURCES),
+        printed: b"open 0\nbegin 1 two\nturn 1 ran 5 page 1 lock 1\ncommit 1 number 1 steps 5 out -\nend 1\n",
+        order: &[COMMIT],
+        record: NINE,
+        ..PLAIN
+    },
+    Case {
+        name: "a turn that ends before the commit",
+        text: Text::Bytes(THREE_ROWS),
+        printed: b"open 0\nbegin 1 add5\nturn 1 ran 3 page 1 lock 1\nleft 1\nend 0\n",
+        ..PLAIN
+    },
+    Case {
+        name: "a byte too many",
+        text: Text::Zeros(1_048_577),
+        status: Status::TooBig,
+        ..PLAIN
+    },
+    Case {
+        name: "no job",
+        text: Text::Bytes(b"no job\n"),
+        status: Status::Job(1, 10),
+        ..PLAIN
+    },
+    Case {
+        name: "a label that stands twice",
+        text: Text::Bytes(b"frames 2\nprogram p\nx: svc 0\nx: svc 0\nend\n"),
+        status: Status::Job(4, 5),
+        ..PLAIN
+    },
+    Case {
+        name: "another store",
+        other_byte: Some(9),
+        status: Status::Store(8),
+        ..PLAIN
+    },
+    Case {
+        name: "a source that fails",
+        failing_reads: &[1],
+        status: Status::SourceFault,
+        ..PLAIN
+    },
+    Case {
+        name: "the gate's sync fails",
+        failing_sync: Some(2),
+        status: Status::DiskFault,
+        printed: b"open 0\nbegin 1 add5\nturn 1 ran 4 page 1 lock 2\ndoubt 1 number 1\nclosed\n",
+        order: &[COMMIT],
+        record: RECORD,
+        ..PLAIN
+    },
+    Case {
+        name: "the body's sync fails",
+        failing_sync: Some(1),
+        status: Status::DiskFault,
+        printed: b"open 0\nbegin 1 add5\nturn 1 ran 4 page 1 lock 2\nclosed\n",
+        record: BODY,
+        ..PLAIN
+    },
+    Case {
+        name: "the opening's sync fails",
+        failing_sync: Some(0),
+        status: Status::DiskFault,
+        ..PLAIN
+    },
+    Case {
+        name: "the commit's line fails",
+        failing_put: Some(4),
+        status: Status::PutFault,
+        printed: b"open 0\nbegin 1 add5\nturn 1 ran 5 page 1 lock 2\n",
+        order: &[COMMIT],
+        record: RECORD,
+        ..PLAIN
+    },
+    Case {
+        name: "a selector that chooses the first bank all the same",
+        other_byte: Some(128),
+        printed: b"open 0\nbegin 1 add5\nturn 1 ran 5 page 1 lock 2\ncommit 1 number 1 steps 5 out -\nend 1\n",
+        order: &[COMMIT],
+        record: RECORD,
+        ..PLAIN
+    },
+];
+
+/// Texts that are no job: the line and the kind of the first fault of each.
+const HOSTILE: [(&[u8], u32, u8); 10] = [
+    (b"", 1, 10),
+    (b"frames 1\n", 1, 11),
+    (b"frames 2\nschedule\nbegin p\n", 3, 12),
+    (b"frames 2\nprogram p\nend\nprogram p\n", 4, 13),
+    (b"frames 2\nprogram p\n.space 16385\nend\n", 3, 8),
+    (b"frames 2\nprogram p\n.window 16, 1, r\nend\n", 3, 9),
+    (b"frames 2\nprogram p\nq r1, r2\n", 3, 2),
+    (b"frames 2\nprogram p\n\xff\n", 3, 1),
+    (
+        b"frames 2\nprogram p\nend\nschedule\nbegin p\nturn 1 0\n",
+        6,
+        11,
+    ),
+    (
+        b"frames 2\nprogram p\nend\nschedule\nbegin p\nbegin p\ndrain 5001 1\n",
+        7,
+        11,
+    ),
+];
+
+/// A source of these bytes, which fails at these reads.
+fn source_of(alloc: Global, case: &Case) -> Result<MemorySource, AllocError> {
+    let bytes = match case.text {
+        Text::Bytes(bytes) => Vec::from_slice(alloc, bytes)?,
+        Text::Zeros(count) => vec![in alloc; 0; count]?,
+    };
+    Ok(MemorySource::new(bytes, Vec::from_slice(alloc, case.failing_reads)?))
+}
+
+/// The bytes that the disk holds at first, but for the bytes of a first record.
+fn store_of(alloc: Global, case: &Case, record: &[u8; 19]) -> Result<Vec<u8>, AllocError> {
+    let mut bytes = try_store(alloc)?;
+    if let Some(byte) = case.other_byte.and_then(|at| bytes.get_mut(at)) {
+        *byte = 3;
+    }
+    if let Some(place) = bytes.as_mut_slice().get_mut(GATE..GATE + record.len()) {
+        place.copy_from_slice(record);
+    }
+    Ok(bytes)
+}
+
+/// A disk and a screen with the failures of a case.
+fn outside_of(alloc: Global, case: &Case) -> Result<Joint<MemoryDisk, MemoryScreen>, AllocError> {
+    let mut refusals = Vec::new(alloc);
+    if let Some(skip) = case.failing_sync {
+        refusals.push(Refusal {
+            call: Call::Sync,
+            from: 0,
+            to: 0,
+            skip,
+        })?;
+    }
+    let mut fails = Vec::new(alloc);
+    if let Some(put) = case.failing_put {
+        fails.push((put, 0))?;
+    }
+    let disk = MemoryDisk::new(alloc, store_of(alloc, case, &[0; 19])?, refusals);
+    Ok(Joint::new(disk, MemoryScreen::new(alloc, fails)))
+}
+
+/// What a case left.
+#[derive(Drop)]
+struct Left {
+    status: Status,
+    order: Vec<Committed>,
+    printed: Vec<u8>,
+    held: Vec<u8>,
+}
+
+/// Runs a case.
+fn run_case(alloc: Global, case: &Case) -> Result<Left, AllocError> {
+    let mut job = source_of(alloc, case)?;
+    let mut outside = outside_of(alloc, case)?;
+    let ended = run_source(alloc, &mut job, &mut outside);
+    let (disk, screen) = outside.into_parts();
+    Ok(Left {
+        status: ended.status,
+        order: ended.order,
+        printed: screen.into_bytes(),
+        held: disk.into_image(),
+    })
+}
+
+/// Runs a case, and looks whether it left what it should.
+fn assert_case(rt: &impl Abort, alloc: Global, case: &Case) -> Result<(), Fail> {
+    let order = Vec::from_slice(alloc, case.order)?;
+    let store = store_of(alloc, case, &case.record)?;
+    let left = run_case(alloc, case)?;
+    assert_eq!(rt; left.status, case.status, "{}", case.name);
+    assert_eq!(rt; left.order, order, "{}", case.name);
+    assert!(rt; left.printed.as_slice() == case.printed, "{}", case.name);
+    assert_eq!(rt; left.held.len(), 143_632, "{}", case.name);
+    assert!(rt; left.held == store, "{}", case.name);
+    Ok(())
+}
+
+#[test]
+fn a_job_ends_as_its_parts_let_it(rt: HostRuntime) -> Result<(), Fail> {
+    for case in &CASES {
+        assert_case(&rt, rt.alloc(), case)?;
+    }
+    Ok(())
+}
+
+#[test]
+fn a_text_that_is_no_job_is_told(rt: HostRuntime) -> Result<(), Fail> {
+    for (text, line, kind) in &HOSTILE {
+        let left = run_case(
+            rt.alloc(),
+            &Case {
+                text: Text::Bytes(text),
+                ..PLAIN
+            },
+        )?;
+        assert_eq!(rt; left.status, Status::Job(*line, *kind));
+        assert!(rt; left.printed.is_empty());
+    }
+    Ok(())
+}

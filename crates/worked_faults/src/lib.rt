@@ -1,0 +1,8 @@
+//! Worked examples of runs that end early: of each part that fails, of disks that stop within a write, and of stores that are
+//! damaged. Tests alone; nothing stands on it.
+#![tactic(auto)]
+
+#[cfg(test)]
+mod crash_tests;
+#[cfg(test)]
+mod ending_tests;
