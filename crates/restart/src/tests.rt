@@ -322,12 +322,16 @@ fn a_store_of_version_two_makes_its_own_room(rt: HostRuntime) -> Result<(), Fail
     let mut disk = disk_of(alloc, wide_filled(&rt, alloc)?, Vec::new(alloc));
     let mut store = Durable::open(alloc, &mut disk).expect(&rt, "a store");
     assert_eq!(rt; store.header().directory().fine(), 2);
-    store.record_start();
+    assert!(rt; store.header().directory().page() == PageSize::Four);
+    assert!(rt; store.header().directory().line_count() == 32);
+    assert!(rt; store.header().bank_bytes() == 4096);
+    begin_lines(&mut store, 1);
     assert_eq!(rt; store.commit(&mut disk), Kept::Done);
     assert_eq!(rt; store.number(), 2);
-    for (at, byte) in [(128, 1), (4367, 1), (4368, 0xa5), (4378, 2)] {
+    for (at, byte) in [(128, 1), (4367, 1), (4368, 0xa5), (4370, 1), (4378, 2)] {
         set(&mut wanted, at, byte);
     }
+    set_entries(&mut wanted, 4379, 1, 256);
     set_lines(&mut wanted, 8464, 15, 256);
     let (disk, _) = disk.into_parts();
     assert_eq!(rt; disk.bytes(), wanted.as_slice());
