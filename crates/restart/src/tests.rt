@@ -276,9 +276,8 @@ fn a_fault_while_room_is_made_is_told(rt: HostRuntime) -> Result<(), Fail> {
 
 // A store of 32 lines of 256 bytes, whose bank has room for one record of fifteen.
 fn wide_store(rt: &impl Abort, alloc: Global) -> Result<Vec<u8>, AllocError> {
-    let directory =
-        Directory::with_fine(PageSize::Four, &[(1, 1), (2, 1)], 2).expect(rt, "a directory");
-    Header::new(directory, 4096).fresh(alloc)
+    let directory = Directory::with_fine(PageSize::Four, &[(1, 1), (2, 1)], 2);
+    Header::new(directory.expect(rt, "a directory"), 4096).fresh(alloc)
 }
 
 // That store with one record of fifteen lines.
