@@ -2,6 +2,7 @@
 use Rattle.std.specs.Prelude.{◌≡◌, refl, ℕ, ◌+◌, ◌<◌, ◌≤◌, ◌==◌, Bool, true, false, List, [], ◌∷◌, length, map, Some, IsSome}
 use Rattle.std.proofs.Common.{arith, ap, sym, ◌∙◌, subst}
 use Rattle.std.proofs.lemmas.Bool.{eqb-true}
+use Rattle.line_geometry.specs.Directory.{Layout}
 use Rattle.lock_rules.specs.Sets.{has}
 use Rattle.line_locks.specs.Held.{AreWithin}
 use Rattle.line_locks.specs.declared.request.Request.{Request}
@@ -67,13 +68,13 @@ module _ (a : Activity) (seat : ℕ) (request : Request) (sound : IsSound a) (ta
   stays-asking = record { taken = taken; number = numbers seat; selected = λ is. record { runner = is.runner; registers = is.registers } }
 
 -- a request for whole pages
-pub asked-within : (a : Activity) (wants asked : List Want) → IsSound a → AreWanted a.reach.directory wants → asked ≡ map with_whole_page wants → AreWithin a.seating.holding.pages asked
+pub asked-within : (a : Activity) (wants asked : List Want) → IsSound a → AreWanted a.reach.directory wants → asked ≡ map (with_whole_page a.reach.directory) wants → AreWithin a.seating.holding.pages asked
 asked-within a wants asked sound wanted is =
     subst (AreWithin a.seating.holding.pages) (sym is)
-    (within-whole a.seating.holding.pages wants (subst (λ (n : ℕ). AreWithin n wants) (sym sound.pages) wanted.within))
+    (within-whole a.reach.directory a.seating.holding.pages wants (subst (λ (n : ℕ). AreWithin n wants) (sym sound.pages) wanted.within))
 
-pub asked-whole : (wants asked : List Want) → AreOfPage wants → asked ≡ map with_whole_page wants → AreOfPage asked
-asked-whole wants asked sets is = subst AreOfPage (sym is) (whole-of-page wants sets)
+pub asked-whole : (directory : Layout) (wants asked : List Want) → AreOfPage wants → asked ≡ map (with_whole_page directory) wants → AreOfPage asked
+asked-whole directory wants asked sets is = subst AreOfPage (sym is) (whole-of-page directory wants sets)
 
 -- where some are, there is a first
 pub some-holders : (numbers : List ℕ) → (length numbers == 0) ≡ false → (holder : ℕ) × (others : List ℕ) × (numbers ≡ holder ∷ others)

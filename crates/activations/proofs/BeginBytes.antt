@@ -8,15 +8,16 @@ use Rattle.std.proofs.lemmas.List.{get_or-take, get_or-drop, length-take, length
 use Rattle.std.proofs.lemmas.Grind.{same_number_lists}
 use Rattle.owned_list.proofs.Overlay.{length-overlaid, overlaid_before, overlaid_within, overlaid_behind}
 use Rattle.line_geometry.specs.declared.directory.PageSize.{PageSize}
-use Rattle.line_geometry.specs.declared.directory.PageSize.TheVariants.{Two}
 use Rattle.line_geometry.specs.Directory.{Layout, byte_count}
 use Rattle.line_geometry.specs.Lines.{page_of}
 use Rattle.line_geometry.specs.Segments.{page_bytes}
 use Rattle.frame_pool.specs.declared.model.Pool.{Pool}
 use Rattle.frame_pool.specs.Pool.{frame_at, with_bytes}
-use Rattle.frame_pool.specs.Sizes.{private_frames, frame_count}
+use Rattle.frame_pool.specs.Sizes.{private_frames}
 use Rattle.storage_unit.specs.Bytes.{byte_in_frame, byte_over, bytes_over, private_bytes, is_marked}
 use Rattle.storage_unit.specs.Laws.{Fits}
+use Rattle.storage_unit.proofs.SizeLemmas.{frame-high}
+use Rattle.activations.proofs.SizeLemmas.{private-all}
 
 -- a byte of a part of a list
 in-range : (xs : List ℕ) (from count k : ℕ) → k < count → slice_index (slice_range xs from (from + count)) k ≡ slice_index xs (from + k)
@@ -37,19 +38,16 @@ first_bytes image = image ++ replicate (16384 - length image) 0
 long-first : (image : List ℕ) → length image ≤ 16384 → length (first_bytes image) ≡ 16384
 long-first image few = length-append image (replicate (16384 - length image) 0) ∙ ap (λ (n : ℕ). length image + n) (length-replicate (16384 - length image) 0) ∙ omega (arith, few)
 
-module _ (directory : Layout) (pool : Pool) (fits : Fits directory pool) (two : directory.page ≡ Two) (seat : ℕ) (below : seat < 16) (image : List ℕ) (few : length image ≤ 16384) where
+module _ (directory : Layout) (pool : Pool) (fits : Fits directory pool) (seat : ℕ) (below : seat < 16) (image : List ℕ) (few : length image ≤ 16384) where
   abbrev pub filled : Pool
   filled = with_bytes pool (seat * 16384) (first_bytes image)
 
   long-part : length (first_bytes image) ≡ 16384
   long-part = long-first image few
 
-  size : pool.page ≡ Two
-  size = fits.size ∙ two
-
   -- the private bytes of all seats are there
   long-all : 262144 ≤ length pool.bytes
-  long-all = let is : length pool.bytes ≡ (128 + pool.frames) * 2048 = fits.seen.bytes ∙ ap (λ (s : PageSize). frame_count s pool.frames * page_bytes s) size in omega (arith, is)
+  long-all = private-all pool.page pool.frames (length pool.bytes) fits.seen.bytes
 
   long-filled : length filled.bytes ≡ length pool.bytes
   long-filled = length-overlaid pool.bytes (seat * 16384) (first_bytes image) (omega (arith, long-part, long-all, below))
@@ -87,9 +85,9 @@ module _ (directory : Layout) (pool : Pool) (fits : Fits directory pool) (two : 
   -- a frame of a page of the store has what it had
   pub store-frame : (place frame : ℕ) → frame_at pool (page_of directory place) ≡ Some frame → byte_in_frame directory filled place frame ≡ byte_in_frame directory pool place frame
   store-frame place frame there =
-      let first : 128 ≤ frame = subst (λ (s : PageSize). private_frames s ≤ frame) size (fits.seen.above (page_of directory place) frame (fits.seen.there (page_of directory place) frame there)) in
-      let behind : 262144 ≤ frame * page_bytes directory.page + place % page_bytes directory.page =
-      subst (λ (s : PageSize). 262144 ≤ frame * page_bytes s + place % page_bytes s) (sym two) (omega (arith, first)) in
+      let first : private_frames directory.page ≤ frame =
+      subst (λ (s : PageSize). private_frames s ≤ frame) fits.size (fits.seen.above (page_of directory place) frame (fits.seen.there (page_of directory place) frame there)) in
+      let behind = frame-high directory.page frame first in
       overlaid_behind pool.bytes (seat * 16384) (first_bytes image) (frame * page_bytes directory.page + place % page_bytes directory.page) 0 (omega (arith, long-all, below)) (omega (arith, long-part, behind, below))
 
   -- and all see what they saw

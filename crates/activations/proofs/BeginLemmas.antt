@@ -8,7 +8,6 @@ use Rattle.std.proofs.lemmas.List.{length-map, length-set, map-append, get_or_re
 use Rattle.std.proofs.lemmas.List.Elements.{All-from_get_or}
 use Rattle.std.proofs.lemmas.List.Folds.{list_any-append}
 use Rattle.std.proofs.lemmas.Option.{slice_get-get_or}
-use Rattle.line_geometry.specs.declared.directory.PageSize.TheVariants.{Two}
 use Rattle.line_geometry.specs.FlatStore.{FlatStore}
 use Rattle.lock_rules.specs.Sets.{has}
 use Rattle.lock_rules.specs.Lines.{no_lines}
@@ -224,8 +223,8 @@ module _ (a : Activity) (program : ℕ) (args : List ℕ) (seat : ℕ) (sound : 
         few = subst (λ (l : Live). length l.out ≤ 4096) (sym live-begun) (omega arith);
       }
 
-  -- What it shows, over a store with pages of 2,048 bytes.
-  module _ (committed : List ℕ) (follows : Follows a committed) (fits : Fits a.reach.directory a.reach.pool) (two : a.reach.directory.page ≡ Two) (known : program < length a.programs) where
+  -- What it shows.
+  module _ (committed : List ℕ) (follows : Follows a committed) (fits : Fits a.reach.directory a.reach.pool) (known : program < length a.programs) where
     abbrev store : FlatStore
     store = store_over a committed
 
@@ -249,7 +248,7 @@ module _ (a : Activity) (program : ℕ) (args : List ℕ) (seat : ℕ) (sound : 
               regs = (sym live-begun i).cpu.regs;
               cs = (sym live-begun i).cpu.cs;
               iar = (sym live-begun i).cpu.iar;
-              private = sym (private-there a.reach.directory a.reach.pool fits two seat below code.image code.image_fits) i;
+              private = sym (private-there a.reach.directory a.reach.pool fits seat below code.image code.image_fits) i;
               out = (sym live-begun i).out;
             });
           })
@@ -259,7 +258,7 @@ module _ (a : Activity) (program : ℕ) (args : List ℕ) (seat : ℕ) (sound : 
         regs = (sym live_is i).cpu.regs;
         cs = (sym live_is i).cpu.cs;
         iar = (sym live_is i).cpu.iar;
-        private = sym (private-other a.reach.directory a.reach.pool fits two seat below code.image code.image_fits at (taken-below a.seating sound.seating at old) (elsewhere at old)) i;
+        private = sym (private-other a.reach.directory a.reach.pool fits seat below code.image code.image_fits at (taken-below a.seating sound.seating at old) (elsewhere at old)) i;
         store = [];
         out = (sym live_is i).out;
       }
@@ -290,7 +289,7 @@ module _ (a : Activity) (program : ℕ) (args : List ℕ) (seat : ℕ) (sound : 
             (λ at old. subst (λ (e : Entry). IsState store e (state_in new at)) (sym (entry-old at (elsewhere at old))) (subst (IsState store (entry_in a at)) (state-old at old) (follows.kept.stand at old)));
         is_current =
             subst (λ (these : List Entry). IsCurrent store these (shown new committed)) (sym entries-begun)
-            (subst (IsCurrent store (entries a ++ last ∷ [])) (sym (shown-same a.reach.directory a.reach.pool fits two seat below code.image code.image_fits committed))
+            (subst (IsCurrent store (entries a ++ last ∷ [])) (sym (shown-same a.reach.directory a.reach.pool fits seat below code.image code.image_fits committed))
             (current-begun store a.most_lines a.next (entries a) follows.orderly.active (shown a committed) last refl orderly-begun.active follows.kept.is_current));
         marked =
             subst (λ (these : List Entry). AreMarked store these (is_line_marked new.reach.pool)) (sym entries-begun)
@@ -300,7 +299,7 @@ module _ (a : Activity) (program : ℕ) (args : List ℕ) (seat : ℕ) (sound : 
                   ∙ sym (list_any-append (λ (one : Entry). has (due_to store one).writes line) (entries a) (last ∷ []) ∙ or_no (list_any (λ (one : Entry). has (due_to store one).writes line) (entries a)));
             });
         clean = λ place frame within there unmarked.
-            store-frame a.reach.directory a.reach.pool fits two seat below code.image code.image_fits place frame there ∙ follows.kept.clean place frame within there unmarked;
+            store-frame a.reach.directory a.reach.pool fits seat below code.image code.image_fits place frame there ∙ follows.kept.clean place frame within there unmarked;
       }
         where
           or_no : (b : Bool) → (b || false) ≡ b
@@ -332,7 +331,7 @@ module _ (a : Activity) (program : ℕ) (args : List ℕ) (sound : IsSound a) (k
       by_cases (Some seat) e (Some segment) = sound-given a sound
       by_cases (Some seat) e None = let (below, free, room) = some-next a seat sound e in sound-begun a program args seat sound below free known
 
-  module _ (committed : List ℕ) (follows : Follows a committed) (fits : Fits a.reach.directory a.reach.pool) (two : a.reach.directory.page ≡ Two) where
+  module _ (committed : List ℕ) (follows : Follows a committed) (fits : Fits a.reach.directory a.reach.pool) where
     begin-is : (order : List (ℕ × ℕ)) → step a.programs (Begin program args) Fine (desk_over a committed order) ≡ begin program this (desk_over a committed order)
     begin-is order = ap (λ (found : Option Program). begin_if program args found (desk_over a committed order)) (slice_get-get_or a.programs program no_program known)
 
@@ -371,7 +370,7 @@ module _ (a : Activity) (program : ℕ) (args : List ℕ) (sound : IsSound a) (k
               is_step = λ order.
                   with_room order None room lacks
                   ∙ (λ i. record { desk = sym (desk-begun a program args seat sound below free committed order) i; happening = Began a.next program });
-              follows = follows-begun a program args seat sound below free committed follows fits two known room lacks;
+              follows = follows-begun a program args seat sound below free committed follows fits known room lacks;
             }
 
 -- Which of the three it comes to.
@@ -400,11 +399,11 @@ module _ (a : Activity) (program : ℕ) (args : List ℕ) (sound : IsSound a) wh
   begins-started seat free present = λ i. begun.begins_by (free i) (present i) a program args
 
   -- so it is the desk's
-  pub begin-goes : (now : Activity) (told : Begun) → program < length a.programs → Fits a.reach.directory a.reach.pool → a.reach.directory.page ≡ Two
+  pub begin-goes : (now : Activity) (told : Begun) → program < length a.programs → Fits a.reach.directory a.reach.pool
       → told ≡ (begun.begins a program args).0 → now ≡ (begun.begins a program args).1 → (committed : List ℕ) → Follows a committed → IsBegin a now program args told committed
-  begin-goes now told known fits two is_told is_new committed follows =
+  begin-goes now told known fits is_told is_new committed follows =
       subst (λ (n : Activity). IsBegin a n program args told committed) (sym is_new)
-      (subst (λ (t : Begun). IsBegin a (begun.begins a program args).1 program args t committed) (sym is_told) (is-begin a program args sound known committed follows fits two))
+      (subst (λ (t : Begun). IsBegin a (begun.begins a program args).1 program args t committed) (sym is_told) (is-begin a program args sound known committed follows fits))
 
 -- the program that was read at a place
 pub is-code : (programs : List Program) (place at : ℕ) (code : Program) → place < length programs → at ≡ place → code ≡ slice_index_or programs at code → code ≡ program_at programs place

@@ -6,10 +6,9 @@ use Rattle.std.proofs.lemmas.Bool.{both_ways, eq-eqb, or_left, ltb-false}
 use Rattle.std.proofs.lemmas.List.{take-append-le, take-take, length-append, length-take, length-drop}
 use Rattle.std.proofs.lemmas.List.Quantifiers.{position-Some}
 use Rattle.line_geometry.specs.declared.directory.PageSize.{PageSize}
-use Rattle.line_geometry.specs.declared.directory.PageSize.TheVariants.{Two}
 use Rattle.line_geometry.specs.Directory.{Layout, byte_count, page_count}
 use Rattle.line_geometry.specs.Segments.{page_bytes}
-use Rattle.line_geometry.proofs.Within.{byte_count-pages}
+use Rattle.line_geometry.proofs.Within.{byte_count-lines}
 use Rattle.lock_rules.specs.Resident.{brought}
 use Rattle.lock_rules.specs.Sets.{has}
 use Rattle.lock_rules.proofs.Sets.{has_left}
@@ -44,11 +43,13 @@ use Rattle.storage_unit.specs.Bytes.{IsClean, private_bytes}
 use Rattle.storage_unit.specs.Laws.{Fits, Keeps, filled, page_in}
 use Rattle.storage_unit.proofs.BringKeeps.{bring-keeps}
 use Rattle.storage_unit.proofs.FailedBringKeeps.{failed-bring-keeps}
+use Rattle.storage_unit.proofs.SizeLemmas.{frame-high}
 use Rattle.storage_unit.proofs.UnitLemmas.{unit-sound, sound-fits}
 use Rattle.storage_unit.proofs.LeaveLemmas.{emptied-frame}
 use Rattle.storage_unit.proofs.StateLemmas.{laid-bytes, room-stays, emptied-stays}
 use Rattle.activations.specs.Fetching.{IsStoreOf, IsIn}
 use Rattle.activations.specs.Steps.{IsMoved}
+use Rattle.activations.proofs.SizeLemmas.{private-all}
 
 -- a store stays open, with the same bytes, while the disk is only asked
 pub store-on : {W : Type 0} (G : Ghosts W) (fewer_later : FewerLater G) (store : KeptStore) (old new : W) (committed : List ℕ) → OnlyAsks G old new
@@ -70,23 +71,22 @@ bytes_in (Damaged offset) = []
 
 -- what is committed in an open store is as long as its directory says
 pub committed-long : {W : Type 0} (G : Ghosts W) (store : KeptStore) (outside : W) (committed : List ℕ) → IsStoreOf G store outside committed
-    → store.header.directory.page ≡ Two → length committed ≡ byte_count store.header.directory
-committed-long G store outside committed is two =
+    → length committed ≡ byte_count store.header.directory
+committed-long G store outside committed is =
     let stored = shown_store (held_of G outside) store is.tracks.shows in
     let agree = store_agrees (held_of G outside) store.header store.bank.which store.bank.base store.bank.gate is.tracks.shows.read.records stored in
     ap (λ (standing : Standing). length (bytes_in standing))
     (sym is.stood ∙ stands_is (held_of G outside) store.header store.bank.which store.bank.base store.bank.gate is.tracks.shows.read.records stored)
     ∙ agree.long
-    ∙ omega (arith, byte_count-pages store.header.directory, ap (λ (s : PageSize). page_count store.header.directory * page_bytes s) two)
+    ∙ sym (byte_count-lines store.header.directory)
 
 -- a page that is read is that part of what is committed
 pub page-read : (standing : Standing) (number : ℕ) (directory : Layout) (committed : List ℕ) (page : ℕ) → standing ≡ Stands number (record { directory = directory; bytes = committed })
-    → directory.page ≡ Two → restart.page_in standing page ≡ page_in directory committed page
-page-read standing number directory committed page stood two =
-    let rest : 2048 ≡ page * 2048 + 2048 - page * 2048 = omega arith in
+    → restart.page_in standing page ≡ page_in directory committed page
+page-read standing number directory committed page stood =
+    let rest : page_bytes directory.page ≡ page * page_bytes directory.page + page_bytes directory.page - page * page_bytes directory.page = omega arith in
     ap (λ (s : Standing). restart.page_in s page) stood
-    ∙ ap (λ (n : ℕ). take n (drop (page * 2048) committed)) rest
-    ∙ sym (ap (λ (s : PageSize). slice_range committed (page * page_bytes s) (page * page_bytes s + page_bytes s)) two)
+    ∙ ap (λ (n : ℕ). take n (drop (page * page_bytes directory.page) committed)) rest
 
 -- bytes in front of a part that is written over stay
 front-over : (xs : List ℕ) (at : ℕ) (part : List ℕ) (low : ℕ) → low ≤ at → low ≤ length xs → (take low (overlaid xs at part) ≡ take low xs) × (low ≤ length (overlaid xs at part))
@@ -107,7 +107,7 @@ front-laid page frame low (line ∷ lines) pool before inside =
     front-laid page frame low lines (line_laid page frame pool line) before one.1 ∙ one.0
 
 -- The pool once a page came into a frame that was filled with these bytes, and its kept lines lie over them.
-module _ (directory : Layout) (two : directory.page ≡ Two) (old new : Pool) (page : ℕ) (keep : Option ℕ) (frame : ℕ) (bytes : List ℕ)
+module _ (directory : Layout) (old new : Pool) (page : ℕ) (keep : Option ℕ) (frame : ℕ) (bytes : List ℕ)
     (fits : Fits directory old) (also : Fits directory new) (came : Brought old new page keep frame) where
   abbrev read : Pool
   read = with_bytes new (frame * page_bytes new.page) bytes
@@ -115,15 +115,12 @@ module _ (directory : Layout) (two : directory.page ≡ Two) (old new : Pool) (p
   pub filled-resident : (filled new page frame bytes).resident ≡ brought old.frames (option_to_list keep) old.resident page
   filled-resident = ap (λ (pool : Pool). pool.resident) (laid-bytes read page) ∙ ap (λ (pool : Pool). pool.resident) came.rest
 
-  size : new.page ≡ Two
-  size = also.size ∙ two
-
   -- the first bytes are private
   all-private : 262144 ≤ length new.bytes
-  all-private = omega (arith, also.seen.bytes, ap (λ (s : PageSize). frame_count s new.frames * page_bytes s) size)
+  all-private = private-all new.page new.frames (length new.bytes) also.seen.bytes
 
   behind : (other : ℕ) → private_frames new.page ≤ other → 262144 ≤ other * page_bytes new.page
-  behind other above = omega (arith, subst (λ (s : PageSize). private_frames s ≤ other) size above, ap (λ (s : PageSize). other * page_bytes s) size)
+  behind other above = frame-high new.page other above
 
   front-read : (take 262144 read.bytes ≡ take 262144 new.bytes) × (262144 ≤ length read.bytes)
   front-read = front-over new.bytes (frame * page_bytes new.page) bytes 262144 (behind frame (subst (λ (s : PageSize). private_frames s ≤ frame) (fits.size ∙ sym also.size) came.above)) all-private
@@ -257,23 +254,22 @@ module _ (unit brought_in now : Unit) (page : ℕ) (keep : Option ℕ) (frame : 
       ∙ ap (λ (pool : Pool). laid pool page) (lent-part brought_in.pool (frame * page_bytes brought_in.pool.places.page) part (omega (arith, inside, whole)))
 
   pub now-moved : IsMoved (reach_of unit).pool (reach_of now).pool
-  now-moved = subst (IsMoved (reach_of unit).pool) (sym pool-filled) (moved-filled unit.directory unit.two (reach_of unit).pool (reach_of brought_in).pool page keep frame part before there came)
+  now-moved = subst (IsMoved (reach_of unit).pool) (sym pool-filled) (moved-filled unit.directory (reach_of unit).pool (reach_of brought_in).pool page keep frame part before there came)
 
   pub now-came : (reach_of now).pool.resident ≡ brought unit.pool.places.frames (option_to_list keep) unit.pool.places.resident.items page
-  now-came = ap (λ (pool : Pool). pool.resident) pool-filled ∙ filled-resident unit.directory unit.two (reach_of unit).pool (reach_of brought_in).pool page keep frame part before there came
+  now-came = ap (λ (pool : Pool). pool.resident) pool-filled ∙ filled-resident unit.directory (reach_of unit).pool (reach_of brought_in).pool page keep frame part before there came
 
   -- it was read
   pub now-keeps : {W : Type 0} (G : Ghosts W) (store : KeptStore) (outside : W) → store.header.directory ≡ unit.directory → page < page_count unit.directory → has unit.pool.places.resident.items page ≡ false
       → (restart.IsShown G store outside → part ≡ restart.page_in (stands (held_of G outside)) page)
       → (committed : List ℕ) → IsStoreOf G store outside committed → IsClean unit.directory (reach_of unit).pool committed → Keeps unit.directory (reach_of unit).pool (reach_of now).pool committed
   now-keeps G store outside same below absent reads committed is clean =
-      let two : store.header.directory.page ≡ Two = ap (λ (d : Layout). d.page) same ∙ unit.two in
       let was : part ≡ page_in unit.directory committed page =
-      reads (record { told = is.tracks.sure.told; shows = is.tracks.shows }) ∙ page-read (stands (held_of G outside)) is.number store.header.directory committed page is.stood two ∙ ap (λ (d : Layout). page_in d committed page) same in
+      reads (record { told = is.tracks.sure.told; shows = is.tracks.shows }) ∙ page-read (stands (held_of G outside)) is.number store.header.directory committed page is.stood ∙ ap (λ (d : Layout). page_in d committed page) same in
       subst (λ (pool : Pool). Keeps unit.directory (reach_of unit).pool pool committed)
       (sym (pool-filled ∙ ap (filled (reach_of brought_in).pool page frame) was))
       (bring-keeps unit.directory (reach_of unit).pool (reach_of brought_in).pool committed page keep frame before there
-      (committed-long G store outside committed is two ∙ ap byte_count same) clean below absent came)
+      (committed-long G store outside committed is ∙ ap byte_count same) clean below absent came)
 
   -- it couldn't be read, and all pages went out
   module _ (after : Unit) (empties : reach_of after ≡ record (reach_of now) { pool = emptied (reach_of now).pool }) where

@@ -5,6 +5,7 @@ use Rattle.std.proofs.Common.{arith, ap, sym, ◌∙◌, subst, inl, inr, set-se
 use Rattle.std.proofs.lemmas.Bool.{both_ways, eqb-true, ne_eqb, or_cases, or_left}
 use Rattle.std.proofs.lemmas.Bool.Decides.{nat_tests}
 use Rattle.std.proofs.lemmas.List.Elements.{All-head, All-tail}
+use Rattle.line_geometry.specs.Directory.{is_fine_page}
 use Rattle.line_geometry.specs.FlatStore.{FlatStore}
 use Rattle.lock_rules.specs.Sets.{has}
 use Rattle.lock_rules.specs.Lines.{Lines, both, page_of_line, pages_of, with_whole_pages}
@@ -55,7 +56,7 @@ use Rattle.activations.specs.Turning.{HasBroken, HasEnded}
 use Rattle.activations.proofs.ContestLemmas.{orderly-other}
 use Rattle.activations.proofs.EndLemmas.{sound-pool}
 use Rattle.activations.proofs.KeptLemmas.{keeps-locked, keeps-rolled}
-use Rattle.activations.proofs.GrantedLemmas.{granted-free, goes-shown, refused-not, under-locked}
+use Rattle.activations.proofs.GrantedLemmas.{granted-free, lowered-free, goes-shown, refused-not, under-locked}
 use Rattle.activations.proofs.PoolLemmas.{moved-kept}
 use Rattle.activations.proofs.RollbackLemmas.{WereForgotten, were-forgotten, forgotten-fewer, of-held, kept-left}
 use Rattle.activations.proofs.ServedLemmas.{served}
@@ -102,7 +103,7 @@ left-locked : (a : Activity) (seat : ℕ) (wants : List Want) (owned : List Auth
 left-locked a seat wants owned i =
     record (left a.seating seat) {
       holding = record a.seating.holding {
-        seats = set-set a.seating.holding.seats seat (with_wants (of_seat a.seating.holding seat) (map with_whole_page wants)) (no_lines_of a.seating.holding.pages) i;
+        seats = set-set a.seating.holding.seats seat (with_wants (of_seat a.seating.holding seat) (map (with_whole_page a.reach.directory) wants)) (no_lines_of a.seating.holding.pages) i;
       };
     }
 
@@ -111,7 +112,7 @@ module _ (begins : Word → Turning) (attempt : Attempt) (refused : List ℕ) (a
     (sound : IsSound a) (taken : has a.seating.taken seat ≡ true) (later : IsSound (locked a seat wants owned)) (wanted_here : AreWanted a.reach.directory wants)
     (number : attempt.entry.number ≡ (sitter a.seating seat).number) (free : IsFree begins attempt refused a committed order counts) (lines : attempt.lines ≡ lines_wanted wants)
     (below_pages : (page : ℕ) → has refused page ≡ true → page < length a.reach.entries)
-    (grants : AreGranted (locked a seat wants owned) seat refused a.reach.entries owned)
+    (grants : AreGranted (locked a seat wants owned) seat wants refused a.reach.entries owned)
     (next : Plain) (goes : attempt.outcome ≡ On next) where
   abbrev store : FlatStore
   store = store_over a committed
@@ -137,13 +138,14 @@ module _ (begins : Word → Turning) (attempt : Attempt) (refused : List ℕ) (a
       fetched = subst (λ (pages : List ℕ). fetches Fine a.reach.pool.frames pages pages a.reach.pool.resident counts.pages ≡ Fetched pool.resident counted) (sym touched-are) came.fetched;
     }
 
-    pub got-served : IsServed begins (with_pool (locked a seat wants owned) pool) seat committed order (record counts { pages = counted })
+    pub got-served : IsServed begins (with_pool (locked a seat wants owned) pool) seat wants committed order (record counts { pages = counted })
     got-served = record {
       long = free.follows.kept.long;
       clean = came.keeps.clean;
-      goes = λ live bytes marked went.
-          served begins attempt refused a seat committed order counts wants owned pool live bytes marked counted next sound taken runner number free goes
-          fetched-here.moved fetched-here.keeps fetched-here.fetched got-free.0 got-free.1 went;
+      goes = λ live bytes marked eased went lowers.
+          served begins attempt refused a seat committed order counts wants owned eased pool live bytes marked counted next sound taken runner number free goes
+          fetched-here.moved fetched-here.keeps fetched-here.fetched got-free.0
+          (lowered-free begins attempt refused a seat committed order counts wants owned sound taken later wanted_here number free lines below_pages grants eased lowers) went;
       row_goes =
           goes-shown begins attempt refused a seat committed order counts wants owned sound taken later wanted_here number free lines below_pages grants
           pool runner resident next counted fetched-here goes;
@@ -166,7 +168,7 @@ module _ (begins : Word → Turning) (attempt : Attempt) (refused : List ℕ) (a
 
     -- what the seat holds now is due once the row has gone on
     due-next : due_to store (gone_on attempt.entry) ≡ locks_with attempt old
-    due-next = due-more store attempt.entry ∙ ap (λ (l : Lines). with_whole_pages (both (touched_of store attempt.entry) l)) (sym free.ready.lines)
+    due-next = due-more store attempt.entry ∙ ap (λ (l : Lines). with_whole_pages (is_fine_page a.reach.directory) (both (touched_of store attempt.entry) l)) (sym free.ready.lines)
 
     holds : AreAlike (locks_in (locked a seat wants owned) seat) (due_to store (gone_on attempt.entry))
     holds = subst (AreAlike (locks_in (locked a seat wants owned) seat)) (sym due-next) got-free.0
@@ -274,9 +276,9 @@ module _ (begins : Word → Turning) (attempt : Attempt) (refused : List ℕ) (a
         → ((page : ℕ) → has (pages_wanted wants) page ≡ true → has new.reach.pool.resident page ≡ true)
         → ((committed : List ℕ) (order : List (ℕ × ℕ)) → IsStoreOf G kept_store outside committed → IsClean mid.reach.directory mid.reach.pool committed
         → IsFetched mid committed order (pages_wanted wants) counts.pages new.reach.pool counted)
-        → IsServed begins new seat committed order (record counts { pages = counted })
+        → IsServed begins new seat wants committed order (record counts { pages = counted })
     served-so runner shape resident came =
-        subst (λ (x : Activity). IsServed begins x seat committed order (record counts { pages = counted })) (sym (shape ∙ ap (λ (x : Activity). with_pool x new.reach.pool) is))
+        subst (λ (x : Activity). IsServed begins x seat wants committed order (record counts { pages = counted })) (sym (shape ∙ ap (λ (x : Activity). with_pool x new.reach.pool) is))
         (got-served new.reach.pool counted runner resident
         (subst (λ (x : Activity). IsFetched x committed order (pages_wanted wants) counts.pages new.reach.pool counted) is (came committed order is_store clean-mid)))
 
@@ -288,12 +290,12 @@ module _ (begins : Word → Turning) (attempt : Attempt) (refused : List ℕ) (a
         (got-broken here.pool new.reach.pool counted (here.off committed order is_store free.follows.kept.clean) here.undone)
 
 -- by what the answer is
-pub serves-by : {U : Type 0} (P Q R S T V : Type 0) (result : Result U TurnEnd) (begins : Word → Turning) (a : Activity) (seat : ℕ) (committed : List ℕ) (order : List (ℕ × ℕ)) (counts : Counts)
-    → OnOk result P → OnOk result Q → OnOk result R → (P → Q → R → IsServed begins a seat committed order counts)
+pub serves-by : {U : Type 0} (P Q R S T V : Type 0) (result : Result U TurnEnd) (begins : Word → Turning) (a : Activity) (seat : ℕ) (wants : List Want) (committed : List ℕ) (order : List (ℕ × ℕ)) (counts : Counts)
+    → OnOk result P → OnOk result Q → OnOk result R → (P → Q → R → IsServed begins a seat wants committed order counts)
     → IfErr result (λ over. (over ≡ end.Disk) × S × V) → IfErr result (λ over. T) → (T → HasBroken begins a committed order counts)
-    → Serves result begins a seat committed order counts
-serves-by P Q R S T V (Ok nothing) begins a seat committed order counts shape resident came leads ends off breaks = leads shape resident came
-serves-by P Q R S T V (Err over) begins a seat committed order counts shape resident came leads ends off breaks =
+    → Serves result begins a seat wants committed order counts
+serves-by P Q R S T V (Ok nothing) begins a seat wants committed order counts shape resident came leads ends off breaks = leads shape resident came
+serves-by P Q R S T V (Err over) begins a seat wants committed order counts shape resident came leads ends off breaks =
     subst (λ (how : TurnEnd). HasEnded how begins a committed order counts) (sym ends.0) (breaks off)
 
 -- and all parts are as they were

@@ -6,6 +6,8 @@ use Rattle.lock_rules.specs.Sets.{has}
 use Rattle.flat_machine.specs.Row.{Commit, Check}
 use Rattle.romp_cpu.specs.declared.cpu.Attempt.{Attempt}
 use Rattle.desk.specs.Instruction.{Word, Counts, Turning}
+use Rattle.line_locks.specs.declared.request.Want.{Want}
+use Rattle.lockbit_rules.specs.declared.Authority.{Authority}
 use Rattle.seats.specs.declared.seat.Seat.{Seat}
 use Rattle.seats.specs.Seating.{sitter, went_on}
 use Rattle.seats.proofs.Kept.{taken-below}
@@ -14,6 +16,7 @@ use Rattle.activations.specs.Attempted.{TookEffect, WasAttempted, CameTo}
 use Rattle.activations.specs.Follows.{IsSound}
 use Rattle.activations.specs.Instructed.{GoesUncounted, IsServed}
 use Rattle.activations.specs.Kept.{AreRowsWithin, KeepsParts}
+use Rattle.activations.specs.Serving.{AreLowered, pages_lowered, with_entries}
 use Rattle.activations.specs.Steps.{counted}
 use Rattle.activations.proofs.SittingLemmas.{sitter-there, sitter-other}
 
@@ -46,12 +49,14 @@ keeps-counted a seat rows sound taken = record {
         omega (arith, here, same)
 
 -- a row that took effect
-module _ (begins : Word → Turning) (a after : Activity) (seat : ℕ) (committed : List ℕ) (order : List (ℕ × ℕ)) (counts : Counts)
-    (served : IsServed begins a seat committed order counts) where
-  pub took-served : TookEffect a seat after → GoesUncounted begins after seat committed order counts
-  took-served took =
-      subst (λ (x : Activity). GoesUncounted begins x seat committed order counts) (sym took.shape)
-      (served.goes (live_in after seat) after.reach.pool.bytes after.reach.pool.marked (took.went committed served.long served.clean))
+module _ (begins : Word → Turning) (a after : Activity) (seat : ℕ) (wants : List Want) (committed : List ℕ) (order : List (ℕ × ℕ)) (counts : Counts)
+    (served : IsServed begins a seat wants committed order counts) where
+  pub took-served : TookEffect a seat after → (eased : List Authority) → AreLowered after seat (pages_lowered after seat wants) after.reach.entries eased
+      → GoesUncounted begins (with_entries after eased) seat committed order counts
+  took-served took eased lowers =
+      subst (λ (x : Activity). GoesUncounted begins (with_entries x eased) seat committed order counts) (sym took.shape)
+      (served.goes (live_in after seat) after.reach.pool.bytes after.reach.pool.marked eased (took.went committed served.long served.clean)
+      (subst (λ (x : Activity). AreLowered x seat (pages_lowered x seat wants) x.reach.entries eased) took.shape lowers))
 
   -- it comes to nothing else
   pub not-check : (code : ℕ) → CameTo (Check code) a seat after → ⊥

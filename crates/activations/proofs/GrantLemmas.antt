@@ -5,9 +5,10 @@ use Rattle.std.proofs.Common.{arith, ap, sym, ◌∙◌, get_or-set_same, get_or
 use Rattle.std.proofs.lemmas.Bool.{eqb-false}
 use Rattle.std.proofs.lemmas.Bool.Decides.{nat_tests}
 use Rattle.std.proofs.lemmas.List.{length-set}
+use Rattle.line_geometry.specs.Directory.{is_fine_page}
 use Rattle.line_geometry.specs.LineSets.{passing, IsOfPage}
 use Rattle.lock_rules.specs.Sets.{has}
-use Rattle.lock_rules.specs.Lines.{page_of_line, within_page}
+use Rattle.lock_rules.specs.Lines.{page_of_line, within_page, is_whole_page}
 use Rattle.line_locks.specs.Flat.{flat_lines, IsFlat}
 use Rattle.line_locks.specs.Holding.{of_seat, held_at}
 use Rattle.lockbit_rules.specs.declared.Authority.{Authority}
@@ -16,7 +17,8 @@ use Rattle.lockbit_rules.specs.Entries as bits
 use Rattle.inverted_table.specs.Placed.{unowned}
 use Rattle.desk.specs.Desk.{nobody}
 use Rattle.desk.specs.Desk as desk
-use Rattle.desk.specs.Instruction.{authority_by}
+use Rattle.desk.specs.Instruction.{authority_by, fine_authority_by}
+use Rattle.activations.specs.Serving.{entry_given, entry_to_read}
 use Rattle.desk_law.specs.Beside.{IsThere}
 use Rattle.desk_law.specs.Consistent.{Ascend}
 use Rattle.desk_law.proofs.Identifiers.{permitted-told}
@@ -57,29 +59,65 @@ flat-within page set lines of same =
     whole : page * 16 + 0 ≡ page * 16
     whole = omega arith
 
--- What a grant makes of the entry of a page: the authority by the locks that are held in it.
-pub granted-page : (a : Activity) (seat page : ℕ) (one : Authority) → IsSound a
-    → entry_of one ≡ bits.granted (seat + 1) (held_at a.seating.holding seat page).0 (held_at a.seating.holding seat page).1
-    → authority_of page one ≡ authority_by (seat + 1) (within_page page (locks_in a seat).reads) (within_page page (locks_in a seat).writes)
-granted-page a seat page one sound is =
-    ap (λ (e : Entry). record { owner = e.owner; write = e.write; lines = flat_lines page e.lines }) is
-    ∙ by_writes (held_at a.seating.holding seat page).1
-    ∙ (λ i. authority_by (seat + 1) (reads-are i) (writes-are i))
+-- an entry of a page with flat lines
+abbrev flat_entry : (page : ℕ) → Entry → desk.Authority
+flat_entry page entry = record { owner = entry.owner; write = entry.write; lines = flat_lines page entry.lines }
+
+flat-granted : (page tid : ℕ) (reads writes : List ℕ) → flat_entry page (bits.granted tid reads writes) ≡ authority_by tid (flat_lines page reads) (flat_lines page writes)
+flat-granted page tid reads [] = refl
+flat-granted page tid reads (line ∷ lines) = refl
+
+-- as many flat lines as lines
+flat-whole : (page : ℕ) (set : List ℕ) → is_whole_page (flat_lines page set) ≡ is_whole_page set
+flat-whole page set = ap (λ (n : ℕ). n == 16) (length-flat set)
   where
-    flat : IsFlat (of_seat a.seating.holding seat) (locks_in a seat)
-    flat = held-flat (of_seat a.seating.holding seat) (sound.lines seat)
+    length-flat : (set : List ℕ) → length (flat_lines page set) ≡ length set
+    length-flat [] = refl
+    length-flat (line ∷ set) = ap suc (length-flat set)
 
-    reads-are : flat_lines page (held_at a.seating.holding seat page).0 ≡ within_page page (locks_in a seat).reads
-    reads-are = flat-within page (held_at a.seating.holding seat page).0 (locks_in a seat).reads ((sound.lines seat).reads page) (λ x below. sym (flat.reads page x below))
+flat-fine : (page tid : ℕ) (storing : Bool) (reads writes : List ℕ) → flat_entry page (bits.granted_fine tid reads writes storing) ≡ fine_authority_by tid storing (flat_lines page reads) (flat_lines page writes)
+flat-fine page tid true reads writes = refl
+flat-fine page tid false reads writes = by_whole (is_whole_page reads) ∙ ap (λ (whole : Bool). authority_by tid (flat_lines page reads) (if whole then flat_lines page writes else [])) (sym (flat-whole page reads))
+  where
+    by_whole : (whole : Bool) → flat_entry page (bits.granted tid reads (if whole then writes else [])) ≡ authority_by tid (flat_lines page reads) (if whole then flat_lines page writes else [])
+    by_whole true = flat-granted page tid reads writes
+    by_whole false = refl
 
-    writes-are : flat_lines page (held_at a.seating.holding seat page).1 ≡ within_page page (locks_in a seat).writes
-    writes-are = flat-within page (held_at a.seating.holding seat page).1 (locks_in a seat).writes ((sound.lines seat).writes page) (λ x below. sym (flat.writes page x below))
+module _ (a : Activity) (seat page : ℕ) (sound : IsSound a) where
+  flat : IsFlat (of_seat a.seating.holding seat) (locks_in a seat)
+  flat = held-flat (of_seat a.seating.holding seat) (sound.lines seat)
 
-    by_writes : (writes : List ℕ)
-        → record { owner = (bits.granted (seat + 1) (held_at a.seating.holding seat page).0 writes).owner; write = (bits.granted (seat + 1) (held_at a.seating.holding seat page).0 writes).write; lines = flat_lines page (bits.granted (seat + 1) (held_at a.seating.holding seat page).0 writes).lines }
-        ≡ authority_by (seat + 1) (flat_lines page (held_at a.seating.holding seat page).0) (flat_lines page writes)
-    by_writes [] = refl
-    by_writes (line ∷ lines) = refl
+  pub reads-are : flat_lines page (held_at a.seating.holding seat page).0 ≡ within_page page (locks_in a seat).reads
+  reads-are = flat-within page (held_at a.seating.holding seat page).0 (locks_in a seat).reads ((sound.lines seat).reads page) (λ x below. sym (flat.reads page x below))
+
+  writes-are : flat_lines page (held_at a.seating.holding seat page).1 ≡ within_page page (locks_in a seat).writes
+  writes-are = flat-within page (held_at a.seating.holding seat page).1 (locks_in a seat).writes ((sound.lines seat).writes page) (λ x below. sym (flat.writes page x below))
+
+  -- What a grant makes of the entry of a page: the authority by the locks that are held in it, and whether the row stores into it.
+  pub granted-page : (storing : Bool) → flat_entry page (entry_given a seat storing page)
+      ≡ (if is_fine_page a.reach.directory page
+      then fine_authority_by (seat + 1) storing (within_page page (locks_in a seat).reads) (within_page page (locks_in a seat).writes)
+      else authority_by (seat + 1) (within_page page (locks_in a seat).reads) (within_page page (locks_in a seat).writes))
+  granted-page storing = by_fine (is_fine_page a.reach.directory page)
+    where
+      by_fine : (fine : Bool)
+          → flat_entry page
+          (if fine
+          then bits.granted_fine (seat + 1) (held_at a.seating.holding seat page).0 (held_at a.seating.holding seat page).1 storing
+          else bits.granted (seat + 1) (held_at a.seating.holding seat page).0 (held_at a.seating.holding seat page).1)
+          ≡ (if fine
+          then fine_authority_by (seat + 1) storing (within_page page (locks_in a seat).reads) (within_page page (locks_in a seat).writes)
+          else authority_by (seat + 1) (within_page page (locks_in a seat).reads) (within_page page (locks_in a seat).writes))
+      by_fine true = flat-fine page (seat + 1) storing (held_at a.seating.holding seat page).0 (held_at a.seating.holding seat page).1 ∙ (λ i. fine_authority_by (seat + 1) storing (reads-are i) (writes-are i))
+      by_fine false = flat-granted page (seat + 1) (held_at a.seating.holding seat page).0 (held_at a.seating.holding seat page).1 ∙ (λ i. authority_by (seat + 1) (reads-are i) (writes-are i))
+
+  -- and with the write bit off
+  pub lowered-page : flat_entry page (entry_to_read a seat page) ≡ record { owner = seat + 1; write = false; lines = within_page page (locks_in a seat).reads }
+  lowered-page = ap (λ (lines : List ℕ). record { owner = seat + 1; write = false; lines = lines }) reads-are
+
+  -- all its lines are held to read where so many are
+  pub held-whole : is_whole_page (held_at a.seating.holding seat page).0 ≡ is_whole_page (within_page page (locks_in a seat).reads)
+  held-whole = sym (flat-whole page (held_at a.seating.holding seat page).0) ∙ ap is_whole_page reads-are
 
 -- one of a range set
 set-range : (f g : ℕ → desk.Authority) (from n k : ℕ) (value : desk.Authority) → g (from + k) ≡ value → ((x : ℕ) → (x == from + k) ≡ false → g x ≡ f x)

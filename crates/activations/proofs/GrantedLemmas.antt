@@ -1,6 +1,8 @@
 -- Who took what he asked for is granted it as on the desk: his lines are open then, and his next row isn't refused.
-use Rattle.std.specs.Prelude.{◌≡◌, refl, ℕ, zero, suc, ◌+◌, ◌-◌, ◌<◌, Bool, true, false, List, ◌++◌, length, slice_index_or, Some}
-use Rattle.std.proofs.Common.{arith, ap, sym, ◌∙◌, subst}
+use Rattle.std.specs.Prelude.{◌≡◌, refl, ℕ, zero, suc, ◌+◌, ◌-◌, ◌<◌, ◌==◌, ◌&&◌, not, if◌then◌else◌, Bool, true, false, List, [], ◌∷◌, ◌++◌, length, filter, slice_index_or, Some}
+use Rattle.std.proofs.Common.{arith, ap, sym, ◌∙◌, subst, inl, inr}
+use Rattle.std.proofs.lemmas.Bool.{eqb-true, or_cases}
+use Rattle.std.proofs.lemmas.List.Elements.{All-head, All-tail}
 use Rattle.line_geometry.specs.FlatStore.{FlatStore}
 use Rattle.lock_rules.specs.Sets.{has}
 use Rattle.lock_rules.specs.Lines.{Lines, both, page_of_line, pages_of, with_whole_pages}
@@ -16,10 +18,10 @@ use Rattle.flat_machine.specs.Touched.{touched}
 use Rattle.frame_pool.specs.declared.model.Pool.{Pool}
 use Rattle.romp_cpu.specs.declared.storage.Access.{Access}
 use Rattle.desk.specs.Desk.{Desk, Entry, nobody}
-use Rattle.desk.specs.Desk as desk
-use Rattle.desk.specs.Instruction.{Word, Counts, Attempt, Turning, granted, locks_with, touched_pages, with_grants}
+use Rattle.desk.specs.Instruction.{Word, Counts, Attempt, Turning, granted, lowered, locks_with, touched_pages, with_grants}
+use Rattle.line_geometry.specs.Directory.{page_count, is_fine_page}
 use Rattle.desk_law.specs.Beside.{AreAlike, AreThere, IsThere, IsState, over_all, owners_told}
-use Rattle.desk_law.specs.Changes.{gone_on}
+use Rattle.desk_law.specs.Changes.{row_done}
 use Rattle.desk_law.specs.Consistent.{due_to, permitted}
 use Rattle.desk_law.specs.Orderly.{IsOrderly}
 use Rattle.desk_law.proofs.AttemptsOnCurrent.{wanted-is}
@@ -38,13 +40,13 @@ use Rattle.activations.specs.Activity.{Activity, live_in, program_in, entry_in, 
 use Rattle.activations.specs.Attempted.{plain_in, IsShut}
 use Rattle.activations.specs.Follows.{IsSound}
 use Rattle.activations.specs.Serves.{IsFetched}
-use Rattle.activations.specs.Serving.{AreGranted, IsFree, locked}
+use Rattle.activations.specs.Serving.{AreGranted, AreLowered, IsFree, is_lowered, pages_lowered, locked}
 use Rattle.activations.specs.Steps.{with_pool}
 use Rattle.activations.specs.Touched.{AreWanted, pages_wanted}
 use Rattle.activations.proofs.EndLemmas.{sound-pool}
 use Rattle.activations.proofs.GrantLemmas.{opened}
 use Rattle.activations.proofs.GrantingLemmas.{within-whole}
-use Rattle.activations.proofs.TakenLemmas.{taken-alike, granted-all}
+use Rattle.activations.proofs.TakenLemmas.{taken-alike, granted-all, lowered-all}
 
 -- the numbers under identifiers are those of who sits there, whatever is held
 pub under-locked : (a : Activity) (seat : ℕ) (wants : List Want) (owned : List Authority) → number_under (locked a seat wants owned) ≡ number_under a
@@ -54,12 +56,26 @@ under-locked a seat wants owned i tid = at tid i
     at zero = refl
     at (suc seat) = refl
 
+-- some of the pages of which lines are wanted are pages of the store
+lowered-below : (some : Want → Bool) (pages : ℕ) (wants : List Want) → AreWithin pages wants → (page : ℕ) → has (pages_wanted (filter some wants)) page ≡ true → page < pages
+lowered-below some pages [] within page inside = absurd (cc)
+lowered-below some pages (want ∷ wants) within page inside =
+    by_test (some want) inside (lowered-below some pages wants (All-tail (λ (w : Want). w.page < pages) want wants within) page)
+  where
+    by_test : (keeps : Bool) → has (pages_wanted (if keeps then want ∷ filter some wants else filter some wants)) page ≡ true
+        → (has (pages_wanted (filter some wants)) page ≡ true → page < pages) → page < pages
+    by_test true inside rest = elim (or_cases (want.page == page) (has (pages_wanted (filter some wants)) page) inside) [
+      | inl here ↦ subst (λ (p : ℕ). p < pages) (eqb-true want.page page here) (All-head (λ (w : Want). w.page < pages) want wants within)
+      | inr later ↦ rest later
+    ]
+    by_test false inside rest = rest inside
+
 module _ (begins : Word → Turning) (attempt : Attempt) (refused : List ℕ) (a : Activity) (seat : ℕ) (committed : List ℕ) (order : List (ℕ × ℕ)) (counts : Counts)
     (wants : List Want) (owned : List Authority)
     (sound : IsSound a) (taken : has a.seating.taken seat ≡ true) (later : IsSound (locked a seat wants owned)) (wanted_here : AreWanted a.reach.directory wants)
     (number : attempt.entry.number ≡ (sitter a.seating seat).number) (free : IsFree begins attempt refused a committed order counts) (lines : attempt.lines ≡ lines_wanted wants)
     (below_pages : (page : ℕ) → has refused page ≡ true → page < length a.reach.entries)
-    (grants : AreGranted (locked a seat wants owned) seat refused a.reach.entries owned) where
+    (grants : AreGranted (locked a seat wants owned) seat wants refused a.reach.entries owned) where
   abbrev store : FlatStore
   store = store_over a committed
 
@@ -75,7 +91,7 @@ module _ (begins : Word → Turning) (attempt : Attempt) (refused : List ℕ) (a
       one-entry 0 a.next (entries a) (entry_in a seat) (record attempt.entry { waiting = free.ready.mark }) free.follows.orderly.active.ascend
       (seat-told a.seating.taken (entry_in a) seat taken) free.ready.here (sym number)
 
-  held : AreAlike (locks_in a seat) (with_whole_pages (touched_of store attempt.entry))
+  held : AreAlike (locks_in a seat) (with_whole_pages (is_fine_page a.reach.directory) (touched_of store attempt.entry))
   held = subst (λ (e : Entry). AreAlike (locks_in a seat) (due_to store e)) same (free.follows.kept.held seat taken)
 
   inside : AreWithin (length (of_seat a.seating.holding seat)) wants
@@ -84,19 +100,30 @@ module _ (begins : Word → Turning) (attempt : Attempt) (refused : List ℕ) (a
 
   granted-locks : AreAlike (locks_in (locked a seat wants owned) seat) (locks_with attempt (desk_over a committed order))
   granted-locks =
-      subst (λ (l : Lines). AreAlike (locks_in (locked a seat wants owned) seat) (with_whole_pages (both (touched_of store attempt.entry) l))) (sym lines)
-      (taken-alike a seat wants owned (touched_of store attempt.entry) sound below wanted_here.sets (within-whole (length (of_seat a.seating.holding seat)) wants inside) (later.lines seat) held)
+      subst (λ (l : Lines). AreAlike (locks_in (locked a seat wants owned) seat) (with_whole_pages (is_fine_page a.reach.directory) (both (touched_of store attempt.entry) l))) (sym lines)
+      (taken-alike a seat wants owned (touched_of store attempt.entry) sound below wanted_here.sets (within-whole a.reach.directory (length (of_seat a.seating.holding seat)) wants inside) (later.lines seat) held)
 
-  granted-entries : owners_told (number_under a) (authority_under owned) ≡ granted attempt (locks_with attempt (desk_over a committed order)) refused (desk_over a committed order).authority
+  granted-entries : owners_told (number_under a) (authority_under owned) ≡ granted (is_fine_page a.reach.directory) attempt (locks_with attempt (desk_over a committed order)) refused (desk_over a committed order).authority
   granted-entries =
       ap (λ (numbers : ℕ → ℕ). owners_told numbers (authority_under owned)) (sym (under-locked a seat wants owned))
-      ∙ granted-all (locked a seat wants owned) seat attempt (locks_with attempt old) refused a.reach.entries owned later number below_pages granted-locks grants
-      ∙ ap (λ (numbers : ℕ → ℕ). granted attempt (locks_with attempt old) refused (owners_told numbers (authority_under a.reach.entries))) (under-locked a seat wants owned)
+      ∙ granted-all (locked a seat wants owned) seat attempt (locks_with attempt old) wants later number lines wanted_here.sets granted-locks refused a.reach.entries owned below_pages grants
+      ∙ ap (λ (numbers : ℕ → ℕ). granted (is_fine_page a.reach.directory) attempt (locks_with attempt old) refused (owners_told numbers (authority_under a.reach.entries))) (under-locked a seat wants owned)
 
   -- It holds the locks that the desk gives it, and its pages are granted as on the desk.
   pub granted-free : AreAlike (locks_in (locked a seat wants owned) seat) (locks_with attempt (desk_over a committed order))
-      × (owners_told (number_under a) (authority_under owned) ≡ granted attempt (locks_with attempt (desk_over a committed order)) refused (desk_over a committed order).authority)
+      × (owners_told (number_under a) (authority_under owned) ≡ granted (is_fine_page a.reach.directory) attempt (locks_with attempt (desk_over a committed order)) refused (desk_over a committed order).authority)
   granted-free = (granted-locks, granted-entries)
+
+  -- Once the row has taken effect, its write bits go off as on the desk.
+  pub lowered-free : (eased : List Authority) → AreLowered (locked a seat wants owned) seat (pages_lowered (locked a seat wants owned) seat wants) owned eased
+      → owners_told (number_under a) (authority_under eased)
+      ≡ lowered (is_fine_page a.reach.directory) attempt (locks_with attempt (desk_over a committed order)) (with_grants attempt refused (desk_over a committed order)).authority
+  lowered-free eased is =
+      ap (λ (numbers : ℕ → ℕ). owners_told numbers (authority_under eased)) (sym (under-locked a seat wants owned))
+      ∙ lowered-all (locked a seat wants owned) seat attempt (locks_with attempt old) wants later number lines wanted_here.sets granted-locks owned eased
+      (λ page inside. subst (λ (n : ℕ). page < n) (sym later.entries) (lowered-below (λ want. not (length want.writes == 0) && is_lowered (locked a seat wants owned) seat want.page) (page_count a.reach.directory) wants wanted_here.within page inside)) is
+      ∙ ap (lowered (is_fine_page a.reach.directory) attempt (locks_with attempt old))
+      (ap (λ (numbers : ℕ → ℕ). owners_told numbers (authority_under owned)) (under-locked a seat wants owned) ∙ granted-entries)
 
   module _ (pool : Pool) (runner : a.reach.runner ≡ seat + 1)
       (resident : (page : ℕ) → has (pages_wanted wants) page ≡ true → has pool.resident page ≡ true) where
@@ -172,7 +199,7 @@ module _ (begins : Word → Turning) (attempt : Attempt) (refused : List ℕ) (a
       pub goes-shown : (left : Plain) × (row (program_in a seat) a.reach.directory (plain_in (with_pool (locked a seat wants owned) pool) seat committed) ≡ On left)
       goes-shown = (record next { store = runs.other }, sym row-there ∙ runs.went)
         where
-          orderly : IsOrderly (desk.with_entry (got attempt refused pool.resident old) (gone_on attempt.entry))
+          orderly : IsOrderly (row_done attempt (got attempt refused pool.resident old))
           orderly =
               row-goes-on (got attempt refused pool.resident old) attempt next
               (resident-granted attempt (with_grants attempt refused old) pool.resident (grants-held old attempt refused free.ready free.free)) goes

@@ -1,25 +1,27 @@
 -- Locks that are taken and pages that are granted, one after another: what is left is sound.
 use Rattle.std.specs.Prelude.{◌≡◌, refl, ℕ, zero, suc, ◌+◌, ◌<◌, ◌==◌, if◌then◌else◌, Bool, true, false, List, [], ◌∷◌, ◌++◌, length, map, slice_index_or, slice_set}
 use Rattle.std.proofs.Common.{ap, sym, ◌∙◌, subst, inr}
-use Rattle.std.proofs.lemmas.Bool.{eqb-true}
+use Rattle.std.proofs.lemmas.Bool.{eqb-true, eq-eqb, or_left, or_right}
 use Rattle.std.proofs.lemmas.List.{length-set}
 use Rattle.std.proofs.lemmas.List.Elements.{All-cons, All-head, All-tail}
-use Rattle.line_geometry.specs.LineSets.{IsOfPage, between}
+use Rattle.line_geometry.specs.Directory.{Layout, is_fine_page}
+use Rattle.line_geometry.specs.LineSets.{IsOfPage, between, union}
 use Rattle.line_geometry.proofs.LineSetLemmas.{of_page-where}
 use Rattle.lock_rules.specs.Sets.{has}
 use Rattle.line_locks.specs.declared.request.Want.{Want}
 use Rattle.line_locks.specs.Held.{AreWithin, of_page, together, with_want, with_wants}
 use Rattle.line_locks.specs.Holding.{of_seat, held_at, taken as holding_more}
 use Rattle.lockbit_rules.specs.declared.Authority.{Authority}
-use Rattle.lockbit_rules.specs.Entries.{Entry, granted}
+use Rattle.lockbit_rules.specs.Entries.{Entry, granted, granted_fine}
+use Rattle.lock_rules.specs.Lines.{is_whole_page}
 use Rattle.inverted_table.specs.Placed.{unowned}
 use Rattle.seats.specs.Seating.{Seating, took}
 use Rattle.seats.proofs.Kept.{taken-below, kept-took, same-with, other-with}
 use Rattle.activations.specs.declared.touch.Touch.{Touch}
 use Rattle.activations.specs.Activity.{Activity}
 use Rattle.activations.specs.Follows.{AreOfPages, IsIdentified, IsSound}
-use Rattle.activations.specs.Serving.{AreGranted, locked, with_entries}
-use Rattle.activations.specs.Touched.{each_refused, page_if, pages_picked, pages_refused, pages_wanted, refuses_want, wants_of, with_whole_page}
+use Rattle.activations.specs.Serving.{AreSet, AreGranted, AreLowered, entry_given, entry_to_read, locked, with_entries}
+use Rattle.activations.specs.Touched.{each_refused, page_if, pages_picked, pages_refused, pages_wanted, refuses_want, stores_into, wants_of, with_whole_page}
 
 -- what is set is there, or what was
 set-keeps : {A : Type 0} (P : A → Type 0) (xs : List A) (place at : ℕ) (value other : A) → P value → P (slice_index_or xs at other) → P (slice_index_or (slice_set xs place value) at other)
@@ -38,14 +40,14 @@ more-of-pages pages (want ∷ wants) of = more-of-pages (with_want pages want) w
 })
 
 -- with its whole page where one is written, a want is of the same page
-pub within-whole : (pages : ℕ) (wants : List Want) → AreWithin pages wants → AreWithin pages (map with_whole_page wants)
-within-whole pages [] within = within
-within-whole pages (want ∷ wants) within =
-    All-cons (λ (w : Want). w.page < pages) (with_whole_page want) (map with_whole_page wants)
+pub within-whole : (directory : Layout) (pages : ℕ) (wants : List Want) → AreWithin pages wants → AreWithin pages (map (with_whole_page directory) wants)
+within-whole directory pages [] within = within
+within-whole directory pages (want ∷ wants) within =
+    All-cons (λ (w : Want). w.page < pages) (with_whole_page directory want) (map (with_whole_page directory) wants)
     (by_test (length want.writes == 0) (All-head (λ (w : Want). w.page < pages) want wants within))
-    (within-whole pages wants (All-tail (λ (w : Want). w.page < pages) want wants within))
+    (within-whole directory pages wants (All-tail (λ (w : Want). w.page < pages) want wants within))
   where
-    by_test : (none : Bool) → want.page < pages → (if none then want else record want { reads = between 0 15 }).page < pages
+    by_test : (none : Bool) → want.page < pages → (if none then want else record want { reads = if is_fine_page directory want.page then union want.reads want.writes else between 0 15 }).page < pages
     by_test true below = below
     by_test false below = below
 
@@ -61,36 +63,87 @@ second_within pages touch first second within is =
     All-head (λ (w : Want). w.page < pages) second []
     (All-tail (λ (w : Want). w.page < pages) first (second ∷ []) (subst (λ (t : Touch). AreWithin pages (wants_of t)) is within))
 
--- grants look at what is held alone
-pub granted-same : (a other : Activity) (seat : ℕ) (pages : List ℕ) (old new : List Authority) → a.seating ≡ other.seating → AreGranted a seat pages old new → AreGranted other seat pages old new
-granted-same a other seat [] old new same is = is
-granted-same a other seat (page ∷ pages) old new same (one, entry, rest) = (
+-- entries that are set look at what is told of each page alone
+pub set-same : (of other : ℕ → Entry) (pages : List ℕ) (old new : List Authority) → ((page : ℕ) → has pages page ≡ true → of page ≡ other page) → AreSet of pages old new → AreSet other pages old new
+set-same of other [] old new same is = is
+set-same of other (page ∷ pages) old new same (one, entry, rest) = (
   one,
-  entry ∙ (λ i. granted (seat + 1) (held_at (same i).holding seat page).0 (held_at (same i).holding seat page).1),
-  granted-same a other seat pages (slice_set old page one) new same rest,
+  entry ∙ same page (or_left (page == page) (has pages page) (eq-eqb page page refl)),
+  set-same of other pages (slice_set old page one) new (λ at inside. same at (or_right (page == at) (has pages at) inside)) rest,
 )
 
-granted-length : (a : Activity) (seat : ℕ) (pages : List ℕ) (old new : List Authority) → AreGranted a seat pages old new → length new ≡ length old
-granted-length a seat [] old new is = ap length is
-granted-length a seat (page ∷ pages) old new (one, entry, rest) = granted-length a seat pages (slice_set old page one) new rest ∙ length-set old page one
+-- some pages and then others
+pub set-then : (of : ℕ → Entry) (pages more : List ℕ) (old mid new : List Authority) → AreSet of pages old mid → AreSet of more mid new → AreSet of (pages ++ more) old new
+set-then of [] more old mid new is rest = subst (λ (entries : List Authority). AreSet of more entries new) is rest
+set-then of (page ∷ pages) more old mid new (one, entry, is) rest = (one, entry, set-then of pages more (slice_set old page one) mid new is rest)
 
--- each entry is nobody's or a taken seat's, also once some are granted
-granted-identified : (a : Activity) (seat : ℕ) (pages : List ℕ) (old new : List Authority) → has a.seating.taken seat ≡ true → AreGranted a seat pages old new
-    → ((page : ℕ) → IsIdentified a.seating.taken (slice_index_or old page unowned)) → (page : ℕ) → IsIdentified a.seating.taken (slice_index_or new page unowned)
-granted-identified a seat [] old new taken is was = λ page. subst (λ (entries : List Authority). IsIdentified a.seating.taken (slice_index_or entries page unowned)) (sym is) (was page)
-granted-identified a seat (page ∷ pages) old new taken (one, entry, rest) was =
-    granted-identified a seat pages (slice_set old page one) new taken rest
-    (λ other. set-keeps (IsIdentified a.seating.taken) old page other one unowned (inr (seat, taken, ap (λ (e : Entry). e.owner) entry ∙ by_writes (held_at a.seating.holding seat page).1)) (was other))
+-- grants look at what is held alone
+pub granted-same : (a other : Activity) (seat : ℕ) (wants : List Want) (pages : List ℕ) (old new : List Authority) → a.seating ≡ other.seating → a.reach.directory ≡ other.reach.directory
+    → AreGranted a seat wants pages old new → AreGranted other seat wants pages old new
+granted-same a other seat wants pages old new same directory is =
+    set-same (λ page. entry_given a seat (stores_into wants page) page) (λ page. entry_given other seat (stores_into wants page) page) pages old new
+    (λ page inside i.
+    if is_fine_page (directory i) page
+    then granted_fine (seat + 1) (held_at (same i).holding seat page).0 (held_at (same i).holding seat page).1 (stores_into wants page)
+    else granted (seat + 1) (held_at (same i).holding seat page).0 (held_at (same i).holding seat page).1)
+    is
+
+set-length : (of : ℕ → Entry) (pages : List ℕ) (old new : List Authority) → AreSet of pages old new → length new ≡ length old
+set-length of [] old new is = ap length is
+set-length of (page ∷ pages) old new (one, entry, rest) = set-length of pages (slice_set old page one) new rest ∙ length-set old page one
+
+granted-owner : (tid : ℕ) (reads writes : List ℕ) → (granted tid reads writes).owner ≡ tid
+granted-owner tid reads [] = refl
+granted-owner tid reads (line ∷ lines) = refl
+
+given-owner : (a : Activity) (seat : ℕ) (storing : Bool) (page : ℕ) → (entry_given a seat storing page).owner ≡ seat + 1
+given-owner a seat storing page = by_fine (is_fine_page a.reach.directory page) storing
   where
-    by_writes : (writes : List ℕ) → (granted (seat + 1) (held_at a.seating.holding seat page).0 writes).owner ≡ seat + 1
-    by_writes [] = refl
-    by_writes (line ∷ lines) = refl
+    by_fine : (fine storing : Bool)
+        → (if fine
+        then granted_fine (seat + 1) (held_at a.seating.holding seat page).0 (held_at a.seating.holding seat page).1 storing
+        else granted (seat + 1) (held_at a.seating.holding seat page).0 (held_at a.seating.holding seat page).1).owner
+        ≡ seat + 1
+    by_fine true true = refl
+    by_fine true false = granted-owner (seat + 1) (held_at a.seating.holding seat page).0 (if is_whole_page (held_at a.seating.holding seat page).0 then (held_at a.seating.holding seat page).1 else [])
+    by_fine false storing = granted-owner (seat + 1) (held_at a.seating.holding seat page).0 (held_at a.seating.holding seat page).1
+
+-- each entry is nobody's or a taken seat's, also once some are a taken seat's
+set-identified : (taken : List ℕ) (seat : ℕ) (of : ℕ → Entry) (pages : List ℕ) (old new : List Authority) → has taken seat ≡ true → ((page : ℕ) → (of page).owner ≡ seat + 1) → AreSet of pages old new
+    → ((page : ℕ) → IsIdentified taken (slice_index_or old page unowned)) → (page : ℕ) → IsIdentified taken (slice_index_or new page unowned)
+set-identified taken seat of [] old new inside owner is was = λ page. subst (λ (entries : List Authority). IsIdentified taken (slice_index_or entries page unowned)) (sym is) (was page)
+set-identified taken seat of (page ∷ pages) old new inside owner (one, entry, rest) was =
+    set-identified taken seat of pages (slice_set old page one) new inside owner rest
+    (λ other. set-keeps (IsIdentified taken) old page other one unowned (inr (seat, inside, ap (λ (e : Entry). e.owner) entry ∙ owner page)) (was other))
+
+-- Pages that a taken seat gets leave all sound.
+pub set-sound : (a : Activity) (seat : ℕ) (of : ℕ → Entry) (pages : List ℕ) (owned : List Authority) → IsSound a → has a.seating.taken seat ≡ true → ((page : ℕ) → (of page).owner ≡ seat + 1)
+    → AreSet of pages a.reach.entries owned → IsSound (with_entries a owned)
+set-sound a seat of pages owned sound taken owner is = record {
+  seating = sound.seating;
+  seats = sound.seats;
+  numbers = sound.numbers;
+  live = sound.live;
+  pages = sound.pages;
+  lines = sound.lines;
+  requests = sound.requests;
+  begun = sound.begun;
+  entries = set-length of pages a.reach.entries owned is ∙ sound.entries;
+  set_up = λ at inside. let was = sound.set_up at inside in record { program = was.program; begun = was.begun; registers = was.registers; printed = was.printed; few = was.few };
+  free = sound.free;
+  identified = set-identified a.seating.taken seat of pages a.reach.entries owned taken owner is sound.identified;
+}
+
+-- Write bits that went off leave all sound.
+pub lowered-sound : (a : Activity) (seat : ℕ) (pages : List ℕ) (owned : List Authority) → IsSound a → has a.seating.taken seat ≡ true → AreLowered a seat pages a.reach.entries owned
+    → IsSound (with_entries a owned)
+lowered-sound a seat pages owned sound taken is = set-sound a seat (entry_to_read a seat) pages owned sound taken (λ page. refl) is
 
 -- Who holds what he asked for, with the pages that are granted, leaves all sound.
 pub taken-sound : (a : Activity) (seat : ℕ) (wants : List Want) (pages : List ℕ) (owned : List Authority) → IsSound a → has a.seating.taken seat ≡ true
-    → AreGranted (locked a seat wants owned) seat pages a.reach.entries owned → IsSound (locked a seat wants owned)
+    → AreGranted (locked a seat wants owned) seat wants pages a.reach.entries owned → IsSound (locked a seat wants owned)
 taken-sound a seat wants pages owned sound taken is = record {
-  seating = kept-took a.seating sound.seating seat (map with_whole_page wants) taken;
+  seating = kept-took a.seating sound.seating seat (map (with_whole_page a.reach.directory) wants) taken;
   seats = sound.seats;
   numbers = sound.numbers;
   live = sound.live;
@@ -98,30 +151,32 @@ taken-sound a seat wants pages owned sound taken is = record {
   lines = λ at. by_test at (at == seat) refl;
   requests = sound.requests;
   begun = sound.begun;
-  entries = granted-length (locked a seat wants owned) seat pages a.reach.entries owned is ∙ sound.entries;
+  entries = set-length (λ page. entry_given (locked a seat wants owned) seat (stores_into wants page) page) pages a.reach.entries owned is ∙ sound.entries;
   set_up = λ at inside. let was = sound.set_up at inside in record { program = was.program; begun = was.begun; registers = was.registers; printed = was.printed; few = was.few };
   free = sound.free;
-  identified = granted-identified (locked a seat wants owned) seat pages a.reach.entries owned taken is sound.identified;
+  identified =
+      set-identified a.seating.taken seat (λ page. entry_given (locked a seat wants owned) seat (stores_into wants page) page) pages a.reach.entries owned taken
+      (λ page. given-owner (locked a seat wants owned) seat (stores_into wants page) page) is sound.identified;
 }
   where
     below : seat < 16
     below = taken-below a.seating sound.seating seat taken
 
     more : List (List ℕ × List ℕ)
-    more = with_wants (of_seat a.seating.holding seat) (map with_whole_page wants)
+    more = with_wants (of_seat a.seating.holding seat) (map (with_whole_page a.reach.directory) wants)
 
-    by_test : (at : ℕ) (same : Bool) → (at == seat) ≡ same → AreOfPages (of_seat (holding_more a.seating.holding seat (map with_whole_page wants)) at)
+    by_test : (at : ℕ) (same : Bool) → (at == seat) ≡ same → AreOfPages (of_seat (holding_more a.seating.holding seat (map (with_whole_page a.reach.directory) wants)) at)
     by_test at true e =
-        subst (λ (n : ℕ). AreOfPages (of_seat (holding_more a.seating.holding seat (map with_whole_page wants)) n)) (sym (eqb-true at seat e))
-        (subst AreOfPages (sym (same-with a.seating.holding seat more sound.seating.whole below)) (more-of-pages (of_seat a.seating.holding seat) (map with_whole_page wants) (sound.lines seat)))
+        subst (λ (n : ℕ). AreOfPages (of_seat (holding_more a.seating.holding seat (map (with_whole_page a.reach.directory) wants)) n)) (sym (eqb-true at seat e))
+        (subst AreOfPages (sym (same-with a.seating.holding seat more sound.seating.whole below)) (more-of-pages (of_seat a.seating.holding seat) (map (with_whole_page a.reach.directory) wants) (sound.lines seat)))
     by_test at false e = subst AreOfPages (sym (other-with a.seating.holding seat more sound.seating.whole at e)) (sound.lines at)
 
 -- the same of what is left once the seating was taken and then the entries were set
-pub sound-then : (a new : Activity) (seat : ℕ) (wants : List Want) (pages : List ℕ) (seating : Seating) → IsSound a → has a.seating.taken seat ≡ true → seating ≡ took a.seating seat (map with_whole_page wants)
-    → new ≡ with_entries (record a { seating = seating }) new.reach.entries → AreGranted (record a { seating = seating }) seat pages a.reach.entries new.reach.entries → IsSound new
+pub sound-then : (a new : Activity) (seat : ℕ) (wants : List Want) (pages : List ℕ) (seating : Seating) → IsSound a → has a.seating.taken seat ≡ true → seating ≡ took a.seating seat (map (with_whole_page a.reach.directory) wants)
+    → new ≡ with_entries (record a { seating = seating }) new.reach.entries → AreGranted (record a { seating = seating }) seat wants pages a.reach.entries new.reach.entries → IsSound new
 sound-then a new seat wants pages seating sound taken is shape grants =
     subst IsSound (sym (shape ∙ (λ i. with_entries (record a { seating = is i }) new.reach.entries)))
-    (taken-sound a seat wants pages new.reach.entries sound taken (granted-same (record a { seating = seating }) (locked a seat wants new.reach.entries) seat pages a.reach.entries new.reach.entries is grants))
+    (taken-sound a seat wants pages new.reach.entries sound taken (granted-same (record a { seating = seating }) (locked a seat wants new.reach.entries) seat wants pages a.reach.entries new.reach.entries is refl grants))
 
 -- The pages of a touch that are picked where its entry refuses them are those that are refused.
 pub picked-refused : (owned : List Authority) (tid : ℕ) (touch : Touch) → pages_picked touch (each_refused owned tid touch) ≡ pages_refused owned tid (wants_of touch)

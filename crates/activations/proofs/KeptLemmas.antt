@@ -59,7 +59,7 @@ stays-rolled first a seat loser pool stays inside = record {
       let other : (a.reach.runner == loser + 1) ≡ false = apart (a.reach.runner == loser + 1) refl was.runner in
       record {
         runner = ap (λ (b : Bool). if b then 0 else a.reach.runner) other ∙ was.runner;
-        registers = ap (λ (b : Bool). if b then replicate 16 None else a.reach.registers) other ∙ was.registers;
+        registers = ap (λ (b : Bool). if b then record { page = a.reach.directory.page; list = replicate 16 None } else a.reach.registers) other ∙ was.registers;
       };
 }
   where

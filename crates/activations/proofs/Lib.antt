@@ -33,6 +33,7 @@ pub mod RowLemmas
 pub mod ServeLemmas
 pub mod ServedLemmas
 pub mod SittingLemmas
+pub mod SizeLemmas
 pub mod SoundLemmas
 pub mod StartLemmas
 pub mod StrideLemmas

@@ -6,13 +6,14 @@ use Rattle.std.proofs.lemmas.Bool.{both_ways, eqb-true}
 use Rattle.std.proofs.lemmas.List.{append-nil}
 use Rattle.std.proofs.lemmas.List.Elements.{All-nil, All-cons, All-append}
 use Rattle.line_geometry.specs.LineSets.{passing, IsOfPage}
+use Rattle.line_geometry.specs.declared.directory.PageSize.{PageSize}
 use Rattle.lock_rules.specs.Sets.{has, distinct, size}
 use Rattle.line_locks.specs.Flat.{flat_lines}
 use Rattle.frame_pool.specs.declared.model.Pool.{Pool}
 use Rattle.frame_pool.specs.Pool.{line_shown}
-use Rattle.store_format.specs.Bank.{RecordLine, record_bytes}
-use Rattle.store_format.specs.Header.{most_lines}
-use Rattle.redo_journal.specs.Kept.{begun_of, with_line}
+use Rattle.store_format.specs.Bank.{RecordLine}
+use Rattle.store_format.specs.Header.{entry_bytes, most_lines}
+use Rattle.redo_journal.specs.Kept.{begun_of, record_bytes_of, with_line}
 use Rattle.restart.specs.Kept.{KeptStore}
 use Rattle.activations.specs.Recorded.{line_told, recorded, with_begun, with_lines}
 
@@ -75,46 +76,46 @@ climbs-once least (x ∷ xs) bound climbs =
     ∙ ap suc (climbs-once (x + 1) xs bound climbs.1)
 
 -- Of the lines of a record: how many there are, which, and in which order.
-module _ (bytes : ℕ → List ℕ) where
-  pub length-recorded : (at : ℕ) (lines : List ℕ) → length (recorded bytes at lines) ≡ length lines
+module _ (size : PageSize) (bytes : ℕ → List ℕ) where
+  pub length-recorded : (at : ℕ) (lines : List ℕ) → length (recorded size bytes at lines) ≡ length lines
   length-recorded at [] = refl
-  length-recorded at (line ∷ lines) = ap suc (length-recorded (at + 132) lines)
+  length-recorded at (line ∷ lines) = ap suc (length-recorded (at + entry_bytes size) lines)
 
-  pub numbers-recorded : (at : ℕ) (lines : List ℕ) → map (λ one. one.line) (recorded bytes at lines) ≡ lines
+  pub numbers-recorded : (at : ℕ) (lines : List ℕ) → map (λ one. one.line) (recorded size bytes at lines) ≡ lines
   numbers-recorded at [] = refl
-  numbers-recorded at (line ∷ lines) = ap (λ (rest : List ℕ). line ∷ rest) (numbers-recorded (at + 132) lines)
+  numbers-recorded at (line ∷ lines) = ap (λ (rest : List ℕ). line ∷ rest) (numbers-recorded (at + entry_bytes size) lines)
 
-  pub bytes-recorded : (at : ℕ) (lines : List ℕ) → All (λ one. one.bytes ≡ bytes one.line) (recorded bytes at lines)
+  pub bytes-recorded : (at : ℕ) (lines : List ℕ) → All (λ one. one.bytes ≡ bytes one.line) (recorded size bytes at lines)
   bytes-recorded at [] = All-nil (λ (one : RecordLine). one.bytes ≡ bytes one.line)
-  bytes-recorded at (line ∷ lines) = All-cons (λ (one : RecordLine). one.bytes ≡ bytes one.line) (record { line = line; at = at; bytes = bytes line }) (recorded bytes (at + 132) lines) refl (bytes-recorded (at + 132) lines)
+  bytes-recorded at (line ∷ lines) = All-cons (λ (one : RecordLine). one.bytes ≡ bytes one.line) (record { line = line; at = at; bytes = bytes line }) (recorded size bytes (at + entry_bytes size) lines) refl (bytes-recorded (at + entry_bytes size) lines)
 
-  pub recorded-below : (bound at : ℕ) (lines : List ℕ) → All (λ line. line < bound) lines → All (λ one. one.line < bound) (recorded bytes at lines)
+  pub recorded-below : (bound at : ℕ) (lines : List ℕ) → All (λ line. line < bound) lines → All (λ one. one.line < bound) (recorded size bytes at lines)
   recorded-below bound at [] below = All-nil (λ (one : RecordLine). one.line < bound)
   recorded-below bound at (line ∷ lines) below =
-      All-cons (λ (one : RecordLine). one.line < bound) (record { line = line; at = at; bytes = bytes line }) (recorded bytes (at + 132) lines)
-      (below 0 0 (omega arith)) (recorded-below bound (at + 132) lines (λ k d within. below (suc k) d (omega (arith, within))))
+      All-cons (λ (one : RecordLine). one.line < bound) (record { line = line; at = at; bytes = bytes line }) (recorded size bytes (at + entry_bytes size) lines)
+      (below 0 0 (omega arith)) (recorded-below bound (at + entry_bytes size) lines (λ k d within. below (suc k) d (omega (arith, within))))
 
-  behind : (at : ℕ) (lines : List ℕ) (least bound k : ℕ) (d : RecordLine) → Climbs least lines bound → k < length (recorded bytes at lines) → least ≤ (slice_index_or (recorded bytes at lines) k d).line
+  behind : (at : ℕ) (lines : List ℕ) (least bound k : ℕ) (d : RecordLine) → Climbs least lines bound → k < length (recorded size bytes at lines) → least ≤ (slice_index_or (recorded size bytes at lines) k d).line
   behind at [] least bound k d climbs within = absurd (omega (arith, within))
   behind at (line ∷ lines) least bound zero d climbs within = climbs.0
   behind at (line ∷ lines) least bound (suc k) d climbs within =
-      let rest = behind (at + 132) lines (line + 1) bound k d climbs.1 (omega (arith, within)) in
+      let rest = behind (at + entry_bytes size) lines (line + 1) bound k d climbs.1 (omega (arith, within)) in
       omega (arith, rest, climbs.0)
 
-  pub recorded-ascend : (at : ℕ) (lines : List ℕ) (least bound : ℕ) → Climbs least lines bound → AllPairs (λ first second. first.line < second.line) (recorded bytes at lines)
+  pub recorded-ascend : (at : ℕ) (lines : List ℕ) (least bound : ℕ) → Climbs least lines bound → AllPairs (λ first second. first.line < second.line) (recorded size bytes at lines)
   recorded-ascend at [] least bound climbs i j d less within = absurd (omega (arith, within))
   recorded-ascend at (line ∷ lines) least bound climbs i zero d less within = absurd (omega (arith, less))
   recorded-ascend at (line ∷ lines) least bound climbs zero (suc j) d less within =
-      let rest = behind (at + 132) lines (line + 1) bound j d climbs.1 (omega (arith, within)) in omega (arith, rest)
+      let rest = behind (at + entry_bytes size) lines (line + 1) bound j d climbs.1 (omega (arith, within)) in omega (arith, rest)
   recorded-ascend at (line ∷ lines) least bound climbs (suc i) (suc j) d less within =
-      recorded-ascend (at + 132) lines (line + 1) bound climbs.1 i j d (omega (arith, less)) (omega (arith, within))
+      recorded-ascend (at + entry_bytes size) lines (line + 1) bound climbs.1 i j d (omega (arith, less)) (omega (arith, within))
 
-  pub recorded-append : (at : ℕ) (xs ys : List ℕ) → recorded bytes at (xs ++ ys) ≡ recorded bytes at xs ++ recorded bytes (at + 132 * length xs) ys
-  recorded-append at [] ys = let same : at ≡ at + 132 * 0 = omega arith in ap (λ (n : ℕ). recorded bytes n ys) same
+  pub recorded-append : (at : ℕ) (xs ys : List ℕ) → recorded size bytes at (xs ++ ys) ≡ recorded size bytes at xs ++ recorded size bytes (at + entry_bytes size * length xs) ys
+  recorded-append at [] ys = let same : at ≡ at + entry_bytes size * 0 = omega arith in ap (λ (n : ℕ). recorded size bytes n ys) same
   recorded-append at (x ∷ xs) ys =
-      let same : at + 132 + 132 * length xs ≡ at + 132 * suc (length xs) = omega arith in
+      let same : at + entry_bytes size + entry_bytes size * length xs ≡ at + entry_bytes size * suc (length xs) = omega arith in
       ap (λ (rest : List RecordLine). record { line = x; at = at; bytes = bytes x } ∷ rest)
-      (recorded-append (at + 132) xs ys ∙ ap (λ (n : ℕ). recorded bytes (at + 132) xs ++ recorded bytes n ys) same)
+      (recorded-append (at + entry_bytes size) xs ys ∙ ap (λ (n : ℕ). recorded size bytes (at + entry_bytes size) xs ++ recorded size bytes n ys) same)
 
 -- what is begun, where a record is
 begun-some : {A : Type 0} (begun : Option (List A)) → IsSome begun → Some (unwrap_or begun []) ≡ begun
@@ -127,8 +128,8 @@ with_begun-same store some i = record store { bank = record store.bank { begun =
 -- Some lines of a page are to be added yet to the record that is begun: with them it is what it shall be.
 pub record Adds (pool : Pool) (page : ℕ) (lines : List ℕ) (first : KeptStore) (left : List ℕ) (now : KeptStore) : Type 0 where
   pub shape : now ≡ with_begun first (begun_of now.bank)
-  pub rest : begun_of now.bank ++ recorded (line_told pool) (first.bank.gate + record_bytes (length (begun_of now.bank))) (flat_lines page left)
-      ≡ begun_of first.bank ++ recorded (line_told pool) (first.bank.gate + record_bytes (length (begun_of first.bank))) (flat_lines page lines)
+  pub rest : begun_of now.bank ++ recorded first.bank.page (line_told pool) (first.bank.gate + record_bytes_of first.bank (length (begun_of now.bank))) (flat_lines page left)
+      ≡ begun_of first.bank ++ recorded first.bank.page (line_told pool) (first.bank.gate + record_bytes_of first.bank (length (begun_of first.bank))) (flat_lines page lines)
   pub least : ℕ
   pub before : All (λ one. one.line < page * 16 + least) (begun_of now.bank)
   pub climbs : Climbs least left 16
@@ -139,7 +140,7 @@ pub adds-all : (pool : Pool) (page : ℕ) (lines left : List ℕ) (first : KeptS
     → All (λ one. one.line < page * 16) (begun_of first.bank) → length (begun_of first.bank) + length lines ≤ most_lines first.header → Adds pool page lines first left first
 adds-all pool page lines left first same of some before room = record {
   shape = with_begun-same first some;
-  rest = ap (λ (these : List ℕ). begun_of first.bank ++ recorded (line_told pool) (first.bank.gate + record_bytes (length (begun_of first.bank))) (flat_lines page these)) same;
+  rest = ap (λ (these : List ℕ). begun_of first.bank ++ recorded first.bank.page (line_told pool) (first.bank.gate + record_bytes_of first.bank (length (begun_of first.bank))) (flat_lines page these)) same;
   least = 0;
   before = let none : page * 16 ≡ page * 16 + 0 = omega arith in subst (λ (n : ℕ). All (λ (one : RecordLine). one.line < n) (begun_of first.bank)) none before;
   climbs = subst (λ (these : List ℕ). Climbs 0 these 16) (sym same) (climbs-page lines of);
@@ -166,7 +167,7 @@ module _ {pool : Pool} {page : ℕ} {lines : List ℕ} {first now : KeptStore} {
   next-room = omega (arith, adds.room)
 
   abbrev added : RecordLine
-  added = record { line = page * 16 + line; at = first.bank.gate + record_bytes (length (begun_of now.bank)); bytes = line_told pool (page * 16 + line) }
+  added = record { line = page * 16 + line; at = first.bank.gate + record_bytes_of first.bank (length (begun_of now.bank)); bytes = line_told pool (page * 16 + line) }
 
   told : line_shown pool page line ≡ line_told pool (page * 16 + line)
   told =
@@ -178,9 +179,9 @@ module _ {pool : Pool} {page : ℕ} {lines : List ℕ} {first now : KeptStore} {
   adds-one next went = record {
     shape = is ∙ ap (with_begun first) (sym begun);
     rest =
-        ap (λ (these : List RecordLine). these ++ recorded (line_told pool) (first.bank.gate + record_bytes (length these)) (flat_lines page left)) begun
-        ∙ append_assoc (begun_of now.bank) (added ∷ []) (recorded (line_told pool) (first.bank.gate + record_bytes (length (begun_of now.bank ++ added ∷ []))) (flat_lines page left))
-        ∙ ap (λ (n : ℕ). begun_of now.bank ++ added ∷ recorded (line_told pool) n (flat_lines page left)) place
+        ap (λ (these : List RecordLine). these ++ recorded first.bank.page (line_told pool) (first.bank.gate + record_bytes_of first.bank (length these)) (flat_lines page left)) begun
+        ∙ append_assoc (begun_of now.bank) (added ∷ []) (recorded first.bank.page (line_told pool) (first.bank.gate + record_bytes_of first.bank (length (begun_of now.bank ++ added ∷ []))) (flat_lines page left))
+        ∙ ap (λ (n : ℕ). begun_of now.bank ++ added ∷ recorded first.bank.page (line_told pool) n (flat_lines page left)) place
         ∙ adds.rest;
     least = line + 1;
     before = subst (λ (these : List RecordLine). All (λ (one : RecordLine). one.line < page * 16 + (line + 1)) these) (sym begun)
@@ -198,10 +199,10 @@ module _ {pool : Pool} {page : ℕ} {lines : List ℕ} {first now : KeptStore} {
       is =
           went
           ∙ ap (λ (store : KeptStore). record store { bank = with_line store.bank (page * 16 + line) (line_shown pool page line) }) adds.shape
-          ∙ ap (λ (bytes : List ℕ). with_begun first (begun_of now.bank ++ record { line = page * 16 + line; at = first.bank.gate + record_bytes (length (begun_of now.bank)); bytes = bytes } ∷ [])) told
+          ∙ ap (λ (bytes : List ℕ). with_begun first (begun_of now.bank ++ record { line = page * 16 + line; at = first.bank.gate + record_bytes_of first.bank (length (begun_of now.bank)); bytes = bytes } ∷ [])) told
 
       begun : begun_of next.bank ≡ begun_of now.bank ++ added ∷ []
       begun = ap (λ (store : KeptStore). begun_of store.bank) is
 
-      place : first.bank.gate + record_bytes (length (begun_of now.bank ++ added ∷ [])) ≡ first.bank.gate + record_bytes (length (begun_of now.bank)) + 132
-      place = omega (arith, length-append (begun_of now.bank) (added ∷ []))
+      place : first.bank.gate + record_bytes_of first.bank (length (begun_of now.bank ++ added ∷ [])) ≡ first.bank.gate + record_bytes_of first.bank (length (begun_of now.bank)) + entry_bytes first.bank.page
+      place = omega (arith, ap (λ (n : ℕ). entry_bytes first.bank.page * n) (length-append (begun_of now.bank) (added ∷ [])))

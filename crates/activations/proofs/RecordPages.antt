@@ -15,9 +15,9 @@ use Rattle.line_locks.specs.Flat.{flat_lines}
 use Rattle.line_locks.specs.Held.{holds_some}
 use Rattle.line_locks.specs.Holding.{Holding, IsWhole, held_at, of_seat}
 use Rattle.frame_pool.specs.declared.model.Pool.{Pool}
-use Rattle.store_format.specs.Bank.{RecordLine, record_bytes}
-use Rattle.store_format.specs.Header.{most_lines}
-use Rattle.redo_journal.specs.Kept.{begun_of}
+use Rattle.store_format.specs.Bank.{RecordLine}
+use Rattle.store_format.specs.Header.{entry_bytes, most_lines}
+use Rattle.redo_journal.specs.Kept.{begun_of, record_bytes_of}
 use Rattle.restart.specs.Kept.{KeptStore}
 use Rattle.activations.specs.Activity.{Activity, locks_in}
 use Rattle.activations.specs.Follows.{IsSound}
@@ -57,23 +57,24 @@ pub with_lines-more : (pool : Pool) (xs ys : List ℕ) (store now next : KeptSto
 with_lines-more pool xs ys store now next first second =
     second ∙ ap (with_lines pool ys) first
     ∙ ap (with_begun store)
-    (append_assoc before new (recorded (line_told pool) (store.bank.gate + record_bytes (length (before ++ new))) ys)
-    ∙ ap (λ (at : ℕ). before ++ (new ++ recorded (line_told pool) at ys)) place
-    ∙ ap (λ (rest : List RecordLine). before ++ rest) (sym (recorded-append (line_told pool) (store.bank.gate + record_bytes (length before)) xs ys)))
+    (append_assoc before new (recorded store.bank.page (line_told pool) (store.bank.gate + record_bytes_of store.bank (length (before ++ new))) ys)
+    ∙ ap (λ (at : ℕ). before ++ (new ++ recorded store.bank.page (line_told pool) at ys)) place
+    ∙ ap (λ (rest : List RecordLine). before ++ rest) (sym (recorded-append store.bank.page (line_told pool) (store.bank.gate + record_bytes_of store.bank (length before)) xs ys)))
   where
     before : List RecordLine
     before = begun_of store.bank
 
     new : List RecordLine
-    new = recorded (line_told pool) (store.bank.gate + record_bytes (length (begun_of store.bank))) xs
+    new = recorded store.bank.page (line_told pool) (store.bank.gate + record_bytes_of store.bank (length (begun_of store.bank))) xs
 
-    place : store.bank.gate + record_bytes (length (begun_of store.bank ++ recorded (line_told pool) (store.bank.gate + record_bytes (length (begun_of store.bank))) xs))
-        ≡ store.bank.gate + record_bytes (length (begun_of store.bank)) + 132 * length xs
+    place : store.bank.gate + record_bytes_of store.bank (length (begun_of store.bank ++ recorded store.bank.page (line_told pool) (store.bank.gate + record_bytes_of store.bank (length (begun_of store.bank))) xs))
+        ≡ store.bank.gate + record_bytes_of store.bank (length (begun_of store.bank)) + entry_bytes store.bank.page * length xs
     place =
         omega (
           arith,
-          length-append (begun_of store.bank) (recorded (line_told pool) (store.bank.gate + record_bytes (length (begun_of store.bank))) xs),
-          length-recorded (line_told pool) (store.bank.gate + record_bytes (length (begun_of store.bank))) xs,
+          ap (λ (n : ℕ). entry_bytes store.bank.page * n)
+              (length-append before new
+              ∙ ap (λ (n : ℕ). length before + n) (length-recorded store.bank.page (line_told pool) (store.bank.gate + record_bytes_of store.bank (length (begun_of store.bank))) xs)),
         )
 
 -- pages of which something is held are those of the store
@@ -161,13 +162,13 @@ module _ (a : Activity) (seat : ℕ) (sound : IsSound a) where
         abbrev page : ℕ
         page = slice_index_or pages at 0
 
-        begun : begun_of now.bank ≡ recorded (line_told pool) (first.bank.gate + record_bytes (length (begun_of first.bank))) (written_of a seat (take at pages))
-        begun = ap (λ (store : KeptStore). begun_of store.bank) so ∙ ap (λ (these : List RecordLine). these ++ recorded (line_told pool) (first.bank.gate + record_bytes (length (begun_of first.bank))) (written_of a seat (take at pages))) none
+        begun : begun_of now.bank ≡ recorded first.bank.page (line_told pool) (first.bank.gate + record_bytes_of first.bank (length (begun_of first.bank))) (written_of a seat (take at pages))
+        begun = ap (λ (store : KeptStore). begun_of store.bank) so ∙ ap (λ (these : List RecordLine). these ++ recorded first.bank.page (line_told pool) (first.bank.gate + record_bytes_of first.bank (length (begun_of first.bank))) (written_of a seat (take at pages))) none
 
         pub before-page : All (λ one. one.line < page * 16) (begun_of now.bank)
         before-page =
             subst (λ (these : List RecordLine). All (λ (one : RecordLine). one.line < page * 16) these) (sym begun)
-            (recorded-below (line_told pool) (page * 16) (first.bank.gate + record_bytes (length (begun_of first.bank))) (written_of a seat (take at pages))
+            (recorded-below first.bank.page (line_told pool) (page * 16) (first.bank.gate + record_bytes_of first.bank (length (begun_of first.bank))) (written_of a seat (take at pages))
             (climbs-below 0 (written_of a seat (take at pages)) (page * 16) (written-climbs 0 (take at pages) page (climbs-take 0 pages bound at 0 pages-climb inside))))
 
         one-more : written_of a seat (take (at + 1) pages) ≡ written_of a seat (take at pages) ++ flat_lines page (wrote a seat page)
@@ -178,7 +179,7 @@ module _ (a : Activity) (seat : ℕ) (sound : IsSound a) where
 
         pub room-left : size (locks_in a seat).writes ≤ most_lines first.header → length (begun_of now.bank) + length (wrote a seat page) ≤ most_lines first.header
         room-left few =
-            let long = ap (λ (these : List RecordLine). length these) begun ∙ length-recorded (line_told pool) (first.bank.gate + record_bytes (length (begun_of first.bank))) (written_of a seat (take at pages)) in
+            let long = ap (λ (these : List RecordLine). length these) begun ∙ length-recorded first.bank.page (line_told pool) (first.bank.gate + record_bytes_of first.bank (length (begun_of first.bank))) (written_of a seat (take at pages)) in
             let fewer = length-flat-take (λ (p : ℕ). flat_lines p (wrote a seat p)) pages (at + 1) in
             let more = ap (λ (these : List ℕ). length these) one-more in
             omega (arith, few, as-many, long, fewer, more, length-append (written_of a seat (take at pages)) (flat_lines page (wrote a seat page)), length-map (wrote a seat page) (λ line. page * 16 + line))

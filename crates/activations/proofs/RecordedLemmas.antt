@@ -11,12 +11,12 @@ use Rattle.line_locks.specs.Held.{write_count}
 use Rattle.line_locks.specs.Holding.{of_seat}
 use Rattle.desk_law.specs.Consistent.{due_to}
 use Rattle.desk_law.proofs.Seats.{seat-told}
-use Rattle.redo_journal.specs.Kept.{begun_of}
+use Rattle.redo_journal.specs.Kept.{begun_of, record_bytes_of}
 use Rattle.restart.specs.Kept.{KeptStore}
 use Rattle.seats.proofs.Ascending.{all-has}
 use Rattle.seats.proofs.Kept.{taken-below}
 use Rattle.storage_unit.specs.Reached as reached
-use Rattle.store_format.specs.Bank.{RecordLine, record_bytes}
+use Rattle.store_format.specs.Bank.{RecordLine}
 use Rattle.store_format.specs.Stands.{laid}
 use Rattle.activations.specs.Activity.{Activity, entry_in, store_over, locks_in}
 use Rattle.activations.specs.Follows.{IsSound, Follows}
@@ -46,10 +46,10 @@ module _ (a : Activity) (seat : ℕ) (sound : IsSound a) (taken : has a.seating.
     lines = written_of a seat written.pages
 
     abbrev at : ℕ
-    at = store.bank.gate + record_bytes (length (begun_of store.bank))
+    at = store.bank.gate + record_bytes_of store.bank (length (begun_of store.bank))
 
-    begun : begun_of now.bank ≡ recorded (line_told a.reach.pool) at lines
-    begun = ap (λ (store : KeptStore). begun_of store.bank) written.is ∙ ap (λ (these : List RecordLine). these ++ recorded (line_told a.reach.pool) at lines) none
+    begun : begun_of now.bank ≡ recorded store.bank.page (line_told a.reach.pool) at lines
+    begun = ap (λ (store : KeptStore). begun_of store.bank) written.is ∙ ap (λ (these : List RecordLine). these ++ recorded store.bank.page (line_told a.reach.pool) at lines) none
 
     below : (k d : ℕ) → k < length written.pages → slice_index_or written.pages k d < a.seating.holding.pages
     below = pages-below a.seating.holding a.seating.holding seat written.pages refl sound.seating.whole (taken-below a.seating sound.seating seat taken) written.all
@@ -60,26 +60,26 @@ module _ (a : Activity) (seat : ℕ) (sound : IsSound a) (taken : has a.seating.
     pub is-record : IsRecordOf a seat (begun_of now.bank)
     is-record = record {
       ascending = subst (λ (these : List RecordLine). AllPairs (λ (first second : RecordLine). first.line < second.line) these) (sym begun)
-          (recorded-ascend (line_told a.reach.pool) at lines 0 (a.seating.holding.pages * 16) (lines-climb a seat sound written.pages written.ascending written.all a.seating.holding.pages below));
+          (recorded-ascend store.bank.page (line_told a.reach.pool) at lines 0 (a.seating.holding.pages * 16) (lines-climb a seat sound written.pages written.ascending written.all a.seating.holding.pages below));
       each = λ line.
           ap (λ (these : List RecordLine). has (map (λ one. one.line) these) line) begun
-          ∙ ap (λ (these : List ℕ). has these line) (numbers-recorded (line_told a.reach.pool) at lines)
+          ∙ ap (λ (these : List ℕ). has these line) (numbers-recorded store.bank.page (line_told a.reach.pool) at lines)
           ∙ same line;
-      bytes = subst (λ (these : List RecordLine). All (λ (one : RecordLine). one.bytes ≡ line_told a.reach.pool one.line) these) (sym begun) (bytes-recorded (line_told a.reach.pool) at lines);
+      bytes = subst (λ (these : List RecordLine). All (λ (one : RecordLine). one.bytes ≡ line_told a.reach.pool one.line) these) (sym begun) (bytes-recorded store.bank.page (line_told a.reach.pool) at lines);
     }
 
     pub record-count : length (begun_of now.bank) ≡ write_count (of_seat a.seating.holding seat)
     record-count =
         ap (λ (these : List RecordLine). length these) begun
-        ∙ length-recorded (line_told a.reach.pool) at lines
+        ∙ length-recorded store.bank.page (line_told a.reach.pool) at lines
         ∙ as-many a seat sound written.pages written.ascending written.all a.seating.holding.pages below
         ∙ size-held (of_seat a.seating.holding seat) (sound.lines seat)
 
     pub record-leaves : reached.IsSound a.reach → LeavesCommitted a seat (begun_of now.bank)
     record-leaves whole committed state follows there call =
-        ap (laid committed) begun
+        ap (laid a.reach.directory.page committed) begun
         ∙ leaves-committed a seat committed state sound whole taken follows there call lines same
         (λ line inside.
         let less = all-has (λ (x : ℕ). x < a.seating.holding.pages * 16) lines line (climbs-below 0 lines (a.seating.holding.pages * 16) (lines-climb a seat sound written.pages written.ascending written.all a.seating.holding.pages below)) inside in
         omega (arith, less, sound.pages))
-        at
+        store.bank.page at

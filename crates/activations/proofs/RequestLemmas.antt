@@ -6,12 +6,13 @@ use Rattle.std.proofs.lemmas.Bool.{eqb-true, eq-eqb, both_ways, or_left, or_righ
 use Rattle.std.proofs.lemmas.Bool.Decides.{nat_tests}
 use Rattle.std.proofs.lemmas.List.Elements.{All-cons, All-head, All-tail}
 use Rattle.std.proofs.lemmas.List.Folds.{list_any-append}
-use Rattle.line_geometry.specs.LineSets.{IsOfPage, between}
+use Rattle.line_geometry.specs.Directory.{Layout, is_fine_page}
+use Rattle.line_geometry.specs.LineSets.{IsOfPage, between, union}
 use Rattle.line_geometry.proofs.LineSetLemmas.{of_page-below, of_page-where, is_in_where-below}
 use Rattle.lock_rules.specs.Sets.{has}
 use Rattle.lock_rules.specs.Lines.{page_of_line, pages_of, with_whole_pages}
 use Rattle.lock_rules.proofs.Sets.{has-append}
-use Rattle.lock_rules.proofs.Lines.{has-pages_of, has-whole_pages}
+use Rattle.lock_rules.proofs.Lines.{has-pages_of, any-or, has-whole_pages}
 use Rattle.line_locks.specs.declared.request.Want.{Want}
 use Rattle.line_locks.specs.Flat.{flat_lines, lines_wanted}
 use Rattle.line_locks.proofs.FlatLemmas.{has-page, has-other_page}
@@ -70,29 +71,30 @@ has-pages_wanted wants page of = has-pages_of (lines_wanted wants).writes page �
         ∙ (λ i. in-page want.page page want.writes (of_page-below want.writes (All-head (λ (w : Want). IsOfPage w.writes) want wants of)) i
         || each wants (All-tail (λ (w : Want). IsOfPage w.writes) want wants of) i)
 
-whole-has : (line : ℕ) → line < 16 → has (between 0 15) line ≡ true
-whole-has line below =
+all-has : (line : ℕ) → line < 16 → has (between 0 15) line ≡ true
+all-has line below =
     let first : nat_le 0 line ≡ true = grind (arith, nat_tests) in
     let last : nat_le line 15 ≡ true = grind (arith, nat_tests, below) in
     is_in_where-below (λ x. nat_le 0 x && nat_le x 15) line below ∙ (λ i. first i && last i)
 
 -- with its whole page where one is written, a want is of lines of a page too
-pub whole-of-page : (wants : List Want) → AreOfPage wants → AreOfPage (map with_whole_page wants)
-whole-of-page wants sets = record { reads = reads wants sets.reads; writes = writes wants sets.writes }
+pub whole-of-page : (directory : Layout) (wants : List Want) → AreOfPage wants → AreOfPage (map (with_whole_page directory) wants)
+whole-of-page directory wants sets = record { reads = reads wants sets.reads; writes = writes wants sets.writes }
   where
-    reads : (wants : List Want) → All (λ want. IsOfPage want.reads) wants → All (λ want. IsOfPage want.reads) (map with_whole_page wants)
+    reads : (wants : List Want) → All (λ want. IsOfPage want.reads) wants → All (λ want. IsOfPage want.reads) (map (with_whole_page directory) wants)
     reads [] of = of
-    reads (want ∷ wants) of = All-cons (λ (w : Want). IsOfPage w.reads) (with_whole_page want) (map with_whole_page wants) (by_test (length want.writes == 0) (All-head (λ (w : Want). IsOfPage w.reads) want wants of)) (reads wants (All-tail (λ (w : Want). IsOfPage w.reads) want wants of))
+    reads (want ∷ wants) of = All-cons (λ (w : Want). IsOfPage w.reads) (with_whole_page directory want) (map (with_whole_page directory) wants) (by_test (length want.writes == 0) (is_fine_page directory want.page) (All-head (λ (w : Want). IsOfPage w.reads) want wants of)) (reads wants (All-tail (λ (w : Want). IsOfPage w.reads) want wants of))
       where
-        by_test : (none : Bool) → IsOfPage want.reads → IsOfPage (if none then want else record want { reads = between 0 15 }).reads
-        by_test true old = old
-        by_test false old = of_page-where (λ x. nat_le 0 x && nat_le x 15)
+        by_test : (none fine : Bool) → IsOfPage want.reads → IsOfPage (if none then want else record want { reads = if fine then union want.reads want.writes else between 0 15 }).reads
+        by_test true fine old = old
+        by_test false true old = of_page-where (λ x. list_any (λ y. y == x) want.reads || list_any (λ y. y == x) want.writes)
+        by_test false false old = of_page-where (λ x. nat_le 0 x && nat_le x 15)
 
-    writes : (wants : List Want) → All (λ want. IsOfPage want.writes) wants → All (λ want. IsOfPage want.writes) (map with_whole_page wants)
+    writes : (wants : List Want) → All (λ want. IsOfPage want.writes) wants → All (λ want. IsOfPage want.writes) (map (with_whole_page directory) wants)
     writes [] of = of
-    writes (want ∷ wants) of = All-cons (λ (w : Want). IsOfPage w.writes) (with_whole_page want) (map with_whole_page wants) (by_test (length want.writes == 0) (All-head (λ (w : Want). IsOfPage w.writes) want wants of)) (writes wants (All-tail (λ (w : Want). IsOfPage w.writes) want wants of))
+    writes (want ∷ wants) of = All-cons (λ (w : Want). IsOfPage w.writes) (with_whole_page directory want) (map (with_whole_page directory) wants) (by_test (length want.writes == 0) (All-head (λ (w : Want). IsOfPage w.writes) want wants of)) (writes wants (All-tail (λ (w : Want). IsOfPage w.writes) want wants of))
       where
-        by_test : (none : Bool) → IsOfPage want.writes → IsOfPage (if none then want else record want { reads = between 0 15 }).writes
+        by_test : (none : Bool) → IsOfPage want.writes → IsOfPage (if none then want else record want { reads = if is_fine_page directory want.page then union want.reads want.writes else between 0 15 }).writes
         by_test true old = old
         by_test false old = old
 
@@ -103,61 +105,104 @@ or-cross false true false d = refl
 or-cross false false true d = refl
 or-cross false false false d = refl
 
--- What is asked for is what is touched, with the whole pages that are written into.
-pub asked-alike : (wants : List Want) → AreOfPage wants → AreAlike (lines_wanted (map with_whole_page wants)) (with_whole_pages (lines_wanted wants))
-asked-alike wants sets = record {
+-- how a want's lines to read, its lines to write and its page come together
+gathers : (a b c n d e f : Bool) → ((a || (b || (c && n))) || (d || (e || (f && n)))) ≡ ((a || d) || ((b || e) || ((c || f) && n)))
+gathers true b c n d e f = refl
+gathers false true c n true e f = refl
+gathers false true c n false e f = refl
+gathers false false true true true e f = refl
+gathers false false true true false true f = refl
+gathers false false true true false false f = refl
+gathers false false true false d e true = refl
+gathers false false true false d e false = refl
+gathers false false false n d e f = refl
+
+-- What is asked for is what is touched, with each line that is written read, and the whole pages that are not fine and are written into.
+pub asked-alike : (directory : Layout) (wants : List Want) → AreOfPage wants
+    → AreAlike (lines_wanted (map (with_whole_page directory) wants)) (with_whole_pages (is_fine_page directory) (lines_wanted wants))
+asked-alike directory wants sets = record {
   reads = λ line.
-      has-wanted (λ want. want.reads) (map with_whole_page wants) line (whole-of-page wants sets).reads
+      has-wanted (λ want. want.reads) (map (with_whole_page directory) wants) line (whole-of-page directory wants sets).reads
       ∙ each line wants
       ∙ sym
-      (has-whole_pages (lines_wanted wants) line
-      ∙ (λ i. has-wanted (λ want. want.reads) wants line sets.reads i || has-pages_wanted wants (page_of_line line) sets.writes i));
+      (has-whole_pages (is_fine_page directory) (lines_wanted wants) line
+      ∙ (λ i.
+      has-wanted (λ want. want.reads) wants line sets.reads i
+      || (any-or (is_fine_page directory) line (lines_wanted wants).writes
+      ∙ (λ j.
+      has-wanted (λ want. want.writes) wants line sets.writes j
+      || ((sym (has-pages_of (lines_wanted wants).writes (page_of_line line)) ∙ has-pages_wanted wants (page_of_line line) sets.writes) j && not (is_fine_page directory (page_of_line line)))))
+      i));
   writes = λ line.
-      has-wanted (λ want. want.writes) (map with_whole_page wants) line (whole-of-page wants sets).writes
+      has-wanted (λ want. want.writes) (map (with_whole_page directory) wants) line (whole-of-page directory wants sets).writes
       ∙ same line wants ∙ sym (has-wanted (λ want. want.writes) wants line sets.writes);
 }
   where
-    one : (line : ℕ) (want : Want) → ((want.page == page_of_line line) && has (with_whole_page want).reads (line % 16))
-        ≡ (((want.page == page_of_line line) && has want.reads (line % 16)) || ((want.page == page_of_line line) && not (length want.writes == 0)))
-    one line want = by_tests (want.page == page_of_line line) (length want.writes == 0)
+    or_yes : (b c : Bool) → true ≡ (b || (c || true))
+    or_yes true c = refl
+    or_yes false true = refl
+    or_yes false false = refl
+
+    or_none : (b : Bool) → (b || false) ≡ b
+    or_none true = refl
+    or_none false = refl
+
+    no-writes : (set : List ℕ) (x : ℕ) → (length set == 0) ≡ true → has set x ≡ false
+    no-writes [] x none = refl
+    no-writes (y ∷ set) x none = absurd (both_ways (length (y ∷ set) == 0) (grind (arith, nat_tests)) none)
+
+    one : (line : ℕ) (want : Want) → ((want.page == page_of_line line) && has (with_whole_page directory want).reads (line % 16))
+        ≡ (((want.page == page_of_line line) && has want.reads (line % 16))
+        || (((want.page == page_of_line line) && has want.writes (line % 16)) || (((want.page == page_of_line line) && not (length want.writes == 0)) && not (is_fine_page directory (page_of_line line)))))
+    one line want = by_tests (want.page == page_of_line line) refl (length want.writes == 0) refl (is_fine_page directory want.page) refl
       where
-        or_yes : (b : Bool) → true ≡ (b || true)
-        or_yes true = refl
-        or_yes false = refl
+        by_tests : (here : Bool) → (want.page == page_of_line line) ≡ here → (none : Bool) → (length want.writes == 0) ≡ none → (fine : Bool) → is_fine_page directory want.page ≡ fine
+            → (here && has (if none then want else record want { reads = if fine then union want.reads want.writes else between 0 15 }).reads (line % 16))
+            ≡ ((here && has want.reads (line % 16)) || ((here && has want.writes (line % 16)) || ((here && not none) && not (is_fine_page directory (page_of_line line)))))
+        by_tests true at true empty fine is =
+            sym (ap (λ (b : Bool). has want.reads (line % 16) || (b || false)) (no-writes want.writes (line % 16) empty) ∙ or_none (has want.reads (line % 16)))
+        by_tests true at false some true is =
+            is_in_where-below (λ x. list_any (λ y. y == x) want.reads || list_any (λ y. y == x) want.writes) (line % 16) (omega arith)
+            ∙ sym
+            (ap (λ (b : Bool). has want.reads (line % 16) || (has want.writes (line % 16) || not b)) (ap (is_fine_page directory) (sym (eqb-true want.page (page_of_line line) at)) ∙ is)
+            ∙ ap (λ (b : Bool). has want.reads (line % 16) || b) (or_none (has want.writes (line % 16))))
+        by_tests true at false some false is =
+            all-has (line % 16) (omega arith) ∙ or_yes (has want.reads (line % 16)) (has want.writes (line % 16))
+            ∙ sym (ap (λ (b : Bool). has want.reads (line % 16) || (has want.writes (line % 16) || not b)) (ap (is_fine_page directory) (sym (eqb-true want.page (page_of_line line) at)) ∙ is))
+        by_tests false at none some fine is = refl
 
-        or_no : (b : Bool) → b ≡ (b || false)
-        or_no true = refl
-        or_no false = refl
-
-        by_tests : (here none : Bool) → (here && has (if none then want else record want { reads = between 0 15 }).reads (line % 16)) ≡ ((here && has want.reads (line % 16)) || (here && not none))
-        by_tests true true = or_no (has want.reads (line % 16))
-        by_tests true false = whole-has (line % 16) (omega arith) ∙ or_yes (has want.reads (line % 16))
-        by_tests false none = refl
-
-    page-same : (want : Want) → (with_whole_page want).page ≡ want.page
+    page-same : (want : Want) → (with_whole_page directory want).page ≡ want.page
     page-same want = by_test (length want.writes == 0)
       where
-        by_test : (none : Bool) → (if none then want else record want { reads = between 0 15 }).page ≡ want.page
+        by_test : (none : Bool) → (if none then want else record want { reads = if is_fine_page directory want.page then union want.reads want.writes else between 0 15 }).page ≡ want.page
         by_test true = refl
         by_test false = refl
 
-    writes-same : (want : Want) → (with_whole_page want).writes ≡ want.writes
+    writes-same : (want : Want) → (with_whole_page directory want).writes ≡ want.writes
     writes-same want = by_test (length want.writes == 0)
       where
-        by_test : (none : Bool) → (if none then want else record want { reads = between 0 15 }).writes ≡ want.writes
+        by_test : (none : Bool) → (if none then want else record want { reads = if is_fine_page directory want.page then union want.reads want.writes else between 0 15 }).writes ≡ want.writes
         by_test true = refl
         by_test false = refl
 
-    each : (line : ℕ) (wants : List Want) → list_any (λ want. (want.page == page_of_line line) && has want.reads (line % 16)) (map with_whole_page wants)
-        ≡ (list_any (λ want. (want.page == page_of_line line) && has want.reads (line % 16)) wants || list_any (λ want. (want.page == page_of_line line) && not (length want.writes == 0)) wants)
+    each : (line : ℕ) (wants : List Want) → list_any (λ want. (want.page == page_of_line line) && has want.reads (line % 16)) (map (with_whole_page directory) wants)
+        ≡ (list_any (λ want. (want.page == page_of_line line) && has want.reads (line % 16)) wants
+        || (list_any (λ want. (want.page == page_of_line line) && has want.writes (line % 16)) wants
+        || (list_any (λ want. (want.page == page_of_line line) && not (length want.writes == 0)) wants && not (is_fine_page directory (page_of_line line)))))
     each line [] = refl
     each line (want ∷ wants) =
-        (λ i. (((page-same want i == page_of_line line) && has (with_whole_page want).reads (line % 16)) || each line wants i))
-        ∙ ap (λ (b : Bool). b || (list_any (λ want. (want.page == page_of_line line) && has want.reads (line % 16)) wants || list_any (λ want. (want.page == page_of_line line) && not (length want.writes == 0)) wants)) (one line want)
-        ∙ or-cross ((want.page == page_of_line line) && has want.reads (line % 16)) ((want.page == page_of_line line) && not (length want.writes == 0))
-        (list_any (λ want. (want.page == page_of_line line) && has want.reads (line % 16)) wants) (list_any (λ want. (want.page == page_of_line line) && not (length want.writes == 0)) wants)
+        (λ i. (((page-same want i == page_of_line line) && has (with_whole_page directory want).reads (line % 16)) || each line wants i))
+        ∙ ap
+        (λ (b : Bool).
+        b
+        || (list_any (λ want. (want.page == page_of_line line) && has want.reads (line % 16)) wants
+        || (list_any (λ want. (want.page == page_of_line line) && has want.writes (line % 16)) wants
+        || (list_any (λ want. (want.page == page_of_line line) && not (length want.writes == 0)) wants && not (is_fine_page directory (page_of_line line))))))
+        (one line want)
+        ∙ gathers ((want.page == page_of_line line) && has want.reads (line % 16)) ((want.page == page_of_line line) && has want.writes (line % 16)) ((want.page == page_of_line line) && not (length want.writes == 0)) (not (is_fine_page directory (page_of_line line)))
+        (list_any (λ want. (want.page == page_of_line line) && has want.reads (line % 16)) wants) (list_any (λ want. (want.page == page_of_line line) && has want.writes (line % 16)) wants) (list_any (λ want. (want.page == page_of_line line) && not (length want.writes == 0)) wants)
 
-    same : (line : ℕ) (wants : List Want) → list_any (λ want. (want.page == page_of_line line) && has want.writes (line % 16)) (map with_whole_page wants)
+    same : (line : ℕ) (wants : List Want) → list_any (λ want. (want.page == page_of_line line) && has want.writes (line % 16)) (map (with_whole_page directory) wants)
         ≡ list_any (λ want. (want.page == page_of_line line) && has want.writes (line % 16)) wants
     same line [] = refl
     same line (want ∷ wants) = λ i. ((page-same want i == page_of_line line) && has (writes-same want i) (line % 16)) || same line wants i

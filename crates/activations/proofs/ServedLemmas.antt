@@ -2,6 +2,7 @@
 use Rattle.std.specs.Prelude.{◌≡◌, refl, ℕ, ◌+◌, ◌-◌, ◌%◌, ◌<◌, ◌==◌, ◌||◌, if◌then◌else◌, Bool, true, false, List, [], map, slice_index_or, Some}
 use Rattle.std.proofs.Common.{arith, ap, sym, ◌∙◌, subst}
 use Rattle.std.proofs.lemmas.Bool.{eq-eqb, both_ways}
+use Rattle.line_geometry.specs.Directory.{is_fine_page}
 use Rattle.line_geometry.specs.FlatStore.{FlatStore}
 use Rattle.lock_rules.specs.Sets.{has}
 use Rattle.lock_rules.specs.Lines.{Lines, no_lines, page_of_line, both, with_whole_pages}
@@ -16,10 +17,10 @@ use Rattle.flat_machine.specs.Row.{On, row}
 use Rattle.flat_machine.specs.After.{after}
 use Rattle.flat_machine.specs.Touched.{touched}
 use Rattle.frame_pool.specs.declared.model.Pool.{Pool}
-use Rattle.desk.specs.Desk.{Desk, Entry, with_entry}
-use Rattle.desk.specs.Instruction.{Word, Counts, Attempt, Turning, Going, Fetched, Fine, fetches, touched_pages, granted, locks_with}
+use Rattle.desk.specs.Desk.{Desk, Entry}
+use Rattle.desk.specs.Instruction.{Word, Counts, Attempt, Turning, Going, Fetched, Fine, fetches, touched_pages, with_grants, lowered, locks_with}
 use Rattle.desk_law.specs.Beside.{AreAlike, AreMarked, IsState, over_all, requested, by_number, owners_told}
-use Rattle.desk_law.specs.Changes.{gone_on}
+use Rattle.desk_law.specs.Changes.{gone_on, row_done}
 use Rattle.desk_law.specs.Consistent.{IsAmong, due_to}
 use Rattle.desk_law.specs.Current.{IsCurrent}
 use Rattle.desk_law.specs.Orderly.{IsOrderly}
@@ -38,7 +39,7 @@ use Rattle.storage_unit.specs.Rows.{plain_over}
 use Rattle.activations.specs.declared.live.Live.{Live}
 use Rattle.activations.specs.Activity.{Activity, live_in, program_in, entry_in, entries, store_over, desk_over, authority_under, number_under, lines_held, locks_in, request_for, request_in, state_in, shown}
 use Rattle.activations.specs.Follows.{IsSound}
-use Rattle.activations.specs.Serving.{IsFree, Goes, locked}
+use Rattle.activations.specs.Serving.{IsFree, Goes, locked, with_entries}
 use Rattle.activations.specs.Steps.{counted, executed, with_pool, IsMoved, HasExecuted}
 use Rattle.activations.specs.Touched.{with_whole_page}
 use Rattle.activations.proofs.CommitLemmas.{told-kept}
@@ -46,14 +47,18 @@ use Rattle.activations.proofs.ContestLemmas.{orderly-other}
 use Rattle.activations.proofs.SittingLemmas.{by_seat, sitter-other, entry-counted, entry-other, under-counted, live-other, live-there}
 
 module _ (begins : Word → Turning) (attempt : Attempt) (refused : List ℕ) (a : Activity) (seat : ℕ) (committed : List ℕ) (order : List (ℕ × ℕ)) (counts : Counts)
-    (wants : List Want) (owned : List Authority) (pool : Pool) (live : Live) (bytes : List ℕ) (marked : List (List ℕ)) (counted_pages : ℕ) (next : Plain)
+    (wants : List Want) (owned eased : List Authority) (pool : Pool) (live : Live) (bytes : List ℕ) (marked : List (List ℕ)) (counted_pages : ℕ) (next : Plain)
     (sound : IsSound a) (taken : has a.seating.taken seat ≡ true) (runner : a.reach.runner ≡ seat + 1)
     (number : attempt.entry.number ≡ (sitter a.seating seat).number) (free : IsFree begins attempt refused a committed order counts) (goes : attempt.outcome ≡ On next) where
   abbrev before : Activity
   before = with_pool (locked a seat wants owned) pool
 
+  -- once it took effect and the write bits went off
+  abbrev ran : Activity
+  ran = with_entries (executed before seat live bytes marked) eased
+
   abbrev done : Activity
-  done = counted (executed before seat live bytes marked) seat 1
+  done = counted (with_entries (executed before seat live bytes marked) eased) seat 1
 
   abbrev store : FlatStore
   store = store_over a committed
@@ -92,7 +97,7 @@ module _ (begins : Word → Turning) (attempt : Attempt) (refused : List ℕ) (a
   module _ (moved : IsMoved a.reach.pool pool) (keeps : Keeps a.reach.directory a.reach.pool pool committed)
       (fetched : fetches Fine old.frames (touched_pages attempt) (touched_pages attempt) old.resident counts.pages ≡ Fetched pool.resident counted_pages)
       (alike : AreAlike (locks_in (locked a seat wants owned) seat) (locks_with attempt old))
-      (grants : owners_told (number_under a) (authority_under owned) ≡ granted attempt (locks_with attempt old) refused old.authority)
+      (grants : owners_told (number_under a) (authority_under eased) ≡ lowered (is_fine_page a.reach.directory) attempt (locks_with attempt old) (with_grants attempt refused old).authority)
       (went : HasExecuted before seat live bytes marked committed) where
     runs_here : a.reach.runner - 1 ≡ seat
     runs_here = ap (λ (n : ℕ). n - 1) runner ∙ omega arith
@@ -127,7 +132,7 @@ module _ (begins : Word → Turning) (attempt : Attempt) (refused : List ℕ) (a
     new at = if at == attempt.entry.number then left else states at
 
     due : due_to store (gone_on attempt.entry) ≡ locks_with attempt old
-    due = due-more store attempt.entry ∙ ap (λ (l : Lines). with_whole_pages (both (touched_within attempt.entry.runs.program attempt.entry.runs.args store attempt.entry.rows) l)) (sym free.ready.lines)
+    due = due-more store attempt.entry ∙ ap (λ (l : Lines). with_whole_pages (is_fine_page a.reach.directory) (both (touched_within attempt.entry.runs.program attempt.entry.runs.args store attempt.entry.rows) l)) (sym free.ready.lines)
 
     mine : (attempt.entry.number == attempt.entry.number) ≡ true
     mine = eq-eqb attempt.entry.number attempt.entry.number refl
@@ -137,7 +142,7 @@ module _ (begins : Word → Turning) (attempt : Attempt) (refused : List ℕ) (a
         subst (λ (l : Lines). AreAlike l (due_to store (gone_on attempt.entry))) (sym (ap (λ (b : Bool). if b then locks_in (locked a seat wants owned) seat else locks attempt.entry.number) mine))
         (subst (AreAlike (locks_in (locked a seat wants owned) seat)) (sym due) alike)
 
-    went-on : WentOn begins (with_entry (got attempt refused pool.resident old) (gone_on attempt.entry)) (record counts { pages = counted_pages; ran = counts.ran + 1 }) more requests new left.store
+    went-on : WentOn begins (row_done attempt (got attempt refused pool.resident old)) (record counts { pages = counted_pages; ran = counts.ran + 1 }) more requests new left.store
     went-on =
         gets-goes begins attempt refused pool.resident old counts counted_pages locks more requests states new next left (shown a committed)
         free.comes free.ready free.free goes (told-kept a committed sound free.follows.kept) fetched
@@ -149,23 +154,23 @@ module _ (begins : Word → Turning) (attempt : Attempt) (refused : List ℕ) (a
 
     -- the entries and the desk after it
     entry-done : entry_in done seat ≡ gone_on attempt.entry
-    entry-done = entry-counted (executed before seat live bytes marked) seat 1 sound.seating.sixteen below ∙ gone-same
+    entry-done = entry-counted (with_entries (executed before seat live bytes marked) eased) seat 1 sound.seating.sixteen below ∙ gone-same
 
     entry-others : (at : ℕ) → (at == seat) ≡ false → entry_in done at ≡ entry_in a at
-    entry-others at differs = entry-other (executed before seat live bytes marked) seat 1 at differs
+    entry-others at differs = entry-other (with_entries (executed before seat live bytes marked) eased) seat 1 at differs
 
     entries-done : entries done ≡ replaced (gone_on attempt.entry) (entries a)
     entries-done =
         told-replaced a.seating.taken (entry_in a) (entry_in done) seat
-        (λ at inside. ap (λ (e : Entry). (entry_in a at).number == e.number) (entry-counted (executed before seat live bytes marked) seat 1 sound.seating.sixteen below) ∙ sound.seats.apart at seat inside taken) entry-others
+        (λ at inside. ap (λ (e : Entry). (entry_in a at).number == e.number) (entry-counted (with_entries (executed before seat live bytes marked) eased) seat 1 sound.seating.sixteen below) ∙ sound.seats.apart at seat inside taken) entry-others
         ∙ ap (λ (e : Entry). replaced e (entries a)) entry-done
 
-    desk-done : desk_over done committed order ≡ with_entry (got attempt refused pool.resident old) (gone_on attempt.entry)
+    desk-done : desk_over done committed order ≡ row_done attempt (got attempt refused pool.resident old)
     desk-done i = record old {
       frames = moved.frames i;
       active = entries-done i;
       resident = pool.resident;
-      authority = (ap (λ (numbers : ℕ → ℕ). owners_told numbers (authority_under owned)) (under-counted (executed before seat live bytes marked) seat 1 sound.seating.sixteen below) ∙ grants) i;
+      authority = (ap (λ (numbers : ℕ → ℕ). owners_told numbers (authority_under eased)) (under-counted (with_entries (executed before seat live bytes marked) eased) seat 1 sound.seating.sixteen below) ∙ grants) i;
     }
 
     among-done : (at : ℕ) → has a.seating.taken at ≡ true → IsAmong (replaced (gone_on attempt.entry) (entries a)) (entry_in done at)
@@ -184,7 +189,7 @@ module _ (begins : Word → Turning) (attempt : Attempt) (refused : List ℕ) (a
         ap (λ (b : Bool). if b then locks_in (locked a seat wants owned) seat else locks (entry_in done at).number) (other-number at inside differs)
         ∙ ap (λ (e : Entry). locks e.number) (entry-others at differs)
         ∙ at-number a.seating.taken (entry_in a) (locks_in a) no_lines at sound.seats inside
-        ∙ ap lines_held (sym (other-with a.seating.holding seat (with_wants (of_seat a.seating.holding seat) (map with_whole_page wants)) sound.seating.whole at differs)))
+        ∙ ap lines_held (sym (other-with a.seating.holding seat (with_wants (of_seat a.seating.holding seat) (map (with_whole_page a.reach.directory) wants)) sound.seating.whole at differs)))
 
     requests-done : (at : ℕ) → has a.seating.taken at ≡ true → (entry_in done at).waiting ≡ true → requests (entry_in done at).number ≡ request_in done at
     requests-done = by_seat {P = λ at. (entry_in done at).waiting ≡ true → requests (entry_in done at).number ≡ request_in done at} a.seating.taken seat

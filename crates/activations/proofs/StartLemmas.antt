@@ -2,6 +2,7 @@
 use Rattle.std.specs.Prelude.{◌≡◌, refl, ℕ, zero, suc, ◌+◌, ◌<◌, ◌==◌, nat_lt, if◌then◌else◌, Bool, true, false, List, [], ◌∷◌, ◌++◌, All, filter, length, map, Some}
 use Rattle.std.proofs.Common.{ap, sym, ◌∙◌, subst}
 use Rattle.std.proofs.lemmas.Bool.{eq-eqb}
+use Rattle.line_geometry.specs.Directory.{is_fine_page}
 use Rattle.lock_rules.specs.Sets.{has, size}
 use Rattle.lock_rules.specs.Lines.{Lines, no_lines, with_whole_pages}
 use Rattle.line_locks.specs.declared.request.Request.{Request}
@@ -127,12 +128,12 @@ module _ (a : Activity) (seat : ℕ) (committed : List ℕ) (order : List (ℕ �
       refused-is : refused_pages attempt desk ≡ refused
       refused-is = refused-are a seat committed order attempt wants sound follows.orderly.active.ascend taken refl lines-are pages apart sets
 
-      asked : AreAlike (asked_for attempt) (lines_wanted (map with_whole_page wants))
-      asked = subst (λ (l : Lines). AreAlike (with_whole_pages l) (lines_wanted (map with_whole_page wants))) (sym lines-are) (alike-back (lines_wanted (map with_whole_page wants)) (with_whole_pages (lines_wanted wants)) (asked-alike wants sets))
+      asked : AreAlike (asked_for a.reach.directory attempt) (lines_wanted (map (with_whole_page a.reach.directory) wants))
+      asked = subst (λ (l : Lines). AreAlike (with_whole_pages (is_fine_page a.reach.directory) l) (lines_wanted (map (with_whole_page a.reach.directory) wants))) (sym lines-are) (alike-back (lines_wanted (map (with_whole_page a.reach.directory) wants)) (with_whole_pages (is_fine_page a.reach.directory) (lines_wanted wants)) (asked-alike a.reach.directory wants sets))
 
-      holders-are : holders a.seating seat (map with_whole_page wants)
-          ≡ map (λ (other : Entry). other.number) (filter (kept_conflict (asked_for attempt) (by_number a.seating.taken (entry_in a) (locks_in a) no_lines) entry.number) (entries a))
-      holders-are = holders-told a sound seat (map with_whole_page wants) (asked_for attempt) taken (whole-of-page wants sets) asked
+      holders-are : holders a.seating seat (map (with_whole_page a.reach.directory) wants)
+          ≡ map (λ (other : Entry). other.number) (filter (kept_conflict (asked_for a.reach.directory attempt) (by_number a.seating.taken (entry_in a) (locks_in a) no_lines) entry.number) (entries a))
+      holders-are = holders-told a sound seat (map (with_whole_page a.reach.directory) wants) (asked_for a.reach.directory attempt) taken (whole-of-page a.reach.directory wants sets) asked
 
       desk-there : record desk { resident = pool.resident } ≡ desk_over there committed order
       desk-there = sym (moved-desk a pool committed order moved)
@@ -141,7 +142,7 @@ module _ (a : Activity) (seat : ℕ) (committed : List ℕ) (order : List (ℕ �
       were-refused = record { once = desk.authority; are = refused-is; keeps = λ page own. refl }
 
       -- nobody holds what it asks for
-      pub free : holders a.seating seat (map with_whole_page wants) ≡ [] → IsFree (instruction_in a seat committed order counts) attempt refused there committed order more
+      pub free : holders a.seating seat (map (with_whole_page a.reach.directory) wants) ≡ [] → IsFree (instruction_in a seat committed order counts) attempt refused there committed order more
       free none = record {
         comes = λ word reads.
             free-gets desk counts entry now next (shown a committed) orderly here (follows.kept.stand seat taken).at goes within
@@ -158,8 +159,8 @@ module _ (a : Activity) (seat : ℕ) (committed : List ℕ) (order : List (ℕ �
       }
 
       -- somebody does: it waits, and its contest begins
-      module _ (request : Request) (asks : request.wants.items ≡ map with_whole_page wants) (holder : ℕ) (others : List ℕ)
-          (some : holders a.seating seat (map with_whole_page wants) ≡ holder ∷ others) where
+      module _ (request : Request) (asks : request.wants.items ≡ map (with_whole_page a.reach.directory) wants) (holder : ℕ) (others : List ℕ)
+          (some : holders a.seating seat (map (with_whole_page a.reach.directory) wants) ≡ holder ∷ others) where
         abbrev waits : Activity
         waits = asking there seat request
 
@@ -167,7 +168,7 @@ module _ (a : Activity) (seat : ℕ) (committed : List ℕ) (order : List (ℕ �
         marked_entry = record entry { waiting = true }
 
         abbrev tables : ℕ → Lines
-        tables at = if at == entry.number then asked_for attempt else by_number a.seating.taken (entry_in a) (request_in a) no_lines at
+        tables at = if at == entry.number then asked_for a.reach.directory attempt else by_number a.seating.taken (entry_in a) (request_in a) no_lines at
 
         mine : (entry.number == entry.number) ≡ true
         mine = eq-eqb entry.number entry.number refl
@@ -180,8 +181,8 @@ module _ (a : Activity) (seat : ℕ) (committed : List ℕ) (order : List (ℕ �
             contest-begins desk counts entry now next (shown a committed) orderly here (follows.kept.stand seat taken).at goes within
             (by_number a.seating.taken (entry_in a) (locks_in a) no_lines) (by_number a.seating.taken (entry_in a) (request_in a) no_lines) (by_number a.seating.taken (entry_in a) (state_in a) (state_in a 16))
             (told-kept a committed sound follows.kept) pool.resident counted fetched holder others tables (sym holders-are ∙ some)
-            (ap (λ (b : Bool). if b then asked_for attempt else by_number a.seating.taken (entry_in a) (request_in a) no_lines entry.number) mine)
-            (record { kept = λ at differs. ap (λ (b : Bool). if b then asked_for attempt else by_number a.seating.taken (entry_in a) (request_in a) no_lines at) differs })
+            (ap (λ (b : Bool). if b then asked_for a.reach.directory attempt else by_number a.seating.taken (entry_in a) (request_in a) no_lines entry.number) mine)
+            (record { kept = λ at differs. ap (λ (b : Bool). if b then asked_for a.reach.directory attempt else by_number a.seating.taken (entry_in a) (request_in a) no_lines at) differs })
 
         below : seat < 16
         below = taken-below a.seating sound.seating seat taken
@@ -233,10 +234,10 @@ module _ (a : Activity) (seat : ℕ) (committed : List ℕ) (order : List (ℕ �
               subst (λ (e : Entry). AreAlike (request_in waits seat) (requested (store_over a committed) e)) (sym entry-waits)
               (subst (λ (who : Seat). AreAlike (request_for who) (requested (store_over a committed) marked_entry)) (sym sits)
               (subst (λ (l : Lines). AreAlike l (requested (store_over a committed) marked_entry)) (ap lines_wanted (sym asks))
-              (alike-then (lines_wanted (map with_whole_page wants)) (asked_for attempt) (requested (store_over a committed) marked_entry)
-              (alike-back (asked_for attempt) (lines_wanted (map with_whole_page wants)) asked)
+              (alike-then (lines_wanted (map (with_whole_page a.reach.directory) wants)) (asked_for a.reach.directory attempt) (requested (store_over a committed) marked_entry)
+              (alike-back (asked_for a.reach.directory attempt) (lines_wanted (map (with_whole_page a.reach.directory) wants)) asked)
               (subst (λ (l : Lines). AreAlike l (requested (store_over a committed) marked_entry))
-              (ap (λ (b : Bool). if b then asked_for attempt else by_number a.seating.taken (entry_in a) (request_in a) no_lines entry.number) mine)
+              (ap (λ (b : Bool). if b then asked_for a.reach.directory attempt else by_number a.seating.taken (entry_in a) (request_in a) no_lines entry.number) mine)
               (begun.told.kept.asked marked_entry marked-among refl))))))
               (λ at inside differs waiting.
               subst (λ (e : Entry). AreAlike (request_in waits at) (requested (store_over a committed) e)) (sym (entry-others at differs))

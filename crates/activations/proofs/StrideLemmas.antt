@@ -79,6 +79,21 @@ unfolding turns
 turns-on word number left desk later counts after entry found on =
     ap (λ (one : Option Entry). turns word number left (instruction word one desk counts)) found ∙ ap (turns word number left) on
 
+-- no row is a stride of none
+pub strode-none : (a : Activity) (seat : ℕ) → Strode a seat 0 a
+strode-none a seat = record {
+  seating = refl;
+  follows = λ committed before follows. subst (λ (n : ℕ). Follows (counted a seat n) committed) (more before) follows;
+  turns = λ word committed order before left counts follows i.
+      turns word (number_in a.seating seat) (none left i) (Going (desk_over (counted a seat (more before i)) committed order) (record counts { ran = more counts.ran i }));
+}
+  where
+    none : (left : ℕ) → 0 + left ≡ left
+    none left = omega arith
+
+    more : (n : ℕ) → n ≡ n + 0
+    more n = omega arith
+
 -- a row that took effect is a stride of one
 pub one-strode : (a after : Activity) (seat : ℕ) → IsSound a → has a.seating.taken seat ≡ true → IsSelected a seat → TookEffect a seat after → Strode a seat 1 after
 one-strode a after seat sound taken selected took = record {

@@ -1,34 +1,39 @@
 -- What a seat holds once it has taken what it asked for, and what it is granted then.
-use Rattle.std.specs.Prelude.{◌≡◌, refl, ℕ, suc, ◌+◌, ◌*◌, ◌/◌, ◌%◌, ◌<◌, ◌==◌, ◌||◌, true, List, [], ◌∷◌, ◌++◌, length, map, slice_set}
+use Rattle.std.specs.Prelude.{◌≡◌, refl, ℕ, suc, ◌+◌, ◌*◌, ◌/◌, ◌%◌, ◌<◌, ◌==◌, ◌&&◌, ◌||◌, not, if◌then◌else◌, Bool, true, false, List, [], ◌∷◌, length, filter, map, slice_set}
 use Rattle.std.proofs.Common.{arith, ap, sym, ◌∙◌, subst}
-use Rattle.std.proofs.lemmas.Bool.{eq-eqb, or_left, or_right}
+use Rattle.std.proofs.lemmas.Bool.{eqb-true, eq-eqb, and_right, or_left, or_right}
 use Rattle.std.proofs.lemmas.List.{length-set}
 use Rattle.std.proofs.lemmas.List.Folds.{list_any-append}
+use Rattle.line_geometry.specs.Directory.{is_fine_page}
 use Rattle.lock_rules.specs.Sets.{has}
-use Rattle.lock_rules.specs.Lines.{Lines, both, page_of_line, pages_of, with_whole_pages, within_page}
-use Rattle.lock_rules.proofs.Sets.{has-append}
-use Rattle.lock_rules.proofs.Lines.{has-pages_of, has-whole_pages}
+use Rattle.lock_rules.specs.Lines.{Lines, both, pages_of, with_whole_pages, within_page, is_whole_page}
+use Rattle.lock_rules.proofs.Sets.{has-append, has-filter}
+use Rattle.std.specs.List.{list_any}
+use Rattle.lock_rules.proofs.Lines.{reaches, has-whole_pages}
 use Rattle.line_locks.specs.declared.request.Want.{Want}
 use Rattle.line_locks.specs.Held.{AreWithin, with_wants}
-use Rattle.line_locks.specs.Flat.{lines_wanted, IsFlat}
+use Rattle.line_locks.specs.Flat.{flat_lines, lines_wanted, IsFlat}
 use Rattle.line_locks.specs.Holding.{of_seat}
 use Rattle.line_locks.proofs.FlatLemmas.{flat-taken}
 use Rattle.lockbit_rules.specs.declared.Authority.{Authority}
-use Rattle.desk.specs.Instruction.{Attempt, authority_by, granted}
+use Rattle.desk.specs.Instruction.{Attempt, authority_by, fine_authority_by, given, with_each, granted, to_read, lowered_pages, lowered}
+use Rattle.desk.specs.Desk as desk
+use Rattle.lockbit_rules.specs.Entries.{Entry}
 use Rattle.desk_law.specs.Beside.{AreAlike, owners_told}
-use Rattle.desk_law.proofs.AlikeSets.{granted-alike}
-use Rattle.desk_law.proofs.Identifiers.{granted-told}
+use Rattle.desk_law.proofs.AlikeSets.{granted-alike, lowered-alike}
+use Rattle.desk_law.proofs.EachPage.{each-alike}
+use Rattle.desk_law.proofs.Identifiers.{granted-told, lowered-told}
 use Rattle.desk_law.proofs.KeptTables.{alike-then}
 use Rattle.seats.specs.Seating.{sitter}
 use Rattle.seats.proofs.Kept.{same-with}
 use Rattle.seats.proofs.Numbers.{AreOfPage}
 use Rattle.activations.specs.Activity.{Activity, authority_under, number_under, locks_in}
 use Rattle.activations.specs.Follows.{IsSound, AreOfPages}
-use Rattle.activations.specs.Serving.{AreGranted, locked}
-use Rattle.activations.specs.Touched.{with_whole_page}
-use Rattle.activations.proofs.GrantLemmas.{granted-page, under-set}
+use Rattle.activations.specs.Serving.{AreSet, AreGranted, AreLowered, entry_given, entry_to_read, is_lowered, pages_lowered, locked}
+use Rattle.activations.specs.Touched.{with_whole_page, stores_into, pages_wanted}
+use Rattle.activations.proofs.GrantLemmas.{granted-page, lowered-page, held-whole, under-set}
 use Rattle.activations.proofs.HoldingLemmas.{held-flat}
-use Rattle.activations.proofs.RequestLemmas.{asked-alike, or-cross, whole-of-page}
+use Rattle.activations.proofs.RequestLemmas.{asked-alike, has-pages_wanted, or-cross, whole-of-page}
 
 -- two sets of flat lines of the same pages are alike
 flat-alike : (pages : List (List ℕ × List ℕ)) (one other : Lines) → IsFlat pages one → IsFlat pages other → AreAlike one other
@@ -46,59 +51,120 @@ both-alike a b c d first second = record {
 }
 
 -- whole pages of both are both with whole pages
-whole-both : (one other : Lines) → AreAlike (both (with_whole_pages one) (with_whole_pages other)) (with_whole_pages (both one other))
-whole-both one other = record {
+whole-both : (fine : ℕ → Bool) (one other : Lines) → AreAlike (both (with_whole_pages fine one) (with_whole_pages fine other)) (with_whole_pages fine (both one other))
+whole-both fine one other = record {
   reads = λ line.
-      has-append (with_whole_pages one).reads (with_whole_pages other).reads line
-      ∙ (λ i. has-whole_pages one line i || has-whole_pages other line i)
-      ∙ or-cross (has one.reads line) (has (pages_of one.writes) (page_of_line line)) (has other.reads line) (has (pages_of other.writes) (page_of_line line))
-      ∙ sym (λ i. has-append one.reads other.reads line i || pages-both (page_of_line line) i)
-      ∙ sym (has-whole_pages (both one other) line);
+      has-append (with_whole_pages fine one).reads (with_whole_pages fine other).reads line
+      ∙ (λ i. has-whole_pages fine one line i || has-whole_pages fine other line i)
+      ∙ or-cross (has one.reads line) (list_any (reaches fine line) one.writes) (has other.reads line) (list_any (reaches fine line) other.writes)
+      ∙ sym (λ i. has-append one.reads other.reads line i || list_any-append (reaches fine line) one.writes other.writes i)
+      ∙ sym (has-whole_pages fine (both one other) line);
   writes = λ line. refl;
 }
-  where
-    pages-both : (page : ℕ) → has (pages_of (one.writes ++ other.writes)) page ≡ (has (pages_of one.writes) page || has (pages_of other.writes) page)
-    pages-both page =
-        has-pages_of (one.writes ++ other.writes) page ∙ list_any-append (λ line. page_of_line line == page) one.writes other.writes
-        ∙ sym (λ i. has-pages_of one.writes page i || has-pages_of other.writes page i)
 
 -- what is taken is held beside what was held, with the whole pages that are written into
 pub taken-alike : (a : Activity) (seat : ℕ) (wants : List Want) (entries : List Authority) (within : Lines) → IsSound a → seat < 16
-    → AreOfPage wants → AreWithin (length (of_seat a.seating.holding seat)) (map with_whole_page wants)
+    → AreOfPage wants → AreWithin (length (of_seat a.seating.holding seat)) (map (with_whole_page a.reach.directory) wants)
     → AreOfPages (of_seat (locked a seat wants entries).seating.holding seat)
-    → AreAlike (locks_in a seat) (with_whole_pages within)
-    → AreAlike (locks_in (locked a seat wants entries) seat) (with_whole_pages (both within (lines_wanted wants)))
+    → AreAlike (locks_in a seat) (with_whole_pages (is_fine_page a.reach.directory) within)
+    → AreAlike (locks_in (locked a seat wants entries) seat) (with_whole_pages (is_fine_page a.reach.directory) (both within (lines_wanted wants)))
 taken-alike a seat wants entries within sound below sets inside of alike =
-    alike-then (locks_in (locked a seat wants entries) seat) (both (locks_in a seat) (lines_wanted (map with_whole_page wants))) (with_whole_pages (both within (lines_wanted wants)))
-    (flat-alike (with_wants (of_seat a.seating.holding seat) (map with_whole_page wants)) (locks_in (locked a seat wants entries) seat) (both (locks_in a seat) (lines_wanted (map with_whole_page wants)))
+    alike-then (locks_in (locked a seat wants entries) seat) (both (locks_in a seat) (lines_wanted (map (with_whole_page a.reach.directory) wants))) (with_whole_pages (is_fine_page a.reach.directory) (both within (lines_wanted wants)))
+    (flat-alike (with_wants (of_seat a.seating.holding seat) (map (with_whole_page a.reach.directory) wants)) (locks_in (locked a seat wants entries) seat) (both (locks_in a seat) (lines_wanted (map (with_whole_page a.reach.directory) wants)))
     (subst (λ (pages : List (List ℕ × List ℕ)). IsFlat pages (locks_in (locked a seat wants entries) seat)) holds (held-flat (of_seat (locked a seat wants entries).seating.holding seat) of))
-    (flat-taken (of_seat a.seating.holding seat) (locks_in a seat) (map with_whole_page wants) (held-flat (of_seat a.seating.holding seat) (sound.lines seat)) inside (whole-of-page wants sets).reads (whole-of-page wants sets).writes))
-    (alike-then (both (locks_in a seat) (lines_wanted (map with_whole_page wants))) (both (with_whole_pages within) (with_whole_pages (lines_wanted wants))) (with_whole_pages (both within (lines_wanted wants)))
-    (both-alike (locks_in a seat) (with_whole_pages within) (lines_wanted (map with_whole_page wants)) (with_whole_pages (lines_wanted wants)) alike (asked-alike wants sets))
-    (whole-both within (lines_wanted wants)))
+    (flat-taken (of_seat a.seating.holding seat) (locks_in a seat) (map (with_whole_page a.reach.directory) wants) (held-flat (of_seat a.seating.holding seat) (sound.lines seat)) inside (whole-of-page a.reach.directory wants sets).reads (whole-of-page a.reach.directory wants sets).writes))
+    (alike-then (both (locks_in a seat) (lines_wanted (map (with_whole_page a.reach.directory) wants))) (both (with_whole_pages (is_fine_page a.reach.directory) within) (with_whole_pages (is_fine_page a.reach.directory) (lines_wanted wants))) (with_whole_pages (is_fine_page a.reach.directory) (both within (lines_wanted wants)))
+    (both-alike (locks_in a seat) (with_whole_pages (is_fine_page a.reach.directory) within) (lines_wanted (map (with_whole_page a.reach.directory) wants)) (with_whole_pages (is_fine_page a.reach.directory) (lines_wanted wants)) alike (asked-alike a.reach.directory wants sets))
+    (whole-both (is_fine_page a.reach.directory) within (lines_wanted wants)))
   where
-    holds : of_seat (locked a seat wants entries).seating.holding seat ≡ with_wants (of_seat a.seating.holding seat) (map with_whole_page wants)
-    holds = same-with a.seating.holding seat (with_wants (of_seat a.seating.holding seat) (map with_whole_page wants)) sound.seating.whole below
+    holds : of_seat (locked a seat wants entries).seating.holding seat ≡ with_wants (of_seat a.seating.holding seat) (map (with_whole_page a.reach.directory) wants)
+    holds = same-with a.seating.holding seat (with_wants (of_seat a.seating.holding seat) (map (with_whole_page a.reach.directory) wants)) sound.seating.whole below
 
--- Grants of entries are grants of the desk, under the seat's identifier.
-granted-under : (a : Activity) (seat : ℕ) (attempt : Attempt) (pages : List ℕ) (old new : List Authority) → IsSound a → attempt.entry.number ≡ seat + 1 → ((page : ℕ) → has pages page ≡ true → page < length old)
-    → AreGranted a seat pages old new → authority_under new ≡ granted attempt (locks_in a seat) pages (authority_under old)
-granted-under a seat attempt [] old new sound number below is = ap authority_under is
-granted-under a seat attempt (page ∷ pages) old new sound number below (one, entry, rest) =
-    granted-under a seat attempt pages (slice_set old page one) new sound number
-    (λ other inside. subst (λ (n : ℕ). other < n) (sym (length-set old page one)) (below other (or_right (page == other) (has pages other) inside))) rest
-    ∙ ap (granted attempt (locks_in a seat) pages)
-    (under-set old page one (below page (or_left (page == page) (has pages page) (eq-eqb page page refl)))
-    ∙ ap (slice_set (authority_under old) page)
-    (granted-page a seat page one sound entry ∙ ap (λ (n : ℕ). authority_by n (within_page page (locks_in a seat).reads) (within_page page (locks_in a seat).writes)) (sym number)))
-
-pub granted-all : (a : Activity) (seat : ℕ) (attempt : Attempt) (locks : Lines) (pages : List ℕ) (old new : List Authority) → IsSound a → attempt.entry.number ≡ (sitter a.seating seat).number
-    → ((page : ℕ) → has pages page ≡ true → page < length old) → AreAlike (locks_in a seat) locks → AreGranted a seat pages old new
-    → owners_told (number_under a) (authority_under new) ≡ granted attempt locks pages (owners_told (number_under a) (authority_under old))
-granted-all a seat attempt locks pages old new sound number below alike is =
-    ap (owners_told (number_under a)) (granted-under a seat (record attempt { entry = record attempt.entry { number = seat + 1 } }) pages old new sound refl below is)
-    ∙ granted-told (number_under a) refl (seat + 1) attempt (locks_in a seat) pages (authority_under old) (ap (number_under a) next ∙ sym number)
-    ∙ granted-alike attempt (locks_in a seat) locks pages (owners_told (number_under a) (authority_under old)) alike
+-- Entries that are set are authorities that are set, under the seat's identifier.
+set-under : (of : ℕ → Entry) (told : ℕ → desk.Authority) (pages : List ℕ) (old new : List Authority) → ((page : ℕ) → has pages page ≡ true → page < length old)
+    → ((page : ℕ) → has pages page ≡ true → record { owner = (of page).owner; write = (of page).write; lines = flat_lines page (of page).lines } ≡ told page)
+    → AreSet of pages old new → authority_under new ≡ with_each told pages (authority_under old)
+set-under of told [] old new below same is = ap authority_under is
+set-under of told (page ∷ pages) old new below same (one, entry, rest) =
+    set-under of told pages (slice_set old page one) new
+    (λ other inside. subst (λ (n : ℕ). other < n) (sym (length-set old page one)) (below other (or_right (page == other) (has pages other) inside)))
+    (λ other inside. same other (or_right (page == other) (has pages other) inside)) rest
+    ∙ ap (with_each told pages)
+    (under-set old page one (below page here)
+    ∙ ap (slice_set (authority_under old) page) (ap (λ (e : Entry). record { owner = e.owner; write = e.write; lines = flat_lines page e.lines }) entry ∙ same page here))
   where
-    next : seat + 1 ≡ suc seat
-    next = omega arith
+    here : has (page ∷ pages) page ≡ true
+    here = or_left (page == page) (has pages page) (eq-eqb page page refl)
+
+-- a page is stored into where one of its lines is written
+pub stored-into : (wants : List Want) (page : ℕ) → AreOfPage wants → stores_into wants page ≡ has (pages_of (lines_wanted wants).writes) page
+stored-into wants page sets = sym (has-pages_wanted wants page sets.writes)
+
+module _ (a : Activity) (seat : ℕ) (attempt : Attempt) (locks : Lines) (wants : List Want) (sound : IsSound a) (number : attempt.entry.number ≡ (sitter a.seating seat).number)
+    (lines : attempt.lines ≡ lines_wanted wants) (sets : AreOfPage wants) (alike : AreAlike (locks_in a seat) locks) where
+  abbrev under : Attempt
+  under = record attempt { entry = record attempt.entry { number = seat + 1 } }
+
+  number-is : number_under a (seat + 1) ≡ attempt.entry.number
+  number-is = ap (number_under a) next ∙ sym number
+    where
+      next : seat + 1 ≡ suc seat
+      next = omega arith
+
+  stores : (page : ℕ) → stores_into wants page ≡ has (pages_of attempt.lines.writes) page
+  stores page = stored-into wants page sets ∙ ap (λ (l : Lines). has (pages_of l.writes) page) (sym lines)
+
+  -- Grants of entries are grants of the desk.
+  pub granted-all : (pages : List ℕ) (old new : List Authority) → ((page : ℕ) → has pages page ≡ true → page < length old) → AreGranted a seat wants pages old new
+      → owners_told (number_under a) (authority_under new) ≡ granted (is_fine_page a.reach.directory) attempt locks pages (owners_told (number_under a) (authority_under old))
+  granted-all pages old new below is =
+      ap (owners_told (number_under a))
+      (set-under (λ page. entry_given a seat (stores_into wants page) page) (given (is_fine_page a.reach.directory) (record attempt { entry = record attempt.entry { number = seat + 1 } }) (locks_in a seat)) pages old new below
+      (λ page inside.
+      granted-page a seat page sound (stores_into wants page)
+      ∙ ap
+      (λ (storing : Bool).
+      if is_fine_page a.reach.directory page
+      then fine_authority_by (seat + 1) storing (within_page page (locks_in a seat).reads) (within_page page (locks_in a seat).writes)
+      else authority_by (seat + 1) (within_page page (locks_in a seat).reads) (within_page page (locks_in a seat).writes))
+      (stores page))
+      is)
+      ∙ granted-told (number_under a) refl (is_fine_page a.reach.directory) (seat + 1) attempt (locks_in a seat) pages (authority_under old) number-is
+      ∙ granted-alike (is_fine_page a.reach.directory) attempt (locks_in a seat) locks pages (owners_told (number_under a) (authority_under old)) alike
+
+  -- The pages whose write bits go off are the desk's,
+  lowered-pages : (page : ℕ) → has (pages_lowered a seat wants) page ≡ has (lowered_pages (is_fine_page a.reach.directory) attempt (locks_in a seat)) page
+  lowered-pages page =
+      each wants
+      ∙ (λ i. stores page i && (is_fine_page a.reach.directory page && not (held-whole a seat page sound i)))
+      ∙ sym (has-filter (λ at. is_fine_page a.reach.directory at && not (is_whole_page (within_page at (locks_in a seat).reads))) (pages_of attempt.lines.writes) page)
+    where
+      each : (wants : List Want) → has (pages_wanted (filter (λ want. not (length want.writes == 0) && is_lowered a seat want.page) wants)) page ≡ (stores_into wants page && is_lowered a seat page)
+      each [] = refl
+      each (want ∷ wants) = by_tests (not (length want.writes == 0)) (is_lowered a seat want.page) refl (want.page == page) refl (each wants)
+        where
+          by_tests : (some goes : Bool) → is_lowered a seat want.page ≡ goes → (here : Bool) → (want.page == page) ≡ here
+              → has (pages_wanted (filter (λ want. not (length want.writes == 0) && is_lowered a seat want.page) wants)) page ≡ (stores_into wants page && is_lowered a seat page)
+              → has (pages_wanted (if some && goes then want ∷ filter (λ want. not (length want.writes == 0) && is_lowered a seat want.page) wants else filter (λ want. not (length want.writes == 0) && is_lowered a seat want.page) wants)) page
+              ≡ (((here && some) || stores_into wants page) && is_lowered a seat page)
+          by_tests true true is true at rest =
+              or_left (want.page == page) (has (pages_wanted (filter (λ want. not (length want.writes == 0) && is_lowered a seat want.page) wants)) page) at
+              ∙ sym (ap (is_lowered a seat) (sym (eqb-true want.page page at)) ∙ is)
+          by_tests true true is false at rest = ap (λ (b : Bool). b || has (pages_wanted (filter (λ want. not (length want.writes == 0) && is_lowered a seat want.page) wants)) page) at ∙ rest
+          by_tests true false is true at rest =
+              let no : is_lowered a seat page ≡ false = ap (is_lowered a seat) (sym (eqb-true want.page page at)) ∙ is in
+              rest ∙ and_right (stores_into wants page) (is_lowered a seat page) no ∙ sym no
+          by_tests true false is false at rest = rest
+          by_tests false goes is true at rest = rest
+          by_tests false goes is false at rest = rest
+
+  -- and so are they.
+  pub lowered-all : (old new : List Authority) → ((page : ℕ) → has (pages_lowered a seat wants) page ≡ true → page < length old) → AreLowered a seat (pages_lowered a seat wants) old new
+      → owners_told (number_under a) (authority_under new) ≡ lowered (is_fine_page a.reach.directory) attempt locks (owners_told (number_under a) (authority_under old))
+  lowered-all old new below is =
+      ap (owners_told (number_under a))
+      (set-under (entry_to_read a seat) (to_read (record attempt { entry = record attempt.entry { number = seat + 1 } }) (locks_in a seat)) (pages_lowered a seat wants) old new below
+      (λ page inside. lowered-page a seat page sound) is
+      ∙ each-alike (to_read (record attempt { entry = record attempt.entry { number = seat + 1 } }) (locks_in a seat)) (pages_lowered a seat wants) (lowered_pages (is_fine_page a.reach.directory) attempt (locks_in a seat)) (authority_under old) lowered-pages)
+      ∙ lowered-told (number_under a) refl (is_fine_page a.reach.directory) (seat + 1) attempt (locks_in a seat) (authority_under old) number-is
+      ∙ lowered-alike (is_fine_page a.reach.directory) attempt (locks_in a seat) locks (owners_told (number_under a) (authority_under old)) alike

@@ -14,7 +14,7 @@ use Rattle.line_geometry.specs.Directory.{Layout, start_of, length_of, byte_coun
 use Rattle.line_geometry.specs.Legal.{IsLegal}
 use Rattle.line_geometry.specs.Lines.{line_of, line_count}
 use Rattle.line_geometry.specs.LineSets.{passing, between, difference, IsOfPage}
-use Rattle.line_geometry.specs.Segments.{page_bytes}
+use Rattle.line_geometry.specs.Segments.{line_bytes}
 use Rattle.line_geometry.proofs.LineSetLemmas.{of_page-where}
 use Rattle.line_geometry.proofs.Within.{line-below, segment-within}
 use Rattle.lock_rules.specs.Sets.{has}
@@ -144,8 +144,8 @@ wanted-two d one two first last store page page' set set' lines order near diffe
 
 -- few bytes lie in one line or two
 near : (page : PageSize) (at bytes : ℕ) → 0 < bytes → bytes ≤ 64 → at + bytes ≤ 2 ^ 22
-    → (at / (page_bytes page / 16) ≤ (at + bytes - 1) / (page_bytes page / 16)) × ((at + bytes - 1) / (page_bytes page / 16) ≤ at / (page_bytes page / 16) + 1)
-    × ((at + bytes - 1) / (page_bytes page / 16) < 2 ^ 20)
+    → (at / line_bytes page ≤ (at + bytes - 1) / line_bytes page) × ((at + bytes - 1) / line_bytes page ≤ at / line_bytes page + 1)
+    × ((at + bytes - 1) / line_bytes page < 2 ^ 20)
 near Two at bytes some few small = (omega (arith, some), omega (arith, some, few), omega (arith, some, small))
 near Four at bytes some few small = (omega (arith, some), omega (arith, some, few), omega (arith, some, small))
 
@@ -223,15 +223,15 @@ module _ (a : Activity) (seat : ℕ) (sound : IsSound a) (taken : has a.seating.
   module _ (first : Virtual) (is : located_by (live_in a seat).registers access.address access.bytes access.store ≡ Ok first) where
     pub touches-private : is_private first.segment ≡ true → no_lines ≡ lines_of_access (program_in a seat) a.reach.directory access
     touches-private own =
-        nowhere (Private (offset_of first))
-        (sym (found-where (Ok first) is) ∙ ap (λ (b : Bool). if b then Private (offset_of first) else Shared (start_of a.reach.directory first.segment + offset_of first)) own) refl
+        nowhere (Private (offset_of a.reach.directory.page first))
+        (sym (found-where (Ok first) is) ∙ ap (λ (b : Bool). if b then Private (offset_of a.reach.directory.page first) else Shared (start_of a.reach.directory first.segment + offset_of a.reach.directory.page first)) own) refl
 
     abbrev place : ℕ
-    place = start_of a.reach.directory first.segment + offset_of first
+    place = start_of a.reach.directory first.segment + offset_of a.reach.directory.page first
 
     module _ (low : is_private first.segment ≡ false) where
       shared : located (program_in a seat) a.reach.directory access.address access.bytes access.store ≡ Shared place
-      shared = sym (found-where (Ok first) is) ∙ ap (λ (b : Bool). if b then Private (offset_of first) else Shared place) low
+      shared = sym (found-where (Ok first) is) ∙ ap (λ (b : Bool). if b then Private (offset_of a.reach.directory.page first) else Shared place) low
 
       -- and else those from its first byte's to its last byte's, all in the store
       pub touches-shared : 0 < access.bytes

@@ -4,6 +4,8 @@ use Rattle.std.proofs.Common.{lit<, lit≤}
 use Rattle.std.specs.List.{flat_map, range_with_len}
 use Rattle.std.specs.Option.{option_map_or}
 use Rattle.line_geometry.specs.FlatStore.{FlatStore}
+use Rattle.line_geometry.specs.declared.directory.PageSize.{PageSize}
+use Rattle.line_geometry.specs.declared.directory.PageSize.TheVariants.{Two}
 use Rattle.lock_rules.specs.Lines.{Lines, no_lines}
 use Rattle.line_locks.specs.Held.{of_page}
 use Rattle.line_locks.specs.Flat.{flat_lines, lines_wanted}
@@ -42,9 +44,14 @@ no_program =
 abbrev pub program_at : List Program → ℕ → Program
 program_at programs place = slice_index_or programs place no_program
 
--- what runs where nothing runs, and what runs in a seat
+-- what runs where nothing runs yet, over pages of a size
+abbrev pub nothing_over : PageSize → Live
+nothing_over size =
+    record { cpu = record { regs = replicate 16 0; cs = clear; iar = 0; printed = 0 }; registers = record { page = size; list = replicate 16 None }; out = [] }
+
+-- what runs where no seat is, and what runs in a seat
 abbrev pub nothing_runs : Live
-nothing_runs = record { cpu = record { regs = replicate 16 0; cs = clear; iar = 0; printed = 0 }; registers = replicate 16 None; out = [] }
+nothing_runs = nothing_over Two
 
 abbrev pub live_in : Activity → ℕ → Live
 live_in a seat = slice_index_or a.live seat nothing_runs

@@ -8,6 +8,7 @@ use Rattle.line_geometry.specs.Directory.{byte_count}
 use Rattle.line_locks.specs.Flat.{lines_wanted}
 use Rattle.line_locks.specs.declared.request.Request.{Request}
 use Rattle.line_locks.specs.declared.request.Want.{Want}
+use Rattle.lockbit_rules.specs.declared.Authority.{Authority}
 use Rattle.romp_cpu.specs.declared.storage.Access.{Access}
 use Rattle.desk.specs.declared.answers.TurnEnd.{TurnEnd}
 use Rattle.desk.specs.declared.answers.TurnEnd.TheVariants as end
@@ -20,7 +21,7 @@ use Rattle.activations.specs.declared.tally.Tally.{Tally}
 use Rattle.activations.specs.declared.touch.Touch.{Touch}
 use Rattle.activations.specs.Activity.{Activity, program_in, desk_over}
 use Rattle.activations.specs.Attempted.{IsShut, plain_in}
-use Rattle.activations.specs.Serving.{IsFree, IsContested, Goes, asking}
+use Rattle.activations.specs.Serving.{IsFree, IsContested, Goes, asking, AreLowered, pages_lowered, with_entries}
 use Rattle.activations.specs.Steps.{counted, executed, HasExecuted}
 use Rattle.activations.specs.Touched.{wants_of, pages_picked, with_whole_page}
 use Rattle.activations.specs.Turning.{HasEnded}
@@ -64,8 +65,8 @@ IsInstruction (Err end) begins a seat committed order counts = HasEnded end begi
 -- what is asked for in a seat is free where nobody holds it, and else contested
 pub record IsAsked (begins : Word → Turning) (attempt : Attempt) (refused : List ℕ) (a : Activity) (seat : ℕ) (wants : List Want) (committed : List ℕ) (order : List (ℕ × ℕ)) (counts : Counts) : Type 0 where
   pub number : attempt.entry.number ≡ number_in a.seating seat
-  pub free : holders a.seating seat (map with_whole_page wants) ≡ [] → IsFree begins attempt refused a committed order counts
-  pub contested : (request : Request) (holder : ℕ) (others : List ℕ) → request.wants.items ≡ map with_whole_page wants → holders a.seating seat (map with_whole_page wants) ≡ holder ∷ others
+  pub free : holders a.seating seat (map (with_whole_page a.reach.directory) wants) ≡ [] → IsFree begins attempt refused a committed order counts
+  pub contested : (request : Request) (holder : ℕ) (others : List ℕ) → request.wants.items ≡ map (with_whole_page a.reach.directory) wants → holders a.seating seat (map (with_whole_page a.reach.directory) wants) ≡ holder ∷ others
       → IsContested begins attempt refused (desk_over a committed order) (asking a seat request) committed order counts
 
 -- the pages that a row touches are there, and what it asks for is to be got
@@ -81,16 +82,18 @@ abbrev pub Prepares : Result (Touch × (Bool × Bool)) TurnEnd → (begins : Wor
 Prepares (Ok got) begins a seat committed order counts = IsPrepared begins a seat got.0 got.1 committed order counts
 Prepares (Err end) begins a seat committed order counts = HasEnded end begins a committed order counts
 
--- What it asked for was got: it can't be refused any more, and once it has taken effect that is the desk's instruction.
-pub record IsServed (begins : Word → Turning) (a : Activity) (seat : ℕ) (committed : List ℕ) (order : List (ℕ × ℕ)) (counts : Counts) : Type 0 where
-  pub goes : (live : Live) (bytes : List ℕ) (marked : List (List ℕ)) → HasExecuted a seat live bytes marked committed
-      → GoesUncounted begins (executed a seat live bytes marked) seat committed order counts
+-- What it asked for was got: it can't be refused any more, and once it has taken effect, and the write bits of the fine pages that it wrote into
+-- went off, that is the desk's instruction.
+pub record IsServed (begins : Word → Turning) (a : Activity) (seat : ℕ) (wants : List Want) (committed : List ℕ) (order : List (ℕ × ℕ)) (counts : Counts) : Type 0 where
+  pub goes : (live : Live) (bytes : List ℕ) (marked : List (List ℕ)) (eased : List Authority) → HasExecuted a seat live bytes marked committed
+      → AreLowered a seat (pages_lowered a seat wants) a.reach.entries eased
+      → GoesUncounted begins (with_entries (executed a seat live bytes marked) eased) seat committed order counts
   pub long : length committed ≡ byte_count a.reach.directory
   pub clean : IsClean a.reach.directory a.reach.pool committed
   pub row_goes : (next : Plain) × (row (program_in a seat) a.reach.directory (plain_in a seat committed) ≡ On next)
   pub is_open : (access : Access) → IsShut a seat access → ⊥
 
 -- that, or its turn came to this end
-abbrev pub Serves : {U : Type 0} → Result U TurnEnd → (begins : Word → Turning) → Activity → (seat : ℕ) → (committed : List ℕ) → (order : List (ℕ × ℕ)) → Counts → Type 0
-Serves (Ok nothing) begins a seat committed order counts = IsServed begins a seat committed order counts
-Serves (Err end) begins a seat committed order counts = HasEnded end begins a committed order counts
+abbrev pub Serves : {U : Type 0} → Result U TurnEnd → (begins : Word → Turning) → Activity → (seat : ℕ) → (wants : List Want) → (committed : List ℕ) → (order : List (ℕ × ℕ)) → Counts → Type 0
+Serves (Ok nothing) begins a seat wants committed order counts = IsServed begins a seat wants committed order counts
+Serves (Err end) begins a seat wants committed order counts = HasEnded end begins a committed order counts

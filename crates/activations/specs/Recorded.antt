@@ -1,6 +1,7 @@
 -- The record of a commit: the lines that who sits in a seat holds to write, as all see them.
 use Rattle.std.specs.Prelude.{◌≡◌, ℕ, ◌+◌, ◌<◌, ◌%◌, List, [], ◌∷◌, ◌++◌, All, length, map, Some}
 use Rattle.std.specs.List.{AllPairs, flat_map}
+use Rattle.line_geometry.specs.declared.directory.PageSize.{PageSize}
 use Rattle.flat_machine.specs.declared.machine.Plain.{Plain}
 use Rattle.flat_machine.specs.After.{after}
 use Rattle.flat_machine.specs.Row.{Commit, row}
@@ -13,9 +14,10 @@ use Rattle.line_locks.specs.Held.{holds_some}
 use Rattle.line_locks.specs.Holding.{held_at}
 use Rattle.lock_rules.specs.Lines.{page_of_line}
 use Rattle.lock_rules.specs.Sets.{has}
-use Rattle.redo_journal.specs.Kept.{begun_of}
+use Rattle.redo_journal.specs.Kept.{begun_of, record_bytes_of}
 use Rattle.restart.specs.Kept.{KeptStore}
-use Rattle.store_format.specs.Bank.{RecordLine, record_bytes}
+use Rattle.store_format.specs.Header.{entry_bytes}
+use Rattle.store_format.specs.Bank.{RecordLine}
 use Rattle.store_format.specs.Stands.{laid}
 use Rattle.activations.specs.Activity.{Activity, program_in, entry_in, store_over, locks_in, shown}
 use Rattle.activations.specs.Follows.{Follows}
@@ -42,12 +44,12 @@ LeavesCommitted a seat lines =
     (committed : List ℕ) (now : Plain) → Follows a committed
     → after (program_in a seat) (entry_in a seat).runs.args (store_over a committed) (entry_in a seat).rows ≡ Some now
     → row (program_in a seat) a.reach.directory (over_all now (shown a committed)) ≡ Commit
-    → laid committed lines ≡ now.store
+    → laid a.reach.directory.page committed lines ≡ now.store
 
--- a record's lines at these flat lines, with the bytes that each has, from an offset on
-abbrev pub recorded : (bytes : ℕ → List ℕ) → (at : ℕ) → List ℕ → List RecordLine
-recorded bytes at [] = []
-recorded bytes at (line ∷ lines) = record { line = line; at = at; bytes = bytes line } ∷ recorded bytes (at + 132) lines
+-- a record's lines at these flat lines of a store with pages of a size, with the bytes that each has, from an offset on
+abbrev pub recorded : PageSize → (bytes : ℕ → List ℕ) → (at : ℕ) → List ℕ → List RecordLine
+recorded size bytes at [] = []
+recorded size bytes at (line ∷ lines) = record { line = line; at = at; bytes = bytes line } ∷ recorded size bytes (at + entry_bytes size) lines
 
 -- the flat lines of these pages that a seat holds to write, page by page
 abbrev pub written_of : Activity → (seat : ℕ) → (pages : List ℕ) → List ℕ
@@ -56,7 +58,7 @@ written_of a seat pages = flat_map (λ page. flat_lines page (wrote a seat page)
 -- the record that is begun has these lines of the pool behind those that it had
 abbrev pub with_lines : Pool → (lines : List ℕ) → KeptStore → KeptStore
 with_lines pool lines store =
-    with_begun store (begun_of store.bank ++ recorded (line_told pool) (store.bank.gate + record_bytes (length (begun_of store.bank))) lines)
+    with_begun store (begun_of store.bank ++ recorded store.bank.page (line_told pool) (store.bank.gate + record_bytes_of store.bank (length (begun_of store.bank))) lines)
 
 -- The record that is begun has the lines that a seat holds to write of pages that ascend: all those of which it holds some.
 pub record HasWritten (a : Activity) (seat : ℕ) (old new : KeptStore) : Type 0 where

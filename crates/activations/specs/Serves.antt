@@ -1,5 +1,6 @@
 -- What becomes of an access that isn't permitted, step by step.
 use Rattle.std.specs.Prelude.{◌≡◌, ◌≢◌, ℕ, ◌+◌, nat_lt, true, false, List, [], ◌∷◌, ◌++◌, All, length, map}
+use Rattle.line_geometry.specs.Directory.{is_fine_page}
 use Rattle.lock_rules.specs.Sets.{has, size}
 use Rattle.line_locks.specs.declared.request.Request.{Request}
 use Rattle.line_locks.specs.declared.request.Want.{Want}
@@ -12,7 +13,7 @@ use Rattle.flat_machine.specs.Row.{On, row}
 use Rattle.flat_machine.specs.Touched.{touched}
 use Rattle.frame_pool.specs.declared.model.Pool.{Pool}
 use Rattle.desk.specs.Desk.{rolled_back}
-use Rattle.desk.specs.Instruction.{Word, Counts, Attempt, Turning, Over, Fetched, Broken, Fine, Journal, Disk, fetches, touched_pages, granted, locks_with}
+use Rattle.desk.specs.Instruction.{Word, Counts, Attempt, Turning, Over, Fetched, Broken, Fine, Journal, Disk, fetches, touched_pages, with_grants, lowered, locks_with}
 use Rattle.desk_law.specs.Beside.{AreAlike, over_all, owners_told}
 use Rattle.desk_law.proofs.ServesToLocks.{served_attempt}
 use Rattle.seats.specs.Seating.{sitter}
@@ -23,7 +24,7 @@ use Rattle.activations.specs.declared.live.Live.{Live}
 use Rattle.activations.specs.Activity.{Activity, program_in, entry_in, number_under, authority_under, desk_over, lines_held, locks_in, state_in, shown}
 use Rattle.activations.specs.Attempted.{plain_in}
 use Rattle.activations.specs.Follows.{AreOfPages, IsSound, Follows}
-use Rattle.activations.specs.Serving.{IsOver, IsFree, IsContested, Goes, instruction_in, locked, asking}
+use Rattle.activations.specs.Serving.{IsOver, IsFree, IsContested, Goes, instruction_in, locked, asking, with_entries}
 use Rattle.activations.specs.Steps.{counted, executed, with_pool, rolled, IsMoved, RollsBack, HasExecuted}
 use Rattle.activations.specs.Touched.{IsApart, pages_refused, pages_wanted, with_whole_page}
 
@@ -70,12 +71,12 @@ pub record Starts (a : Activity) (seat : ℕ) (committed : List ℕ) (order : Li
       → fetches word (desk_over a committed order).frames (touched_pages (attempt_in a seat committed order wants next to)) (touched_pages (attempt_in a seat committed order wants next to)) (desk_over a committed order).resident counts.pages ≡ Broken pages
       → instruction_in a seat committed order counts word ≡ Over (record (rolled_back (desk_over a committed order) (entry_in a seat)) { resident = [] }) (record counts { pages = pages }) Disk
   pub free : nat_lt a.most_lines (lines_with a seat wants) ≡ false → (pool : Pool) (pages : ℕ) → IsFetched a committed order (touched_pages (attempt_in a seat committed order wants next to)) counts.pages pool pages
-      → AreTouched (attempt_in a seat committed order wants next to) wants → holders a.seating seat (map with_whole_page wants) ≡ []
+      → AreTouched (attempt_in a seat committed order wants next to) wants → holders a.seating seat (map (with_whole_page a.reach.directory) wants) ≡ []
       → IsFree (instruction_in a seat committed order counts) (attempt_in a seat committed order wants next to) (pages_refused a.reach.entries (seat + 1) wants) (with_pool a pool) committed order
       (counted_with counts pages (pages_refused a.reach.entries (seat + 1) wants))
   pub contested : nat_lt a.most_lines (lines_with a seat wants) ≡ false → (pool : Pool) (pages : ℕ) → IsFetched a committed order (touched_pages (attempt_in a seat committed order wants next to)) counts.pages pool pages
-      → AreTouched (attempt_in a seat committed order wants next to) wants → (request : Request) → request.wants.items ≡ map with_whole_page wants → (holder : ℕ) (others : List ℕ)
-      → holders a.seating seat (map with_whole_page wants) ≡ holder ∷ others
+      → AreTouched (attempt_in a seat committed order wants next to) wants → (request : Request) → request.wants.items ≡ map (with_whole_page a.reach.directory) wants → (holder : ℕ) (others : List ℕ)
+      → holders a.seating seat (map (with_whole_page a.reach.directory) wants) ≡ holder ∷ others
       → IsContested (instruction_in a seat committed order counts) (attempt_in a seat committed order wants next to) (pages_refused a.reach.entries (seat + 1) wants) (desk_over (with_pool a pool) committed order)
       (asking (with_pool a pool) seat request) committed order (counted_with counts pages (pages_refused a.reach.entries (seat + 1) wants))
 
@@ -85,18 +86,19 @@ ServingStarts =
     (a : Activity) (seat : ℕ) (committed : List ℕ) (order : List (ℕ × ℕ)) (counts : Counts) (wants : List Want) (next : Plain) (to : IsToServe a seat committed wants next)
     → Starts a seat committed order counts wants next to
 
--- What is free takes its lines, is granted its refused pages, brings in its pages once more, and goes on: that is the desk's
--- instruction, wherever it began.
+-- What is free takes its lines, is granted its refused pages, brings in its pages once more, and goes on, and the write bits of fine pages go off
+-- that it wrote into: that is the desk's instruction, wherever it began.
 abbrev pub ServedGoesOn : Type 0
 ServedGoesOn =
     (begins : Word → Turning) (attempt : Attempt) (refused : List ℕ) (a : Activity) (seat : ℕ) (committed : List ℕ) (order : List (ℕ × ℕ)) (counts : Counts)
-    (wants : List Want) (owned : List Authority) (pool : Pool) (live : Live) (bytes : List ℕ) (marked : List (List ℕ)) (pages : ℕ) (next : Plain)
+    (wants : List Want) (owned eased : List Authority) (pool : Pool) (live : Live) (bytes : List ℕ) (marked : List (List ℕ)) (pages : ℕ) (next : Plain)
     → IsSound a → has a.seating.taken seat ≡ true → a.reach.runner ≡ seat + 1 → attempt.entry.number ≡ (sitter a.seating seat).number
     → IsFree begins attempt refused a committed order counts → attempt.outcome ≡ On next → IsFetched a committed order (touched_pages attempt) counts.pages pool pages
     → AreAlike (locks_in (locked a seat wants owned) seat) (locks_with attempt (desk_over a committed order))
-    → owners_told (number_under a) (authority_under owned) ≡ granted attempt (locks_with attempt (desk_over a committed order)) refused (desk_over a committed order).authority
+    → owners_told (number_under a) (authority_under eased)
+    ≡ lowered (is_fine_page a.reach.directory) attempt (locks_with attempt (desk_over a committed order)) (with_grants attempt refused (desk_over a committed order)).authority
     → HasExecuted (with_pool (locked a seat wants owned) pool) seat live bytes marked committed
-    → Goes begins (counted (executed (with_pool (locked a seat wants owned) pool) seat live bytes marked) seat 1) committed order (record counts { pages = pages; ran = counts.ran + 1 })
+    → Goes begins (counted (with_entries (executed (with_pool (locked a seat wants owned) pool) seat live bytes marked) eased) seat 1) committed order (record counts { pages = pages; ran = counts.ran + 1 })
 
 -- With the lines of no want, of one, and of two of different pages, as many lines are written as are counted page by page.
 pub record AreCounted (pages : List (List ℕ × List ℕ)) : Type 0 where

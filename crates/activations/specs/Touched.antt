@@ -1,8 +1,8 @@
 -- The lines that an access touches, page by page.
-use Rattle.std.specs.Prelude.{ℕ, ◌+◌, ◌-◌, ◌*◌, ◌<◌, ◌==◌, ◌||◌, ◌≡◌, not, if◌then◌else◌, Bool, true, false, filter, slice_index_or, List, [], ◌∷◌, ◌++◌, All, length, map}
+use Rattle.std.specs.Prelude.{ℕ, ◌+◌, ◌-◌, ◌*◌, ◌<◌, ◌==◌, ◌&&◌, ◌||◌, ◌≡◌, not, if◌then◌else◌, Bool, true, false, filter, slice_index_or, List, [], ◌∷◌, ◌++◌, All, length, map}
 use Rattle.line_locks.specs.Flat.{lines_wanted}
 use Rattle.line_locks.specs.Held.{AreWithin}
-use Rattle.line_geometry.specs.Directory.{Layout, page_count}
+use Rattle.line_geometry.specs.Directory.{Layout, page_count, is_fine_page}
 use Rattle.lock_rules.specs.Lines.{pages_of}
 use Rattle.desk_law.specs.Consistent.{AreDistinct}
 use Rattle.seats.proofs.Numbers.{AreOfPage}
@@ -12,7 +12,7 @@ use Rattle.lockbit_rules.specs.declared.Authority.{Authority}
 use Rattle.lockbit_rules.specs.Entries.{entry_of, lets}
 use Rattle.inverted_table.specs.Placed.{unowned}
 use Rattle.lock_rules.specs.Lines.{Lines}
-use Rattle.line_geometry.specs.LineSets.{between}
+use Rattle.line_geometry.specs.LineSets.{between, union}
 use Rattle.activations.specs.declared.touch.Touch.{Touch}
 use Rattle.line_locks.specs.declared.request.Want.{Want}
 
@@ -27,9 +27,15 @@ lines_between first last store =
 abbrev pub pages_wanted : List Want → List ℕ
 pages_wanted wants = map (λ want. want.page) wants
 
--- the lines that are wanted of a page, and all of it to read where one of them is to write
-abbrev pub with_whole_page : Want → Want
-with_whole_page want = if length want.writes == 0 then want else record want { reads = between 0 15 }
+-- the lines that are wanted of a page, and where one of them is to write each of these to read too, or all of the page if it is not fine
+abbrev pub with_whole_page : Layout → Want → Want
+with_whole_page directory want =
+    if length want.writes == 0 then want
+    else record want { reads = if is_fine_page directory want.page then union want.reads want.writes else between 0 15 }
+
+-- whether a line of a page is wanted to write
+abbrev pub stores_into : List Want → (page : ℕ) → Bool
+stores_into wants page = list_any (λ want. (want.page == page) && not (length want.writes == 0)) wants
 
 -- the lines of a touch, by their pages
 abbrev pub wants_of : Touch → List Want

@@ -57,7 +57,7 @@ impl Activations {
         let directory = *header.directory();
         let mut live = Vec::with_capacity(alloc, 16)?;
         for _ in 0..16_u8 {
-            live.push(Live::new(alloc)?)?;
+            live.push(Live::new(alloc, directory.page())?)?;
         }
         Ok(Activations {
             programs,

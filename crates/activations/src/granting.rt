@@ -1,18 +1,29 @@
-// Lines are locked, and the pages whose entries refused them are granted.
-ghost use Rattle.std.specs.Prelude.{◌≡◌, ◌<◌, ◌∷◌, [], true};
+// Lines are locked, the pages whose entries refused them are granted, and write bits of fine pages go off again.
+ghost use Rattle.std.specs.Prelude.{◌≡◌, ◌<◌, ◌∷◌, [], map, true};
 ghost use Rattle.line_geometry.specs.Directory.{page_count};
 ghost use Rattle.line_locks.specs.Held.{AreWithin};
 ghost use Rattle.lock_rules.specs.Sets.{has};
-ghost use Rattle.activations.specs.Touched.{AreWanted, page_if, pages_picked, wants_of};
+ghost use Rattle.desk_law.specs.Consistent.{AreDistinct};
+ghost use Rattle.activations.specs.Touched.{AreWanted, page_if, pages_picked, pages_wanted, wants_of, with_whole_page};
 
 use super::activations::Activations;
 use super::touch::Touch;
+use line_geometry::LineSet;
+use line_locks::{Request, Want};
 use lockbit_rules::Authority;
 
 impl Activations {
     ghost use Rattle.activations.specs.Follows.{IsSound};
-    ghost use Rattle.activations.specs.Serving.{AreGranted, locked, with_entries};
+    ghost use Rattle.activations.specs.Serving.{AreGranted, AreLowered, locked, pages_lowered, with_entries};
     ghost use Rattle.activations.specs.View.{activity_of};
+
+    /// What a touch asks for.
+    #[inline(always)]
+    pub(super) fn request(&self, touch: &Touch) -> Request
+        ensures { result.wants.items ≡ map (with_whole_page (activity_of self.now).reach.directory) (wants_of touch.now) }
+    {
+        touch.request(&self.directory)
+    }
 
     /// Who sits in a seat holds what he asked for, and the pages whose entries refused him are granted.
     #[inline(always)]
@@ -22,9 +33,10 @@ impl Activations {
         requires wanted { AreWanted (activity_of self.old).reach.directory (wants_of touch.now) }
         ensures sound { IsSound (activity_of self.new) }
         ensures shape { activity_of self.new ≡ locked (activity_of self.old) seat (wants_of touch.now) (activity_of self.new).reach.entries }
-        ensures granted { AreGranted (activity_of self.new) seat (pages_picked touch.now refused) (activity_of self.old).reach.entries (activity_of self.new).reach.entries }
+        ensures granted { AreGranted (activity_of self.new) seat (wants_of touch.now) (pages_picked touch.now refused) (activity_of self.old).reach.entries (activity_of self.new).reach.entries }
     {
-        self.seats.take(seat, &touch.request());
+        let request = self.request(touch);
+        self.seats.take(seat, &request);
         self.grant_picked(seat, touch, refused);
     }
 
@@ -35,44 +47,94 @@ impl Activations {
         requires seat { seat < 16 }
         requires same { (activity_of self.old).seating.holding.pages ≡ page_count (activity_of self.old).reach.directory }
         requires pages { AreWithin (page_count (activity_of self.old).reach.directory) (wants_of touch.now) }
+        requires once { AreDistinct (pages_wanted (wants_of touch.now)) }
         ensures shape { activity_of self.new ≡ with_entries (activity_of self.old) (activity_of self.new).reach.entries }
-        ensures granted { AreGranted (activity_of self.old) seat (pages_picked touch.now picked) (activity_of self.old).reach.entries (activity_of self.new).reach.entries }
+        ensures granted { AreGranted (activity_of self.old) seat (wants_of touch.now) (pages_picked touch.now picked) (activity_of self.old).reach.entries (activity_of self.new).reach.entries }
     {
         match touch {
             Touch::Nothing => {}
-            Touch::One(only) => self.grant_if(picked.0, seat, only.page),
+            Touch::One(only) => self.grant_if(picked.0, seat, only),
             Touch::Two(first, second) => {
-                self.grant_if(picked.0, seat, first.page);
-                self.grant_if(picked.1, seat, second.page);
+                self.grant_if(picked.0, seat, first);
+                self.grant_if(picked.1, seat, second);
             }
         }
     }
 
     /// A page is granted to a seat where it is picked.
     #[inline(always)]
-    fn grant_if(&mut self, picked: bool, seat: u8, page: u16)
+    fn grant_if(&mut self, picked: bool, seat: u8, want: &Want)
         requires seat { seat < 16 }
         requires same { (activity_of self.old).seating.holding.pages ≡ page_count (activity_of self.old).reach.directory }
-        requires page { page < page_count (activity_of self.old).reach.directory }
+        requires page { want.now.page < page_count (activity_of self.old).reach.directory }
         ensures shape { activity_of self.new ≡ with_entries (activity_of self.old) (activity_of self.new).reach.entries }
-        ensures granted { AreGranted (activity_of self.old) seat (page_if picked page) (activity_of self.old).reach.entries (activity_of self.new).reach.entries }
+        ensures granted { AreGranted (activity_of self.old) seat (want.now ∷ []) (page_if picked want.now.page) (activity_of self.old).reach.entries (activity_of self.new).reach.entries }
     {
         if picked {
-            self.grant(seat, page);
+            self.grant(seat, want);
         }
     }
 
     /// A page gets the entry that a seat's locks of it give.
     #[inline(always)]
-    fn grant(&mut self, seat: u8, page: u16)
+    fn grant(&mut self, seat: u8, want: &Want)
         requires seat { seat < 16 }
         requires same { (activity_of self.old).seating.holding.pages ≡ page_count (activity_of self.old).reach.directory }
-        requires page { page < page_count (activity_of self.old).reach.directory }
+        requires page { want.now.page < page_count (activity_of self.old).reach.directory }
         ensures shape { activity_of self.new ≡ with_entries (activity_of self.old) (activity_of self.new).reach.entries }
-        ensures granted { AreGranted (activity_of self.old) seat (page ∷ []) (activity_of self.old).reach.entries (activity_of self.new).reach.entries }
+        ensures granted { AreGranted (activity_of self.old) seat (want.now ∷ []) (want.now.page ∷ []) (activity_of self.old).reach.entries (activity_of self.new).reach.entries }
     {
-        let (reads, writes) = self.seats.locks().held(seat, page);
-        self.unit
-            .set_authority(page, Authority::grant(seat + 1, reads, writes));
+        let (reads, writes) = self.seats.locks().held(seat, want.page);
+        let entry = if self.directory.is_fine(want.page) {
+            Authority::grant_fine(seat + 1, reads, writes, !want.writes.is_empty())
+        } else {
+            Authority::grant(seat + 1, reads, writes)
+        };
+        self.unit.set_authority(want.page, entry);
+    }
+
+    /// The write bits of the fine pages that a touch wrote into go off, but for those of which a seat holds all lines.
+    #[inline(always)]
+    #[tactic(auto, using(crate::proofs::GrantingLemmas::one_within, crate::proofs::GrantingLemmas::first_within, crate::proofs::GrantingLemmas::second_within))]
+    pub(super) fn lower(&mut self, seat: u8, touch: &Touch)
+        requires seat { seat < 16 }
+        requires same { (activity_of self.old).seating.holding.pages ≡ page_count (activity_of self.old).reach.directory }
+        requires pages { AreWithin (page_count (activity_of self.old).reach.directory) (wants_of touch.now) }
+        ensures shape { activity_of self.new ≡ with_entries (activity_of self.old) (activity_of self.new).reach.entries }
+        ensures lowered { AreLowered (activity_of self.old) seat (pages_lowered (activity_of self.old) seat (wants_of touch.now)) (activity_of self.old).reach.entries (activity_of self.new).reach.entries }
+    {
+        match touch {
+            Touch::Nothing => {}
+            Touch::One(only) => self.lower_page(seat, only),
+            Touch::Two(first, second) => {
+                self.lower_page(seat, first);
+                self.lower_page(seat, second);
+            }
+        }
+    }
+
+    /// The write bit of a page goes off, if it is fine, was written into, and a seat holds not all its lines.
+    #[inline(always)]
+    fn lower_page(&mut self, seat: u8, want: &Want)
+        requires seat { seat < 16 }
+        requires same { (activity_of self.old).seating.holding.pages ≡ page_count (activity_of self.old).reach.directory }
+        requires page { want.now.page < page_count (activity_of self.old).reach.directory }
+        ensures shape { activity_of self.new ≡ with_entries (activity_of self.old) (activity_of self.new).reach.entries }
+        ensures lowered { AreLowered (activity_of self.old) seat (pages_lowered (activity_of self.old) seat (want.now ∷ [])) (activity_of self.old).reach.entries (activity_of self.new).reach.entries }
+    {
+        if want.writes.is_empty() {
+            return;
+        }
+        if !self.directory.is_fine(want.page) {
+            return;
+        }
+        let (reads, _) = self.seats.locks().held(seat, want.page);
+        if reads.count() == 16 {
+            return;
+        }
+        self.unit.set_authority(
+            want.page,
+            Authority::grant(seat + 1, reads, LineSet::none()),
+        );
     }
 }

@@ -138,7 +138,7 @@ impl Activations {
         let (touch, refused) = self.prepare(store, outside, seat, access, tally)?;
         self.ask(seat, &touch, tally)?;
         self.get(store, outside, seat, &touch, refused, tally)?;
-        self.go_on(seat)
+        self.go_on(seat, &touch)
     }
 
     /// The lines of an access, whose pages come in and are counted where their entries refuse one of them.
@@ -245,7 +245,7 @@ impl Activations {
         ensures victim { IfErr result (IsVictim (number_in (activity_of self.old).seating seat) tally.new.cycles.items) }
         ensures settled { (begins : Word → Turning) (attempt : desk.Attempt) (refused : List ℕ) (committed : List ℕ) (order : List (ℕ × ℕ)) → IsAsked begins attempt refused (activity_of self.old) seat (wants_of touch.now) committed order (counts_of tally.old) → IsSettled result begins attempt refused (activity_of self.new) committed order (counts_of tally.new) }
     {
-        let request = touch.request();
+        let request = self.request(touch);
         if self.seats.holders(seat, &request).is_empty() {
             return Ok(());
         }
@@ -284,26 +284,31 @@ impl Activations {
         ensures stays { OnOk result (StaysSeated (activity_of self.old) (activity_of self.new) seat) }
         ensures calm { OnOk result (W.disk_faults outside.new ≡ W.disk_faults outside.old) }
         ensures ends { IfErr result (λ over. (over ≡ end.Disk) × Rose (W.disk_faults outside.old) (W.disk_faults outside.new) × (tally.old.pages < tally.new.pages)) }
-        ensures served { (begins : Word → Turning) (attempt : desk.Attempt) (next : Plain) (committed : List ℕ) (order : List (ℕ × ℕ)) → IsStoreOf W.Outside store.now outside.old committed → attempt.entry.number ≡ number_in (activity_of self.old).seating seat → attempt.outcome ≡ row.On next → attempt.lines ≡ lines_wanted (wants_of touch.now) → IsFree begins attempt (pages_picked touch.now refused) (activity_of self.old) committed order (counts_of tally.old) → Serves result begins (activity_of self.new) seat committed order (counts_of tally.new) }
+        ensures served { (begins : Word → Turning) (attempt : desk.Attempt) (next : Plain) (committed : List ℕ) (order : List (ℕ × ℕ)) → IsStoreOf W.Outside store.now outside.old committed → attempt.entry.number ≡ number_in (activity_of self.old).seating seat → attempt.outcome ≡ row.On next → attempt.lines ≡ lines_wanted (wants_of touch.now) → IsFree begins attempt (pages_picked touch.now refused) (activity_of self.old) committed order (counts_of tally.old) → Serves result begins (activity_of self.new) seat (wants_of touch.now) committed order (counts_of tally.new) }
     {
         self.take(seat, touch, refused);
         self.bring(store, outside, seat, touch, tally)
     }
 
-    /// The row of who sits in a seat, whose access was served, takes effect. It isn't counted yet.
+    /// The row of who sits in a seat, whose access was served, takes effect, and the write bits of the fine pages that it wrote
+    /// into go off. It isn't counted yet.
     #[inline(always)]
-    fn go_on(&mut self, seat: u8) -> Result<(), TurnEnd>
+    fn go_on(&mut self, seat: u8, touch: &Touch) -> Result<(), TurnEnd>
         requires sound { IsSound (activity_of self.old) }
         requires taken { has (activity_of self.old).seating.taken seat ≡ true }
         requires selected { IsSelected (activity_of self.old) seat }
+        requires wanted { AreWanted (activity_of self.old).reach.directory (wants_of touch.now) }
         ensures sound { IsSound (activity_of self.new) }
         ensures parts { KeepsParts (activity_of self.old) (activity_of self.new) 0 }
         ensures stays { OnOk result (StaysSeated (activity_of self.old) (activity_of self.new) seat) }
         ensures ends { IfErr result IsCheck }
-        ensures went { (begins : Word → Turning) (committed : List ℕ) (order : List (ℕ × ℕ)) (counts : Counts) → IsServed begins (activity_of self.old) seat committed order counts → IsInstruction result begins (activity_of self.new) seat committed order counts }
+        ensures went { (begins : Word → Turning) (committed : List ℕ) (order : List (ℕ × ℕ)) (counts : Counts) → IsServed begins (activity_of self.old) seat (wants_of touch.now) committed order counts → IsInstruction result begins (activity_of self.new) seat committed order counts }
     {
         match self.execute(seat) {
-            Attempt::Went | Attempt::Print(_) => Ok(()),
+            Attempt::Went | Attempt::Print(_) => {
+                self.lower(seat, touch);
+                Ok(())
+            }
             Attempt::Check(code) => Err(self.check(seat, code)),
             Attempt::Fault(..) | Attempt::Commit => Err(self.check(seat, 0)),
         }

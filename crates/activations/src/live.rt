@@ -2,9 +2,10 @@
 ghost use Rattle.std.specs.Prelude.{◌≡◌, [], IfOk};
 ghost use Rattle.flat_machine.specs.After.{clear};
 ghost use Rattle.flat_machine.specs.After as first;
-ghost use Rattle.activations.specs.Activity.{nothing_runs};
+ghost use Rattle.activations.specs.Activity.{nothing_over};
 
 use flat_machine::{Cs, Printed, Program, first_registers};
+use line_geometry::PageSize;
 use romp_cpu::Cpu;
 use segment_regs::SegmentRegs;
 use std::alloc::{AllocError, Global};
@@ -18,17 +19,17 @@ pub struct Live {
 }
 
 impl Live {
-    /// A seat in which nothing runs yet, with the room for what will be printed in it.
+    /// A seat in which nothing runs yet, over pages of a size, with the room for what will be printed in it.
     ///
     /// # Errors
     ///
     /// There is no memory.
-    pub fn new(alloc: Global) -> Result<Live, AllocError>
-        ensures { IfOk result (λ live. live ≡ nothing_runs) }
+    pub fn new(alloc: Global, page: PageSize) -> Result<Live, AllocError>
+        ensures { IfOk result (λ live. live ≡ nothing_over page) }
     {
         Ok(Live {
             cpu: first_cpu(0, [0; 4]),
-            registers: SegmentRegs::none(),
+            registers: SegmentRegs::none(page),
             out: Printed::new(alloc)?,
         })
     }

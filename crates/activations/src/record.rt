@@ -2,7 +2,6 @@
 ghost use Rattle.std.specs.Prelude.{◌≡◌, ◌+◌, ◌*◌, ◌<◌, ◌≤◌, ℕ, List, [], All, length, map, true, Some, IsSome, IsOk, OnOk, OnErr, IfErr};
 ghost use Rattle.lock_rules.specs.Sets.{has, size};
 ghost use Rattle.line_geometry.specs.Directory.{page_count};
-ghost use Rattle.line_geometry.specs.declared.directory.PageSize.TheVariants.{Two};
 ghost use Rattle.line_locks.specs.Flat.{flat_lines};
 ghost use Rattle.line_locks.specs.Held.{write_count};
 ghost use Rattle.line_locks.specs.Holding.{of_seat};
@@ -78,7 +77,7 @@ impl Activations {
 /// These lines of a page come into the record that is begun.
 fn record_lines(pool: &FramePool, page: u16, lines: LineSet, store: &mut Durable)
     requires page { page < length (pool_of pool.now).frame_of }
-    requires size { (pool_of pool.now).page ≡ Two }
+    requires size { (pool_of pool.now).page ≡ store.old.header.directory.page }
     requires below { page < page_count store.old.header.directory }
     requires begun { IsSome store.old.bank.begun }
     requires before { All (λ one. one.line < page * 16) (begun_of store.old.bank) }

@@ -17,6 +17,7 @@ impl Activations {
 
     /// Of the first and the second page of a touch, whether its entry refuses who sits in a seat a line of it.
     #[inline(always)]
+    #[tactic(auto, using(crate::proofs::GrantingLemmas::one_within, crate::proofs::GrantingLemmas::first_within, crate::proofs::GrantingLemmas::second_within))]
     pub fn refused(&self, seat: u8, touch: &Touch) -> (bool, bool)
         requires seat { seat < 16 }
         requires pages { AreWithin (page_count (activity_of self.now).reach.directory) (wants_of touch.now) }

@@ -7,7 +7,7 @@ ghost use Rattle.seats.proofs.Numbers.{AreOfPage};
 ghost use Rattle.activations.specs.Touched.{lines_between, wants_of, with_whole_page, AreWanted};
 
 use arrayvec::ArrayVec;
-use line_geometry::LineSet;
+use line_geometry::{Directory, LineSet};
 use line_locks::{Request, Want};
 
 /// The lines of the store that one access touches, at most two, by their pages, ascending.
@@ -35,18 +35,19 @@ impl Touch {
         }
     }
 
-    /// What is asked for: the same lines, and all sixteen to read of each page that is written into.
+    /// What is asked for: the same lines, with each that is written to read too, and all sixteen of each page that isn't fine
+    /// and is written into.
     #[inline(always)]
-    pub fn request(&self) -> Request
-        ensures { result.wants.items ≡ map with_whole_page (wants_of self.now) }
+    pub fn request(&self, directory: &Directory) -> Request
+        ensures { result.wants.items ≡ map (with_whole_page directory.now) (wants_of self.now) }
     {
         let mut wants = ArrayVec::new();
         match self {
             Touch::Nothing => {}
-            Touch::One(only) => wants.push(with_whole_page(only)),
+            Touch::One(only) => wants.push(with_whole_page(directory, only)),
             Touch::Two(first, second) => {
-                wants.push(with_whole_page(first));
-                wants.push(with_whole_page(second));
+                wants.push(with_whole_page(directory, first));
+                wants.push(with_whole_page(directory, second));
             }
         }
         Request { wants }
@@ -77,18 +78,22 @@ fn want_of(first: u32, last: u32, store: bool) -> Want
     }
 }
 
-/// The same lines of a page, and all of them to read where one is written.
+/// The same lines of a page, and where one is written each of these to read, or all of the page if it isn't fine.
 #[inline(always)]
-fn with_whole_page(want: &Want) -> Want
-    ensures { result ≡ with_whole_page want.now }
+fn with_whole_page(directory: &Directory, want: &Want) -> Want
+    ensures { result ≡ with_whole_page directory.now want.now }
 {
     if want.writes.is_empty() {
-        *want
+        return *want;
+    }
+    let reads = if directory.is_fine(want.page) {
+        want.reads.union(want.writes)
     } else {
-        Want {
-            page: want.page,
-            reads: LineSet::between(0, 15),
-            writes: want.writes,
-        }
+        LineSet::between(0, 15)
+    };
+    Want {
+        page: want.page,
+        reads,
+        writes: want.writes,
     }
 }

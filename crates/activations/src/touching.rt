@@ -136,11 +136,12 @@ impl Activations {
 fn touch_from(directory: &Directory, first: Virtual, access: Access) -> Touch
     requires some { 0 < access.bytes }
     requires few { access.bytes ≤ 64 }
-    requires within { start_of directory.now first.segment + offset_of first + access.bytes ≤ byte_count directory.now }
-    ensures lines { lines_wanted (wants_of result) ≡ lines_between (line_of directory.now (start_of directory.now first.segment + offset_of first)) (line_of directory.now (start_of directory.now first.segment + offset_of first + access.bytes - 1)) access.store }
+    requires within { start_of directory.now first.segment + offset_of directory.now.page first + access.bytes ≤ byte_count directory.now }
+    ensures lines { lines_wanted (wants_of result) ≡ lines_between (line_of directory.now (start_of directory.now first.segment + offset_of directory.now.page first)) (line_of directory.now (start_of directory.now first.segment + offset_of directory.now.page first + access.bytes - 1)) access.store }
     ensures wanted { AreWanted directory.now (wants_of result) }
 {
-    let place = directory.start_of(first.segment) + (first.page * 2048 + u32::from(first.byte));
+    let bytes = u32::from(directory.page().bytes());
+    let place = directory.start_of(first.segment) + (first.page * bytes + u32::from(first.byte));
     let end = place + u32::from(access.bytes) - 1;
     Touch::between(
         directory.line_of(place),

@@ -187,7 +187,9 @@ module _ (all : List Activation) (activation : ℕ) (word : Word) (attempt : Att
   }
 
   does-effect : (desk : Desk) (counts : Counts) (outcome : Outcome) → attempt.outcome ≡ outcome → Moves all old desk → Does all word activation old (takes_effect word attempt outcome desk counts)
-  does-effect desk counts (On next) is moves = moves-on all old desk _ moves (moves-with all desk (record attempt.entry { rows = attempt.entry.rows + 1; waiting = false }) named)
+  does-effect desk counts (On next) is moves =
+      let went = moves-on all old desk _ moves (moves-with all desk (record attempt.entry { rows = attempt.entry.rows + 1; waiting = false }) named) in
+      record { committed = went.committed; order = went.order; next = went.next; closed = went.closed; numbered_all = went.numbered_all }
   does-effect desk counts Commit is moves = does-commit word desk counts is moves
   does-effect desk counts (Check code) is moves = moves-on all old desk _ moves (moves-rolled all desk attempt.entry)
 

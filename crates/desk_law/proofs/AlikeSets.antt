@@ -1,16 +1,17 @@
 -- What depends on sets of lines as sets alone: pages taken out, grants, and how many lines are written.
-use Rattle.std.specs.Prelude.{◌≡◌, refl, ℕ, ◌==◌, ◌||◌, not, if◌then◌else◌, Bool, true, List, [], ◌∷◌, ◌++◌, filter, slice_set}
+use Rattle.std.specs.Prelude.{◌≡◌, refl, ℕ, ◌==◌, ◌&&◌, ◌||◌, not, if◌then◌else◌, Bool, true, false, List, [], ◌∷◌, ◌++◌, filter}
 use Rattle.std.proofs.Common.{ap, sym, ◌∙◌}
 use Rattle.lock_rules.specs.Sets.{has, size}
-use Rattle.lock_rules.specs.Lines.{Lines, within_page, lines_of_page, page_of_line, pages_of}
+use Rattle.lock_rules.specs.Lines.{Lines, within_page, is_whole_page, lines_of_page, page_of_line, pages_of}
 use Rattle.lock_rules.specs.Resident.{taken_out}
 use Rattle.lock_rules.proofs.Sets.{has-append, any-some, any-at}
 use Rattle.lock_rules.proofs.Sizes.{size-alike}
 use Rattle.lock_rules.proofs.Lines.{has-pages_of}
 use Rattle.desk.specs.Desk.{Desk, Entry, Authority, written_pages}
-use Rattle.desk.specs.Instruction.{Attempt, authority_by, granted}
+use Rattle.desk.specs.Instruction.{Attempt, authority_by, fine_authority_by, given, with_each, granted, to_read, lowered_pages, lowered}
 use Rattle.desk_law.specs.Beside.{AreAlike}
 use Rattle.desk_law.specs.Consistent.{due_to}
+use Rattle.desk_law.proofs.EachPage.{each-same}
 use Rattle.desk_law.proofs.KeptTables.{both-imply}
 
 pub filter-same : (p q : ℕ → Bool) (xs : List ℕ) → ((x : ℕ) → p x ≡ q x) → filter p xs ≡ filter q xs
@@ -41,13 +42,24 @@ within-alike : (page : ℕ) (xs ys : List ℕ) → ((x : ℕ) → has xs x ≡ h
 within-alike page xs ys same = filter-same (has xs) (has ys) (lines_of_page page) same
 
 -- Grants by the kept locks are the desk's.
-pub granted-alike : (attempt : Attempt) (locks due : Lines) (pages : List ℕ) (authority : List Authority) → AreAlike locks due
-    → granted attempt locks pages authority ≡ granted attempt due pages authority
-granted-alike attempt locks due [] authority alike = refl
-granted-alike attempt locks due (page ∷ pages) authority alike =
-    ap (λ (one : Authority). granted attempt locks pages (slice_set authority page one))
-    (λ i. authority_by attempt.entry.number (within-alike page locks.reads due.reads alike.reads i) (within-alike page locks.writes due.writes alike.writes i))
-    ∙ granted-alike attempt locks due pages (slice_set authority page (authority_by attempt.entry.number (within_page page due.reads) (within_page page due.writes))) alike
+pub granted-alike : (fine : ℕ → Bool) (attempt : Attempt) (locks due : Lines) (pages : List ℕ) (authority : List Authority) → AreAlike locks due
+    → granted fine attempt locks pages authority ≡ granted fine attempt due pages authority
+granted-alike fine attempt locks due pages authority alike =
+    each-same (given fine attempt locks) (given fine attempt due) pages authority
+    (λ page i.
+    if fine page
+    then fine_authority_by attempt.entry.number (has (pages_of attempt.lines.writes) page) (within-alike page locks.reads due.reads alike.reads i) (within-alike page locks.writes due.writes alike.writes i)
+    else authority_by attempt.entry.number (within-alike page locks.reads due.reads alike.reads i) (within-alike page locks.writes due.writes alike.writes i))
+
+-- And so are the write bits that go off by them.
+pub lowered-alike : (fine : ℕ → Bool) (attempt : Attempt) (locks due : Lines) (authority : List Authority) → AreAlike locks due
+    → lowered fine attempt locks authority ≡ lowered fine attempt due authority
+lowered-alike fine attempt locks due authority alike =
+    ap (λ (pages : List ℕ). with_each (to_read attempt locks) pages authority)
+    (filter-same (λ page. fine page && not (is_whole_page (within_page page locks.reads))) (λ page. fine page && not (is_whole_page (within_page page due.reads))) (pages_of attempt.lines.writes)
+    (λ page i. fine page && not (is_whole_page (within-alike page locks.reads due.reads alike.reads i))))
+    ∙ each-same (to_read attempt locks) (to_read attempt due) (lowered_pages fine attempt due) authority
+    (λ page i. record { owner = attempt.entry.number; write = false; lines = within-alike page locks.reads due.reads alike.reads i })
 
 -- The lines written with those of a row are so many by the kept locks.
 pub written-alike : (locks due more : Lines) → AreAlike locks due → size (locks.writes ++ more.writes) ≡ size (due.writes ++ more.writes)

@@ -15,7 +15,7 @@ use Rattle.desk_law.proofs.Entries.{among-filter, filter-among, among-found, non
 use Rattle.desk_law.proofs.Walks.{except, no-cycle-fewer, no-cycle-from, no-cycle-leaves, walk-short}
 use Rattle.desk_law.proofs.Others.{rollback-leaves}
 use Rattle.desk_law.proofs.Waiting.{number-of, has-number, fewer-numbers, rollback-waits, waits-by}
-use Rattle.desk_law.proofs.Holding.{held-others, freed, freed-at}
+use Rattle.desk_law.proofs.Holding.{held-but, held-others, freed, freed-at}
 
 -- consistent, but for cycles through one number
 pub record IsContending (one : ℕ) (desk : Desk) : Type 0 where
@@ -65,7 +65,7 @@ rolled-contending one desk gone is = record {
   whole = is.whole;
   few = omega (arith, is.few, filter-short (λ (other : Entry). not (other.number == gone.number)) desk.active);
   active = rollback-leaves desk.committed desk.most_lines desk.next desk.active gone is.active;
-  held = held-others desk.committed desk.committed desk.active desk.authority gone refl (λ other among. refl) is.held;
+  held = held-others desk.committed desk.committed desk.active desk.authority gone refl (λ other among. refl) (held-but gone.number desk.committed desk.active desk.authority is.held);
   no_cycle =
       no-cycle-fewer (except one (waits_for (rolled_back desk gone))) (except one (waits_for desk)) (numbers (rolled_back desk gone)) (numbers desk)
       (λ from to waits.
@@ -80,7 +80,7 @@ rolled-consistent desk gone is = record {
   whole = is.whole;
   few = omega (arith, is.few, filter-short (λ (other : Entry). not (other.number == gone.number)) desk.active);
   active = rollback-leaves desk.committed desk.most_lines desk.next desk.active gone is.active;
-  held = held-others desk.committed desk.committed desk.active desk.authority gone refl (λ other among. refl) is.held;
+  held = held-others desk.committed desk.committed desk.active desk.authority gone refl (λ other among. refl) (held-but gone.number desk.committed desk.active desk.authority is.held);
   no_cycle =
       no-cycle-fewer (waits_for (rolled_back desk gone)) (waits_for desk) (numbers (rolled_back desk gone)) (numbers desk)
       (λ from to waits. rollback-waits desk gone from to waits)

@@ -3,7 +3,7 @@ use Rattle.std.specs.Prelude.{Some, ◌≡◌, refl, ℕ, zero, suc, ◌+◌, �
 use Rattle.std.specs.Option.{option_map_or}
 use Rattle.std.proofs.Common.{arith, ap, sym, ◌∙◌, subst, inl, inr}
 use Rattle.std.proofs.lemmas.Bool.{eqb-true, ne_eqb, both_ways, and_parts, and_from, or_from, and_right, not-true, false_from_ne_true}
-use Rattle.line_geometry.specs.Directory.{page_count}
+use Rattle.line_geometry.specs.Directory.{page_count, is_fine_page}
 use Rattle.line_geometry.specs.FlatStore.{FlatStore, IsWhole}
 use Rattle.lock_rules.specs.Sets.{has, meets}
 use Rattle.lock_rules.specs.Lines.{Lines, no_lines, conflicts, both, with_whole_pages}
@@ -17,12 +17,12 @@ use Rattle.flat_machine.specs.Touched.{touched, touched_by}
 use Rattle.flat_machine.proofs.Agreement.{after-whole}
 use Rattle.desk.specs.Desk.{Desk, Entry, Authority, nobody, opened, rolled_back}
 use Rattle.desk.specs.Holdings.{wanted, request, conflicts_with, numbers, waits_for}
-use Rattle.desk.specs.Instruction.{Attempt}
+use Rattle.desk.specs.Instruction.{Attempt, lowered, locks_with}
 use Rattle.desk.specs.Run.{absent_segment}
 use Rattle.desk_law.specs.Changes.{committed_at, gone_on, left_by}
 use Rattle.desk_law.specs.Consistent.{IsAmong, Ascend, due_to, IsLive, AreApart, AreConsistent, IsCovered, IsOwned, IsHeld}
 use Rattle.desk_law.specs.Orderly.{IsOrderly}
-use Rattle.desk_law.proofs.Entries.{among-filter, among-push, push-among, ascend-push, between, one-entry, among-replaced, replaced-among, new-among, filter-short}
+use Rattle.desk_law.proofs.Entries.{among-filter, among-push, push-among, ascend-push, between, one-entry, among-replaced, replaced-among, new-among, replaced, filter-short}
 use Rattle.desk_law.proofs.Walks.{except, no-cycle-fewer, no-cycle-leaves, first-step, one-step}
 use Rattle.desk_law.proofs.Others.{touched_of, another-stays, commit-leaves, rollback-leaves}
 use Rattle.desk_law.proofs.Waiting.{waits-by, waits-from, has-number, fewer-numbers, rollback-waits, commit-waits}
@@ -41,7 +41,7 @@ granted-rolled desk attempt is =
       held =
           subst (λ (these : List Entry). IsHeld desk.committed these (map (freed attempt.entry.number) desk.authority))
           (others-replaced attempt.entry (gone_on attempt.entry) desk.active refl)
-          (held-others desk.committed desk.committed _ desk.authority attempt.entry refl (λ other among. refl) is.held);
+          (held-others desk.committed desk.committed _ desk.authority attempt.entry refl (λ other among. refl) is.held_others);
       no_cycle =
           no-cycle-fewer (except attempt.entry.number (waits_for (rolled_back desk attempt.entry))) (except attempt.entry.number (waits_for desk)) (numbers (rolled_back desk attempt.entry)) (numbers desk)
           (λ from to waits.
@@ -68,7 +68,7 @@ granted-commits desk attempt is =
           let (there, differ) = among-filter (λ (other : Entry). not (other.number == attempt.entry.number)) desk.active other
           (subst (λ (these : List Entry). IsAmong these other) (others-replaced attempt.entry (gone_on attempt.entry) desk.active refl) among) in
           (another-stays desk.committed desk.most_lines desk.next desk.active (record attempt.entry { waiting = is.mark }) other attempt.now is.whole is.active is.here there (not-true (other.number == attempt.entry.number) differ) is.now).due)
-          is.held);
+          is.held_others);
       no_cycle =
           no-cycle-fewer (except attempt.entry.number (waits_for (committed_at desk attempt.entry attempt.now))) (except attempt.entry.number (waits_for desk)) (numbers (committed_at desk attempt.entry attempt.now)) (numbers desk)
           (λ from to waits.
@@ -93,7 +93,7 @@ granted-closes desk attempt is went = record {
   whole = is.whole;
   few = is.few;
   active = is.active;
-  held = record { pages = is.held.pages; owned = owned; covered = covered };
+  held = record { pages = held.pages; owned = owned; covered = covered };
   no_cycle =
       no-cycle-leaves attempt.entry.number (waits_for desk) (waits_for desk) (numbers desk)
       (record { none = waits_for_none; kept = λ from to other waits. waits })
@@ -103,17 +103,29 @@ granted-closes desk attempt is went = record {
     it : (entry : Entry) → IsAmong desk.active entry → entry.number ≡ attempt.entry.number → record attempt.entry { waiting = is.mark } ≡ entry
     it entry among same = one-entry 0 desk.next desk.active (record attempt.entry { waiting = is.mark }) entry is.active.ascend is.here among (sym same)
 
+    no_lines_wanted : wanted desk attempt.entry ≡ no_lines
+    no_lines_wanted = wanted-commit desk attempt.entry attempt.now is.now (is.went ∙ went)
+
+    -- the commit call writes nothing, so no write bit goes off
+    held : IsHeld desk.committed (replaced (gone_on attempt.entry) desk.active) desk.authority
+    held =
+        subst (IsHeld desk.committed (replaced (gone_on attempt.entry) desk.active))
+        (ap
+        (λ (lines : Lines). lowered (is_fine_page desk.committed.directory) (record attempt { lines = lines }) (locks_with (record attempt { lines = lines }) desk) desk.authority)
+        (is.lines ∙ no_lines_wanted))
+        is.held
+
     due : due_to desk.committed (gone_on attempt.entry) ≡ due_to desk.committed attempt.entry
     due =
         due-more desk.committed attempt.entry
-        ∙ ap (λ (lines : Lines). with_whole_pages (both (touched_of desk.committed attempt.entry) lines)) (wanted-commit desk attempt.entry attempt.now is.now (is.went ∙ went))
-        ∙ (λ i. with_whole_pages (record {
+        ∙ ap (λ (lines : Lines). with_whole_pages (is_fine_page desk.committed.directory) (both (touched_of desk.committed attempt.entry) lines)) no_lines_wanted
+        ∙ (λ i. with_whole_pages (is_fine_page desk.committed.directory) (record {
           reads = append-nil (touched_of desk.committed attempt.entry).reads i;
           writes = append-nil (touched_of desk.committed attempt.entry).writes i;
         }))
 
     owned : (page : ℕ) → IsOwned desk.active (slice_index_or desk.authority page nobody)
-    owned page = elim (is.held.owned page) [
+    owned page = elim (held.owned page) [
       | inl none ↦ inl none
       | inr some ↦
           elim (among-replaced (gone_on attempt.entry) desk.active some.0 some.1) [
@@ -130,8 +142,8 @@ granted-closes desk attempt is went = record {
             subst (λ (x : Entry). IsCovered (slice_index_or desk.authority page nobody) page x.number (due_to desk.committed x))
             (it entry among (eqb-true entry.number attempt.entry.number own))
             (subst (IsCovered (slice_index_or desk.authority page nobody) page attempt.entry.number) due
-            (is.held.covered page (gone_on attempt.entry) (new-among (gone_on attempt.entry) desk.active (record attempt.entry { waiting = is.mark }) is.here refl)))
-        by_number false other = is.held.covered page entry (replaced-among (gone_on attempt.entry) desk.active entry among other)
+            (held.covered page (gone_on attempt.entry) (new-among (gone_on attempt.entry) desk.active (record attempt.entry { waiting = is.mark }) is.here refl)))
+        by_number false other = held.covered page entry (replaced-among (gone_on attempt.entry) desk.active entry among other)
 
     waits_for_none : (to : ℕ) → waits_for desk attempt.entry.number to ≡ false
     waits_for_none to =

@@ -1,12 +1,14 @@
 -- A row that goes on leaves the desk consistent.
 use Rattle.std.specs.Prelude.{◌≡◌, refl, ℕ, suc, ◌+◌, ◌≤◌, ◌==◌, not, if◌then◌else◌, Bool, true, false, List, [], ◌∷◌, ◌++◌, length, filter, map, Some, slice_index_or}
+use Rattle.std.specs.List.{list_any}
 use Rattle.std.proofs.Common.{arith, ap, sym, ◌∙◌, subst, inl, inr}
-use Rattle.std.proofs.lemmas.Bool.{eqb-true, eq-eqb, both_ways, or_cases, or_left, or_right, or_parts, and_cases, not_from_false, false_from_ne_true}
+use Rattle.std.proofs.lemmas.Bool.{eqb-true, eq-eqb, both_ways, or_cases, or_parts, and_cases, not_from_false, false_from_ne_true}
+use Rattle.line_geometry.specs.Directory.{is_fine_page}
 use Rattle.line_geometry.specs.FlatStore.{FlatStore, IsWhole}
 use Rattle.lock_rules.specs.Sets.{has, size, meets}
-use Rattle.lock_rules.specs.Lines.{Lines, both, conflicts, with_whole_pages, page_of_line, pages_of}
-use Rattle.lock_rules.proofs.Sets.{has-append, has_left, has_right, any-at, any-some}
-use Rattle.lock_rules.proofs.Lines.{part-both, part-whole_pages, has-whole_pages, has-pages_of, meets-at}
+use Rattle.lock_rules.specs.Lines.{Lines, both, conflicts, with_whole_pages}
+use Rattle.lock_rules.proofs.Sets.{has-append, has_left, has_right, any-some}
+use Rattle.lock_rules.proofs.Lines.{reaches, whole-reached, part-both, part-whole_pages, has-whole_pages, meets-at}
 use Rattle.flat_machine.specs.declared.machine.Plain.{Plain}
 use Rattle.flat_machine.specs.Row.{On, row}
 use Rattle.flat_machine.specs.After.{after}
@@ -14,46 +16,42 @@ use Rattle.flat_machine.specs.Due.{touched_next, touched_within}
 use Rattle.flat_machine.specs.Agreement.{all_of}
 use Rattle.desk.specs.Desk.{Desk, Entry, nobody, with_entry}
 use Rattle.desk.specs.Holdings.{wanted, held, request, conflicts_with, conflicts_of, numbers, waits_for}
-use Rattle.desk.specs.Instruction.{Attempt, granted, with_grants}
-use Rattle.desk_law.specs.Changes.{gone_on}
+use Rattle.desk.specs.Instruction.{Attempt, with_grants, with_lowered, locks_with}
+use Rattle.desk_law.specs.Changes.{gone_on, row_done}
 use Rattle.desk_law.specs.Consistent.{IsAmong, due_to, IsLive, AreApart, AreConsistent, IsCovered, IsHeld, HasNoCycle}
 use Rattle.desk_law.specs.Orderly.{IsOrderly}
 use Rattle.desk_law.proofs.Entries.{replaced, among-replaced, new-among, ascend-replaced, numbers-replaced}
 use Rattle.desk_law.proofs.Walks.{except, no-cycle-fewer, no-cycle-leaves}
 use Rattle.desk_law.proofs.Others.{touched_of, others, after-row}
 use Rattle.desk_law.proofs.Waiting.{marked-waits, gone-on}
-use Rattle.desk_law.proofs.Holding.{covered-more, held-replaced, held-granted}
+use Rattle.desk_law.proofs.Holding.{IsHeldBut, held-but, covered-more, held-replaced, held-granted, held-lowered}
 use Rattle.desk_law.proofs.Contest.{IsContending}
 
 -- no conflict keeps two apart
-pub apart-still : (mine new theirs : Lines) → AreApart (with_whole_pages mine) theirs → conflicts (with_whole_pages new) theirs ≡ false
-    → AreApart (with_whole_pages (both mine new)) theirs
-apart-still mine new theirs apart none = record {
+pub apart-still : (fine : ℕ → Bool) (mine new theirs : Lines) → AreApart (with_whole_pages fine mine) theirs → conflicts (with_whole_pages fine new) theirs ≡ false
+    → AreApart (with_whole_pages fine (both mine new)) theirs
+apart-still fine mine new theirs apart none = record {
   first_writes = λ line inside.
       elim (or_cases (has mine.writes line) (has new.writes line) (sym (has-append mine.writes new.writes line) ∙ inside)) [
         | inl old ↦ apart.first_writes line old
         | inr fresh ↦ false_from_ne_true (has (all_of theirs) line) (λ there. both_ways (meets new.writes (theirs.reads ++ theirs.writes)) parts.0 (meets-at new.writes (theirs.reads ++ theirs.writes) line fresh there))
       ];
   second_writes = λ line inside.
-      false_from_ne_true (has (all_of (with_whole_pages (both mine new))) line)
+      false_from_ne_true (has (all_of (with_whole_pages fine (both mine new))) line)
       (λ there.
-      elim (or_cases (has (with_whole_pages (both mine new)).reads line) (has (mine.writes ++ new.writes) line) (sym (has-append (with_whole_pages (both mine new)).reads (mine.writes ++ new.writes) line) ∙ there)) [
+      elim (or_cases (has (with_whole_pages fine (both mine new)).reads line) (has (mine.writes ++ new.writes) line) (sym (has-append (with_whole_pages fine (both mine new)).reads (mine.writes ++ new.writes) line) ∙ there)) [
         | inl read ↦
-            elim (or_cases (has (mine.reads ++ new.reads) line) (has (pages_of (mine.writes ++ new.writes)) (page_of_line line)) (sym (has-whole_pages (both mine new) line) ∙ read)) [
+            elim (or_cases (has (mine.reads ++ new.reads) line) (list_any (reaches fine line) (mine.writes ++ new.writes)) (sym (has-whole_pages fine (both mine new) line) ∙ read)) [
               | inl row_read ↦
                   elim (or_cases (has mine.reads line) (has new.reads line) (sym (has-append mine.reads new.reads line) ∙ row_read)) [
-                    | inl old ↦ no_read line inside (has-whole_pages mine line ∙ or_left (has mine.reads line) (has (pages_of mine.writes) (page_of_line line)) old)
-                    | inr fresh ↦ no_new_read line inside (has-whole_pages new line ∙ or_left (has new.reads line) (has (pages_of new.writes) (page_of_line line)) fresh)
+                    | inl old ↦ no_read line inside (has_left mine.reads _ line old)
+                    | inr fresh ↦ no_new_read line inside (has_left new.reads _ line fresh)
                   ]
-              | inr page_read ↦
-                  let (x, written, here) = any-some (λ l. page_of_line l == page_of_line line) (mine.writes ++ new.writes) (sym (has-pages_of (mine.writes ++ new.writes) (page_of_line line)) ∙ page_read) in
+              | inr reached ↦
+                  let (x, written, here) = any-some (reaches fine line) (mine.writes ++ new.writes) reached in
                   elim (or_cases (has mine.writes x) (has new.writes x) (sym (has-append mine.writes new.writes x) ∙ written)) [
-                    | inl old ↦
-                        no_read line inside
-                        (has-whole_pages mine line ∙ or_right (has mine.reads line) (has (pages_of mine.writes) (page_of_line line)) (has-pages_of mine.writes (page_of_line line) ∙ any-at (λ l. page_of_line l == page_of_line line) mine.writes x old here))
-                    | inr fresh ↦
-                        no_new_read line inside
-                        (has-whole_pages new line ∙ or_right (has new.reads line) (has (pages_of new.writes) (page_of_line line)) (has-pages_of new.writes (page_of_line line) ∙ any-at (λ l. page_of_line l == page_of_line line) new.writes x fresh here))
+                    | inl old ↦ no_read line inside (whole-reached fine mine line x old here)
+                    | inr fresh ↦ no_new_read line inside (whole-reached fine new line x fresh here)
                   ]
             ]
         | inr written ↦
@@ -64,14 +62,14 @@ apart-still mine new theirs apart none = record {
       ]);
 }
   where
-    parts : (meets new.writes (theirs.reads ++ theirs.writes) ≡ false) × (meets (with_whole_pages new).reads theirs.writes ≡ false)
-    parts = or_parts (meets new.writes (theirs.reads ++ theirs.writes)) (meets (with_whole_pages new).reads theirs.writes) none
+    parts : (meets new.writes (theirs.reads ++ theirs.writes) ≡ false) × (meets (with_whole_pages fine new).reads theirs.writes ≡ false)
+    parts = or_parts (meets new.writes (theirs.reads ++ theirs.writes)) (meets (with_whole_pages fine new).reads theirs.writes) none
 
-    no_read : (line : ℕ) → has theirs.writes line ≡ true → has (with_whole_pages mine).reads line ≡ true → ⊥
-    no_read line inside read = both_ways (has (all_of (with_whole_pages mine)) line) (apart.second_writes line inside) (has_left (with_whole_pages mine).reads mine.writes line read)
+    no_read : (line : ℕ) → has theirs.writes line ≡ true → has (with_whole_pages fine mine).reads line ≡ true → ⊥
+    no_read line inside read = both_ways (has (all_of (with_whole_pages fine mine)) line) (apart.second_writes line inside) (has_left (with_whole_pages fine mine).reads mine.writes line read)
 
-    no_new_read : (line : ℕ) → has theirs.writes line ≡ true → has (with_whole_pages new).reads line ≡ true → ⊥
-    no_new_read line inside read = both_ways (meets (with_whole_pages new).reads theirs.writes) parts.1 (meets-at (with_whole_pages new).reads theirs.writes line read inside)
+    no_new_read : (line : ℕ) → has theirs.writes line ≡ true → has (with_whole_pages fine new).reads line ≡ true → ⊥
+    no_new_read line inside read = both_ways (meets (with_whole_pages fine new).reads theirs.writes) parts.1 (meets-at (with_whole_pages fine new).reads theirs.writes line read inside)
 
 pub length-replaced : (new : Entry) (entries : List Entry) → length (replaced new entries) ≡ length entries
 length-replaced new [] = refl
@@ -92,10 +90,10 @@ nobody-conflicts test (one ∷ entries) none other among = by_test (test one) re
 
 -- the locks due after the row
 pub due-more : (store : FlatStore) (entry : Entry)
-    → due_to store (gone_on entry) ≡ with_whole_pages (both (touched_of store entry) (touched_next entry.runs.program entry.runs.args store entry.rows))
+    → due_to store (gone_on entry) ≡ with_whole_pages (is_fine_page store.directory) (both (touched_of store entry) (touched_next entry.runs.program entry.runs.args store entry.rows))
 due-more store entry =
     let more : entry.rows + 1 ≡ suc entry.rows = omega arith in
-    ap (λ (rows : ℕ). with_whole_pages (touched_within entry.runs.program entry.runs.args store rows)) more
+    ap (λ (rows : ℕ). with_whole_pages (is_fine_page store.directory) (touched_within entry.runs.program entry.runs.args store rows)) more
 
 pub apart-turned : (first second : Lines) → AreApart first second → AreApart second first
 apart-turned first second apart = record { first_writes = apart.second_writes; second_writes = apart.first_writes }
@@ -169,18 +167,21 @@ ready-again attempt old desk mark ready contends here store limit = record {
       (subst (λ (store : FlatStore). size ((touched_of store attempt.entry).writes ++ (touched_next attempt.entry.runs.program attempt.entry.runs.args store attempt.entry.rows).writes) ≤ old.most_lines) (sym store) ready.short);
 }
 
--- the same where nobody conflicts and the pages are granted: what is permitted is held once the row has gone on
+-- The same where nobody conflicts and the pages are granted: what is permitted is held once the row has taken effect, and until then what is
+-- permitted to others.
 pub record IsGranted (attempt : Attempt) (desk : Desk) : Type 0 where
   pub whole : IsWhole desk.committed
   pub few : length desk.active ≤ desk.most_active
   pub active : AreConsistent desk.committed desk.most_lines desk.next desk.active
-  pub held : IsHeld desk.committed (replaced (gone_on attempt.entry) desk.active) desk.authority
+  pub held_others : IsHeldBut attempt.entry.number desk.committed (replaced (gone_on attempt.entry) desk.active) desk.authority
+  pub held : IsHeld desk.committed (replaced (gone_on attempt.entry) desk.active) (with_lowered attempt desk).authority
   pub no_cycle : HasNoCycle (except attempt.entry.number (waits_for desk)) (numbers desk)
   pub mark : Bool
   pub here : IsAmong desk.active (record attempt.entry { waiting = mark })
   pub now : after attempt.entry.runs.program attempt.entry.runs.args desk.committed attempt.entry.rows ≡ Some attempt.now
   pub went : row attempt.entry.runs.program desk.committed.directory attempt.now ≡ attempt.outcome
   pub none : conflicts_of desk attempt.entry ≡ []
+  pub lines : attempt.lines ≡ wanted desk attempt.entry
   pub short : size ((touched_of desk.committed attempt.entry).writes ++ (wanted desk attempt.entry).writes) ≤ desk.most_lines
 
 pub grants-held : (desk : Desk) (attempt : Attempt) (refused : List ℕ) → IsReady attempt desk → conflicts_of desk attempt.entry ≡ []
@@ -189,28 +190,36 @@ grants-held desk attempt refused ready none = record {
   whole = ready.contending.whole;
   few = ready.contending.few;
   active = ready.contending.active;
+  held_others =
+      held-granted (is_fine_page desk.committed.directory) desk.committed (replaced (gone_on attempt.entry) desk.active) (gone_on attempt.entry) attempt (locks_with attempt desk) refused desk.authority
+      there refl (held-but attempt.entry.number desk.committed (replaced (gone_on attempt.entry) desk.active) desk.authority moved);
   held =
-      subst (λ (l : Lines). IsHeld desk.committed (replaced (gone_on attempt.entry) desk.active) (granted attempt (with_whole_pages (both (touched_of desk.committed attempt.entry) l)) refused desk.authority)) (sym ready.lines)
-      (held-granted desk.committed desk.next (replaced (gone_on attempt.entry) desk.active) (gone_on attempt.entry) attempt
-      (both (touched_of desk.committed attempt.entry) (wanted desk attempt.entry)) refused desk.authority
+      held-lowered (is_fine_page desk.committed.directory) desk.committed desk.next (replaced (gone_on attempt.entry) desk.active) (gone_on attempt.entry) attempt
+      (both (touched_of desk.committed attempt.entry) attempt.lines) refused desk.authority
       (ascend-replaced (gone_on attempt.entry) 0 desk.next desk.active ready.contending.active.ascend)
-      (new-among (gone_on attempt.entry) desk.active (record attempt.entry { waiting = ready.mark }) ready.here refl) refl (sym (due-more desk.committed attempt.entry)) moved);
+      there refl
+      (ap (λ (l : Lines). with_whole_pages (is_fine_page desk.committed.directory) (both (touched_of desk.committed attempt.entry) l)) ready.lines ∙ sym (due-more desk.committed attempt.entry))
+      moved;
   no_cycle = ready.contending.no_cycle;
   mark = ready.mark;
   here = ready.here;
   now = ready.now;
   went = ready.went;
   none = none;
+  lines = ready.lines;
   short = ready.short;
 }
   where
+    there : IsAmong (replaced (gone_on attempt.entry) desk.active) (gone_on attempt.entry)
+    there = new-among (gone_on attempt.entry) desk.active (record attempt.entry { waiting = ready.mark }) ready.here refl
+
     moved : IsHeld desk.committed (replaced (gone_on attempt.entry) desk.active) desk.authority
     moved =
         held-replaced desk.committed desk.active desk.authority (record attempt.entry { waiting = ready.mark }) (gone_on attempt.entry) ready.here refl
         (λ page.
         subst (λ (l : Lines). IsCovered (slice_index_or desk.authority page nobody) page attempt.entry.number l) (sym (due-more desk.committed attempt.entry))
-        (covered-more (slice_index_or desk.authority page nobody) page attempt.entry.number (due_to desk.committed attempt.entry) (with_whole_pages (both (touched_of desk.committed attempt.entry) (wanted desk attempt.entry)))
-        (part-whole_pages (touched_of desk.committed attempt.entry) (both (touched_of desk.committed attempt.entry) (wanted desk attempt.entry)) (part-both (touched_of desk.committed attempt.entry) (wanted desk attempt.entry)))
+        (covered-more (slice_index_or desk.authority page nobody) page attempt.entry.number (due_to desk.committed attempt.entry) (with_whole_pages (is_fine_page desk.committed.directory) (both (touched_of desk.committed attempt.entry) (wanted desk attempt.entry)))
+        (part-whole_pages (is_fine_page desk.committed.directory) (touched_of desk.committed attempt.entry) (both (touched_of desk.committed attempt.entry) (wanted desk attempt.entry)) (part-both (touched_of desk.committed attempt.entry) (wanted desk attempt.entry)))
         (ready.contending.held.covered page (record attempt.entry { waiting = ready.mark }) ready.here)))
         ready.contending.held
 
@@ -225,11 +234,11 @@ gone-on-active desk most entry mark now next are here at went none short =
     replaced-consistent desk.committed most desk.next desk.active (gone_on entry) are live
     (λ other among differ.
     subst (λ (l : Lines). AreApart l (due_to desk.committed other)) (sym due)
-    (apart-still (touched_of desk.committed entry) (wanted desk entry) (due_to desk.committed other)
+    (apart-still (is_fine_page desk.committed.directory) (touched_of desk.committed entry) (wanted desk entry) (due_to desk.committed other)
     (apart-turned (due_to desk.committed other) (due_to desk.committed entry) (are.apart other (record entry { waiting = mark }) among here differ))
     (free other among differ)))
   where
-    due : due_to desk.committed (gone_on entry) ≡ with_whole_pages (both (touched_of desk.committed entry) (wanted desk entry))
+    due : due_to desk.committed (gone_on entry) ≡ with_whole_pages (is_fine_page desk.committed.directory) (both (touched_of desk.committed entry) (wanted desk entry))
     due = due-more desk.committed entry
 
     live : IsLive desk.committed most (gone_on entry)
@@ -250,15 +259,15 @@ gone-on-active desk most entry mark now next are here at went none short =
 
 -- the row goes on
 pub row-goes-on : (desk : Desk) (attempt : Attempt) (next : Plain) → IsGranted attempt desk → attempt.outcome ≡ On next
-    → IsOrderly (with_entry desk (gone_on attempt.entry))
+    → IsOrderly (row_done attempt desk)
 row-goes-on desk attempt next is went = record {
   whole = is.whole;
   few = omega (arith, is.few, length-replaced (gone_on attempt.entry) desk.active);
   active = gone-on-active desk desk.most_lines attempt.entry is.mark attempt.now next is.active is.here is.now (is.went ∙ went) is.none is.short;
   held = is.held;
   no_cycle =
-      subst (HasNoCycle (waits_for (with_entry desk (gone_on attempt.entry)))) (sym (numbers-replaced (gone_on attempt.entry) desk.active))
-      (no-cycle-leaves attempt.entry.number (waits_for (with_entry desk (gone_on attempt.entry))) (waits_for desk) (numbers desk)
+      subst (HasNoCycle (waits_for (row_done attempt desk))) (sym (numbers-replaced (gone_on attempt.entry) desk.active))
+      (no-cycle-leaves attempt.entry.number (waits_for (row_done attempt desk)) (waits_for desk) (numbers desk)
       (gone-on desk attempt.entry (gone_on attempt.entry) refl refl) is.no_cycle);
 }
 

@@ -1,49 +1,20 @@
 -- Once the refused pages are granted, every line of the row is permitted.
-use Rattle.std.specs.Prelude.{◌≡◌, refl, ℕ, ◌<◌, ◌==◌, not, Bool, true, false, List, [], ◌∷◌, length, filter, slice_index_or, slice_set}
+use Rattle.std.specs.Prelude.{◌≡◌, refl, ℕ, ◌<◌, ◌==◌, not, if◌then◌else◌, Bool, true, false, List, [], ◌∷◌, length, filter, slice_index_or}
 use Rattle.std.specs.List.{list_any}
-use Rattle.std.proofs.lemmas.List.{length-set, get_or-set_same, get_or-set_other}
-use Rattle.std.proofs.Common.{arith, ap, sym, ◌∙◌, subst, inl, inr}
-use Rattle.std.proofs.lemmas.Bool.{eqb-true, eq-eqb, both_ways, and_from, or_cases, or_parts, cases_Bool, not-false, false_from_ne_true}
+use Rattle.std.proofs.Common.{ap, ◌∙◌, inl, inr}
+use Rattle.std.proofs.lemmas.Bool.{eq-eqb, both_ways, and_from, or_parts, cases_Bool, not-false, false_from_ne_true}
 use Rattle.lock_rules.specs.Sets.{has}
 use Rattle.lock_rules.specs.Access.{permits}
-use Rattle.lock_rules.specs.Lines.{Lines, within_page, page_of_line}
+use Rattle.lock_rules.specs.Lines.{Lines, within_page, is_whole_page, page_of_line, pages_of}
 use Rattle.lock_rules.proofs.Sets.{any-at, has-filter, has_left, has_right}
 use Rattle.lock_rules.proofs.Lines.{has-within_page, pages_of-line}
 use Rattle.flat_machine.specs.Agreement.{all_of}
 use Rattle.desk.specs.Desk.{Authority, nobody}
-use Rattle.desk.specs.Instruction.{Attempt, authority_by, granted, refuses, lines_within, touched_pages}
+use Rattle.desk.specs.Instruction.{Attempt, authority_by, fine_authority_by, given, granted, refuses, lines_within, touched_pages}
 use Rattle.desk_law.specs.Consistent.{permitted}
 use Rattle.desk_law.specs.Laws.{ArePermitted}
 use Rattle.desk_law.proofs.Contest.{KeepsPages}
-
--- what a page is granted
-abbrev pub given : Attempt → Lines → ℕ → Authority
-given attempt locks page = authority_by attempt.entry.number (within_page page locks.reads) (within_page page locks.writes)
-
-granted-not : (attempt : Attempt) (locks : Lines) (pages : List ℕ) (authority : List Authority) (page : ℕ) → has pages page ≡ false
-    → slice_index_or (granted attempt locks pages authority) page nobody ≡ slice_index_or authority page nobody
-granted-not attempt locks [] authority page out = refl
-granted-not attempt locks (one ∷ pages) authority page out =
-    let parts = or_parts (one == page) (has pages page) out in
-    granted-not attempt locks pages (slice_set authority one (given attempt locks one)) page parts.1
-    ∙ get_or-set_other authority one page (given attempt locks one) nobody (λ same. both_ways (one == page) parts.0 (eq-eqb one page (sym same)))
-
-granted-is : (attempt : Attempt) (locks : Lines) (pages : List ℕ) (authority : List Authority) (page : ℕ) → page < length authority → has pages page ≡ true
-    → slice_index_or (granted attempt locks pages authority) page nobody ≡ given attempt locks page
-granted-is attempt locks [] authority page below inside = absurd (cc)
-granted-is attempt locks (one ∷ pages) authority page below inside =
-    elim (cases_Bool (has pages page)) [
-      | inl later ↦ granted-is attempt locks pages (slice_set authority one (given attempt locks one)) page (omega (arith, below, length-set authority one (given attempt locks one))) later
-      | inr not_later ↦
-          elim (or_cases (one == page) (has pages page) inside) [
-            | inl here ↦
-                let same : one ≡ page = eqb-true one page here in
-                granted-not attempt locks pages (slice_set authority one (given attempt locks one)) page not_later
-                ∙ subst (λ (p : ℕ). slice_index_or (slice_set authority one (given attempt locks one)) p nobody ≡ given attempt locks p) same
-                (get_or-set_same authority one (given attempt locks one) nobody (omega (arith, below, same)))
-            | inr later ↦ absurd (both_ways (has pages page) not_later later)
-          ]
-    ]
+use Rattle.desk_law.proofs.EachPage.{each-is, each-not}
 
 read-here : (same bit : Bool) → same ≡ true → bit ≡ true → permits same false bit false ≡ true
 read-here true true e f = refl
@@ -63,19 +34,43 @@ write-here false bit e f = absurd (cc)
 inside-page : (lines : List ℕ) (line : ℕ) → has lines line ≡ true → has (within_page (page_of_line line) lines) line ≡ true
 inside-page lines line inside = has-within_page (page_of_line line) lines line ∙ and_from (page_of_line line == page_of_line line) (has lines line) (eq-eqb (page_of_line line) (page_of_line line) refl) inside
 
-given-reads : (attempt : Attempt) (locks : Lines) (line : ℕ) → has locks.reads line ≡ true → permitted (given attempt locks (page_of_line line)) attempt.entry.number line false ≡ true
-given-reads attempt locks line inside = by_writes (within_page (page_of_line line) locks.writes)
-  where
-    by_writes : (writes : List ℕ) → permitted (authority_by attempt.entry.number (within_page (page_of_line line) locks.reads) writes) attempt.entry.number line false ≡ true
-    by_writes [] = read-here (attempt.entry.number == attempt.entry.number) (has (within_page (page_of_line line) locks.reads) line) (eq-eqb attempt.entry.number attempt.entry.number refl) (inside-page locks.reads line inside)
-    by_writes (one ∷ more) = read-there (attempt.entry.number == attempt.entry.number) (has (one ∷ more) line) (eq-eqb attempt.entry.number attempt.entry.number refl)
+by-reads : (attempt : Attempt) (locks : Lines) (line : ℕ) (writes : List ℕ) → has locks.reads line ≡ true
+    → permitted (authority_by attempt.entry.number (within_page (page_of_line line) locks.reads) writes) attempt.entry.number line false ≡ true
+by-reads attempt locks line [] inside = read-here (attempt.entry.number == attempt.entry.number) (has (within_page (page_of_line line) locks.reads) line) (eq-eqb attempt.entry.number attempt.entry.number refl) (inside-page locks.reads line inside)
+by-reads attempt locks line (one ∷ more) inside = read-there (attempt.entry.number == attempt.entry.number) (has (one ∷ more) line) (eq-eqb attempt.entry.number attempt.entry.number refl)
 
-given-writes : (attempt : Attempt) (locks : Lines) (line : ℕ) → has locks.writes line ≡ true → permitted (given attempt locks (page_of_line line)) attempt.entry.number line true ≡ true
-given-writes attempt locks line inside = by_writes (within_page (page_of_line line) locks.writes) (inside-page locks.writes line inside)
+given-reads : (fine : ℕ → Bool) (attempt : Attempt) (locks : Lines) (line : ℕ) → has locks.reads line ≡ true → permitted (given fine attempt locks (page_of_line line)) attempt.entry.number line false ≡ true
+given-reads fine attempt locks line inside = by_fine (fine (page_of_line line)) (has (pages_of attempt.lines.writes) (page_of_line line))
+  where
+    by_fine : (is_fine storing : Bool)
+        → permitted
+        (if is_fine
+        then fine_authority_by attempt.entry.number storing (within_page (page_of_line line) locks.reads) (within_page (page_of_line line) locks.writes)
+        else authority_by attempt.entry.number (within_page (page_of_line line) locks.reads) (within_page (page_of_line line) locks.writes))
+        attempt.entry.number line false
+        ≡ true
+    by_fine true true = read-there (attempt.entry.number == attempt.entry.number) (has (within_page (page_of_line line) locks.writes) line) (eq-eqb attempt.entry.number attempt.entry.number refl)
+    by_fine true false = by-reads attempt locks line (if is_whole_page (within_page (page_of_line line) locks.reads) then within_page (page_of_line line) locks.writes else []) inside
+    by_fine false storing = by-reads attempt locks line (within_page (page_of_line line) locks.writes) inside
+
+given-writes : (fine : ℕ → Bool) (attempt : Attempt) (locks : Lines) (line : ℕ) → has attempt.lines.writes line ≡ true → has locks.writes line ≡ true
+    → permitted (given fine attempt locks (page_of_line line)) attempt.entry.number line true ≡ true
+given-writes fine attempt locks line writes inside = by_fine (fine (page_of_line line)) (has (pages_of attempt.lines.writes) (page_of_line line)) (pages_of-line attempt.lines.writes line writes)
   where
     by_writes : (writes : List ℕ) → has writes line ≡ true → permitted (authority_by attempt.entry.number (within_page (page_of_line line) locks.reads) writes) attempt.entry.number line true ≡ true
     by_writes [] there = absurd (cc)
     by_writes (one ∷ more) there = write-here (attempt.entry.number == attempt.entry.number) (has (one ∷ more) line) (eq-eqb attempt.entry.number attempt.entry.number refl) there
+
+    by_fine : (is_fine storing : Bool) → storing ≡ true
+        → permitted
+        (if is_fine
+        then fine_authority_by attempt.entry.number storing (within_page (page_of_line line) locks.reads) (within_page (page_of_line line) locks.writes)
+        else authority_by attempt.entry.number (within_page (page_of_line line) locks.reads) (within_page (page_of_line line) locks.writes))
+        attempt.entry.number line true
+        ≡ true
+    by_fine true true e = write-here (attempt.entry.number == attempt.entry.number) (has (within_page (page_of_line line) locks.writes) line) (eq-eqb attempt.entry.number attempt.entry.number refl) (inside-page locks.writes line inside)
+    by_fine true false e = absurd (cc)
+    by_fine false storing e = by_writes (within_page (page_of_line line) locks.writes) (inside-page locks.writes line inside)
 
 owns : (same write bit store : Bool) → permits same write bit store ≡ true → same ≡ true
 owns true write bit store may = refl
@@ -87,27 +82,27 @@ none-there test xs x none inside = false_from_ne_true (test x) (λ passes. both_
 
 -- Pages are granted after a contest that left the activation its own pages.
 pub granted-permits :
-    (attempt : Attempt) (locks : Lines) (before later : List Authority) → KeepsPages attempt.entry.number before later
+    (fine : ℕ → Bool) (attempt : Attempt) (locks : Lines) (before later : List Authority) → KeepsPages attempt.entry.number before later
     → ((line : ℕ) → has attempt.lines.reads line ≡ true → has locks.reads line ≡ true) → ((line : ℕ) → has attempt.lines.writes line ≡ true → has locks.writes line ≡ true)
     → ((line : ℕ) → has (all_of attempt.lines) line ≡ true → page_of_line line < length later)
     → ArePermitted
-    (granted attempt locks
+    (granted fine attempt locks
     (filter (λ page. refuses (slice_index_or before page nobody) attempt.entry.number (lines_within page attempt.lines)) (touched_pages attempt)) later)
     attempt.entry.number attempt.lines
-granted-permits attempt locks before later keeps reads writes below = record {
+granted-permits fine attempt locks before later keeps reads writes below = record {
   reads = λ line inside.
       let there : has (all_of attempt.lines) line ≡ true = has_left attempt.lines.reads attempt.lines.writes line inside in
       elim (cases_Bool (has refused (page_of_line line))) [
         | inl was ↦
-            ap (λ (a : Authority). permitted a attempt.entry.number line false) (granted-is attempt locks refused later (page_of_line line) (below line there) was)
-            ∙ given-reads attempt locks line (reads line inside)
+            ap (λ (a : Authority). permitted a attempt.entry.number line false) (each-is (given fine attempt locks) refused later (page_of_line line) (below line there) was)
+            ∙ given-reads fine attempt locks line (reads line inside)
         | inr wasn't ↦
             let quiet = or_parts (reads_refused line) (writes_refused line) (not_refused line there wasn't) in
             let may : permitted (slice_index_or before (page_of_line line) nobody) attempt.entry.number line false ≡ true =
             not-false (permitted (slice_index_or before (page_of_line line) nobody) attempt.entry.number line false)
             (none-there (λ l. not (permitted (slice_index_or before (page_of_line line) nobody) attempt.entry.number l false)) (within_page (page_of_line line) attempt.lines.reads) line quiet.0 (inside-page attempt.lines.reads line inside)) in
             ap (λ (a : Authority). permitted a attempt.entry.number line false)
-            (granted-not attempt locks refused later (page_of_line line) wasn't
+            (each-not (given fine attempt locks) refused later (page_of_line line) wasn't
             ∙ keeps (page_of_line line) (owns ((slice_index_or before (page_of_line line) nobody).owner == attempt.entry.number) (slice_index_or before (page_of_line line) nobody).write (has (slice_index_or before (page_of_line line) nobody).lines line) false may))
             ∙ may
       ];
@@ -115,15 +110,15 @@ granted-permits attempt locks before later keeps reads writes below = record {
       let there : has (all_of attempt.lines) line ≡ true = has_right attempt.lines.reads attempt.lines.writes line inside in
       elim (cases_Bool (has refused (page_of_line line))) [
         | inl was ↦
-            ap (λ (a : Authority). permitted a attempt.entry.number line true) (granted-is attempt locks refused later (page_of_line line) (below line there) was)
-            ∙ given-writes attempt locks line (writes line inside)
+            ap (λ (a : Authority). permitted a attempt.entry.number line true) (each-is (given fine attempt locks) refused later (page_of_line line) (below line there) was)
+            ∙ given-writes fine attempt locks line inside (writes line inside)
         | inr wasn't ↦
             let quiet = or_parts (reads_refused line) (writes_refused line) (not_refused line there wasn't) in
             let may : permitted (slice_index_or before (page_of_line line) nobody) attempt.entry.number line true ≡ true =
             not-false (permitted (slice_index_or before (page_of_line line) nobody) attempt.entry.number line true)
             (none-there (λ l. not (permitted (slice_index_or before (page_of_line line) nobody) attempt.entry.number l true)) (within_page (page_of_line line) attempt.lines.writes) line quiet.1 (inside-page attempt.lines.writes line inside)) in
             ap (λ (a : Authority). permitted a attempt.entry.number line true)
-            (granted-not attempt locks refused later (page_of_line line) wasn't
+            (each-not (given fine attempt locks) refused later (page_of_line line) wasn't
             ∙ keeps (page_of_line line) (owns ((slice_index_or before (page_of_line line) nobody).owner == attempt.entry.number) (slice_index_or before (page_of_line line) nobody).write (has (slice_index_or before (page_of_line line) nobody).lines line) true may))
             ∙ may
       ];

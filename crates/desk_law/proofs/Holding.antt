@@ -1,16 +1,18 @@
 -- What an authority permits is held, as entries and authorities change.
-use Rattle.std.specs.Prelude.{◌≡◌, refl, ℕ, zero, suc, ◌==◌, ◌⊎◌, not, if◌then◌else◌, Bool, true, false, List, [], ◌∷◌, length, map, slice_index_or, slice_set}
+use Rattle.std.specs.Prelude.{◌≡◌, refl, ℕ, zero, suc, ◌==◌, ◌&&◌, not, if◌then◌else◌, Bool, true, false, List, [], ◌∷◌, length, map, slice_index_or}
 use Rattle.std.proofs.Common.{ap, sym, ◌∙◌, subst, inl, inr}
-use Rattle.std.proofs.lemmas.Bool.{eqb-true, eq-eqb, both_ways, and_parts, or_left, or_right, cases_Bool, not_from_false}
+use Rattle.std.proofs.lemmas.Bool.{eqb-true, eq-eqb, ne_eqb, both_ways, and_parts, and_from, or_left, cases_Bool, not-true, not_from_false}
 use Rattle.line_geometry.specs.Directory.{page_count}
 use Rattle.line_geometry.specs.FlatStore.{FlatStore}
 use Rattle.lock_rules.specs.Sets.{has}
 use Rattle.lock_rules.specs.Access.{permits}
-use Rattle.lock_rules.specs.Lines.{Lines, with_whole_pages, within_page, page_of_line, pages_of}
-use Rattle.lock_rules.proofs.Lines.{ArePart, has-within_page, has-whole_pages, pages_of-line}
+use Rattle.lock_rules.specs.Lines.{Lines, with_whole_pages, within_page, is_whole_page, page_of_line, pages_of}
+use Rattle.lock_rules.proofs.Sets.{has-filter}
+use Rattle.lock_rules.proofs.Lines.{ArePart, has-within_page, whole-has, whole-reached, reaches-coarse}
 use Rattle.desk.specs.Desk.{Entry, Authority, nobody}
-use Rattle.desk.specs.Instruction.{Attempt, authority_by, granted}
+use Rattle.desk.specs.Instruction.{Attempt, authority_by, fine_authority_by, given, granted, lowered, lowered_pages, to_read}
 use Rattle.desk_law.specs.Consistent.{IsAmong, Ascend, due_to, IsCovered, IsOwned, IsHeld}
+use Rattle.desk_law.proofs.EachPage.{length-each, each-at}
 use Rattle.desk_law.proofs.Entries.{among-filter, filter-among, among-replaced, replaced-among, new-among, replaced, one-entry}
 use Rattle.desk_law.proofs.Others.{others}
 
@@ -52,11 +54,20 @@ covered-more authority page number locks more part covered = record {
   stores = λ line here may. part.writes.among line (covered.stores line here may);
 }
 
+-- what authority permits to entries of other numbers than one is held
+pub record IsHeldBut (number : ℕ) (store : FlatStore) (entries : List Entry) (authority : List Authority) : Type 0 where
+  pub pages : length authority ≡ page_count store.directory
+  pub owned : (page : ℕ) → IsOwned entries (slice_index_or authority page nobody)
+  pub covered : (page : ℕ) (entry : Entry) → IsAmong entries entry → (entry.number == number) ≡ false → IsCovered (slice_index_or authority page nobody) page entry.number (due_to store entry)
+
+pub held-but : (number : ℕ) (store : FlatStore) (entries : List Entry) (authority : List Authority) → IsHeld store entries authority → IsHeldBut number store entries authority
+held-but number store entries authority held = record { pages = held.pages; owned = held.owned; covered = λ page entry among other. held.covered page entry among }
+
 -- after one has ended
 pub held-others :
     (store later : FlatStore) (entries : List Entry) (authority : List Authority) (gone : Entry) → later.directory ≡ store.directory
     → ((other : Entry) → IsAmong (others gone entries) other → due_to later other ≡ due_to store other)
-    → IsHeld store entries authority → IsHeld later (others gone entries) (map (freed gone.number) authority)
+    → IsHeldBut gone.number store entries authority → IsHeld later (others gone entries) (map (freed gone.number) authority)
 held-others store later entries authority gone one_directory same held = record {
   pages = length-freed gone.number authority ∙ held.pages ∙ sym (ap page_count one_directory);
   owned = λ page. subst (IsOwned (others gone entries)) (sym (freed-at gone.number authority page)) (owned (slice_index_or authority page nobody) (held.owned page));
@@ -64,7 +75,8 @@ held-others store later entries authority gone one_directory same held = record 
       subst (λ (a : Authority). IsCovered a page entry.number (due_to later entry)) (sym (freed-at gone.number authority page))
       (subst (λ (locks : Lines). IsCovered (freed gone.number (slice_index_or authority page nobody)) page entry.number locks) (sym (same entry among))
       (covered (slice_index_or authority page nobody) page entry.number (due_to store entry)
-      (held.covered page entry (among-filter (λ (other : Entry). not (other.number == gone.number)) entries entry among).0)));
+      (let (there, differ) = among-filter (λ (other : Entry). not (other.number == gone.number)) entries entry among in
+      held.covered page entry there (not-true (entry.number == gone.number) differ))));
 }
   where
     owned : (a : Authority) → IsOwned entries a → IsOwned (others gone entries) (freed gone.number a)
@@ -111,65 +123,82 @@ held-replaced store entries authority old new here same covers held = record {
   ];
 }
 
--- what a page is granted is held
-pub grant-covers : (number page : ℕ) (lines : Lines)
-    → IsCovered (authority_by number (within_page page (with_whole_pages lines).reads) (within_page page (with_whole_pages lines).writes)) page number (with_whole_pages lines)
-grant-covers number page lines = by_writes (within_page page lines.writes) refl
+bit_on : (same bit store : Bool) → permits same false bit store ≡ true → bit ≡ true
+bit_on true true store may = refl
+bit_on true false store may = may
+bit_on false bit store may = absurd (cc)
+
+no_store : (same bit : Bool) → permits same false bit true ≡ true → ⊥
+no_store true true may = absurd (cc)
+no_store true false may = absurd (cc)
+no_store false bit may = absurd (cc)
+
+store_on : (same bit : Bool) → permits same true bit true ≡ true → bit ≡ true
+store_on true true may = refl
+store_on true false may = may
+store_on false bit may = absurd (cc)
+
+inside : (page line : ℕ) (some : List ℕ) → has (within_page page some) line ≡ true → (page ≡ page_of_line line) × (has some line ≡ true)
+inside page line some there =
+    let parts = and_parts (page == page_of_line line) (has some line) (sym (has-within_page page some line) ∙ there) in
+    (eqb-true page (page_of_line line) parts.0, parts.1)
+
+-- With the write bit off, lines that are held to read are covered.
+pub off-covers : (number page : ℕ) (locks : Lines) → IsCovered (record { owner = number; write = false; lines = within_page page locks.reads }) page number locks
+off-covers number page locks = record {
+  loads = λ line here may. (inside page line locks.reads (bit_on (number == number) (has (within_page page locks.reads) line) false may)).1;
+  stores = λ line here may. absurd (no_store (number == number) (has (within_page page locks.reads) line) may);
+}
+
+-- With it on, lines that are held to write, where all of the page are held to read.
+pub on-covers : (number page : ℕ) (locks : Lines) (writes : List ℕ)
+    → ((line : ℕ) → has writes line ≡ true → has (within_page page locks.writes) line ≡ true)
+    → ((line : ℕ) → page_of_line line ≡ page → has locks.reads line ≡ true)
+    → IsCovered (record { owner = number; write = true; lines = writes }) page number locks
+on-covers number page locks writes among whole = record {
+  loads = λ line here may. whole line here;
+  stores = λ line here may. (inside page line locks.writes (among line (store_on (number == number) (has writes line) may))).1;
+}
+
+-- By its locks, where it has written into the page only if all of it is held to read.
+by-covers : (number page : ℕ) (locks : Lines) (writes : List ℕ)
+    → ((line : ℕ) → has writes line ≡ true → has (within_page page locks.writes) line ≡ true)
+    → ((written : ℕ) → has writes written ≡ true → (line : ℕ) → page_of_line line ≡ page → has locks.reads line ≡ true)
+    → IsCovered (authority_by number (within_page page locks.reads) writes) page number locks
+by-covers number page locks [] among whole = off-covers number page locks
+by-covers number page locks (written ∷ more) among whole =
+    on-covers number page locks (written ∷ more) among (whole written (or_left (written == written) (has more written) (eq-eqb written written refl)))
+
+-- A fine page in which all lines are held to read, or into which the row doesn't write.
+pub fine-covers : (number page : ℕ) (storing : Bool) (locks : Lines) → (storing ≡ true → is_whole_page (within_page page locks.reads) ≡ true)
+    → IsCovered (fine_authority_by number storing (within_page page locks.reads) (within_page page locks.writes)) page number locks
+fine-covers number page true locks whole = on-covers number page locks (within_page page locks.writes) (λ line there. there) (whole-has page locks.reads (whole refl))
+fine-covers number page false locks whole = by_whole (is_whole_page (within_page page locks.reads)) refl
   where
-    bit_on : (same bit store : Bool) → permits same false bit store ≡ true → bit ≡ true
-    bit_on true true store may = refl
-    bit_on true false store may = may
-    bit_on false bit store may = absurd (cc)
+    by_whole : (all : Bool) → is_whole_page (within_page page locks.reads) ≡ all
+        → IsCovered (authority_by number (within_page page locks.reads) (if all then within_page page locks.writes else [])) page number locks
+    by_whole true e = by-covers number page locks (within_page page locks.writes) (λ line there. there) (λ written there. whole-has page locks.reads e)
+    by_whole false e = off-covers number page locks
 
-    no_store : (same bit : Bool) → permits same false bit true ≡ true → ⊥
-    no_store true true may = absurd (cc)
-    no_store true false may = absurd (cc)
-    no_store false bit may = absurd (cc)
-
-    store_on : (same bit : Bool) → permits same true bit true ≡ true → bit ≡ true
-    store_on true true may = refl
-    store_on true false may = may
-    store_on false bit may = absurd (cc)
-
-    inside : (line : ℕ) (some : List ℕ) → has (within_page page some) line ≡ true → (page ≡ page_of_line line) × (has some line ≡ true)
-    inside line some there =
-        let parts = and_parts (page == page_of_line line) (has some line) (sym (has-within_page page some line) ∙ there) in
-        (eqb-true page (page_of_line line) parts.0, parts.1)
-
-    whole_page : (line written : ℕ) → page_of_line line ≡ page → has (within_page page lines.writes) written ≡ true → has (with_whole_pages lines).reads line ≡ true
-    whole_page line written here there =
-        let (at, was) = inside written lines.writes there in
-        has-whole_pages lines line
-        ∙ or_right (has lines.reads line) (has (pages_of lines.writes) (page_of_line line))
-        (ap (has (pages_of lines.writes)) (here ∙ at) ∙ pages_of-line lines.writes written was)
-
-    by_writes : (writes : List ℕ) → within_page page lines.writes ≡ writes
-        → IsCovered (authority_by number (within_page page (with_whole_pages lines).reads) writes) page number (with_whole_pages lines)
-    by_writes [] none = record {
-      loads = λ line here may. (inside line (with_whole_pages lines).reads (bit_on (number == number) (has (within_page page (with_whole_pages lines).reads) line) false may)).1;
-      stores = λ line here may. absurd (no_store (number == number) (has (within_page page (with_whole_pages lines).reads) line) may);
-    }
-    by_writes (written ∷ more) is = record {
-      loads = λ line here may. whole_page line written here (ap (λ (set : List ℕ). has set written) is ∙ or_left (written == written) (has more written) (eq-eqb written written refl));
-      stores = λ line here may. (inside line lines.writes (ap (λ (set : List ℕ). has set line) is ∙ store_on (number == number) (has (written ∷ more) line) may)).1;
-    }
-
--- a list with one element replaced
-set-at : (authority : List Authority) (page at : ℕ) (new : Authority)
-    → ((at ≡ page) × (slice_index_or (slice_set authority page new) at nobody ≡ new)) ⊎ (slice_index_or (slice_set authority page new) at nobody ≡ slice_index_or authority at nobody)
-set-at [] page at new = inr refl
-set-at (one ∷ authority) zero zero new = inl (refl, refl)
-set-at (one ∷ authority) zero (suc at) new = inr refl
-set-at (one ∷ authority) (suc page) zero new = inr refl
-set-at (one ∷ authority) (suc page) (suc at) new = elim (set-at authority page at new) [
-  | inl same ↦ inl (ap suc same.0, same.1)
-  | inr other ↦ inr other
-]
-
-length-set : (authority : List Authority) (page : ℕ) (new : Authority) → length (slice_set authority page new) ≡ length authority
-length-set [] page new = refl
-length-set (one ∷ authority) zero new = refl
-length-set (one ∷ authority) (suc page) new = ap suc (length-set authority page new)
+-- what a page is granted is held, but for a fine page into which the row writes before all of it is held to read
+pub grant-covers : (fine : ℕ → Bool) (attempt : Attempt) (page : ℕ) (lines : Lines)
+    → (fine page ≡ true → has (pages_of attempt.lines.writes) page ≡ true → is_whole_page (within_page page (with_whole_pages fine lines).reads) ≡ true)
+    → IsCovered (given fine attempt (with_whole_pages fine lines) page) page attempt.entry.number (with_whole_pages fine lines)
+grant-covers fine attempt page lines whole = by_fine (fine page) refl
+  where
+    by_fine : (is_fine : Bool) → fine page ≡ is_fine
+        → IsCovered
+        (if is_fine
+        then fine_authority_by attempt.entry.number (has (pages_of attempt.lines.writes) page) (within_page page (with_whole_pages fine lines).reads) (within_page page (with_whole_pages fine lines).writes)
+        else authority_by attempt.entry.number (within_page page (with_whole_pages fine lines).reads) (within_page page (with_whole_pages fine lines).writes))
+        page attempt.entry.number (with_whole_pages fine lines)
+    by_fine true e = fine-covers attempt.entry.number page (has (pages_of attempt.lines.writes) page) (with_whole_pages fine lines) (whole e)
+    by_fine false e =
+        by-covers attempt.entry.number page (with_whole_pages fine lines) (within_page page lines.writes) (λ line there. there)
+        (λ written there line here.
+        let (at, was) = inside page written lines.writes there in
+        whole-reached fine lines line written was
+        (reaches-coarse fine line written (sym at ∙ sym here) (ap fine here ∙ e)))
 
 -- an authority of another number permits nothing
 pub other-covers : (authority : Authority) (page number : ℕ) (locks : Lines) → (authority.owner == number) ≡ false → IsCovered authority page number locks
@@ -186,41 +215,108 @@ owner-by : (number : ℕ) (reads writes : List ℕ) → (authority_by number rea
 owner-by number reads [] = refl
 owner-by number reads (line ∷ lines) = refl
 
--- pages granted to an entry by what is due to it
-pub held-granted :
-    (store : FlatStore) (below : ℕ) (entries : List Entry) (new : Entry) (attempt : Attempt) (lines : Lines) (pages : List ℕ) (authority : List Authority)
-    → Ascend 0 entries below → IsAmong entries new → attempt.entry.number ≡ new.number → with_whole_pages lines ≡ due_to store new
-    → IsHeld store entries authority → IsHeld store entries (granted attempt (with_whole_pages lines) pages authority)
-held-granted store below entries new attempt lines [] authority up here same due held = held
-held-granted store below entries new attempt lines (page ∷ pages) authority up here same due held =
-    held-granted store below entries new attempt lines pages (slice_set authority page given) up here same due
-    (record {
-      pages = length-set authority page given ∙ held.pages;
-      owned = λ at. elim (set-at authority page at given) [
-        | inl is ↦ subst (IsOwned entries) (sym is.1) (inr (new, here, owner-by attempt.entry.number (within_page page (with_whole_pages lines).reads) (within_page page (with_whole_pages lines).writes) ∙ same))
-        | inr other ↦ subst (IsOwned entries) (sym other) (held.owned at)
-      ];
-      covered = λ at entry among. elim (set-at authority page at given) [
-        | inl is ↦
-            subst (λ (a : Authority). IsCovered a at entry.number (due_to store entry)) (sym is.1)
-            (subst (λ (p : ℕ). IsCovered given p entry.number (due_to store entry)) (sym is.0) (covers entry among))
-        | inr other ↦ subst (λ (a : Authority). IsCovered a at entry.number (due_to store entry)) (sym other) (held.covered at entry among)
-      ];
-    })
+-- a page is granted to the activation
+pub given-owner : (fine : ℕ → Bool) (attempt : Attempt) (locks : Lines) (page : ℕ) → (given fine attempt locks page).owner ≡ attempt.entry.number
+given-owner fine attempt locks page = by_fine (fine page) (has (pages_of attempt.lines.writes) page)
   where
-    given : Authority
-    given = authority_by attempt.entry.number (within_page page (with_whole_pages lines).reads) (within_page page (with_whole_pages lines).writes)
+    by_fine : (is_fine storing : Bool)
+        → (if is_fine
+        then fine_authority_by attempt.entry.number storing (within_page page locks.reads) (within_page page locks.writes)
+        else authority_by attempt.entry.number (within_page page locks.reads) (within_page page locks.writes)).owner
+        ≡ attempt.entry.number
+    by_fine true true = refl
+    by_fine true false = owner-by attempt.entry.number (within_page page locks.reads) (if is_whole_page (within_page page locks.reads) then within_page page locks.writes else [])
+    by_fine false storing = owner-by attempt.entry.number (within_page page locks.reads) (within_page page locks.writes)
 
-    covers : (entry : Entry) → IsAmong entries entry
-        → IsCovered (authority_by attempt.entry.number (within_page page (with_whole_pages lines).reads) (within_page page (with_whole_pages lines).writes)) page entry.number (due_to store entry)
-    covers entry among = elim (cases_Bool (attempt.entry.number == entry.number)) [
-      | inl it ↦
-          let number_is : attempt.entry.number ≡ entry.number = eqb-true attempt.entry.number entry.number it in
-          let is_new : new ≡ entry = one-entry 0 below entries new entry up here among (sym same ∙ number_is) in
-          subst (λ (n : ℕ). IsCovered (authority_by attempt.entry.number (within_page page (with_whole_pages lines).reads) (within_page page (with_whole_pages lines).writes)) page n (due_to store entry)) number_is
-          (subst (λ (locks : Lines). IsCovered (authority_by attempt.entry.number (within_page page (with_whole_pages lines).reads) (within_page page (with_whole_pages lines).writes)) page attempt.entry.number locks)
-          (due ∙ ap (due_to store) is_new) (grant-covers attempt.entry.number page lines))
-      | inr other ↦
-          other-covers _ page entry.number (due_to store entry)
-          (ap (λ (n : ℕ). n == entry.number) (owner-by attempt.entry.number (within_page page (with_whole_pages lines).reads) (within_page page (with_whole_pages lines).writes)) ∙ other)
+-- Pages granted to an entry: what is permitted to the others is held still.
+pub held-granted :
+    (fine : ℕ → Bool) (store : FlatStore) (entries : List Entry) (new : Entry) (attempt : Attempt) (locks : Lines) (pages : List ℕ) (authority : List Authority)
+    → IsAmong entries new → attempt.entry.number ≡ new.number
+    → IsHeldBut attempt.entry.number store entries authority
+    → IsHeldBut attempt.entry.number store entries (granted fine attempt locks pages authority)
+held-granted fine store entries new attempt locks pages authority here same held = record {
+  pages = length-each (given fine attempt locks) pages authority ∙ held.pages;
+  owned = λ at. elim (each-at (given fine attempt locks) pages authority at) [
+    | inl is ↦ subst (IsOwned entries) (sym is.1) (inr (new, here, given-owner fine attempt locks at ∙ same))
+    | inr (inl out) ↦ subst (IsOwned entries) (sym out.1) (held.owned at)
+    | inr (inr past) ↦ subst (IsOwned entries) (sym past) (inl refl)
+  ];
+  covered = λ at entry among other. elim (each-at (given fine attempt locks) pages authority at) [
+    | inl is ↦
+        subst (λ (a : Authority). IsCovered a at entry.number (due_to store entry)) (sym is.1)
+        (other-covers (given fine attempt locks at) at entry.number (due_to store entry)
+        (ap (λ (n : ℕ). n == entry.number) (given-owner fine attempt locks at) ∙ turned entry.number attempt.entry.number other))
+    | inr (inl out) ↦ subst (λ (a : Authority). IsCovered a at entry.number (due_to store entry)) (sym out.1) (held.covered at entry among other)
+    | inr (inr past) ↦ subst (λ (a : Authority). IsCovered a at entry.number (due_to store entry)) (sym past) (nobody-covers at entry.number (due_to store entry))
+  ];
+}
+  where
+    turned : (a b : ℕ) → (a == b) ≡ false → (b == a) ≡ false
+    turned a b differ = ne_eqb b a (λ is. both_ways (a == b) differ (eq-eqb a b (sym is)))
+
+-- Once the row has taken effect: what is permitted is held, to the entry by the locks of its row too.
+pub held-lowered :
+    (fine : ℕ → Bool) (store : FlatStore) (below : ℕ) (entries : List Entry) (new : Entry) (attempt : Attempt) (lines : Lines) (pages : List ℕ) (authority : List Authority)
+    → Ascend 0 entries below → IsAmong entries new → attempt.entry.number ≡ new.number → with_whole_pages fine lines ≡ due_to store new
+    → IsHeld store entries authority
+    → IsHeld store entries (lowered fine attempt (with_whole_pages fine lines) (granted fine attempt (with_whole_pages fine lines) pages authority))
+held-lowered fine store below entries new attempt lines pages authority up here same due held = record {
+  pages = length-each (to_read attempt (with_whole_pages fine lines)) (lowered_pages fine attempt (with_whole_pages fine lines)) (granted fine attempt (with_whole_pages fine lines) pages authority) ∙ but.pages;
+  owned = λ at. elim (each-at (to_read attempt (with_whole_pages fine lines)) (lowered_pages fine attempt (with_whole_pages fine lines)) (granted fine attempt (with_whole_pages fine lines) pages authority) at) [
+    | inl is ↦ subst (IsOwned entries) (sym is.1) (inr (new, here, same))
+    | inr (inl out) ↦ subst (IsOwned entries) (sym out.1) (but.owned at)
+    | inr (inr past) ↦ subst (IsOwned entries) (sym past) (inl refl)
+  ];
+  covered = λ at entry among. elim (cases_Bool (entry.number == attempt.entry.number)) [
+    | inl own ↦
+        let number_is : entry.number ≡ attempt.entry.number = eqb-true entry.number attempt.entry.number own in
+        let is_new : new ≡ entry = one-entry 0 below entries new entry up here among (sym same ∙ sym number_is) in
+        subst (λ (x : Entry). IsCovered (slice_index_or (lowered fine attempt (with_whole_pages fine lines) (granted fine attempt (with_whole_pages fine lines) pages authority)) at nobody) at x.number (due_to store x)) is_new
+        (subst (λ (l : Lines). IsCovered (slice_index_or (lowered fine attempt (with_whole_pages fine lines) (granted fine attempt (with_whole_pages fine lines) pages authority)) at nobody) at new.number l) due
+        (subst (λ (n : ℕ). IsCovered (slice_index_or (lowered fine attempt (with_whole_pages fine lines) (granted fine attempt (with_whole_pages fine lines) pages authority)) at nobody) at n (with_whole_pages fine lines)) same (mine at)))
+    | inr other ↦ elim (each-at (to_read attempt (with_whole_pages fine lines)) (lowered_pages fine attempt (with_whole_pages fine lines)) (granted fine attempt (with_whole_pages fine lines) pages authority) at) [
+      | inl is ↦
+          subst (λ (a : Authority). IsCovered a at entry.number (due_to store entry)) (sym is.1)
+          (other-covers (to_read attempt (with_whole_pages fine lines) at) at entry.number (due_to store entry)
+          (ne_eqb attempt.entry.number entry.number (λ is. both_ways (entry.number == attempt.entry.number) other (eq-eqb entry.number attempt.entry.number (sym is)))))
+      | inr (inl out) ↦ subst (λ (a : Authority). IsCovered a at entry.number (due_to store entry)) (sym out.1) (but.covered at entry among other)
+      | inr (inr past) ↦ subst (λ (a : Authority). IsCovered a at entry.number (due_to store entry)) (sym past) (nobody-covers at entry.number (due_to store entry))
+    ]
+  ];
+}
+  where
+    but : IsHeldBut attempt.entry.number store entries (granted fine attempt (with_whole_pages fine lines) pages authority)
+    but = held-granted fine store entries new attempt (with_whole_pages fine lines) pages authority here same (held-but attempt.entry.number store entries authority held)
+
+    whole : (at : ℕ) → has (lowered_pages fine attempt (with_whole_pages fine lines)) at ≡ false → fine at ≡ true → has (pages_of attempt.lines.writes) at ≡ true
+        → is_whole_page (within_page at (with_whole_pages fine lines).reads) ≡ true
+    whole at out is_fine written =
+        elim (cases_Bool (is_whole_page (within_page at (with_whole_pages fine lines).reads))) [
+          | inl all ↦ all
+          | inr part ↦
+              absurd (both_ways (has (lowered_pages fine attempt (with_whole_pages fine lines)) at) out
+              (has-filter (λ page. fine page && not (is_whole_page (within_page page (with_whole_pages fine lines).reads))) (pages_of attempt.lines.writes) at
+              ∙ and_from (has (pages_of attempt.lines.writes) at) (fine at && not (is_whole_page (within_page at (with_whole_pages fine lines).reads))) written
+              (and_from (fine at) (not (is_whole_page (within_page at (with_whole_pages fine lines).reads))) is_fine
+              (not_from_false (is_whole_page (within_page at (with_whole_pages fine lines).reads)) part))))
+        ]
+
+    mine : (at : ℕ)
+        → IsCovered
+        (slice_index_or (lowered fine attempt (with_whole_pages fine lines) (granted fine attempt (with_whole_pages fine lines) pages authority)) at nobody)
+        at attempt.entry.number (with_whole_pages fine lines)
+    mine at = elim (each-at (to_read attempt (with_whole_pages fine lines)) (lowered_pages fine attempt (with_whole_pages fine lines)) (granted fine attempt (with_whole_pages fine lines) pages authority) at) [
+      | inl is ↦ subst (λ (a : Authority). IsCovered a at attempt.entry.number (with_whole_pages fine lines)) (sym is.1) (off-covers attempt.entry.number at (with_whole_pages fine lines))
+      | inr (inr past) ↦ subst (λ (a : Authority). IsCovered a at attempt.entry.number (with_whole_pages fine lines)) (sym past) (nobody-covers at attempt.entry.number (with_whole_pages fine lines))
+      | inr (inl out) ↦
+          subst (λ (a : Authority). IsCovered a at attempt.entry.number (with_whole_pages fine lines)) (sym out.1)
+          (elim (each-at (given fine attempt (with_whole_pages fine lines)) pages authority at) [
+            | inl is ↦
+                subst (λ (a : Authority). IsCovered a at attempt.entry.number (with_whole_pages fine lines)) (sym is.1) (grant-covers fine attempt at lines (whole at out.0))
+            | inr (inr past) ↦ subst (λ (a : Authority). IsCovered a at attempt.entry.number (with_whole_pages fine lines)) (sym past) (nobody-covers at attempt.entry.number (with_whole_pages fine lines))
+            | inr (inl old) ↦
+                subst (λ (a : Authority). IsCovered a at attempt.entry.number (with_whole_pages fine lines)) (sym old.1)
+                (subst (λ (n : ℕ). IsCovered (slice_index_or authority at nobody) at n (with_whole_pages fine lines)) (sym same)
+                (subst (IsCovered (slice_index_or authority at nobody) at new.number) (sym due) (held.covered at new here)))
+          ])
     ]

@@ -4,9 +4,9 @@ use Rattle.std.specs.List.{list_any}
 use Rattle.std.proofs.Common.{ap, sym, ◌∙◌}
 use Rattle.lock_rules.specs.Access.{permits}
 use Rattle.lock_rules.specs.Sets.{has}
-use Rattle.lock_rules.specs.Lines.{Lines, within_page}
+use Rattle.lock_rules.specs.Lines.{Lines, within_page, is_whole_page, pages_of}
 use Rattle.desk.specs.Desk.{Authority, nobody}
-use Rattle.desk.specs.Instruction.{Attempt, authority_by, granted, refuses, lines_within}
+use Rattle.desk.specs.Instruction.{Attempt, authority_by, fine_authority_by, given, with_each, granted, to_read, lowered_pages, lowered, refuses, lines_within}
 use Rattle.desk_law.specs.Beside.{owner_told, owners_told, StandsFor}
 use Rattle.desk_law.specs.Consistent.{permitted}
 use Rattle.desk_law.proofs.AlikeSets.{filter-same}
@@ -65,19 +65,43 @@ module _ (numbers : ℕ → ℕ) (none : numbers 0 ≡ 0) where
   told-set (one ∷ authority) zero new = refl
   told-set (one ∷ authority) (suc page) new = ap (λ (rest : List Authority). owner_told numbers one ∷ rest) (told-set authority page new)
 
+  -- pages that have what is told of an identifier have what is told of its number
+  each-told : (of told : ℕ → Authority) (pages : List ℕ) (authority : List Authority) → ((page : ℕ) → owner_told numbers (of page) ≡ told page)
+      → owners_told numbers (with_each of pages authority) ≡ with_each told pages (owners_told numbers authority)
+  each-told of told [] authority same = refl
+  each-told of told (page ∷ pages) authority same =
+      each-told of told pages (slice_set authority page (of page)) same
+      ∙ ap (with_each told pages) (told-set authority page (of page) ∙ ap (slice_set (owners_told numbers authority) page) (same page))
+
   -- pages granted to an identifier are granted to its number
-  pub granted-told : (identifier : ℕ) (attempt : Attempt) (locks : Lines) (pages : List ℕ) (authority : List Authority) → numbers identifier ≡ attempt.entry.number
-      → owners_told numbers (granted (record attempt { entry = record attempt.entry { number = identifier } }) locks pages authority) ≡ granted attempt locks pages (owners_told numbers authority)
-  granted-told identifier attempt locks [] authority is = refl
-  granted-told identifier attempt locks (page ∷ pages) authority is =
-      granted-told identifier attempt locks pages (slice_set authority page (authority_by identifier (within_page page locks.reads) (within_page page locks.writes))) is
-      ∙ ap (granted attempt locks pages)
-      (told-set authority page (authority_by identifier (within_page page locks.reads) (within_page page locks.writes))
-      ∙ ap (slice_set (owners_told numbers authority) page) (by_writes (within_page page locks.writes)))
+  pub granted-told : (fine : ℕ → Bool) (identifier : ℕ) (attempt : Attempt) (locks : Lines) (pages : List ℕ) (authority : List Authority) → numbers identifier ≡ attempt.entry.number
+      → owners_told numbers (granted fine (record attempt { entry = record attempt.entry { number = identifier } }) locks pages authority) ≡ granted fine attempt locks pages (owners_told numbers authority)
+  granted-told fine identifier attempt locks pages authority is =
+      each-told (given fine (record attempt { entry = record attempt.entry { number = identifier } }) locks) (given fine attempt locks) pages authority
+      (λ page. by_fine page (fine page) (has (pages_of attempt.lines.writes) page))
     where
-      by_writes : (writes : List ℕ) → owner_told numbers (authority_by identifier (within_page page locks.reads) writes) ≡ authority_by attempt.entry.number (within_page page locks.reads) writes
-      by_writes [] = λ i. record { owner = is i; write = false; lines = within_page page locks.reads }
-      by_writes (line ∷ writes) = λ i. record { owner = is i; write = true; lines = line ∷ writes }
+      by_writes : (page : ℕ) (writes : List ℕ) → owner_told numbers (authority_by identifier (within_page page locks.reads) writes) ≡ authority_by attempt.entry.number (within_page page locks.reads) writes
+      by_writes page [] = λ i. record { owner = is i; write = false; lines = within_page page locks.reads }
+      by_writes page (line ∷ writes) = λ i. record { owner = is i; write = true; lines = line ∷ writes }
+
+      by_fine : (page : ℕ) (is_fine storing : Bool)
+          → owner_told numbers
+          (if is_fine
+          then fine_authority_by identifier storing (within_page page locks.reads) (within_page page locks.writes)
+          else authority_by identifier (within_page page locks.reads) (within_page page locks.writes))
+          ≡ (if is_fine
+          then fine_authority_by attempt.entry.number storing (within_page page locks.reads) (within_page page locks.writes)
+          else authority_by attempt.entry.number (within_page page locks.reads) (within_page page locks.writes))
+      by_fine page true true = λ i. record { owner = is i; write = true; lines = within_page page locks.writes }
+      by_fine page true false = by_writes page (if is_whole_page (within_page page locks.reads) then within_page page locks.writes else [])
+      by_fine page false storing = by_writes page (within_page page locks.writes)
+
+  -- and so are the write bits that go off
+  pub lowered-told : (fine : ℕ → Bool) (identifier : ℕ) (attempt : Attempt) (locks : Lines) (authority : List Authority) → numbers identifier ≡ attempt.entry.number
+      → owners_told numbers (lowered fine (record attempt { entry = record attempt.entry { number = identifier } }) locks authority) ≡ lowered fine attempt locks (owners_told numbers authority)
+  lowered-told fine identifier attempt locks authority is =
+      each-told (to_read (record attempt { entry = record attempt.entry { number = identifier } }) locks) (to_read attempt locks) (lowered_pages fine attempt locks) authority
+      (λ page i. record { owner = is i; write = false; lines = within_page page locks.reads })
 
   -- a seat whose identifier no page has may be taken by another number
   pub told-taken : (identifier : ℕ) (later : ℕ → ℕ) (authority : List Authority) → ((at : ℕ) → (at == identifier) ≡ false → later at ≡ numbers at)

@@ -1,14 +1,15 @@
 -- An instruction stage by stage, as one that serves a fault goes through them.
 use Rattle.std.specs.Prelude.{◌≡◌, refl, ℕ, ◌+◌, Bool, false, List, length, Option, Some}
 use Rattle.std.proofs.Common.{ap, ◌∙◌}
+use Rattle.line_geometry.specs.Directory.{is_fine_page}
 use Rattle.flat_machine.specs.declared.machine.Plain.{Plain}
 use Rattle.flat_machine.specs.Row.{Outcome, On, Commit, Check, row}
 use Rattle.flat_machine.specs.After.{after}
-use Rattle.desk.specs.Desk.{Desk, Entry, with_entry, rolled_back}
+use Rattle.desk.specs.Desk.{Desk, Entry, rolled_back}
 use Rattle.desk.specs.Holdings.{wanted, conflicts_of}
 use Rattle.desk.specs.Instruction.{Word, Fine, Counts, Going, Over, Checked, Attempt, Fetched, Broken, Settled, fetches, instruction, attempts, attempts_at, limited, is_over_limit, fetched_first, fetches_touched, asks, gets, goes_on, takes_effect, touched_pages, refused_pages, granted, with_grants, locks_with, commits, breaks, contest_ends, waits_or_gets}
 use Rattle.desk_law.specs.Beside.{Reads}
-use Rattle.desk_law.specs.Changes.{gone_on}
+use Rattle.desk_law.specs.Changes.{row_done}
 
 -- the instruction of an entry at its state
 abbrev pub attempt_of : Desk → Entry → Plain → Attempt
@@ -68,7 +69,7 @@ module _ (word : Word) (attempt : Attempt) (desk : Desk) (counts : Counts) where
     stage-settled holders is = ap (λ (these : List ℕ). waits_or_gets word attempt refused these desk counts) is
 
     -- 9. It gets its pages: those that left are fetched again, and the row takes effect.
-    pub stage-gets : (authority : List _) (resident : List ℕ) (counted : ℕ) → granted attempt (locks_with attempt desk) refused desk.authority ≡ authority
+    pub stage-gets : (authority : List _) (resident : List ℕ) (counted : ℕ) → granted (is_fine_page desk.committed.directory) attempt (locks_with attempt desk) refused desk.authority ≡ authority
         → fetches word desk.frames (touched_pages attempt) (touched_pages attempt) desk.resident counts.pages ≡ Fetched resident counted
         → gets word attempt refused desk counts
         ≡ takes_effect word attempt attempt.outcome (record desk { resident = resident; authority = authority }) (record counts { pages = counted })
@@ -78,7 +79,7 @@ module _ (word : Word) (attempt : Attempt) (desk : Desk) (counts : Counts) where
 
   -- 10. A row that goes on.
   pub stage-on : (outcome : Outcome) (next : Plain) → outcome ≡ On next
-      → takes_effect word attempt outcome desk counts ≡ Going (with_entry desk (gone_on attempt.entry)) (record counts { ran = counts.ran + 1 })
+      → takes_effect word attempt outcome desk counts ≡ Going (row_done attempt desk) (record counts { ran = counts.ran + 1 })
   stage-on outcome next is = ap (λ (this : Outcome). takes_effect word attempt this desk counts) is
 
   pub stage-commit : (outcome : Outcome) → outcome ≡ Commit → takes_effect word attempt outcome desk counts ≡ commits word attempt desk counts

@@ -8,7 +8,7 @@ use Rattle.flat_machine.specs.Row.{On}
 use Rattle.desk.specs.Desk.{Desk, Entry, with_entry, rolled_back}
 use Rattle.desk.specs.Holdings.{numbers, waits_for}
 use Rattle.desk.specs.Instruction.{Counts, Turning, Going, Over, Committed, Attempt, Contest, Contested, Settled, Lost, breaks_cycle, breaks_cycles}
-use Rattle.desk_law.specs.Changes.{gone_on, left_by}
+use Rattle.desk_law.specs.Changes.{row_done, left_by}
 use Rattle.desk_law.specs.Consistent.{IsAmong, AreConsistent}
 use Rattle.desk_law.proofs.Entries.{among-filter, among-found, none-found, among-replaced, one-entry}
 use Rattle.desk_law.proofs.Others.{others}
@@ -33,7 +33,7 @@ pub record RowDone (old : Desk) (attempt : Attempt) (desk : Desk) : Type 0 where
   pub moment : Desk
   pub next : Plain
   pub went : attempt.outcome ≡ On next
-  pub is : desk ≡ with_entry moment (gone_on attempt.entry)
+  pub is : desk ≡ row_done attempt moment
   pub granted : IsGranted attempt moment
   pub from : From attempt.entry.number old moment
 

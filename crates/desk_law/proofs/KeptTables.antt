@@ -3,6 +3,7 @@ use Rattle.std.specs.Prelude.{◌≡◌, refl, ℕ, ◌==◌, ◌&&◌, ◌||◌
 use Rattle.std.specs.List.{list_any}
 use Rattle.std.proofs.Common.{ap, sym, ◌∙◌, subst, inl, inr}
 use Rattle.std.proofs.lemmas.Bool.{both_ways, not-true}
+use Rattle.line_geometry.specs.Directory.{is_fine_page}
 use Rattle.line_geometry.specs.FlatStore.{FlatStore, IsWhole}
 use Rattle.lock_rules.specs.Sets.{has, meets}
 use Rattle.lock_rules.specs.Lines.{Lines, conflicts, with_whole_pages}
@@ -149,5 +150,5 @@ module _ (store : FlatStore) (entries : List Entry) (locks requests : ℕ → Li
     asked = λ other among waits.
         let (there, differ) = among-filter (λ (other : Entry). not (other.number == entry.number)) entries other among in
         let same : StaysSame store (left_by store now) other = another-stays store most_lines next entries entry other now whole consistent here there (not-true (other.number == entry.number) differ) is in
-        subst (λ (lines : Lines). AreAlike (requests other.number) (with_whole_pages lines)) (sym same.wants) (are.asked other there waits);
+        subst (λ (lines : Lines). AreAlike (requests other.number) (with_whole_pages (is_fine_page store.directory) lines)) (sym same.wants) (are.asked other there waits);
   }

@@ -3,6 +3,7 @@ pub mod Entries
 pub mod Others
 pub mod Walks
 pub mod Waiting
+pub mod EachPage
 pub mod Holding
 pub mod Contest
 pub mod GoesOn

@@ -1,20 +1,23 @@
 -- An instruction all of whose lines are on resident pages that permit them: it takes effect at once.
-use Rattle.std.specs.Prelude.{◌≡◌, refl, ℕ, ◌+◌, ◌==◌, not, if◌then◌else◌, Bool, true, false, List, [], ◌∷◌, ◌++◌, filter, slice_index_or}
+use Rattle.std.specs.Prelude.{◌≡◌, refl, ℕ, ◌+◌, ◌==◌, ◌&&◌, not, if◌then◌else◌, Bool, true, false, List, [], ◌∷◌, ◌++◌, filter, slice_index_or}
 use Rattle.std.specs.List.{list_any}
-use Rattle.std.proofs.Common.{sym, ◌∙◌, subst, inl, inr}
-use Rattle.std.proofs.lemmas.Bool.{eqb-true, eq-eqb, and_parts, or_cases, or_left, or_right, or_from, not_from_true}
+use Rattle.std.proofs.Common.{ap, sym, ◌∙◌, subst, inl, inr}
+use Rattle.std.proofs.lemmas.Bool.{eqb-true, eq-eqb, and_parts, and_right, or_cases, or_left, or_right, or_from, not_from_true}
+use Rattle.line_geometry.specs.Directory.{is_fine_page}
 use Rattle.lock_rules.specs.Sets.{has}
-use Rattle.lock_rules.specs.Lines.{Lines, within_page, page_of_line, pages_of}
+use Rattle.lock_rules.specs.Access.{permits}
+use Rattle.lock_rules.specs.Lines.{Lines, both, with_whole_pages, within_page, is_whole_page, page_of_line, pages_of}
 use Rattle.lock_rules.proofs.Sets.{has-append, any-some}
-use Rattle.lock_rules.proofs.Lines.{ArePart, has-within_page, has-pages_of}
+use Rattle.lock_rules.proofs.Lines.{ArePart, part-both, part-whole_pages, has-within_page, has-pages_of, has-whole}
 use Rattle.desk.specs.Desk.{Desk, Entry, nobody}
 use Rattle.desk.specs.Holdings.{wanted, request}
-use Rattle.desk.specs.Instruction.{Word, Fetched, Broken, can't_be_read, fetches, refuses, lines_within}
+use Rattle.desk.specs.Instruction.{Word, Fetched, Broken, can't_be_read, fetches, refuses, lines_within, Attempt, locks_with, with_each, to_read, lowered_pages, with_lowered}
 use Rattle.lock_rules.specs.Resident.{brought}
 use Rattle.desk_law.proofs.Permitted.{any-none, permitted-held}
 use Rattle.desk_law.specs.Beside.{AreThere}
 use Rattle.desk_law.specs.Consistent.{IsAmong, due_to, permitted}
 use Rattle.desk_law.specs.Orderly.{IsOrderly}
+use Rattle.desk_law.proofs.Others.{touched_of}
 
 -- where none passes
 pub filter-none : (test : ℕ → Bool) (xs : List ℕ) → ((x : ℕ) → test x ≡ false) → filter test xs ≡ []
@@ -73,3 +76,48 @@ pub there-held : (desk : Desk) (entry : Entry) → IsOrderly desk → IsAmong de
 there-held desk entry is here are =
     permitted-held desk entry is here
     (record { reads = λ line inside. (are.reads line inside).permits; writes = λ line inside. (are.writes line inside).permits })
+
+filter-none-here : (test : ℕ → Bool) (xs : List ℕ) → ((x : ℕ) → has xs x ≡ true → test x ≡ false) → filter test xs ≡ []
+filter-none-here test [] none = refl
+filter-none-here test (x ∷ xs) none =
+    by_test (test x) (none x (or_left (x == x) (has xs x) (eq-eqb x x refl))) (filter-none-here test xs (λ y inside. none y (or_right (x == y) (has xs y) inside)))
+  where
+    by_test : (keeps : Bool) → keeps ≡ false → filter test xs ≡ [] → (if keeps then x ∷ filter test xs else filter test xs) ≡ []
+    by_test true e rest = absurd (cc)
+    by_test false e rest = rest
+
+-- who may store to a line of a page may load all its lines
+stores-loads : (same write bit other : Bool) → permits same write bit true ≡ true → permits same write other false ≡ true
+stores-loads true true bit true may = refl
+stores-loads true true bit false may = refl
+stores-loads true false true other may = absurd (cc)
+stores-loads true false false other may = absurd (cc)
+stores-loads false write bit other may = absurd (cc)
+
+-- No write bit goes off: of a fine page into which it may store all lines are held to read already.
+pub there-lowered : (desk : Desk) (entry : Entry) (attempt : Attempt) → attempt.entry ≡ entry → attempt.lines ≡ wanted desk entry
+    → IsOrderly desk → IsAmong desk.active entry → AreThere desk entry.number (wanted desk entry)
+    → with_lowered attempt desk ≡ desk
+there-lowered desk entry attempt own lines is here are =
+    ap (λ (pages : List ℕ). record desk { authority = with_each (to_read attempt (locks_with attempt desk)) pages desk.authority }) none
+  where
+    held : (page line : ℕ) → has (wanted desk entry).writes line ≡ true → page_of_line line ≡ page → (other : ℕ) → page_of_line other ≡ page
+        → has (locks_with attempt desk).reads other ≡ true
+    held page line written at other here_too =
+        let may : permitted (slice_index_or desk.authority page nobody) entry.number line true ≡ true =
+        subst (λ (p : ℕ). permitted (slice_index_or desk.authority p nobody) entry.number line true ≡ true) at (are.writes line written).permits in
+        let loads : permitted (slice_index_or desk.authority page nobody) entry.number other false ≡ true =
+        stores-loads ((slice_index_or desk.authority page nobody).owner == entry.number) (slice_index_or desk.authority page nobody).write (has (slice_index_or desk.authority page nobody).lines line) (has (slice_index_or desk.authority page nobody).lines other) may in
+        subst (λ (e : Entry). has (with_whole_pages (is_fine_page desk.committed.directory) (both (touched_of desk.committed e) attempt.lines)).reads other ≡ true) (sym own)
+        ((part-whole_pages (is_fine_page desk.committed.directory) (touched_of desk.committed entry) (both (touched_of desk.committed entry) attempt.lines)
+        (part-both (touched_of desk.committed entry) attempt.lines)).reads.among other ((is.held.covered page entry here).loads other here_too loads))
+
+    none : lowered_pages (is_fine_page desk.committed.directory) attempt (locks_with attempt desk) ≡ []
+    none =
+        filter-none-here (λ page. is_fine_page desk.committed.directory page && not (is_whole_page (within_page page (locks_with attempt desk).reads))) (pages_of attempt.lines.writes)
+        (λ page inside.
+        let (line, written, at) = any-some (λ l. page_of_line l == page) attempt.lines.writes (sym (has-pages_of attempt.lines.writes page) ∙ inside) in
+        and_right (is_fine_page desk.committed.directory page) (not (is_whole_page (within_page page (locks_with attempt desk).reads)))
+        (not_from_true (is_whole_page (within_page page (locks_with attempt desk).reads))
+        (has-whole page (locks_with attempt desk).reads
+        (held page line (sym (ap (λ (l : Lines). has l.writes line) lines) ∙ written) (eqb-true (page_of_line line) page at)))))

@@ -13,13 +13,13 @@ use Rattle.flat_machine.proofs.Whole.{serial-whole}
 use Rattle.desk.specs.declared.event.Event.{Event}
 use Rattle.desk.specs.declared.event.Event.TheVariants.{Begin, Turn, Checkpoint, Crash}
 use Rattle.desk.specs.Commits.{begun, IsSerial}
-use Rattle.desk.specs.Desk.{Desk, Entry, with_entry, opened}
+use Rattle.desk.specs.Desk.{Desk, Entry, opened}
 use Rattle.desk.specs.Holdings.{numbers}
 use Rattle.desk.specs.Instruction.{Word, Fine, ReadFailed, Unwritten, Doubt, Failed, Counts, Turning, Going, Over, Idle, Limit, Checked, Journal, Disk, Victim, Waits, Committed, CommitUnwritten, CommitDoubted, Attempt, instruction, turns, turn_of, no_counts}
 use Rattle.desk.specs.Report.{event_lines}
 use Rattle.desk.specs.Run.{Turned, Busy, Nothing, turned, begin_if, begins, absent_segment, restarted, event_of, step, run}
 use Rattle.desk.proofs.SerialLaw.{run-serial}
-use Rattle.desk_law.specs.Changes.{gone_on}
+use Rattle.desk_law.specs.Changes.{gone_on, row_done}
 use Rattle.desk_law.specs.Consistent.{IsAmong, IsConsistent}
 use Rattle.desk_law.specs.Current.{current_of, current_bytes}
 use Rattle.desk_law.specs.Causes.{desk_of}
@@ -75,21 +75,21 @@ module _ (old : Desk) (attempt : Attempt) (is : IsOrderly old) (here : IsAmong o
       subst
       (λ (d : Desk). IsMemory d (row_of d.committed.directory (find (λ (entry : Entry). entry.number == attempt.entry.number) d.active) (given_back d.committed.directory (numbers old) (numbers d) memory)))
       (sym done.is)
-      (subst (IsMemory (with_entry done.moment (gone_on attempt.entry)))
-      (sym (ap (λ (one : Option Entry). row_of done.moment.committed.directory one (given_back done.moment.committed.directory (numbers old) (numbers (with_entry done.moment (gone_on attempt.entry))) memory)) found))
-      (row-done done.moment attempt done.next (given_back done.moment.committed.directory (numbers old) (numbers (with_entry done.moment (gone_on attempt.entry))) memory) done.granted done.went between_is))
+      (subst (IsMemory (row_done attempt done.moment))
+      (sym (ap (λ (one : Option Entry). row_of done.moment.committed.directory one (given_back done.moment.committed.directory (numbers old) (numbers (row_done attempt done.moment)) memory)) found))
+      (row-done done.moment attempt done.next (given_back done.moment.committed.directory (numbers old) (numbers (row_done attempt done.moment)) memory) done.granted done.went between_is))
     where
-      then_orderly : IsOrderly (with_entry done.moment (gone_on attempt.entry))
+      then_orderly : IsOrderly (row_done attempt done.moment)
       then_orderly = subst IsOrderly done.is later
 
-      found : find (λ (entry : Entry). entry.number == attempt.entry.number) (with_entry done.moment (gone_on attempt.entry)).active ≡ Some (gone_on attempt.entry)
+      found : find (λ (entry : Entry). entry.number == attempt.entry.number) (row_done attempt done.moment).active ≡ Some (gone_on attempt.entry)
       found =
-          found-among done.moment.next (with_entry done.moment (gone_on attempt.entry)).active (gone_on attempt.entry) then_orderly.active.ascend
+          found-among done.moment.next (row_done attempt done.moment).active (gone_on attempt.entry) then_orderly.active.ascend
           (new-among (gone_on attempt.entry) done.moment.active (record attempt.entry { waiting = done.granted.mark }) done.granted.here refl)
 
-      between_is : IsMemory done.moment (given_back done.moment.committed.directory (numbers old) (numbers (with_entry done.moment (gone_on attempt.entry))) memory)
+      between_is : IsMemory done.moment (given_back done.moment.committed.directory (numbers old) (numbers (row_done attempt done.moment)) memory)
       between_is =
-          given-back old done.moment (numbers (with_entry done.moment (gone_on attempt.entry))) memory done.moment.most_lines is done.granted.active (moment-fewer done.moment done.granted done.from)
+          given-back old done.moment (numbers (row_done attempt done.moment)) memory done.moment.most_lines is done.granted.active (moment-fewer done.moment done.granted done.from)
           (λ number. ap (λ (these : List ℕ). has these number) (numbers-replaced (gone_on attempt.entry) done.moment.active)) of
 
   the-commit : (desk : Desk) (memory : Memory) (steps : ℕ) (printed : List ℕ) → CommitDone old attempt desk steps printed → IsMemory old memory

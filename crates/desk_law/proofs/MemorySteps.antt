@@ -21,11 +21,11 @@ use Rattle.flat_machine.specs.After.{after}
 use Rattle.flat_machine.specs.Due.{due_locks, touched_next}
 use Rattle.flat_machine.specs.Agreement.{line_in}
 use Rattle.flat_machine.proofs.Agreement.{after-whole}
-use Rattle.desk.specs.Desk.{Desk, Entry, with_entry}
+use Rattle.desk.specs.Desk.{Desk, Entry}
 use Rattle.desk.specs.Holdings.{numbers}
 use Rattle.desk.specs.Instruction.{Attempt}
 use Rattle.desk_law.specs.Beside.{IsLaid}
-use Rattle.desk_law.specs.Changes.{gone_on, left_by}
+use Rattle.desk_law.specs.Changes.{gone_on, row_done, left_by}
 use Rattle.desk_law.specs.Consistent.{IsAmong, due_to, AreConsistent}
 use Rattle.desk_law.specs.Current.{current_of, current, IsCurrent, current_bytes}
 use Rattle.desk_law.specs.Memory.{Machine, Memory, laid, wrote_by, given_back, went_on, does_row, commit_of, IsAlone, IsMemory}
@@ -229,7 +229,7 @@ module _ (moment : Desk) (attempt : Attempt) (next : Plain) (memory : Memory) (g
   now_is = same_Some attempt.now (record alone.it.state { store = alone.bytes }) (sym granted.now ∙ alone.at)
 
   abbrev then_bytes : List ℕ
-  then_bytes = current_bytes (with_entry moment (gone_on attempt.entry))
+  then_bytes = current_bytes (row_done attempt moment)
 
   row-went : row attempt.entry.runs.program moment.committed.directory (record alone.it.state { store = memory.bytes }) ≡ On (record next { store = then_bytes })
   row-went =
@@ -283,8 +283,8 @@ module _ (moment : Desk) (attempt : Attempt) (next : Plain) (memory : Memory) (g
         subst (IsAlone moment.committed entry) (sym (cond-false (entry.number == attempt.entry.number) (Some then_machine) (memory.machines entry.number) old.1)) (is.alone entry old.0)
   ]
 
-  pub row-done : IsMemory (with_entry moment (gone_on attempt.entry)) (does_row moment.committed.directory (gone_on attempt.entry) (memory.machines attempt.entry.number) memory)
-  row-done = subst (IsMemory (with_entry moment (gone_on attempt.entry))) (sym does) (record { committed = is.committed; bytes = refl; alone = then-alone })
+  pub row-done : IsMemory (row_done attempt moment) (does_row moment.committed.directory (gone_on attempt.entry) (memory.machines attempt.entry.number) memory)
+  row-done = subst (IsMemory (row_done attempt moment)) (sym does) (record { committed = is.committed; bytes = refl; alone = then-alone })
 
 -- A commit of a machine.
 module _ (moment desk : Desk) (attempt : Attempt) (memory : Memory) (granted : IsGranted attempt moment)

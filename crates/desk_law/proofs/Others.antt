@@ -1,7 +1,8 @@
 -- A commit of one activation leaves the others as they were.
-use Rattle.std.specs.Prelude.{suc, ◌+◌, Option, option_and_then, ◌≡◌, refl, ℕ, ◌==◌, not, true, false, List, filter, Some}
+use Rattle.std.specs.Prelude.{suc, ◌+◌, Option, option_and_then, ◌≡◌, refl, ℕ, ◌==◌, not, Bool, true, false, List, filter, Some}
 use Rattle.std.proofs.Common.{arith, ap, sym, ◌∙◌, subst, inl, inr}
 use Rattle.std.proofs.lemmas.Bool.{both_ways, false_from_ne_true, or_cases, not-true}
+use Rattle.line_geometry.specs.Directory.{is_fine_page}
 use Rattle.line_geometry.specs.FlatStore.{FlatStore, IsWhole}
 use Rattle.lock_rules.specs.Sets.{has, size}
 use Rattle.lock_rules.specs.Lines.{Lines, with_whole_pages}
@@ -31,19 +32,19 @@ abbrev pub touched_of : FlatStore → Entry → Lines
 touched_of store entry = touched_within entry.runs.program entry.runs.args store entry.rows
 
 -- touched lines are held
-pub touched-held : (lines : Lines) (line : ℕ) → has (all_of lines) line ≡ true → has (all_of (with_whole_pages lines)) line ≡ true
-touched-held lines line inside =
+pub touched-held : (fine : ℕ → Bool) (lines : Lines) (line : ℕ) → has (all_of lines) line ≡ true → has (all_of (with_whole_pages fine lines)) line ≡ true
+touched-held fine lines line inside =
     elim (or_cases (has lines.reads line) (has lines.writes line) (sym (has-append lines.reads lines.writes line) ∙ inside)) [
-      | inl read ↦ has_left (with_whole_pages lines).reads lines.writes line (has_left lines.reads _ line read)
-      | inr written ↦ has_right (with_whole_pages lines).reads lines.writes line written
+      | inl read ↦ has_left (with_whole_pages fine lines).reads lines.writes line (has_left lines.reads _ line read)
+      | inr written ↦ has_right (with_whole_pages fine lines).reads lines.writes line written
     ]
 
 -- what one has touched, another that is apart has not written
-pub unwritten : (first second : Lines) → AreApart (with_whole_pages first) (with_whole_pages second)
+pub unwritten : (fine : ℕ → Bool) (first second : Lines) → AreApart (with_whole_pages fine first) (with_whole_pages fine second)
     → (line : ℕ) → has (all_of second) line ≡ true → has first.writes line ≡ false
-unwritten first second apart line inside =
+unwritten fine first second apart line inside =
     false_from_ne_true (has first.writes line)
-    (λ written. both_ways (has (all_of (with_whole_pages second)) line) (apart.first_writes line written) (touched-held second line inside))
+    (λ written. both_ways (has (all_of (with_whole_pages fine second)) line) (apart.first_writes line written) (touched-held fine second line inside))
 
 -- another does the same over what the commit leaves
 pub another-same :
@@ -56,7 +57,7 @@ another-same store entry other now state whole here there apart =
     agreement-enough other.runs.program other.runs.args store (left_by store now) other.rows state whole
     (after-whole entry.runs.program entry.runs.args store entry.rows now whole here)
     refl there
-    (λ line inside. after-kept entry.runs.program entry.runs.args store entry.rows now whole here line (unwritten (touched_of store entry) (touched_of store other) apart line inside))
+    (λ line inside. after-kept entry.runs.program entry.runs.args store entry.rows now whole here line (unwritten (is_fine_page store.directory) (touched_of store entry) (touched_of store other) apart line inside))
 
 -- what is due to another stays, and what it wants
 pub record StaysSame (store later : FlatStore) (other : Entry) : Type 0 where

@@ -1,18 +1,20 @@
 -- What is permitted is held, and what is held conflicts with nobody.
-use Rattle.std.specs.Prelude.{◌≡◌, refl, ℕ, ◌==◌, ◌&&◌, not, if◌then◌else◌, Bool, true, false, List, [], ◌∷◌, ◌++◌, map, filter}
+use Rattle.std.specs.Prelude.{◌≡◌, refl, ℕ, ◌==◌, ◌&&◌, ◌||◌, not, if◌then◌else◌, Bool, true, false, List, [], ◌∷◌, ◌++◌, map, filter, slice_index_or}
 use Rattle.std.specs.List.{list_any}
-use Rattle.std.proofs.Common.{sym, ◌∙◌, inl, inr}
-use Rattle.std.proofs.lemmas.Bool.{both_ways, or_cases, or_right, or_from, false_from_ne_true}
+use Rattle.std.proofs.Common.{ap, sym, ◌∙◌, inl, inr}
+use Rattle.std.proofs.lemmas.Bool.{eqb-true, eq-eqb, both_ways, or_cases, or_from, false_from_ne_true}
+use Rattle.line_geometry.specs.Directory.{is_fine_page}
 use Rattle.lock_rules.specs.Sets.{has, size, meets}
-use Rattle.lock_rules.specs.Lines.{Lines, conflicts, page_of_line, pages_of}
-use Rattle.lock_rules.proofs.Sets.{has-append, has_left, any-at, any-some}
+use Rattle.lock_rules.specs.Lines.{Lines, conflicts, page_of_line}
+use Rattle.lock_rules.proofs.Sets.{has-append, has_left, any-some}
 use Rattle.lock_rules.proofs.Sizes.{size-alike}
-use Rattle.lock_rules.proofs.Lines.{ArePart, has-whole_pages, has-pages_of}
+use Rattle.lock_rules.specs.Access.{permits}
+use Rattle.lock_rules.proofs.Lines.{ArePart, reaches, any-or, whole-reached, has-whole_pages}
 use Rattle.flat_machine.specs.Agreement.{all_of}
-use Rattle.desk.specs.Desk.{Desk, Entry}
+use Rattle.desk.specs.Desk.{Desk, Entry, nobody}
 use Rattle.desk.specs.Holdings.{wanted, request, held, conflicts_with, conflicts_of}
 use Rattle.desk_law.specs.Consistent.{IsAmong, due_to, AreApart}
-use Rattle.desk_law.specs.Laws.{ArePermitted, PermittedIsFree}
+use Rattle.desk_law.specs.Laws.{ArePermitted, PermittedIsFree, FineRowsAskForTheirLines, WriteBitsHoldPages}
 use Rattle.desk_law.specs.Orderly.{IsOrderly}
 use Rattle.desk_law.proofs.Orderly.{orderly}
 use Rattle.desk_law.proofs.Others.{touched_of}
@@ -33,14 +35,11 @@ permitted-held desk entry is here are = record { reads = record { among = reads 
 
     reads : (line : ℕ) → has (request desk entry).reads line ≡ true → has (due_to desk.committed entry).reads line ≡ true
     reads line inside =
-        elim (or_cases (has (wanted desk entry).reads line) (has (pages_of (wanted desk entry).writes) (page_of_line line)) (sym (has-whole_pages (wanted desk entry) line) ∙ inside)) [
+        elim (or_cases (has (wanted desk entry).reads line) (list_any (reaches (is_fine_page desk.committed.directory) line) (wanted desk entry).writes) (sym (has-whole_pages (is_fine_page desk.committed.directory) (wanted desk entry) line) ∙ inside)) [
           | inl read ↦ (is.held.covered (page_of_line line) entry here).loads line refl (are.reads line read)
-          | inr page ↦
-              let (x, written, at) = any-some (λ l. page_of_line l == page_of_line line) (wanted desk entry).writes (sym (has-pages_of (wanted desk entry).writes (page_of_line line)) ∙ page) in
-              has-whole_pages (touched_of desk.committed entry) line
-              ∙ or_right (has (touched_of desk.committed entry).reads line) (has (pages_of (touched_of desk.committed entry).writes) (page_of_line line))
-              (has-pages_of (touched_of desk.committed entry).writes (page_of_line line)
-              ∙ any-at (λ l. page_of_line l == page_of_line line) (touched_of desk.committed entry).writes x (writes x written) at)
+          | inr reached ↦
+              let (x, written, at) = any-some (reaches (is_fine_page desk.committed.directory) line) (wanted desk entry).writes reached in
+              whole-reached (is_fine_page desk.committed.directory) (touched_of desk.committed entry) line x (writes x written) at
         ]
 
 -- what is among the locks of one conflicts with nobody who is apart
@@ -92,3 +91,34 @@ held-written desk entry part =
 
 pub permitted-is-free : PermittedIsFree
 permitted-is-free desk entry is here are = held-free desk entry (orderly desk is) here (permitted-held desk entry (orderly desk is) here are)
+
+-- A row that writes into fine pages alone asks for what it touches.
+pub fine-rows : FineRowsAskForTheirLines
+fine-rows desk entry fine line =
+    has-whole_pages (is_fine_page desk.committed.directory) (wanted desk entry) line
+    ∙ ap (λ (b : Bool). has (wanted desk entry).reads line || b)
+    (any-or (is_fine_page desk.committed.directory) line (wanted desk entry).writes
+    ∙ ap (λ (b : Bool). has (wanted desk entry).writes line || b) (by_page (list_any (λ w. page_of_line w == page_of_line line) (wanted desk entry).writes) refl)
+    ∙ or_none (has (wanted desk entry).writes line))
+  where
+    or_none : (b : Bool) → (b || false) ≡ b
+    or_none true = refl
+    or_none false = refl
+
+    by_page : (into : Bool) → list_any (λ w. page_of_line w == page_of_line line) (wanted desk entry).writes ≡ into → (into && not (is_fine_page desk.committed.directory (page_of_line line))) ≡ false
+    by_page true e =
+        let (w, written, at) = any-some (λ w. page_of_line w == page_of_line line) (wanted desk entry).writes e in
+        ap not (ap (is_fine_page desk.committed.directory) (sym (eqb-true (page_of_line w) (page_of_line line) at)) ∙ fine w written)
+    by_page false e = refl
+
+-- Between two instructions the lines of a page whose write bit is on are held.
+pub write-bits : WriteBitsHoldPages
+write-bits desk entry page line is here owner on at =
+    (is.held.covered page entry here).loads line at (may ((slice_index_or desk.authority page nobody).owner == entry.number) (slice_index_or desk.authority page nobody).write (has (slice_index_or desk.authority page nobody).lines line)
+    (eq-eqb (slice_index_or desk.authority page nobody).owner entry.number owner) on)
+  where
+    may : (same write bit : Bool) → same ≡ true → write ≡ true → permits same write bit false ≡ true
+    may true true true e f = refl
+    may true true false e f = refl
+    may true false bit e f = absurd (cc)
+    may false write bit e f = absurd (cc)

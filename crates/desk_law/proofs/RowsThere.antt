@@ -1,11 +1,13 @@
 -- An instruction of a consistent desk whose lines are all there: nothing is counted but the row, and nothing else changes.
-use Rattle.std.specs.Prelude.{nat_lt, ◌≡◌, refl, ℕ, ◌+◌, ◌==◌, Bool, true, false, List, [], ◌++◌, length, filter, Some, slice_index_or}
+use Rattle.std.specs.Prelude.{nat_lt, ◌≡◌, refl, ℕ, ◌+◌, Bool, true, false, List, [], ◌++◌, length, filter, Some, slice_index_or}
 use Rattle.std.proofs.Common.{arith, ap, sym, ◌∙◌, subst, inl, inr}
-use Rattle.std.proofs.lemmas.Bool.{or_cases, or_right}
+use Rattle.std.specs.List.{list_any}
+use Rattle.std.proofs.lemmas.Bool.{or_cases}
+use Rattle.line_geometry.specs.Directory.{is_fine_page}
 use Rattle.lock_rules.specs.Sets.{has, size}
-use Rattle.lock_rules.specs.Lines.{Lines, both, with_whole_pages, page_of_line, pages_of}
-use Rattle.lock_rules.proofs.Sets.{has-append, has_left, any-at, any-some}
-use Rattle.lock_rules.proofs.Lines.{ArePart, part-both, part-whole_pages, has-whole_pages, has-pages_of}
+use Rattle.lock_rules.specs.Lines.{Lines, both, with_whole_pages, pages_of}
+use Rattle.lock_rules.proofs.Sets.{has-append, has_left, any-some}
+use Rattle.lock_rules.proofs.Lines.{ArePart, reaches, whole-reached, part-both, part-whole_pages, has-whole_pages}
 use Rattle.flat_machine.specs.declared.machine.Plain.{Plain}
 use Rattle.flat_machine.specs.Row.{On, Commit, Check, row}
 use Rattle.flat_machine.specs.After.{after}
@@ -18,7 +20,7 @@ use Rattle.desk_law.specs.Changes.{gone_on}
 use Rattle.desk_law.specs.Consistent.{IsAmong, due_to}
 use Rattle.desk_law.proofs.GoesOn.{due-more}
 use Rattle.desk_law.proofs.InstructionStages.{attempt_of, GoesOn, instruction-at, stage-check, stage-limit, stage-fetched, stage-gets, stage-on, stage-commit}
-use Rattle.desk_law.proofs.LinesThere.{filter-none, fetches-none, there-resident, there-unrefused, there-held}
+use Rattle.desk_law.proofs.LinesThere.{filter-none, fetches-none, there-resident, there-unrefused, there-held, there-lowered}
 use Rattle.desk_law.specs.Orderly.{IsOrderly}
 use Rattle.desk_law.proofs.Others.{touched_of}
 use Rattle.desk_law.proofs.Permitted.{held-free, held-written}
@@ -67,6 +69,7 @@ open-row word desk counts entry now next is here at went there =
     effect-there word desk counts entry now (subst GoesOn (sym went) tt) at there (held-free desk entry is here held)
     (ap (nat_lt desk.most_lines) (held-written desk entry held) ∙ within-most desk entry is here)
     ∙ stage-on word (attempt_of desk entry now) desk counts (attempt_of desk entry now).outcome next went
+    ∙ ap (λ (d : Desk). Going (with_entry d (gone_on entry)) (record counts { ran = counts.ran + 1 })) (there-lowered desk entry (attempt_of desk entry now) refl refl is here there)
   where
     held : ArePart (request desk entry) (due_to desk.committed entry)
     held = there-held desk entry is here there
@@ -76,7 +79,7 @@ pub open-due : (desk : Desk) (entry : Entry) → ArePart (request desk entry) (d
     → AreAlike (due_to desk.committed (gone_on entry)) (due_to desk.committed entry)
 open-due desk entry part = record { reads = reads; writes = writes }
   where
-    due : due_to desk.committed (gone_on entry) ≡ with_whole_pages (both (touched_of desk.committed entry) (wanted desk entry))
+    due : due_to desk.committed (gone_on entry) ≡ with_whole_pages (is_fine_page desk.committed.directory) (both (touched_of desk.committed entry) (wanted desk entry))
     due = due-more desk.committed entry
 
     alike : (a b : Bool) → (a ≡ true → b ≡ true) → (b ≡ true → a ≡ true) → a ≡ b
@@ -84,8 +87,8 @@ open-due desk entry part = record { reads = reads; writes = writes }
     alike false true there back = back refl
     alike false false there back = refl
 
-    old : ArePart (due_to desk.committed entry) (with_whole_pages (both (touched_of desk.committed entry) (wanted desk entry)))
-    old = part-whole_pages (touched_of desk.committed entry) (both (touched_of desk.committed entry) (wanted desk entry)) (part-both (touched_of desk.committed entry) (wanted desk entry))
+    old : ArePart (due_to desk.committed entry) (with_whole_pages (is_fine_page desk.committed.directory) (both (touched_of desk.committed entry) (wanted desk entry)))
+    old = part-whole_pages (is_fine_page desk.committed.directory) (touched_of desk.committed entry) (both (touched_of desk.committed entry) (wanted desk entry)) (part-both (touched_of desk.committed entry) (wanted desk entry))
 
     writes_part : (line : ℕ) → has ((touched_of desk.committed entry).writes ++ (wanted desk entry).writes) line ≡ true → has (touched_of desk.committed entry).writes line ≡ true
     writes_part line inside =
@@ -94,27 +97,24 @@ open-due desk entry part = record { reads = reads; writes = writes }
           | inr new ↦ part.writes.among line new
         ]
 
-    reads_part : (line : ℕ) → has (with_whole_pages (both (touched_of desk.committed entry) (wanted desk entry))).reads line ≡ true → has (due_to desk.committed entry).reads line ≡ true
+    reads_part : (line : ℕ) → has (with_whole_pages (is_fine_page desk.committed.directory) (both (touched_of desk.committed entry) (wanted desk entry))).reads line ≡ true → has (due_to desk.committed entry).reads line ≡ true
     reads_part line inside =
-        elim (or_cases (has ((touched_of desk.committed entry).reads ++ (wanted desk entry).reads) line) (has (pages_of ((touched_of desk.committed entry).writes ++ (wanted desk entry).writes)) (page_of_line line))
-        (sym (has-whole_pages (both (touched_of desk.committed entry) (wanted desk entry)) line) ∙ inside)) [
+        elim (or_cases (has ((touched_of desk.committed entry).reads ++ (wanted desk entry).reads) line) (list_any (reaches (is_fine_page desk.committed.directory) line) ((touched_of desk.committed entry).writes ++ (wanted desk entry).writes))
+        (sym (has-whole_pages (is_fine_page desk.committed.directory) (both (touched_of desk.committed entry) (wanted desk entry)) line) ∙ inside)) [
           | inl row_read ↦
               elim (or_cases (has (touched_of desk.committed entry).reads line) (has (wanted desk entry).reads line) (sym (has-append (touched_of desk.committed entry).reads (wanted desk entry).reads line) ∙ row_read)) [
                 | inl one ↦ has_left (touched_of desk.committed entry).reads _ line one
                 | inr new ↦ part.reads.among line (has_left (wanted desk entry).reads _ line new)
               ]
-          | inr page ↦
-              let (x, written, at) = any-some (λ l. page_of_line l == page_of_line line) ((touched_of desk.committed entry).writes ++ (wanted desk entry).writes) (sym (has-pages_of ((touched_of desk.committed entry).writes ++ (wanted desk entry).writes) (page_of_line line)) ∙ page) in
-              has-whole_pages (touched_of desk.committed entry) line
-              ∙ or_right (has (touched_of desk.committed entry).reads line) (has (pages_of (touched_of desk.committed entry).writes) (page_of_line line))
-              (has-pages_of (touched_of desk.committed entry).writes (page_of_line line)
-              ∙ any-at (λ l. page_of_line l == page_of_line line) (touched_of desk.committed entry).writes x (writes_part x written) at)
+          | inr reached ↦
+              let (x, written, at) = any-some (reaches (is_fine_page desk.committed.directory) line) ((touched_of desk.committed entry).writes ++ (wanted desk entry).writes) reached in
+              whole-reached (is_fine_page desk.committed.directory) (touched_of desk.committed entry) line x (writes_part x written) at
         ]
 
     reads : (line : ℕ) → has (due_to desk.committed (gone_on entry)).reads line ≡ has (due_to desk.committed entry).reads line
     reads line =
         ap (λ (l : Lines). has l.reads line) due
-        ∙ alike (has (with_whole_pages (both (touched_of desk.committed entry) (wanted desk entry))).reads line) (has (due_to desk.committed entry).reads line) (reads_part line) (old.reads.among line)
+        ∙ alike (has (with_whole_pages (is_fine_page desk.committed.directory) (both (touched_of desk.committed entry) (wanted desk entry))).reads line) (has (due_to desk.committed entry).reads line) (reads_part line) (old.reads.among line)
 
     writes : (line : ℕ) → has (due_to desk.committed (gone_on entry)).writes line ≡ has (due_to desk.committed entry).writes line
     writes line =

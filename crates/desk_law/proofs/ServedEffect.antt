@@ -2,6 +2,7 @@
 use Rattle.std.specs.Prelude.{◌≡◌, refl, ℕ, ◌+◌, ◌<◌, true, List, [], ◌++◌, length, filter, slice_index_or, Option}
 use Rattle.std.specs.Option.{option_map_or}
 use Rattle.std.proofs.Common.{arith, ap, sym, ◌∙◌}
+use Rattle.line_geometry.specs.Directory.{is_fine_page}
 use Rattle.line_geometry.specs.Lines.{line_count}
 use Rattle.lock_rules.specs.Sets.{has}
 use Rattle.lock_rules.specs.Lines.{Lines, no_lines, both, with_whole_pages, page_of_line}
@@ -12,11 +13,11 @@ use Rattle.flat_machine.specs.Row.{On, row}
 use Rattle.flat_machine.specs.Touched.{touched}
 use Rattle.flat_machine.specs.Agreement.{all_of}
 use Rattle.flat_machine.proofs.Below.{touched-below}
-use Rattle.desk.specs.Desk.{Desk, Authority, nobody, with_entry}
+use Rattle.desk.specs.Desk.{Desk, Authority, nobody}
 use Rattle.desk.specs.Holdings.{conflicts_of}
 use Rattle.desk.specs.Instruction.{Word, Counts, Going, Attempt, Fetched, fetches, touched_pages, refuses, lines_within, granted, locks_with, with_grants, gets}
 use Rattle.desk_law.specs.Beside.{AreThere, over_all}
-use Rattle.desk_law.specs.Changes.{gone_on}
+use Rattle.desk_law.specs.Changes.{gone_on, row_done}
 use Rattle.desk_law.specs.Current.{IsCurrent}
 use Rattle.desk_law.specs.Laws.{ArePermitted}
 use Rattle.desk_law.proofs.AttemptsOnCurrent.{shown-current}
@@ -39,7 +40,7 @@ ready-settled attempt old desk ready under_way is = ready-again attempt old desk
 -- the desk before the row takes effect
 abbrev pub got : Attempt → List ℕ → List ℕ → Desk → Desk
 got attempt refused resident desk =
-    record desk { resident = resident; authority = granted attempt (locks_with attempt desk) refused desk.authority }
+    record desk { resident = resident; authority = granted (is_fine_page desk.committed.directory) attempt (locks_with attempt desk) refused desk.authority }
 
 -- A touched line lies on a page of the store.
 pub touched-page : (attempt : Attempt) (desk : Desk) → IsReady attempt desk → (line : ℕ) → has (all_of attempt.lines) line ≡ true → page_of_line line < length desk.authority
@@ -69,9 +70,9 @@ served-there attempt before desk resident ready keeps there = record {
 }
   where
     locks : Lines
-    locks = with_whole_pages (both (touched_of desk.committed attempt.entry) attempt.lines)
+    locks = with_whole_pages (is_fine_page desk.committed.directory) (both (touched_of desk.committed attempt.entry) attempt.lines)
 
-    reads : (line : ℕ) → has attempt.lines.reads line ≡ true → has (with_whole_pages (both (touched_of desk.committed attempt.entry) attempt.lines)).reads line ≡ true
+    reads : (line : ℕ) → has attempt.lines.reads line ≡ true → has (with_whole_pages (is_fine_page desk.committed.directory) (both (touched_of desk.committed attempt.entry) attempt.lines)).reads line ≡ true
     reads line inside =
         has_left ((touched_of desk.committed attempt.entry).reads ++ attempt.lines.reads) _ line (has_right (touched_of desk.committed attempt.entry).reads attempt.lines.reads line inside)
 
@@ -79,11 +80,11 @@ served-there attempt before desk resident ready keeps there = record {
     writes line inside = has_right (touched_of desk.committed attempt.entry).writes attempt.lines.writes line inside
 
     permitted_all : ArePermitted
-        (granted attempt (with_whole_pages (both (touched_of desk.committed attempt.entry) attempt.lines))
+        (granted (is_fine_page desk.committed.directory) attempt (with_whole_pages (is_fine_page desk.committed.directory) (both (touched_of desk.committed attempt.entry) attempt.lines))
         (filter (λ page. refuses (slice_index_or before page nobody) attempt.entry.number (lines_within page attempt.lines)) (touched_pages attempt)) desk.authority)
         attempt.entry.number attempt.lines
     permitted_all =
-        granted-permits attempt (with_whole_pages (both (touched_of desk.committed attempt.entry) attempt.lines)) before desk.authority keeps reads writes
+        granted-permits (is_fine_page desk.committed.directory) attempt (with_whole_pages (is_fine_page desk.committed.directory) (both (touched_of desk.committed attempt.entry) attempt.lines)) before desk.authority keeps reads writes
         (touched-page attempt desk ready)
 
 -- what a served row leaves, with the state that the storage shows after it
@@ -91,8 +92,8 @@ pub record WasServed (attempt : Attempt) (refused resident : List ℕ) (desk : D
   pub shows : (next : Plain) → attempt.outcome ≡ On next → shown ≡ over_all next shown.store
   pub comes : (word : Word) → fetches word desk.frames (touched_pages attempt) (touched_pages attempt) desk.resident counts.pages ≡ Fetched resident counted
       → gets word attempt refused desk counts
-      ≡ Going (with_entry (got attempt refused resident desk) (gone_on attempt.entry)) (record counts { pages = counted; ran = counts.ran + 1 })
-  pub consistent : IsOrderly (with_entry (got attempt refused resident desk) (gone_on attempt.entry))
+      ≡ Going (row_done attempt (got attempt refused resident desk)) (record counts { pages = counted; ran = counts.ran + 1 })
+  pub consistent : IsOrderly (row_done attempt (got attempt refused resident desk))
   pub is_current : IsCurrent desk.committed (replaced (gone_on attempt.entry) desk.active) shown.store
 
 -- The row goes on over the bytes of all, where nobody conflicts.
@@ -104,7 +105,7 @@ pub served-goes :
 served-goes attempt refused resident desk counts counted next shown bytes ready none goes current_now went = record {
   shows = λ other is. let same : other ≡ next = on-same other next (sym is ∙ goes) in left.0 ∙ ap (λ (s : Plain). over_all s shown.store) (sym same);
   comes = λ word again.
-      stage-gets word attempt desk counts refused (granted attempt (locks_with attempt desk) refused desk.authority) resident counted refl again
+      stage-gets word attempt desk counts refused (granted (is_fine_page desk.committed.directory) attempt (locks_with attempt desk) refused desk.authority) resident counted refl again
       ∙ stage-on word attempt (got attempt refused resident desk) (record counts { pages = counted }) attempt.outcome next goes;
   consistent = later;
   is_current = left.1;
@@ -113,7 +114,7 @@ served-goes attempt refused resident desk counts counted next shown bytes ready 
     on-same : (one other : Plain) → On one ≡ On other → one ≡ other
     on-same one other is = cc
 
-    later : IsOrderly (with_entry (got attempt refused resident desk) (gone_on attempt.entry))
+    later : IsOrderly (row_done attempt (got attempt refused resident desk))
     later =
         row-goes-on (got attempt refused resident desk) attempt next
         (resident-granted attempt (with_grants attempt refused desk) resident (grants-held desk attempt refused ready none)) goes

@@ -2,6 +2,7 @@
 -- each finds its lines there.
 use Rattle.std.specs.Prelude.{false, nat_lt, ◌≡◌, refl, ℕ, ◌+◌, true, List, [], ◌∷◌, length, filter, map, Some, None}
 use Rattle.std.proofs.Common.{ap, sym, ◌∙◌, subst}
+use Rattle.line_geometry.specs.Directory.{is_fine_page}
 use Rattle.lock_rules.specs.Sets.{has}
 use Rattle.lock_rules.specs.Lines.{Lines, with_whole_pages}
 use Rattle.flat_machine.specs.declared.machine.Plain.{Plain}
@@ -11,7 +12,7 @@ use Rattle.desk.specs.Desk.{Desk, Entry, Authority, with_entry}
 use Rattle.desk.specs.Holdings.{conflicts_of}
 use Rattle.desk.specs.Instruction.{Word, Fine, Counts, Turning, Going, Attempt, Fetched, fetches, instruction, lines_written, touched_pages, refused_pages, gets, asks}
 use Rattle.desk_law.specs.Beside.{AreThere, AreAlike, over_all, requested, IsTableBut, kept_conflict, AreStatesBut, IsTold, Reads}
-use Rattle.desk_law.specs.Changes.{gone_on}
+use Rattle.desk_law.specs.Changes.{gone_on, row_done}
 use Rattle.desk_law.specs.Consistent.{IsAmong, due_to}
 use Rattle.desk_law.proofs.AttemptsOnCurrent.{wanted-is}
 use Rattle.desk_law.proofs.Contest.{KeepsPages}
@@ -46,7 +47,7 @@ pub gets-goes :
     → row attempt.entry.runs.program desk.committed.directory (over_all attempt.now bytes) ≡ On shown
     → AreAlike (more attempt.entry.number) (due_to desk.committed (gone_on attempt.entry)) → IsTableBut attempt.entry.number locks more
     → new attempt.entry.number ≡ shown → AreStatesBut attempt.entry.number states new
-    → WentOn begins (with_entry (got attempt refused resident desk) (gone_on attempt.entry)) (record counts { pages = counted; ran = counts.ran + 1 }) more requests new shown.store
+    → WentOn begins (row_done attempt (got attempt refused resident desk)) (record counts { pages = counted; ran = counts.ran + 1 }) more requests new shown.store
 gets-goes begins attempt refused resident desk counts counted locks more requests states new next shown bytes comes ready none goes told again went alike but_locks new_is but =
     let served : HasServed attempt refused resident desk counts counted more requests new shown =
     told-served attempt refused resident desk counts counted locks more requests states new next shown bytes ready none goes told went alike but_locks new_is but in
@@ -67,7 +68,7 @@ module _ (desk : Desk) (counts : Counts) (entry : Entry) (now shown : Plain) (by
   refused_now = refused_pages (served_attempt desk entry now bytes) desk
 
   -- Without a conflict it gets its pages at once.
-  pub free-gets : map (λ (other : Entry). other.number) (filter (kept_conflict (asked_for (served_attempt desk entry now bytes)) locks entry.number) desk.active) ≡ []
+  pub free-gets : map (λ (other : Entry). other.number) (filter (kept_conflict (asked_for desk.committed.directory (served_attempt desk entry now bytes)) locks entry.number) desk.active) ≡ []
       → (word : Word) → Reads word counted
       → instruction word (Some entry) desk counts
       ≡ gets word (served_attempt desk entry now bytes) (refused_pages (served_attempt desk entry now bytes) desk) (record desk { resident = first })
@@ -79,14 +80,14 @@ module _ (desk : Desk) (counts : Counts) (entry : Entry) (now shown : Plain) (by
       (record counts { pages = counted; locks = counts.locks + length (refused_pages (served_attempt desk entry now bytes) desk) }))
       none
 
-  alike-asked : AreAlike (asked_for (served_attempt desk entry now bytes)) (requested desk.committed entry)
+  alike-asked : AreAlike (asked_for desk.committed.directory (served_attempt desk entry now bytes)) (requested desk.committed entry)
   alike-asked =
-      subst (λ (l : Lines). AreAlike (with_whole_pages l) (requested desk.committed entry)) (wanted-is desk entry now shown bytes at went)
+      subst (λ (l : Lines). AreAlike (with_whole_pages (is_fine_page desk.committed.directory) l) (requested desk.committed entry)) (wanted-is desk entry now shown bytes at went)
       (record { reads = λ line. refl; writes = λ line. refl })
 
-  pub free-none : map (λ (other : Entry). other.number) (filter (kept_conflict (asked_for (served_attempt desk entry now bytes)) locks entry.number) desk.active) ≡ []
+  pub free-none : map (λ (other : Entry). other.number) (filter (kept_conflict (asked_for desk.committed.directory (served_attempt desk entry now bytes)) locks entry.number) desk.active) ≡ []
       → conflicts_of (record desk { resident = first }) entry ≡ []
-  free-none none = sym (conflicts-kept desk locks requests told.kept (asked_for (served_attempt desk entry now bytes)) entry alike-asked) ∙ none
+  free-none none = sym (conflicts-kept desk locks requests told.kept (asked_for desk.committed.directory (served_attempt desk entry now bytes)) entry alike-asked) ∙ none
 
   -- The second attempt finds its lines there, once both fetches are done and the refused pages granted.
   pub free-there : (resident : List ℕ) → ((page : ℕ) → has (touched_pages (served_attempt desk entry now bytes)) page ≡ true → has resident page ≡ true)
@@ -98,8 +99,8 @@ module _ (desk : Desk) (counts : Counts) (entry : Entry) (now shown : Plain) (by
 
   -- With a conflict its contest begins, with the kept request that it asks for.
   pub contest-begins : (holder : ℕ) (holders : List ℕ) (asked : ℕ → Lines)
-      → map (λ (other : Entry). other.number) (filter (kept_conflict (asked_for (served_attempt desk entry now bytes)) locks entry.number) desk.active) ≡ holder ∷ holders
-      → asked entry.number ≡ asked_for (served_attempt desk entry now bytes) → IsTableBut entry.number requests asked
+      → map (λ (other : Entry). other.number) (filter (kept_conflict (asked_for desk.committed.directory (served_attempt desk entry now bytes)) locks entry.number) desk.active) ≡ holder ∷ holders
+      → asked entry.number ≡ asked_for desk.committed.directory (served_attempt desk entry now bytes) → IsTableBut entry.number requests asked
       → IsContesting (λ word. instruction word (Some entry) desk counts) (served_attempt desk entry now bytes) (refused_pages (served_attempt desk entry now bytes) desk)
       (record desk { resident = first }) (with_entry (record desk { resident = first }) (record entry { waiting = true }))
       (record counts { pages = counted; locks = counts.locks + length (refused_pages (served_attempt desk entry now bytes) desk) })

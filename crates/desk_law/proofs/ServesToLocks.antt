@@ -3,17 +3,18 @@
 use Rattle.std.specs.Prelude.{Bool, true, false, nat_lt, ◌≡◌, refl, ℕ, ◌+◌, ◌≤◌, List, [], ◌++◌, length, filter, map, Some}
 use Rattle.std.proofs.lemmas.Bool.{ltb-false}
 use Rattle.std.proofs.Common.{arith, ap, sym, ◌∙◌, subst}
+use Rattle.line_geometry.specs.Directory.{Layout, is_fine_page}
 use Rattle.lock_rules.specs.Sets.{size}
 use Rattle.lock_rules.specs.Lines.{Lines, with_whole_pages}
 use Rattle.flat_machine.specs.declared.machine.Plain.{Plain}
 use Rattle.flat_machine.specs.Row.{On, row}
 use Rattle.flat_machine.specs.Touched.{touched}
 use Rattle.flat_machine.specs.After.{after}
-use Rattle.desk.specs.Desk.{Desk, Entry, with_entry, rolled_back}
+use Rattle.desk.specs.Desk.{Desk, Entry, rolled_back}
 use Rattle.desk.specs.Holdings.{wanted, request, conflicts_of}
 use Rattle.desk.specs.Instruction.{Word, Fine, Counts, Turning, Going, Over, Journal, Disk, Attempt, Fetched, Broken, fetches, instruction, attempts, limited, is_over_limit, lines_written, touched_pages, refused_pages, asks, gets}
 use Rattle.desk_law.specs.Beside.{AreAlike, over_all, AreKept, kept_conflict, Reads}
-use Rattle.desk_law.specs.Changes.{gone_on}
+use Rattle.desk_law.specs.Changes.{row_done}
 use Rattle.desk_law.specs.Consistent.{IsAmong, due_to}
 use Rattle.desk_law.proofs.AlikeSets.{written-alike}
 use Rattle.desk_law.proofs.AttemptsOnCurrent.{IsOwnRow, own-row, wanted-is}
@@ -39,8 +40,8 @@ served_attempt desk entry now bytes =
     }
 
 -- what those lines ask for
-abbrev pub asked_for : Attempt → Lines
-asked_for attempt = with_whole_pages attempt.lines
+abbrev pub asked_for : Layout → Attempt → Lines
+asked_for directory attempt = with_whole_pages (is_fine_page directory) attempt.lines
 
 module _ (desk : Desk) (counts : Counts) (entry : Entry) (now shown : Plain) (bytes : List ℕ) (is : IsOrderly desk) (here : IsAmong desk.active entry)
     (at : after entry.runs.program entry.runs.args desk.committed entry.rows ≡ Some now)
@@ -89,21 +90,21 @@ module _ (desk : Desk) (counts : Counts) (entry : Entry) (now shown : Plain) (by
         → (word : Word) → Reads word counted
         → instruction word (Some entry) desk counts
         ≡ asks word (served_attempt desk entry now bytes) (refused_pages (served_attempt desk entry now bytes) desk)
-        (map (λ (other : Entry). other.number) (filter (kept_conflict (asked_for (served_attempt desk entry now bytes)) locks entry.number) desk.active))
+        (map (λ (other : Entry). other.number) (filter (kept_conflict (asked_for desk.committed.directory (served_attempt desk entry now bytes)) locks entry.number) desk.active))
         (record desk { resident = resident })
         (record counts { pages = counted; locks = counts.locks + length (refused_pages (served_attempt desk entry now bytes) desk) })
     serve-asks locks requests resident counted kept fetched word reads =
         to-limit word false within
         ∙ stage-fetched word (served_attempt desk entry now bytes) desk counts resident counted
-        (map (λ (other : Entry). other.number) (filter (kept_conflict (asked_for (served_attempt desk entry now bytes)) locks entry.number) desk.active))
+        (map (λ (other : Entry). other.number) (filter (kept_conflict (asked_for desk.committed.directory (served_attempt desk entry now bytes)) locks entry.number) desk.active))
         (fetched-for word desk.frames (touched_pages (served_attempt desk entry now bytes)) (touched_pages (served_attempt desk entry now bytes)) desk.resident resident counts.pages counted fetched reads)
         (sym (serve-holders locks requests kept))
       where
         serve-holders : (locks requests : ℕ → Lines) → AreKept desk.committed desk.active locks requests
-            → map (λ (other : Entry). other.number) (filter (kept_conflict (with_whole_pages (touched entry.runs.program desk.committed.directory (over_all now bytes))) locks entry.number) desk.active) ≡ conflicts_of desk entry
+            → map (λ (other : Entry). other.number) (filter (kept_conflict (with_whole_pages (is_fine_page desk.committed.directory) (touched entry.runs.program desk.committed.directory (over_all now bytes))) locks entry.number) desk.active) ≡ conflicts_of desk entry
         serve-holders locks requests kept =
-            conflicts-kept desk locks requests kept (with_whole_pages (touched entry.runs.program desk.committed.directory (over_all now bytes))) entry
-            (subst (λ (l : Lines). AreAlike (with_whole_pages l) (request desk entry)) (wanted-is desk entry now shown bytes at went)
+            conflicts-kept desk locks requests kept (with_whole_pages (is_fine_page desk.committed.directory) (touched entry.runs.program desk.committed.directory (over_all now bytes))) entry
+            (subst (λ (l : Lines). AreAlike (with_whole_pages (is_fine_page desk.committed.directory) l) (request desk entry)) (wanted-is desk entry now shown bytes at went)
             (record { reads = λ line. refl; writes = λ line. refl }))
 
     -- and what follows may begin there
@@ -127,7 +128,7 @@ pub serve-ends :
     → HasServed attempt refused resident desk counts counted locks requests states shown
     → fetches Fine desk.frames (touched_pages attempt) (touched_pages attempt) desk.resident counts.pages ≡ Fetched resident counted
     → (word : Word) → Reads word counted
-    → begins word ≡ Going (with_entry (got attempt refused resident desk) (gone_on attempt.entry)) (record counts { pages = counted; ran = counts.ran + 1 })
+    → begins word ≡ Going (row_done attempt (got attempt refused resident desk)) (record counts { pages = counted; ran = counts.ran + 1 })
 serve-ends begins attempt refused resident desk counts counted locks requests states shown comes served fetched word reads =
     comes word (λ page few. reads page (omega (arith, few, (fetched-few Fine desk.frames (touched_pages attempt) (touched_pages attempt) desk.resident resident counts.pages counted fetched).0)))
     ∙ served.comes word (fetched-for word desk.frames (touched_pages attempt) (touched_pages attempt) desk.resident resident counts.pages counted fetched reads)

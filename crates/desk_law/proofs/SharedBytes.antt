@@ -2,13 +2,13 @@
 use Rattle.std.specs.Prelude.{◌≡◌, refl, ℕ, ◌+◌, ◌==◌, not, true, false, List, [], ◌++◌, length, Option, Some}
 use Rattle.std.specs.Option.{option_map_or}
 use Rattle.std.proofs.Common.{ap, sym, ◌∙◌, subst, inl, inr}
-use Rattle.std.proofs.lemmas.Bool.{eqb-true, both_ways, or_cases, or_left, or_parts, and_cases, cases_Bool, not_from_false, false_from_ne_true}
+use Rattle.std.proofs.lemmas.Bool.{eqb-true, both_ways, or_cases, or_parts, and_cases, cases_Bool, not_from_false, false_from_ne_true}
 use Rattle.line_geometry.specs.Directory.{byte_count}
 use Rattle.line_geometry.specs.FlatStore.{FlatStore, IsWhole}
 use Rattle.lock_rules.specs.Sets.{has, meets}
-use Rattle.lock_rules.specs.Lines.{Lines, conflicts, pages_of, page_of_line}
+use Rattle.lock_rules.specs.Lines.{Lines, conflicts}
 use Rattle.lock_rules.proofs.Sets.{has-append, has_left, has_right}
-use Rattle.lock_rules.proofs.Lines.{has-whole_pages, meets-at}
+use Rattle.lock_rules.proofs.Lines.{meets-at}
 use Rattle.flat_machine.specs.declared.machine.Plain.{Plain}
 use Rattle.flat_machine.specs.declared.machine.Plan.{Plan}
 use Rattle.flat_machine.specs.declared.machine.Plan.TheVariants.{Does, Fails}
@@ -71,7 +71,7 @@ current-wanted desk most entry state line whole are here is none wants =
                 | inl reads ↦
                     both_ways (meets (request desk entry).reads (held desk other).writes) parts.1
                     (meets-at (request desk entry).reads (held desk other).writes line
-                    (has-whole_pages (wanted desk entry) line ∙ or_left (has (wanted desk entry).reads line) (has (pages_of (wanted desk entry).writes) (page_of_line line)) reads) wrote)
+                    (has_left (wanted desk entry).reads _ line reads) wrote)
                 | inr writes ↦
                     both_ways (meets (request desk entry).writes ((held desk other).reads ++ (held desk other).writes)) parts.0
                     (meets-at (request desk entry).writes ((held desk other).reads ++ (held desk other).writes) line writes (has_right (held desk other).reads (held desk other).writes line wrote))

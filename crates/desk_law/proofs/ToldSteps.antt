@@ -9,11 +9,11 @@ use Rattle.flat_machine.specs.declared.machine.Plain.{Plain}
 use Rattle.flat_machine.specs.Row.{On, row}
 use Rattle.flat_machine.specs.After.{after}
 use Rattle.flat_machine.proofs.Agreement.{after-whole}
-use Rattle.desk.specs.Desk.{Desk, Entry, with_entry}
+use Rattle.desk.specs.Desk.{Desk, Entry}
 use Rattle.desk.specs.Holdings.{conflicts_of}
 use Rattle.desk.specs.Instruction.{Word, Counts, Going, Attempt, Fetched, fetches, touched_pages, gets}
 use Rattle.desk_law.specs.Beside.{IsLaid, AreAlike, over_all, requested, IsTableBut, IsState, AreStates, AreStatesBut, IsTold}
-use Rattle.desk_law.specs.Changes.{left_by, gone_on}
+use Rattle.desk_law.specs.Changes.{left_by, gone_on, row_done}
 use Rattle.desk_law.specs.Consistent.{IsAmong, due_to, AreConsistent}
 use Rattle.desk_law.proofs.CurrentSteps.{current-rolled, current-committed, commit-laid, current-marked}
 use Rattle.desk_law.proofs.Entries.{replaced, among-replaced, among-filter}
@@ -104,8 +104,8 @@ told-commit store most_lines next entries locks requests states bytes entry now 
 pub record HasServed (attempt : Attempt) (refused resident : List ℕ) (desk : Desk) (counts : Counts) (counted : ℕ) (locks requests : ℕ → Lines) (states : ℕ → Plain) (shown : Plain) : Type 0 where
   pub comes : (word : Word) → fetches word desk.frames (touched_pages attempt) (touched_pages attempt) desk.resident counts.pages ≡ Fetched resident counted
       → gets word attempt refused desk counts
-      ≡ Going (with_entry (got attempt refused resident desk) (gone_on attempt.entry)) (record counts { pages = counted; ran = counts.ran + 1 })
-  pub consistent : IsOrderly (with_entry (got attempt refused resident desk) (gone_on attempt.entry))
+      ≡ Going (row_done attempt (got attempt refused resident desk)) (record counts { pages = counted; ran = counts.ran + 1 })
+  pub consistent : IsOrderly (row_done attempt (got attempt refused resident desk))
   pub told : IsTold desk.committed (replaced (gone_on attempt.entry) desk.active) locks requests states shown.store
 
 pub told-served :

@@ -43,6 +43,7 @@ resident-granted attempt desk resident is = record {
   whole = is.whole;
   few = is.few;
   active = is.active;
+  held_others = is.held_others;
   held = is.held;
   no_cycle = is.no_cycle;
   mark = is.mark;
@@ -50,6 +51,7 @@ resident-granted attempt desk resident is = record {
   now = is.now;
   went = is.went;
   none = is.none;
+  lines = is.lines;
   short = is.short;
 }
 

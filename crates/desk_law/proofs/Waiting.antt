@@ -3,6 +3,7 @@ use Rattle.std.specs.Prelude.{◌≡◌, refl, ℕ, ◌==◌, ◌&&◌, not, Boo
 use Rattle.std.specs.List.{list_any}
 use Rattle.std.proofs.Common.{ap, sym, ◌∙◌, subst, inl, inr}
 use Rattle.std.proofs.lemmas.Bool.{eqb-true, eq-eqb, both_ways, and_parts, and_from, or_cases, or_left, or_right, not-true, false_from_ne_true}
+use Rattle.line_geometry.specs.Directory.{is_fine_page}
 use Rattle.line_geometry.specs.FlatStore.{IsWhole}
 use Rattle.lock_rules.specs.Sets.{has}
 use Rattle.lock_rules.specs.Lines.{conflicts, with_whole_pages}
@@ -125,7 +126,7 @@ commit-waits desk entry now from to whole are here is waits =
       waiting = by.waiting;
       is_to = by.is_to;
       conflict =
-          sym (λ i. not (by.other.number == by.entry.number) && conflicts (with_whole_pages (same1.wants i)) (same2.due i)) ∙ by.conflict;
+          sym (λ i. not (by.other.number == by.entry.number) && conflicts (with_whole_pages (is_fine_page desk.committed.directory) (same1.wants i)) (same2.due i)) ∙ by.conflict;
     })
 
 -- one that is marked waiting adds waits of its own alone

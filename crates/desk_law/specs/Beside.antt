@@ -2,6 +2,7 @@
 use Rattle.std.specs.Prelude.{◌≡◌, ℕ, ◌≤◌, ◌==◌, ◌&&◌, not, Bool, true, false, List, map, find, length, slice_index_or, Some}
 use Rattle.std.specs.List.{list_any}
 use Rattle.std.specs.Option.{option_map_or}
+use Rattle.line_geometry.specs.Directory.{is_fine_page}
 use Rattle.line_geometry.specs.FlatStore.{FlatStore}
 use Rattle.lock_rules.specs.Sets.{has}
 use Rattle.lock_rules.specs.Lines.{Lines, conflicts, with_whole_pages, page_of_line}
@@ -41,7 +42,7 @@ over_all now bytes = record now { store = bytes }
 
 -- what the next row of an entry asks for, over a store
 abbrev pub requested : FlatStore → Entry → Lines
-requested store entry = with_whole_pages (touched_next entry.runs.program entry.runs.args store entry.rows)
+requested store entry = with_whole_pages (is_fine_page store.directory) (touched_next entry.runs.program entry.runs.args store entry.rows)
 
 -- tables by number keep the locks of each entry, and the request of each that is marked waiting, as sets
 pub record AreKept (store : FlatStore) (entries : List Entry) (locks requests : ℕ → Lines) : Type 0 where

@@ -2,11 +2,16 @@
 use Rattle.std.specs.Prelude.{◌+◌, false}
 use Rattle.line_geometry.specs.FlatStore.{FlatStore}
 use Rattle.flat_machine.specs.declared.machine.Plain.{Plain}
-use Rattle.desk.specs.Desk.{Desk, Entry, ended}
+use Rattle.desk.specs.Desk.{Desk, Entry, with_entry, ended}
+use Rattle.desk.specs.Instruction.{Attempt, with_lowered}
 
 -- an entry once its row has gone on
 abbrev pub gone_on : Entry → Entry
 gone_on entry = record entry { rows = entry.rows + 1; waiting = false }
+
+-- the desk once the row of an attempt has taken effect and gone on
+abbrev pub row_done : Attempt → Desk → Desk
+row_done attempt desk = with_entry (with_lowered attempt desk) (gone_on attempt.entry)
 
 -- the store once an entry has committed at a state
 abbrev pub left_by : FlatStore → Plain → FlatStore

@@ -1,5 +1,6 @@
 -- The laws of a desk at every moment.
-use Rattle.std.specs.Prelude.{◌≡◌, ℕ, ◌≤◌, Bool, true, false, IsTrue, IsFalse, List, [], ◌∷◌, ◌++◌, slice_index_or, Some, None}
+use Rattle.std.specs.Prelude.{◌≡◌, ℕ, ◌≤◌, ◌||◌, Bool, true, false, IsTrue, IsFalse, List, [], ◌∷◌, ◌++◌, slice_index_or, Some, None}
+use Rattle.line_geometry.specs.Directory.{is_fine_page}
 use Rattle.line_geometry.specs.FlatStore.{FlatStore, IsWhole}
 use Rattle.lock_rules.specs.Sets.{has}
 use Rattle.lock_rules.specs.Lines.{Lines, page_of_line}
@@ -7,7 +8,7 @@ use Rattle.lock_rules.specs.Waits.{shown_cycle}
 use Rattle.flat_machine.specs.declared.machine.Program.{Program}
 use Rattle.desk.specs.declared.event.Event.{Event}
 use Rattle.desk.specs.Desk.{Desk, Entry, Authority, nobody, opened, with_entry}
-use Rattle.desk.specs.Holdings.{wanted, conflicts_of, numbers, waits_for}
+use Rattle.desk.specs.Holdings.{wanted, request, held, conflicts_of, numbers, waits_for}
 use Rattle.desk.specs.Instruction.{Word, Counts, Idle, Turning, Over, turn, no_counts, Contest, Contested, Settled, Lost, breaks_cycle, breaks_cycles}
 use Rattle.desk.specs.Run.{step, run}
 use Rattle.desk_law.specs.Consistent.{IsAmong, permitted, IsConsistent}
@@ -51,6 +52,20 @@ abbrev pub PermittedIsFree : Type 0
 PermittedIsFree =
     (desk : Desk) (entry : Entry) → IsConsistent desk → IsAmong desk.active entry
     → ArePermitted desk.authority entry.number (wanted desk entry) → conflicts_of desk entry ≡ []
+
+-- The law: a row that writes into fine pages alone asks for the lines that it touches, to read each that it writes, and for no others.
+abbrev pub FineRowsAskForTheirLines : Type 0
+FineRowsAskForTheirLines =
+    (desk : Desk) (entry : Entry)
+    → ((line : ℕ) → IsTrue (has (wanted desk entry).writes line) → IsTrue (is_fine_page desk.committed.directory (page_of_line line)))
+    → (line : ℕ) → has (request desk entry).reads line ≡ (has (wanted desk entry).reads line || has (wanted desk entry).writes line)
+
+-- The law: between two instructions all lines of a page whose write bit is on are held to read by its owner, if that is active.
+abbrev pub WriteBitsHoldPages : Type 0
+WriteBitsHoldPages =
+    (desk : Desk) (entry : Entry) (page line : ℕ) → IsConsistent desk → IsAmong desk.active entry
+    → (slice_index_or desk.authority page nobody).owner ≡ entry.number → (slice_index_or desk.authority page nobody).write ≡ true
+    → page_of_line line ≡ page → IsTrue (has (held desk entry).reads line)
 
 -- The law: where somebody is active, somebody who is active waits for nobody.
 abbrev pub SomebodyCanGoOn : Type 0

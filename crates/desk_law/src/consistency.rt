@@ -1,3 +1,4 @@
+ghost use Rattle.desk_law.specs.Laws.{FineRowsAskForTheirLines, WriteBitsHoldPages};
 ghost use Rattle.desk_law.specs.Laws.{BrokenCyclesWere, ContestedCyclesClose, IdleWhereInactive, PermittedIsFree};
 ghost use Rattle.desk_law.specs.Laws.{RunsStayConsistent, SomebodyCanGoOn, StaysConsistent};
 
@@ -19,6 +20,16 @@ pub fn idle_where_inactive()
 /// An entry whose next row touches permitted lines alone conflicts with nobody. It calls nothing.
 pub fn permitted_is_free()
     ensures { PermittedIsFree }
+{}
+
+/// A row that writes into fine pages alone asks for the lines that it touches and no others. It calls nothing.
+pub fn fine_rows_ask_for_their_lines()
+    ensures { FineRowsAskForTheirLines }
+{}
+
+/// Between two instructions all lines of a page whose write bit is on are held to read by its owner. It calls nothing.
+pub fn write_bits_hold_pages()
+    ensures { WriteBitsHoldPages }
 {}
 
 /// Where somebody is active, somebody who is active waits for nobody. It calls nothing.

@@ -9,8 +9,9 @@ mod isolation;
 
 pub use causes::{ends_have_causes, turns_end_for_cause};
 pub use consistency::{
-    broken_cycles_were, contested_cycles_close, desks_stay_consistent, idle_where_inactive,
-    permitted_is_free, runs_stay_consistent, somebody_can_go_on,
+    broken_cycles_were, contested_cycles_close, desks_stay_consistent,
+    fine_rows_ask_for_their_lines, idle_where_inactive, permitted_is_free, runs_stay_consistent,
+    somebody_can_go_on, write_bits_hold_pages,
 };
 pub use current::{
     commits_change_no_line, commits_leave_others, holders_see_current, one_list_is_current,

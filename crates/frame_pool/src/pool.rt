@@ -171,6 +171,25 @@ impl FramePool {
         self.bytes.part_mut(usize::from(frame) * size, size)
     }
 
+    /// A part of a seat's private bytes, from an offset on. They lie end to end, whatever the size of a page.
+    #[inline(always)]
+    pub fn private_part(&self, seat: u8, at: usize, count: usize) -> &[u8]
+        requires seat { seat < 16 }
+        requires within { at + count ≤ 16384 }
+        ensures { result.now ≡ slice_range (pool_of self.now).bytes (seat * 16384 + at) (seat * 16384 + at + count) }
+    {
+        self.bytes.part(usize::from(seat) * 16384 + at, count)
+    }
+
+    /// Lends a seat's private bytes, to be filled.
+    pub fn private_mut(&mut self, seat: u8) -> &mut [u8]
+        requires { seat < 16 }
+        ensures* writes_back { sem 𝓛 (LendsFrame self.entry (seat * 16384) result) }
+        ensures value { result.now ≡ slice_range (pool_of self.old).bytes (seat * 16384) (seat * 16384 + 16384) }
+    {
+        self.bytes.part_mut(usize::from(seat) * 16384, 16384)
+    }
+
     /// The marked lines of a page, as they are kept, lie over those of its frame.
     pub fn lay_kept(&mut self, page: u16)
         requires { page < length (pool_of self.old).frame_of }

@@ -1,7 +1,8 @@
 -- The entry of a page as the lines of it that it is for.
-use Rattle.std.specs.Prelude.{ℕ, ◌==◌, Bool, true, false, List, [], ◌∷◌}
+use Rattle.std.specs.Prelude.{ℕ, ◌==◌, if◌then◌else◌, Bool, true, false, List, [], ◌∷◌}
 use Rattle.lock_rules.specs.Sets.{has}
 use Rattle.lock_rules.specs.Access.{permits}
+use Rattle.lock_rules.specs.Lines.{is_whole_page}
 use Rattle.line_geometry.specs.LineSets.{lines_of_bits}
 use Rattle.lockbit_rules.specs.declared.Authority.{Authority}
 
@@ -23,3 +24,8 @@ lets entry tid line store = permits (entry.owner == tid) entry.write (has entry.
 abbrev pub granted : ℕ → (reads writes : List ℕ) → Entry
 granted tid reads [] = record { owner = tid; write = false; lines = reads }
 granted tid reads (line ∷ lines) = record { owner = tid; write = true; lines = line ∷ lines }
+
+-- the entry of a fine page: to write where the row stores into it, or where a line is locked to write and all sixteen are to read
+abbrev pub granted_fine : ℕ → (reads writes : List ℕ) → (storing : Bool) → Entry
+granted_fine tid reads writes true = record { owner = tid; write = true; lines = writes }
+granted_fine tid reads writes false = granted tid reads (if is_whole_page reads then writes else [])

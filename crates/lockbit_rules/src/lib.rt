@@ -14,7 +14,7 @@ pub struct Authority {
 }
 
 impl Authority {
-    ghost use Rattle.lockbit_rules.specs.Entries.{entry_of, lets, granted};
+    ghost use Rattle.lockbit_rules.specs.Entries.{entry_of, lets, granted, granted_fine};
 
     /// The entry of a page that nobody owns. It lets nobody load or store.
     pub const NOBODY: Authority = Authority {
@@ -50,6 +50,24 @@ impl Authority {
             bits: lines.bits(),
         }
     }
+
+    /// The entry of a fine page for an identifier that has locked these lines of it: to write the written ones, if its row
+    /// stores into the page or if there are some and all sixteen are read, else to read the read ones.
+    pub fn grant_fine(tid: u8, reads: LineSet, writes: LineSet, storing: bool) -> Authority
+        ensures { entry_of result ≡ granted_fine tid reads writes storing }
+    {
+        if storing {
+            Authority {
+                tid,
+                write: true,
+                bits: writes.bits(),
+            }
+        } else if reads.count() == 16 {
+            Authority::grant(tid, reads, writes)
+        } else {
+            Authority::grant(tid, reads, LineSet::none())
+        }
+    }
 }
 
 #[cfg(test)]
@@ -83,6 +101,19 @@ mod tests {
         let others = LineSet::from_bits(0b1000);
         assert!(rt; Authority::grant(7, some, LineSet::none()) == entry(7, false, 0b10_0001));
         assert!(rt; Authority::grant(7, some, others) == entry(7, true, 0b1000));
+        Ok(())
+    }
+
+    #[test]
+    fn fine_pages_are_granted(rt: HostRuntime) -> Result<(), Fail> {
+        let some = LineSet::from_bits(0b10_1001);
+        let others = LineSet::from_bits(0b1000);
+        let all = LineSet::from_bits(0xFFFF);
+        let none = LineSet::none();
+        assert!(rt; Authority::grant_fine(7, some, others, true) == entry(7, true, 0b1000));
+        assert!(rt; Authority::grant_fine(7, some, others, false) == entry(7, false, 0b10_1001));
+        assert!(rt; Authority::grant_fine(7, all, others, false) == entry(7, true, 0b1000));
+        assert!(rt; Authority::grant_fine(7, all, none, false) == entry(7, false, 0xFFFF));
         Ok(())
     }
 }

@@ -1,15 +1,15 @@
 -- Where an access that is permitted begins.
-use Rattle.std.proofs.Common.{◌≡◌, ℕ, Bool, false, refl, sym, ◌∙◌, ap, subst, Ok}
+use Rattle.std.proofs.Common.{◌≡◌, ℕ, Bool, false, refl, sym, ◌∙◌, subst, Ok}
 use Rattle.segment_regs.specs.declared.registers.Virtual.{Virtual}
 use Rattle.segment_regs.specs.Registers.{located_by}
 use Rattle.romp_cpu.specs.declared.storage.Probe.{Probe}
-use Rattle.romp_cpu.specs.Answers.{answered, answered_at}
+use Rattle.romp_cpu.specs.Answers.{answered}
 use Rattle.romp_cpu.specs.Shown.{access_to}
 use Rattle.storage_unit.specs.declared.model.Reach.{Reach}
 use Rattle.storage_unit.specs.Reach.{is_in_frame, refuses}
 use Rattle.storage_unit.specs.Reached.{IsSound, Lies, AreThere}
 use Rattle.storage_unit.proofs.PlaceLemmas.{Under, under, lies, first-byte}
-use Rattle.storage_unit.proofs.AnswerLemmas.{permitted-located, permitted-there}
+use Rattle.storage_unit.proofs.AnswerLemmas.{permitted-located, permitted-bytes}
 
 -- its bytes lie there, in frames
 pub record Begins (state : Reach) (address n : ℕ) (at : Virtual) : Type 0 where
@@ -30,5 +30,5 @@ module _ (state : Reach) (sound : IsSound state) (address n : ℕ) (store : Bool
       (record {
         under = under state.registers address n store v lies_at;
         lies = lies state sound address n v (under state.registers address n store v lies_at);
-        there = permitted-there state v n (access_to address n store) refl (ap (answered_at (is_in_frame state) (refuses state) (access_to address n store)) (sym lies_at) ∙ permitted);
+        there = permitted-bytes state sound (access_to address n store) v permitted lies_at;
       })

@@ -8,6 +8,7 @@ use Rattle.std.proofs.lemmas.List.{get_or-replicate, get_or_past}
 use Rattle.std.proofs.lemmas.List.FromFn.{get_or-map-range_with_len, length-map-range_with_len}
 use Rattle.std.proofs.lemmas.Grind.{same_number_lists}
 use Rattle.owned_list.specs.Overlay.{overlaid}
+use Rattle.line_geometry.specs.declared.directory.PageSize.{PageSize}
 use Rattle.line_geometry.specs.Segments.{page_bytes}
 use Rattle.line_geometry.specs.Directory.{start_of}
 use Rattle.line_geometry.specs.Lines.{page_of}
@@ -25,16 +26,17 @@ use Rattle.romp_cpu.specs.Answers.{IsOutside, answer_in}
 use Rattle.romp_cpu.specs.Shown.{bytes_from}
 use Rattle.storage_unit.specs.declared.model.Reach.{Reach}
 use Rattle.storage_unit.specs.Places.{private_segment, offset_of, place_of, place_at, on, key_of_page}
+use Rattle.storage_unit.specs.Held.{AreReached}
 use Rattle.storage_unit.specs.Bytes.{byte_in_frame}
 use Rattle.storage_unit.specs.Reach.{byte_of, byte_at, is_there, is_in_frame, refuses, put_byte, put_in_store, put_at}
 use Rattle.storage_unit.specs.Reached.{IsSound, Lies, AreThere, bytes_shown}
-use Rattle.storage_unit.proofs.SizeLemmas.{page-of-line}
+use Rattle.storage_unit.proofs.SizeLemmas.{rest-below, place-is, frame-high, page-of-line}
 use Rattle.storage_unit.proofs.KeyLemmas.{key-of-place}
 use Rattle.storage_unit.proofs.FillLemmas.{over-part, in-part}
-use Rattle.storage_unit.proofs.PlaceLemmas.{Under, under, lies, part, itself, byte-on, place-on, is-private, is-shared, never-refused}
+use Rattle.storage_unit.proofs.PlaceLemmas.{Under, under, lies, part, itself, byte-on, offset-is, place-on, is-private, is-shared, never-refused}
 use Rattle.storage_unit.proofs.CopyLemmas.{shown-at, shown-long}
 use Rattle.storage_unit.proofs.PutLemmas.{put-inside, put-outside, spot-none, place-put}
-use Rattle.storage_unit.proofs.StoreLemmas.{frame-room, frame-below}
+use Rattle.storage_unit.proofs.StoreLemmas.{frame-room, all-private, frame-below, low-frame}
 
 -- a range that is shown, byte by byte
 pub range-shown : (state : Reach) (sound : IsSound state) (address n : ℕ) (at : Virtual) (u : Under state.registers address n at)
@@ -50,11 +52,11 @@ range-shown state sound address n at u =
 
 -- bytes that are put are put in frames that have room
 pub private-room : (state : Reach) (sound : IsSound state) (at : Virtual) (n a : ℕ) → Lies state at n → place_of state.directory at ≡ Private a
-    → ((state.runner - 1) * 16384 + a + n ≤ 128 * 2048) × (128 * 2048 ≤ length state.pool.bytes)
+    → ((state.runner - 1) * 16384 + a + n ≤ 262144) × (262144 ≤ length state.pool.bytes)
 private-room state sound at n a lies is =
     let (own, offset) = is-private state.directory at a is in
     let (seat, runner, few, segment, begun, fits) = lies.private own in
-    (omega (arith, runner, few, fits, offset), omega (arith, frame-room state sound 127 (omega arith)))
+    (omega (arith, runner, few, fits, offset), all-private state sound)
 
 -- where a byte of the store is shown, its page is in a frame
 pub there-frame : (state : Reach) (sound : IsSound state) (place : ℕ) → is_there state (Shared place) ≡ true → (frame : ℕ) × (frame_at state.pool (page_of state.directory place) ≡ Some frame)
@@ -71,7 +73,7 @@ pub shared-after : (state : Reach) (sound : IsSound state) (from : ℕ) (bytes :
 shared-after state sound from bytes place frame is =
     let there = sound.seen.there (page_of state.directory place) frame is in
     ap (λ (o : Option ℕ). option_map_or (byte_in_frame state.directory (put_in_store state.directory state.pool from bytes) place) o 0) is
-    ∙ place-put state.directory sound.two state.pool from bytes place frame there (frame-room state sound frame (frame-below state sound (page_of state.directory place) frame there).1)
+    ∙ place-put state.directory state.pool from bytes place frame there (frame-room state sound frame (frame-below state sound (page_of state.directory place) frame there).1)
     ∙ ap (put_byte bytes from place) (sym (ap (λ (o : Option ℕ). option_map_or (byte_in_frame state.directory state.pool place) o 0) is))
 
 module _ (state : Reach) (sound : IsSound state) (address : ℕ) (bytes : List ℕ) (at : Virtual) (u : Under state.registers address (length bytes) at) (there : AreThere state at (length bytes)) where
@@ -114,53 +116,49 @@ module _ (state : Reach) (sound : IsSound state) (address : ℕ) (bytes : List �
       ∙ after-at (place_of state.directory at) refl k small)
 
   module _ (other : ℕ) (outside : IsOutside state.registers address (length bytes) other) where
+    abbrev page : PageSize
+    page = state.directory.page
+
     -- a byte at another address is none of the range
-    not-inside : (v : Virtual) → located_by state.registers other 1 false ≡ Ok v → (k : ℕ) → k < length bytes → v ≡ bytes_on at k → ⊥
+    not-inside : (v : Virtual) → located_by state.registers other 1 false ≡ Ok v → (k : ℕ) → k < length bytes → v ≡ bytes_on state.directory.page at k → ⊥
     not-inside v found k below is = outside k below (found ∙ ap Ok is ∙ sym (part state sound address n at u k 1 (omega arith)))
 
-    same-virtual : (v w : Virtual) → v ≡ virtual_at v.segment (offset_of v) → w ≡ virtual_at w.segment (offset_of w) → v.segment ≡ w.segment → offset_of v ≡ offset_of w → v ≡ w
-    same-virtual v w one two segments offsets = one ∙ ap (λ s. virtual_at s (offset_of v)) segments ∙ ap (virtual_at w.segment) offsets ∙ sym two
+    same-virtual : (v w : Virtual) → v ≡ virtual_at page v.segment (offset_of page v) → w ≡ virtual_at page w.segment (offset_of page w) → v.segment ≡ w.segment → offset_of page v ≡ offset_of page w → v ≡ w
+    same-virtual v w one two segments offsets = one ∙ ap (λ s. virtual_at page s (offset_of page v)) segments ∙ ap (virtual_at page w.segment) offsets ∙ sym two
 
-    on-itself : (k : ℕ) → bytes_on at k ≡ virtual_at (bytes_on at k).segment (offset_of (bytes_on at k))
-    on-itself k = let sum : offset_of (bytes_on at k) ≡ offset_of at + k = omega arith in ap (virtual_at at.segment) (sym sum)
+    on-itself : (k : ℕ) → bytes_on page at k ≡ virtual_at page (bytes_on page at k).segment (offset_of page (bytes_on page at k))
+    on-itself k = ap (virtual_at page at.segment) (sym (offset-is page at.segment (offset_of page at + k)))
 
     -- one that lies where a byte of the range does is that byte
-    same-private : (v : Virtual) (a b k : ℕ) → located_by state.registers other 1 false ≡ Ok v → place_of state.directory at ≡ Private a → place_of state.directory v ≡ Private b → b ≡ a + k → v ≡ bytes_on at k
+    same-private : (v : Virtual) (a b k : ℕ) → located_by state.registers other 1 false ≡ Ok v → place_of state.directory at ≡ Private a → place_of state.directory v ≡ Private b → b ≡ a + k → v ≡ bytes_on state.directory.page at k
     same-private v a b k found at_is v_is same =
         let w = under state.registers other 1 false v found in
         let (own, offset) = is-private state.directory at a at_is in
         let (own', offset') = is-private state.directory v b v_is in
         let (seat, runner, few, segment, begun, fits) = (lies state sound address n at u).private own in
         let (seat', runner', few', segment', begun', fits') = (lies state sound other 1 v w).private own' in
-        let sum : offset_of (bytes_on at k) ≡ offset_of at + k = omega arith in
-        same-virtual v (bytes_on at k) (itself state sound other 1 v w) (on-itself k) (omega (arith, segment, segment', runner, runner')) (omega (arith, offset, offset', same, sum))
+        let sum : offset_of page (bytes_on page at k) ≡ offset_of page at + k = offset-is page at.segment (offset_of page at + k) in
+        same-virtual v (bytes_on page at k) (itself state sound other 1 v w) (on-itself k) (omega (arith, segment, segment', runner, runner')) (omega (arith, offset, offset', same, sum))
 
-    same-shared : (v : Virtual) (a b k : ℕ) → k < length bytes → located_by state.registers other 1 false ≡ Ok v → place_of state.directory at ≡ Shared a → place_of state.directory v ≡ Shared b → b ≡ a + k → v ≡ bytes_on at k
+    same-shared : (v : Virtual) (a b k : ℕ) → k < length bytes → located_by state.registers other 1 false ≡ Ok v → place_of state.directory at ≡ Shared a → place_of state.directory v ≡ Shared b → b ≡ a + k → v ≡ bytes_on state.directory.page at k
     same-shared v a b k below found at_is v_is same =
         let w = under state.registers other 1 false v found in
         let (own, place) = is-shared state.directory at a at_is in
         let (own', place') = is-shared state.directory v b v_is in
         let (bytes, found_it, fits, within) = (lies state sound address n at u).shared own in
         let (bytes', found', fits', within') = (lies state sound other 1 v w).shared own' in
-        let sum : offset_of (bytes_on at k) ≡ offset_of at + k = omega arith in
-        let first = key-of-place state.directory sound.two sound.legal at.segment bytes (offset_of at + k) found_it (omega (arith, fits, below)) in
-        let second = key-of-place state.directory sound.two sound.legal v.segment bytes' (offset_of v) found' (omega (arith, fits')) in
-        let one : start_of state.directory at.segment + (offset_of at + k) ≡ start_of state.directory v.segment + offset_of v = omega (arith, place, place', same) in
-        let keys : key_to at.segment ((offset_of at + k) / 2048) ≡ key_to v.segment (offset_of v / 2048) = sym first ∙ ap (λ p. key_of_page state.directory (p / 2048)) one ∙ second in
+        let sum : offset_of page (bytes_on page at k) ≡ offset_of page at + k = offset-is page at.segment (offset_of page at + k) in
+        let first = key-of-place state.directory sound.legal at.segment bytes (offset_of page at + k) found_it (omega (arith, fits, below)) in
+        let second = key-of-place state.directory sound.legal v.segment bytes' (offset_of page v) found' (omega (arith, fits')) in
+        let one : start_of state.directory at.segment + (offset_of page at + k) ≡ start_of state.directory v.segment + offset_of page v = omega (arith, place, place', same) in
+        let keys : key_to at.segment ((offset_of page at + k) / page_bytes page) ≡ key_to v.segment (offset_of page v / page_bytes page) = sym first ∙ ap (λ p. key_of_page state.directory (p / page_bytes page)) one ∙ second in
         let segments : at.segment ≡ v.segment = ap (λ (key : Key). key.segment) keys in
         let starts : start_of state.directory at.segment ≡ start_of state.directory v.segment = ap (start_of state.directory) segments in
-        same-virtual v (bytes_on at k) (itself state sound other 1 v w) (on-itself k) (sym segments) (omega (arith, one, starts, sum))
+        same-virtual v (bytes_on page at k) (itself state sound other 1 v w) (on-itself k) (sym segments) (omega (arith, one, starts, sum))
 
     -- private bytes aren't in frames of the store
-    private-spot : (v : Virtual) (b : ℕ) → located_by state.registers other 1 false ≡ Ok v → place_of state.directory v ≡ Private b → (state.runner - 1) * 16384 + b < 128 * 2048
+    private-spot : (v : Virtual) (b : ℕ) → located_by state.registers other 1 false ≡ Ok v → place_of state.directory v ≡ Private b → (state.runner - 1) * 16384 + b < 262144
     private-spot v b found is = let (room, all) = private-room state sound v 1 b (lies state sound other 1 v (under state.registers other 1 false v found)) is in omega (arith, room)
-
-    low-frame : (spot : ℕ) → spot < 128 * 2048 → page_at state.pool (spot / 2048) ≡ None
-    low-frame spot low = by_page (page_at state.pool (spot / 2048)) refl
-      where
-        by_page : (o : Option ℕ) → page_at state.pool (spot / 2048) ≡ o → page_at state.pool (spot / 2048) ≡ None
-        by_page None is = is
-        by_page (Some page) is = absurd (omega (arith, low, (frame-below state sound page (spot / 2048) is).0))
 
     by_place : (place target : Located) (v : Virtual) → place_of state.directory at ≡ place → located_by state.registers other 1 false ≡ Ok v → place_of state.directory v ≡ target
         → byte_of (put_at state place bytes) target ≡ byte_of state target
@@ -178,16 +176,14 @@ module _ (state : Reach) (sound : IsSound state) (address : ℕ) (bytes : List �
             let (room, all) = private-room state sound at n a (lies state sound address n at u) is in
             let high = (frame-below state sound (page_of state.directory b) frame (sound.seen.there (page_of state.directory b) frame at_b)).0 in
             ap (λ (o : Option ℕ). option_map_or (byte_in_frame state.directory (put_at state (Private a) bytes).pool b) o 0) at_b
-            ∙ ap (λ s. slice_index (overlaid state.pool.bytes ((state.runner - 1) * 16384 + a) bytes) (frame * page_bytes s + b % page_bytes s)) sound.two
-            ∙ over-part state.pool.bytes ((state.runner - 1) * 16384 + a) bytes (frame * 2048 + b % 2048) (omega (arith, room, all)) (λ j less same. absurd (omega (arith, same, less, room, high)))
-            ∙ sym (ap (λ s. slice_index state.pool.bytes (frame * page_bytes s + b % page_bytes s)) sound.two)
+            ∙ over-part state.pool.bytes ((state.runner - 1) * 16384 + a) bytes (frame * page_bytes page + b % page_bytes page) (omega (arith, room, all)) (λ j less same. absurd (omega (arith, same, less, room, frame-high page frame high)))
             ∙ sym (ap (λ (o : Option ℕ). option_map_or (byte_in_frame state.directory state.pool b) o 0) at_b)
     by_place (Shared a) (Private b) v is found v_is =
         let spot = (state.runner - 1) * 16384 + b in
         let low = private-spot v b found v_is in
-        let split : spot / 2048 * 2048 + spot % 2048 ≡ spot = omega arith in
+        let split : spot / page_bytes page * page_bytes page + spot % page_bytes page ≡ spot = place-is page spot in
         ap (slice_index (put_in_store state.directory state.pool a bytes).bytes) (sym split)
-        ∙ spot-none state.directory sound.two state.pool a bytes (spot / 2048) (spot % 2048) (low-frame spot low) (omega arith) (omega (arith, low, frame-room state sound 127 (omega arith)))
+        ∙ spot-none state.directory state.pool a bytes (spot / page_bytes page) (spot % page_bytes page) (low-frame state sound spot low) (rest-below page spot) (omega (arith, low, all-private state sound, split))
         ∙ ap (slice_index state.pool.bytes) split
     by_place (Shared a) (Shared b) v is found v_is = by_frame (frame_at state.pool (page_of state.directory b)) refl
       where
@@ -250,22 +246,23 @@ there-after state (Shared a) bytes v m all k below = by_target (on (place_of sta
 there-after state (Refused code) bytes v m all k below = all k below
 
 -- the first two bytes of a halfword under register 0
-pub own-located : (state : Reach) (seat address bytes : ℕ) → slice_index_or state.registers 0 None ≡ Some (private_register (private_segment seat)) → address + bytes ≤ 16384
-    → located_by state.registers address bytes false ≡ Ok (virtual_at (private_segment seat) address)
-own-located state seat address bytes first fits =
+pub own-located : (state : Reach) (seat address bytes : ℕ) → AreReached state.directory seat state.registers → address + bytes ≤ 16384
+    → located_by state.registers address bytes false ≡ Ok (virtual_at state.directory.page (private_segment seat) address)
+own-located state seat address bytes reached fits =
     let low : address / 2 ^ 28 ≡ 0 = omega (arith, fits) in
     let rest : address % 2 ^ 28 ≡ address = omega (arith, fits) in
     let inside : nat_le (address + bytes) 16384 ≡ true = grind (arith, nat_tests, fits) in
-    ap (λ i. located_under (slice_index_or state.registers i None) (address % 2 ^ 28) bytes false) low
-    ∙ ap (λ o. located_under (slice_index_or state.registers 0 None) o bytes false) rest
-    ∙ ap (λ r. located_under r address bytes false) first
-    ∙ ap (λ (test : Bool). cond {A = Result Virtual Check} test (Ok (virtual_at (private_segment seat) address)) (Err (record { 0 = 2 }))) inside
+    ap (λ i. located_under state.registers.page (slice_index_or state.registers.list i None) (address % 2 ^ 28) bytes false) low
+    ∙ ap (λ o. located_under state.registers.page (slice_index_or state.registers.list 0 None) o bytes false) rest
+    ∙ ap (λ r. located_under state.registers.page r address bytes false) reached.first
+    ∙ ap (λ (test : Bool). cond {A = Result Virtual Check} test (Ok (virtual_at state.registers.page (private_segment seat) address)) (Err (record { 0 = 2 }))) inside
+    ∙ ap (λ page. Ok (virtual_at page (private_segment seat) address)) reached.page
 
 -- where nothing stands under any register, nothing is shown
-pub nothing-shown : (state : Reach) (address : ℕ) → state.registers ≡ replicate 16 None → byte_at state address ≡ 0
+pub nothing-shown : (state : Reach) (address : ℕ) → state.registers ≡ record { page = state.directory.page; list = replicate 16 None } → byte_at state address ≡ 0
 nothing-shown state address none =
-    ap (λ registers. byte_of state (place_at state.directory (located_under (slice_index_or registers (address / 2 ^ 28) None) (address % 2 ^ 28) 1 false))) none
-    ∙ ap (λ r. byte_of state (place_at state.directory (located_under r (address % 2 ^ 28) 1 false))) (empty (address / 2 ^ 28))
+    ap (λ registers. byte_of state (place_at state.directory (located_by registers address 1 false))) none
+    ∙ ap (λ r. byte_of state (place_at state.directory (located_under state.directory.page r (address % 2 ^ 28) 1 false))) (empty (address / 2 ^ 28))
   where
     empty : (i : ℕ) → slice_index_or (replicate 16 (let none : Option SegmentRegister = None in none)) i None ≡ None
     empty i = elim (cases_lt i 16) [

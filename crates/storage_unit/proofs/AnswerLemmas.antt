@@ -6,9 +6,8 @@ use Rattle.line_geometry.specs.Lines.{line_of}
 use Rattle.flat_machine.specs.declared.machine.Located.{Located}
 use Rattle.flat_machine.specs.declared.machine.Located.TheVariants.{Private, Shared}
 use Rattle.segment_regs.specs.declared.registers.Check.{Check}
-use Rattle.segment_regs.specs.declared.registers.SegmentRegister.{SegmentRegister}
 use Rattle.segment_regs.specs.declared.registers.Virtual.{Virtual}
-use Rattle.segment_regs.specs.Registers.{bytes_on, located_by}
+use Rattle.segment_regs.specs.Registers.{Registers, bytes_on, located_by}
 use Rattle.romp_cpu.specs.declared.storage.Access.{Access}
 use Rattle.romp_cpu.specs.declared.storage.Probe.{Probe}
 use Rattle.romp_cpu.specs.Answers.{bytes_of_range, unless_refused_at, unless_absent_at, answered_at, answered}
@@ -16,51 +15,52 @@ use Rattle.storage_unit.specs.Places.{place_of, on}
 use Rattle.storage_unit.specs.Reach.{is_resident, is_refused, is_there, is_kept_from, is_in_frame, refuses}
 use Rattle.storage_unit.specs.declared.model.Reach.{Reach}
 use Rattle.storage_unit.proofs.FindLemmas.{find-map, find-same, none-passes, none-found}
-use Rattle.storage_unit.proofs.PlaceLemmas.{place-on}
+use Rattle.storage_unit.specs.Reached.{IsSound, AreThere}
+use Rattle.storage_unit.proofs.PlaceLemmas.{place-on, registers-page}
 
 module _ (f : Reach) (first : Virtual) (n : ℕ) where
   -- the first byte that is in no frame, by its place
-  absent-on : find (λ at. not (is_in_frame f at)) (bytes_of_range first n)
-      ≡ option_map (bytes_on first) (find (λ k. not (is_there f (on (place_of f.directory first) k))) (range_with_len 0 n))
+  absent-on : find (λ at. not (is_in_frame f at)) (bytes_of_range f.directory.page first n)
+      ≡ option_map (bytes_on f.directory.page first) (find (λ k. not (is_there f (on (place_of f.directory first) k))) (range_with_len 0 n))
   absent-on =
-      find-map (λ at. not (is_in_frame f at)) (bytes_on first) (range_with_len 0 n)
-      ∙ ap (option_map (bytes_on first))
-      (find-same (λ k. not (is_in_frame f (bytes_on first k))) (λ k. not (is_there f (on (place_of f.directory first) k))) (range_with_len 0 n)
+      find-map (λ at. not (is_in_frame f at)) (bytes_on f.directory.page first) (range_with_len 0 n)
+      ∙ ap (option_map (bytes_on f.directory.page first))
+      (find-same (λ k. not (is_in_frame f (bytes_on f.directory.page first k))) (λ k. not (is_there f (on (place_of f.directory first) k))) (range_with_len 0 n)
       (λ k. ap (λ place. not (is_there f place)) (place-on f.directory first k)))
 
   -- the first byte that is refused
-  refused-on : (store : Bool) → find (λ at. refuses f at store) (bytes_of_range first n)
-      ≡ option_map (bytes_on first) (find (λ k. is_kept_from f (on (place_of f.directory first) k) store) (range_with_len 0 n))
+  refused-on : (store : Bool) → find (λ at. refuses f at store) (bytes_of_range f.directory.page first n)
+      ≡ option_map (bytes_on f.directory.page first) (find (λ k. is_kept_from f (on (place_of f.directory first) k) store) (range_with_len 0 n))
   refused-on store =
-      find-map (λ at. refuses f at store) (bytes_on first) (range_with_len 0 n)
-      ∙ ap (option_map (bytes_on first))
-      (find-same (λ k. refuses f (bytes_on first k) store) (λ k. is_kept_from f (on (place_of f.directory first) k) store) (range_with_len 0 n)
+      find-map (λ at. refuses f at store) (bytes_on f.directory.page first) (range_with_len 0 n)
+      ∙ ap (option_map (bytes_on f.directory.page first))
+      (find-same (λ k. refuses f (bytes_on f.directory.page first k) store) (λ k. is_kept_from f (on (place_of f.directory first) k) store) (range_with_len 0 n)
       (λ k. ap (λ place. is_kept_from f place store) (place-on f.directory first k)))
 
   -- the answer by the places of the bytes
   abbrev pub answer_by : Located → Bool → Probe
   answer_by place store =
       unless_absent_at
-      (option_map (bytes_on first) (find (λ k. not (is_there f (on place k))) (range_with_len 0 n)))
-      (option_map (bytes_on first) (find (λ k. is_kept_from f (on place k) store) (range_with_len 0 n)))
+      (option_map (bytes_on f.directory.page first) (find (λ k. not (is_there f (on place k))) (range_with_len 0 n)))
+      (option_map (bytes_on f.directory.page first) (find (λ k. is_kept_from f (on place k) store) (range_with_len 0 n)))
 
-  pub answered-by : (access : Access) → access.bytes ≡ n → answered_at (is_in_frame f) (refuses f) access (Ok first) ≡ answer_by (place_of f.directory first) access.store
+  pub answered-by : (access : Access) → access.bytes ≡ n → answered_at f.directory.page (is_in_frame f) (refuses f) access (Ok first) ≡ answer_by (place_of f.directory first) access.store
   answered-by access bytes =
-      ap (λ m. unless_absent_at (find (λ at. not (is_in_frame f at)) (bytes_of_range first m)) (find (λ at. refuses f at access.store) (bytes_of_range first m))) bytes
-      ∙ ap (λ absent. unless_absent_at absent (find (λ at. refuses f at access.store) (bytes_of_range first n))) absent-on
-      ∙ ap (unless_absent_at (option_map (bytes_on first) (find (λ k. not (is_there f (on (place_of f.directory first) k))) (range_with_len 0 n)))) (refused-on access.store)
+      ap (λ m. unless_absent_at (find (λ at. not (is_in_frame f at)) (bytes_of_range f.directory.page first m)) (find (λ at. refuses f at access.store) (bytes_of_range f.directory.page first m))) bytes
+      ∙ ap (λ absent. unless_absent_at absent (find (λ at. refuses f at access.store) (bytes_of_range f.directory.page first n))) absent-on
+      ∙ ap (unless_absent_at (option_map (bytes_on f.directory.page first) (find (λ k. not (is_there f (on (place_of f.directory first) k))) (range_with_len 0 n)))) (refused-on access.store)
 
   -- in the private storage it is permitted
   pub answered-private : (access : Access) (at : ℕ) → access.bytes ≡ n → place_of f.directory first ≡ Private at
-      → answered_at (is_in_frame f) (refuses f) access (Ok first) ≡ Probe.Permitted
+      → answered_at f.directory.page (is_in_frame f) (refuses f) access (Ok first) ≡ Probe.Permitted
   answered-private access at bytes place =
       answered-by access bytes
       ∙ ap (λ p. answer_by p access.store) place
-      ∙ ap (λ found. unless_absent_at (option_map (bytes_on first) found) (option_map (bytes_on first) (find (λ k. false) (range_with_len 0 n)))) (none-found (λ k. false) 0 n (λ k above below. refl))
-      ∙ ap (λ found. unless_refused_at (option_map (bytes_on first) found)) (none-found (λ k. false) 0 n (λ k above below. refl))
+      ∙ ap (λ found. unless_absent_at (option_map (bytes_on f.directory.page first) found) (option_map (bytes_on f.directory.page first) (find (λ k. false) (range_with_len 0 n)))) (none-found (λ k. false) 0 n (λ k above below. refl))
+      ∙ ap (λ found. unless_refused_at (option_map (bytes_on f.directory.page first) found)) (none-found (λ k. false) 0 n (λ k above below. refl))
 
   -- each byte of a permitted access is in a frame
-  pub permitted-there : (access : Access) → access.bytes ≡ n → answered_at (is_in_frame f) (refuses f) access (Ok first) ≡ Probe.Permitted
+  pub permitted-there : (access : Access) → access.bytes ≡ n → answered_at f.directory.page (is_in_frame f) (refuses f) access (Ok first) ≡ Probe.Permitted
       → (k : ℕ) → k < n → is_there f (on (place_of f.directory first) k) ≡ true
   permitted-there access bytes permitted k below =
       by_found (find (λ k. not (is_there f (on (place_of f.directory first) k))) (range_with_len 0 n)) refl (sym (answered-by access bytes) ∙ permitted)
@@ -70,14 +70,14 @@ module _ (f : Reach) (first : Virtual) (n : ℕ) where
       un-not false is = absurd (cc)
 
       by_found : (absent : Option ℕ) → find (λ k. not (is_there f (on (place_of f.directory first) k))) (range_with_len 0 n) ≡ absent
-          → unless_absent_at (option_map (bytes_on first) absent) (option_map (bytes_on first) (find (λ k. is_kept_from f (on (place_of f.directory first) k) access.store) (range_with_len 0 n))) ≡ Probe.Permitted
+          → unless_absent_at (option_map (bytes_on f.directory.page first) absent) (option_map (bytes_on f.directory.page first) (find (λ k. is_kept_from f (on (place_of f.directory first) k) access.store) (range_with_len 0 n))) ≡ Probe.Permitted
           → is_there f (on (place_of f.directory first) k) ≡ true
       by_found (Some j) is permitted = absurd (cc)
       by_found None is permitted = un-not _ (none-passes (λ k. not (is_there f (on (place_of f.directory first) k))) 0 n is k (omega arith) (omega arith))
 
   -- a permitted access of the store: each of its lines is there and permits
   pub permitted-lines : (access : Access) (at : ℕ) → access.bytes ≡ n → place_of f.directory first ≡ Shared at
-      → answered_at (is_in_frame f) (refuses f) access (Ok first) ≡ Probe.Permitted
+      → answered_at f.directory.page (is_in_frame f) (refuses f) access (Ok first) ≡ Probe.Permitted
       → (k : ℕ) → k < n → (is_resident f (line_of f.directory (at + k)) ≡ true) × (is_refused f (line_of f.directory (at + k)) access.store ≡ false)
   permitted-lines access at bytes place permitted =
       by_found
@@ -93,7 +93,7 @@ module _ (f : Reach) (first : Virtual) (n : ℕ) where
       by_found : (absent refused : Option ℕ)
           → find (λ k. not (is_resident f (line_of f.directory (at + k)))) (range_with_len 0 n) ≡ absent
           → find (λ k. is_refused f (line_of f.directory (at + k)) access.store) (range_with_len 0 n) ≡ refused
-          → unless_absent_at (option_map (bytes_on first) absent) (option_map (bytes_on first) refused) ≡ Probe.Permitted
+          → unless_absent_at (option_map (bytes_on f.directory.page first) absent) (option_map (bytes_on f.directory.page first) refused) ≡ Probe.Permitted
           → (k : ℕ) → k < n → (is_resident f (line_of f.directory (at + k)) ≡ true) × (is_refused f (line_of f.directory (at + k)) access.store ≡ false)
       by_found (Some j) refused a r permitted k below = absurd (cc)
       by_found None (Some j) a r permitted k below = absurd (cc)
@@ -105,26 +105,36 @@ module _ (f : Reach) (first : Virtual) (n : ℕ) where
   -- and the other way round
   pub lines-permitted : (access : Access) (at : ℕ) → access.bytes ≡ n → place_of f.directory first ≡ Shared at
       → ((k : ℕ) → k < n → (is_resident f (line_of f.directory (at + k)) ≡ true) × (is_refused f (line_of f.directory (at + k)) access.store ≡ false))
-      → answered_at (is_in_frame f) (refuses f) access (Ok first) ≡ Probe.Permitted
+      → answered_at f.directory.page (is_in_frame f) (refuses f) access (Ok first) ≡ Probe.Permitted
   lines-permitted access at bytes place all =
       answered-by access bytes
       ∙ ap (λ p. answer_by p access.store) place
       ∙ ap
-      (λ found. unless_absent_at (option_map (bytes_on first) found) (option_map (bytes_on first) (find (λ k. is_refused f (line_of f.directory (at + k)) access.store) (range_with_len 0 n))))
+      (λ found. unless_absent_at (option_map (bytes_on f.directory.page first) found) (option_map (bytes_on f.directory.page first) (find (λ k. is_refused f (line_of f.directory (at + k)) access.store) (range_with_len 0 n))))
       (none-found (λ k. not (is_resident f (line_of f.directory (at + k)))) 0 n (λ k above below. ap not (all k (omega arith)).0))
-      ∙ ap (λ found. unless_refused_at (option_map (bytes_on first) found))
+      ∙ ap (λ found. unless_refused_at (option_map (bytes_on f.directory.page first) found))
       (none-found (λ k. is_refused f (line_of f.directory (at + k)) access.store) 0 n (λ k above below. (all k (omega arith)).1))
 
 -- a permitted access lies somewhere
 pub permitted-located :
-    (registers : List (Option SegmentRegister)) (is_in_frame : Virtual → Bool) (refuses : Virtual → Bool → Bool) (access : Access)
+    (registers : Registers) (is_in_frame : Virtual → Bool) (refuses : Virtual → Bool → Bool) (access : Access)
     → answered registers is_in_frame refuses access ≡ Probe.Permitted
     → (at : Virtual) × (located_by registers access.address access.bytes access.store ≡ Ok at)
 permitted-located registers is_in_frame refuses access permitted = by_result (located_by registers access.address access.bytes access.store) refl permitted
   where
     by_result :
         (found : Result Virtual Check) → located_by registers access.address access.bytes access.store ≡ found
-        → answered_at is_in_frame refuses access found ≡ Probe.Permitted
+        → answered_at registers.page is_in_frame refuses access found ≡ Probe.Permitted
         → (at : Virtual) × (located_by registers access.address access.bytes access.store ≡ Ok at)
     by_result (Ok at) is permitted = (at, is)
     by_result (Err check) is permitted = absurd (cc)
+
+-- each byte of an access that is permitted under the registers is in a frame
+pub permitted-bytes :
+    (state : Reach) → IsSound state → (access : Access) (at : Virtual)
+    → answered state.registers (is_in_frame state) (refuses state) access ≡ Probe.Permitted
+    → located_by state.registers access.address access.bytes access.store ≡ Ok at → AreThere state at access.bytes
+permitted-bytes state sound access at permitted found =
+    permitted-there state at access.bytes access refl
+    (ap (λ page. answered_at page (is_in_frame state) (refuses state) access (Ok at)) (sym (registers-page state sound))
+    ∙ ap (answered_at state.registers.page (is_in_frame state) (refuses state) access) (sym found) ∙ permitted)

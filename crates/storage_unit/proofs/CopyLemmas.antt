@@ -19,9 +19,10 @@ use Rattle.frame_pool.proofs.SoundLemmas.{page_part}
 use Rattle.inverted_table.proofs.FindLemmas.{look_up-held}
 use Rattle.storage_unit.specs.declared.model.Reach.{Reach}
 use Rattle.storage_unit.specs.Places.{is_private, offset_of, place_of, on}
-use Rattle.storage_unit.specs.Held.{table_of, pages_begun}
+use Rattle.storage_unit.specs.Held.{seat_pages, table_of, pages_begun}
 use Rattle.storage_unit.specs.Reach.{byte_of}
 use Rattle.storage_unit.specs.Reached.{IsSound, Lies, AreThere, bytes_shown}
+use Rattle.storage_unit.proofs.SizeLemmas.{same-page-on, rest-on, seat-bytes}
 use Rattle.storage_unit.proofs.ByteLemmas.{in-range}
 use Rattle.storage_unit.proofs.HeldLemmas.{keys-long}
 use Rattle.storage_unit.proofs.PlaceLemmas.{on-on, private-is, shared-is, finds-own, finds-shared, place-byte, there-found}
@@ -60,33 +61,31 @@ found-below state at frame sound is =
     omega (
       arith,
       (look_up-held (table_of state).keys (key_of at) frame is).0,
-      keys-long state.directory (pages_begun state.begun) state.pool.frames state.pool.page_in,
+      keys-long state.directory (pages_begun state.directory.page state.begun) state.pool.frames state.pool.page_in,
       ap (λ s. frame_count s state.pool.frames) sound.size,
     )
 
 module _ (state : Reach) (sound : IsSound state) (at : Virtual) (n : ℕ) (some : 0 < n) (lies : Lies state at n) where
   -- the byte that is shown of a byte of the same page, in the frame that the table found
-  pub shown-found : (frame k : ℕ) → look_up (table_of state).keys (key_of at) ≡ Some frame → at.byte + k < 2048
-      → byte_of state (on (place_of state.directory at) k) ≡ slice_index state.pool.bytes (frame * 2048 + at.byte + k)
+  pub shown-found : (frame k : ℕ) → look_up (table_of state).keys (key_of at) ≡ Some frame → at.byte + k < page_bytes state.directory.page
+      → byte_of state (on (place_of state.directory at) k) ≡ slice_index state.pool.bytes (frame * page_bytes state.directory.page + at.byte + k)
   shown-found frame k is within = elim (cases_Bool (is_private at.segment)) [
     | inl own ↦
         let (seat, runner, few, segment, begun, fits) = lies.private own in
-        let same : seat * 8 + at.page ≡ frame = one (seat * 8 + at.page) frame (sym (finds-own state sound at n some lies seat runner own) ∙ is) in
-        let spot : (state.runner - 1) * 16384 + (offset_of at + k) ≡ frame * 2048 + at.byte + k = omega (arith, runner, same) in
+        let same : seat * seat_pages state.directory.page + at.page ≡ frame = one (seat * seat_pages state.directory.page + at.page) frame (sym (finds-own state sound at n some lies seat runner own) ∙ is) in
+        let spot : (state.runner - 1) * 16384 + (offset_of state.directory.page at + k) ≡ frame * page_bytes state.directory.page + at.byte + k =
+        omega (arith, runner, seat-bytes state.directory.page seat at.page, ap (λ n. n * page_bytes state.directory.page) same) in
         ap (λ place. byte_of state (on place k)) (private-is state.directory at own) ∙ ap (slice_index state.pool.bytes) spot
     | inr other ↦
-        let place = start_of state.directory at.segment + offset_of at in
-        let first : place % 2048 ≡ at.byte = place-byte state sound at n some lies in
-        let page : (place + k) / 2048 ≡ place / 2048 = omega (arith, first, within) in
-        let rest : (place + k) % 2048 ≡ at.byte + k = omega (arith, first, within) in
+        let place = start_of state.directory at.segment + offset_of state.directory.page at in
+        let first : place % page_bytes state.directory.page ≡ at.byte = place-byte state sound at n some lies in
+        let page : (place + k) / page_bytes state.directory.page ≡ place / page_bytes state.directory.page = same-page-on state.directory.page place k (omega (arith, first, within)) in
+        let rest : (place + k) % page_bytes state.directory.page ≡ at.byte + k = rest-on state.directory.page place k (omega (arith, first, within)) ∙ ap (λ n. n + k) first in
         let there : frame_at state.pool (page_of state.directory (place + k)) ≡ Some frame =
-        ap (λ s. frame_at state.pool ((place + k) / page_bytes s)) sound.two
-        ∙ ap (frame_at state.pool) page
-        ∙ ap (λ s. frame_at state.pool (place / page_bytes s)) (sym sound.two)
+        ap (frame_at state.pool) page
         ∙ sym (finds-shared state sound at n some lies other) ∙ is in
         ap (λ p. byte_of state (on p k)) (shared-is state.directory at other)
         ∙ ap (λ (o : Option ℕ). option_map_or (λ f. slice_index state.pool.bytes (f * page_bytes state.directory.page + (place + k) % page_bytes state.directory.page)) o 0) there
-        ∙ ap (λ s. slice_index state.pool.bytes (frame * page_bytes s + (place + k) % page_bytes s)) sound.two
         ∙ ap (slice_index state.pool.bytes) (omega (arith, rest))
   ]
     where
@@ -94,28 +93,28 @@ module _ (state : Reach) (sound : IsSound state) (at : Virtual) (n : ℕ) (some 
       one a b same = cc
 
   -- a part of that frame has the bytes that are shown
-  pub part-shown : (frame : ℕ) → look_up (table_of state).keys (key_of at) ≡ Some frame → at.byte + n ≤ 2048
+  pub part-shown : (frame : ℕ) → look_up (table_of state).keys (key_of at) ≡ Some frame → at.byte + n ≤ page_bytes state.directory.page
       → part_of state.pool frame at.byte n ≡ bytes_shown state (place_of state.directory at) n
   part-shown frame is within =
       ap (λ s. slice_range state.pool.bytes (frame * page_bytes s + at.byte) (frame * page_bytes s + at.byte + n)) sound.size
-      ∙ same_number_lists (slice_range state.pool.bytes (frame * 2048 + at.byte) (frame * 2048 + at.byte + n)) (bytes_shown state (place_of state.directory at) n)
+      ∙ same_number_lists (slice_range state.pool.bytes (frame * page_bytes state.directory.page + at.byte) (frame * page_bytes state.directory.page + at.byte + n)) (bytes_shown state (place_of state.directory at) n)
       (long ∙ sym (shown-long state (place_of state.directory at) n))
       (λ k below.
       let small : k < n = omega (arith, below, long) in
-      in-range state.pool.bytes (frame * 2048 + at.byte) n k small
+      in-range state.pool.bytes (frame * page_bytes state.directory.page + at.byte) n k small
       ∙ sym (shown-found frame k is (omega (arith, small, within)))
       ∙ sym (shown-at state (place_of state.directory at) n k small))
     where
-      fits : frame * 2048 + 2048 ≤ length state.pool.bytes
+      fits : frame * page_bytes state.directory.page + page_bytes state.directory.page ≤ length state.pool.bytes
       fits =
           omega (
             arith,
-            page_part frame (frame_count state.pool.page state.pool.frames) 2048 (found-below state at frame sound is),
+            page_part frame (frame_count state.pool.page state.pool.frames) (page_bytes state.directory.page) (found-below state at frame sound is),
             sound.seen.bytes,
             ap (λ s. frame_count state.pool.page state.pool.frames * page_bytes s) sound.size,
           )
 
-      long : length (slice_range state.pool.bytes (frame * 2048 + at.byte) (frame * 2048 + at.byte + n)) ≡ n
+      long : length (slice_range state.pool.bytes (frame * page_bytes state.directory.page + at.byte) (frame * page_bytes state.directory.page + at.byte + n)) ≡ n
       long = simp (length-take, length-drop) (omega (arith, fits, within))
 
   -- bytes that are in frames are found

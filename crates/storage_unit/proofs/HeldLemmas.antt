@@ -7,7 +7,7 @@ use Rattle.std.proofs.lemmas.List.{same_lists, length-set, length-append, get_or
 use Rattle.std.proofs.lemmas.List.FromFn.{get_or-map-range_with_len, length-map-range_with_len}
 use Rattle.owned_list.specs.Overlay.{overlaid}
 use Rattle.owned_list.proofs.Overlay.{overlaid_before, overlaid_within, overlaid_behind, length-overlaid}
-use Rattle.line_geometry.specs.declared.directory.PageSize.TheVariants.{Two}
+use Rattle.line_geometry.specs.declared.directory.PageSize.{PageSize}
 use Rattle.line_geometry.specs.Directory.{Layout, page_count}
 use Rattle.line_geometry.specs.Legal.{IsLegal}
 use Rattle.inverted_table.specs.declared.key.Key.{Key}
@@ -16,23 +16,24 @@ use Rattle.inverted_table.specs.Placed.{key_in, look_up}
 use Rattle.inverted_table.proofs.FindLemmas.{look_up-is}
 use Rattle.frame_pool.specs.declared.model.Pool.{Pool}
 use Rattle.frame_pool.specs.Seen.{IsSeen}
-use Rattle.frame_pool.specs.Sizes as sizes
+use Rattle.frame_pool.specs.Sizes.{private_frames}
 use Rattle.frame_pool.specs.Pool.{frame_at, page_at}
 use Rattle.frame_pool.proofs.SeenLemmas.{some-within}
 use Rattle.storage_unit.specs.Places.{private_segment, key_of_page}
-use Rattle.storage_unit.specs.Held.{held_private, held_in, keys_with}
+use Rattle.storage_unit.specs.Held.{seat_pages, held_private, held_in, keys_with}
+use Rattle.storage_unit.proofs.SizeLemmas.{seat-frame, seat-first, seat-rest, seat-is, seat-room, seat-before, seat-behind}
 use Rattle.storage_unit.proofs.KeyLemmas.{same-page, key-low}
 
 -- what a frame holds
-pub key-at : (d : Layout) (t : ℕ → ℕ) (frames : ℕ) (page_in : List (Option ℕ)) (frame : ℕ) → frame < 128 + frames → key_in (keys_with d t frames page_in) frame ≡ held_in d t page_in frame
-key-at d t frames page_in frame below = get_or-map-range_with_len (held_in d t page_in) 0 (128 + frames) frame frame None below (omega arith)
+pub key-at : (d : Layout) (t : ℕ → ℕ) (frames : ℕ) (page_in : List (Option ℕ)) (frame : ℕ) → frame < private_frames d.page + frames → key_in (keys_with d t frames page_in) frame ≡ held_in d t page_in frame
+key-at d t frames page_in frame below = get_or-map-range_with_len (held_in d t page_in) 0 (private_frames d.page + frames) frame frame None below (omega arith)
 
-pub keys-long : (d : Layout) (t : ℕ → ℕ) (frames : ℕ) (page_in : List (Option ℕ)) → length (keys_with d t frames page_in) ≡ 128 + frames
-keys-long d t frames page_in = length-map-range_with_len (held_in d t page_in) 0 (128 + frames)
+pub keys-long : (d : Layout) (t : ℕ → ℕ) (frames : ℕ) (page_in : List (Option ℕ)) → length (keys_with d t frames page_in) ≡ private_frames d.page + frames
+keys-long d t frames page_in = length-map-range_with_len (held_in d t page_in) 0 (private_frames d.page + frames)
 
 -- what is held is held in a frame that there is
-pub key-within : (d : Layout) (t : ℕ → ℕ) (frames : ℕ) (page_in : List (Option ℕ)) (frame : ℕ) (key : Key) → key_in (keys_with d t frames page_in) frame ≡ Some key → frame < 128 + frames
-key-within d t frames page_in frame key is = elim (cases_lt frame (128 + frames)) [
+pub key-within : (d : Layout) (t : ℕ → ℕ) (frames : ℕ) (page_in : List (Option ℕ)) (frame : ℕ) (key : Key) → key_in (keys_with d t frames page_in) frame ≡ Some key → frame < private_frames d.page + frames
+key-within d t frames page_in frame key is = elim (cases_lt frame (private_frames d.page + frames)) [
   | inl below ↦ below
   | inr past ↦
       absurd
@@ -40,29 +41,29 @@ key-within d t frames page_in frame key is = elim (cases_lt frame (128 + frames)
 ]
 
 -- what private frames and others hold
-pub held-private : (d : Layout) (t : ℕ → ℕ) (page_in : List (Option ℕ)) (frame : ℕ) → frame < 128 → held_in d t page_in frame ≡ held_private t frame
+pub held-private : (d : Layout) (t : ℕ → ℕ) (page_in : List (Option ℕ)) (frame : ℕ) → frame < private_frames d.page → held_in d t page_in frame ≡ held_private d.page t frame
 held-private d t page_in frame below =
-    let test : nat_lt frame 128 ≡ true = grind (arith, nat_tests, below) in
-    ap (λ (b : Bool). if b then held_private t frame else option_map (key_of_page d) (slice_index_or page_in frame None)) test
+    let test : nat_lt frame (private_frames d.page) ≡ true = grind (arith, nat_tests, below) in
+    ap (λ (b : Bool). if b then held_private d.page t frame else option_map (key_of_page d) (slice_index_or page_in frame None)) test
 
-pub held-store : (d : Layout) (t : ℕ → ℕ) (page_in : List (Option ℕ)) (frame : ℕ) → 128 ≤ frame → held_in d t page_in frame ≡ option_map (key_of_page d) (slice_index_or page_in frame None)
+pub held-store : (d : Layout) (t : ℕ → ℕ) (page_in : List (Option ℕ)) (frame : ℕ) → private_frames d.page ≤ frame → held_in d t page_in frame ≡ option_map (key_of_page d) (slice_index_or page_in frame None)
 held-store d t page_in frame above =
-    let test : nat_lt frame 128 ≡ false = grind (arith, nat_tests, above) in
-    ap (λ (b : Bool). if b then held_private t frame else option_map (key_of_page d) (slice_index_or page_in frame None)) test
+    let test : nat_lt frame (private_frames d.page) ≡ false = grind (arith, nat_tests, above) in
+    ap (λ (b : Bool). if b then held_private d.page t frame else option_map (key_of_page d) (slice_index_or page_in frame None)) test
 
 -- a private frame that holds something holds a page of its seat
-record IsPrivate (t : ℕ → ℕ) (frame : ℕ) (key : Key) : Type 0 where
-  segment : key.segment ≡ private_segment (frame / 8)
-  page : key.page ≡ frame % 8
-  among : frame % 8 < t (frame / 8)
+record IsPrivate (size : PageSize) (t : ℕ → ℕ) (frame : ℕ) (key : Key) : Type 0 where
+  segment : key.segment ≡ private_segment (frame / seat_pages size)
+  page : key.page ≡ frame % seat_pages size
+  among : frame % seat_pages size < t (frame / seat_pages size)
 
-is-private : (t : ℕ → ℕ) (frame : ℕ) (key : Key) → held_private t frame ≡ Some key → IsPrivate t frame key
-is-private t frame key is = by_test (nat_lt (frame % 8) (t (frame / 8))) refl is
+is-private : (size : PageSize) (t : ℕ → ℕ) (frame : ℕ) (key : Key) → held_private size t frame ≡ Some key → IsPrivate size t frame key
+is-private size t frame key is = by_test (nat_lt (frame % seat_pages size) (t (frame / seat_pages size))) refl is
   where
-    by_test : (b : Bool) → nat_lt (frame % 8) (t (frame / 8)) ≡ b → (if b then Some (key_to (private_segment (frame / 8)) (frame % 8)) else None) ≡ Some key → IsPrivate t frame key
+    by_test : (b : Bool) → nat_lt (frame % seat_pages size) (t (frame / seat_pages size)) ≡ b → (if b then Some (key_to (private_segment (frame / seat_pages size)) (frame % seat_pages size)) else None) ≡ Some key → IsPrivate size t frame key
     by_test true test is =
-        let same : key_to (private_segment (frame / 8)) (frame % 8) ≡ key = cc in
-        record { segment = ap (λ (k : Key). k.segment) (sym same); page = ap (λ (k : Key). k.page) (sym same); among = ltb-true (frame % 8) (t (frame / 8)) test }
+        let same : key_to (private_segment (frame / seat_pages size)) (frame % seat_pages size) ≡ key = cc in
+        record { segment = ap (λ (k : Key). k.segment) (sym same); page = ap (λ (k : Key). k.page) (sym same); among = ltb-true (frame % seat_pages size) (t (frame / seat_pages size)) test }
     by_test false test is = absurd (cc)
 
 -- a frame of the store that holds something holds a page that the pool has there
@@ -70,13 +71,13 @@ has-page : (d : Layout) (o : Option ℕ) (key : Key) → option_map (key_of_page
 has-page d None key is = absurd (cc)
 has-page d (Some page) key is = (page, refl, cc)
 
-module _ (d : Layout) (two : d.page ≡ Two) (legal : IsLegal d.segments) (pool : Pool) (seen : IsSeen pool) (size : pool.page ≡ Two) (pages : length pool.frame_of ≡ page_count d) (t : ℕ → ℕ) where
+module _ (d : Layout) (legal : IsLegal d.segments) (pool : Pool) (seen : IsSeen pool) (size : pool.page ≡ d.page) (pages : length pool.frame_of ≡ page_count d) (t : ℕ → ℕ) where
   -- a frame that the pool has a page in is one of the store, and so is the page
-  pub above : (page frame : ℕ) → page_at pool frame ≡ Some page → 128 ≤ frame
-  above page frame is = subst (λ s. sizes.private_frames s ≤ frame) size (seen.above page frame is)
+  pub above : (page frame : ℕ) → page_at pool frame ≡ Some page → private_frames d.page ≤ frame
+  above page frame is = subst (λ s. private_frames s ≤ frame) size (seen.above page frame is)
 
-  pub below : (page frame : ℕ) → page_at pool frame ≡ Some page → frame < 128 + pool.frames
-  below page frame is = subst (λ s. frame < sizes.frame_count s pool.frames) size (seen.below page frame is)
+  pub below : (page frame : ℕ) → page_at pool frame ≡ Some page → frame < private_frames d.page + pool.frames
+  below page frame is = subst (λ s. frame < private_frames s + pool.frames) size (seen.below page frame is)
 
   page-there : (page frame : ℕ) → page_at pool frame ≡ Some page → page < page_count d
   page-there page frame is = omega (arith, some-within pool.frame_of page frame (seen.back page frame is), pages)
@@ -96,56 +97,56 @@ module _ (d : Layout) (two : d.page ≡ Two) (legal : IsLegal d.segments) (pool 
       only frame is =
           let within = key-within d t pool.frames pool.page_in frame (key_of_page d page) is in
           let held = sym (key-at d t pool.frames pool.page_in frame within) ∙ is in
-          elim (cases_lt frame 128) [
+          elim (cases_lt frame (private_frames d.page)) [
             | inl low ↦
-                let own = is-private t frame (key_of_page d page) (sym (held-private d t pool.page_in frame low) ∙ held) in
-                absurd (omega (arith, key-low d two legal page inside, own.segment))
+                let own = is-private d.page t frame (key_of_page d page) (sym (held-private d t pool.page_in frame low) ∙ held) in
+                absurd (omega (arith, key-low d legal page inside, own.segment))
             | inr high ↦
                 let (other, at, same) = has-page d (page_at pool frame) (key_of_page d page) (sym (held-store d t pool.page_in frame high) ∙ held) in
-                let one : other ≡ page = same-page d two legal other page (page-there other frame at) inside same in
+                let one : other ≡ page = same-page d legal other page (page-there other frame at) inside same in
                 ap (frame_at pool) (sym one) ∙ seen.back other frame at
           ]
 
   -- and a private page in the frame of its seat, if it is there
   pub finds-private :
-      (seat index : ℕ) → seat < 16 → index < 8
-      → look_up (keys_with d t pool.frames pool.page_in) (key_to (private_segment seat) index) ≡ (if nat_lt index (t seat) then Some (seat * 8 + index) else None)
-  finds-private seat index few small = look_up-is (keys_with d t pool.frames pool.page_in) (key_to (private_segment seat) index) (if nat_lt index (t seat) then Some (seat * 8 + index) else None) there only
+      (seat index : ℕ) → seat < 16 → index < seat_pages d.page
+      → look_up (keys_with d t pool.frames pool.page_in) (key_to (private_segment seat) index) ≡ (if nat_lt index (t seat) then Some (seat * seat_pages d.page + index) else None)
+  finds-private seat index few small = look_up-is (keys_with d t pool.frames pool.page_in) (key_to (private_segment seat) index) (if nat_lt index (t seat) then Some (seat * seat_pages d.page + index) else None) there only
     where
       own : ℕ
-      own = seat * 8 + index
+      own = seat * seat_pages d.page + index
 
-      there : (frame : ℕ) → (if nat_lt index (t seat) then Some (seat * 8 + index) else None) ≡ Some frame → key_in (keys_with d t pool.frames pool.page_in) frame ≡ Some (key_to (private_segment seat) index)
+      there : (frame : ℕ) → (if nat_lt index (t seat) then Some (seat * seat_pages d.page + index) else None) ≡ Some frame → key_in (keys_with d t pool.frames pool.page_in) frame ≡ Some (key_to (private_segment seat) index)
       there frame is = by_test (nat_lt index (t seat)) refl is
         where
-          by_test : (b : Bool) → nat_lt index (t seat) ≡ b → (if b then Some (seat * 8 + index) else None) ≡ Some frame → key_in (keys_with d t pool.frames pool.page_in) frame ≡ Some (key_to (private_segment seat) index)
+          by_test : (b : Bool) → nat_lt index (t seat) ≡ b → (if b then Some (seat * seat_pages d.page + index) else None) ≡ Some frame → key_in (keys_with d t pool.frames pool.page_in) frame ≡ Some (key_to (private_segment seat) index)
           by_test false test is = absurd (cc)
           by_test true test is =
-              let at : seat * 8 + index ≡ frame = cc in
-              let low : frame < 128 = omega (arith, at, few, small) in
-              let first : frame / 8 ≡ seat = omega (arith, at, small) in
-              let rest : frame % 8 ≡ index = omega (arith, at, small) in
+              let at : seat * seat_pages d.page + index ≡ frame = cc in
+              let low : frame < private_frames d.page = subst (λ f. f < private_frames d.page) at (seat-frame d.page seat index few small) in
+              let first : frame / seat_pages d.page ≡ seat = ap (λ f. f / seat_pages d.page) (sym at) ∙ seat-first d.page seat index small in
+              let rest : frame % seat_pages d.page ≡ index = ap (λ f. f % seat_pages d.page) (sym at) ∙ seat-rest d.page seat index small in
               key-at d t pool.frames pool.page_in frame (omega (arith, low))
               ∙ held-private d t pool.page_in frame low
-              ∙ ap (λ n. if nat_lt n (t (frame / 8)) then Some (key_to (private_segment (frame / 8)) n) else None) rest
+              ∙ ap (λ n. if nat_lt n (t (frame / seat_pages d.page)) then Some (key_to (private_segment (frame / seat_pages d.page)) n) else None) rest
               ∙ ap (λ n. if nat_lt index (t n) then Some (key_to (private_segment n) index) else None) first
               ∙ ap (λ (b : Bool). if b then Some (key_to (private_segment seat) index) else None) test
 
-      only : (frame : ℕ) → key_in (keys_with d t pool.frames pool.page_in) frame ≡ Some (key_to (private_segment seat) index) → (if nat_lt index (t seat) then Some (seat * 8 + index) else None) ≡ Some frame
+      only : (frame : ℕ) → key_in (keys_with d t pool.frames pool.page_in) frame ≡ Some (key_to (private_segment seat) index) → (if nat_lt index (t seat) then Some (seat * seat_pages d.page + index) else None) ≡ Some frame
       only frame is =
           let within = key-within d t pool.frames pool.page_in frame (key_to (private_segment seat) index) is in
           let held = sym (key-at d t pool.frames pool.page_in frame within) ∙ is in
-          elim (cases_lt frame 128) [
+          elim (cases_lt frame (private_frames d.page)) [
             | inl low ↦
-                let one = is-private t frame (key_to (private_segment seat) index) (sym (held-private d t pool.page_in frame low) ∙ held) in
-                let first : frame / 8 ≡ seat = omega (arith, one.segment) in
-                let rest : frame % 8 ≡ index = omega (arith, one.page) in
-                let less : index < t seat = subst (λ n. n < t seat) rest (subst (λ n. frame % 8 < t n) first one.among) in
+                let one = is-private d.page t frame (key_to (private_segment seat) index) (sym (held-private d t pool.page_in frame low) ∙ held) in
+                let first : frame / seat_pages d.page ≡ seat = omega (arith, one.segment) in
+                let rest : frame % seat_pages d.page ≡ index = omega (arith, one.page) in
+                let less : index < t seat = subst (λ n. n < t seat) rest (subst (λ n. frame % seat_pages d.page < t n) first one.among) in
                 let test : nat_lt index (t seat) ≡ true = grind (arith, nat_tests, less) in
-                ap (λ (b : Bool). if b then Some (seat * 8 + index) else None) test ∙ ap (λ (n : ℕ). Some n) (omega (arith, first, rest))
+                ap (λ (b : Bool). if b then Some (seat * seat_pages d.page + index) else None) test ∙ ap (λ (n : ℕ). Some n) (ap (λ n. n * seat_pages d.page + index) (sym first) ∙ ap (λ n. frame / seat_pages d.page * seat_pages d.page + n) (sym rest) ∙ seat-is d.page frame)
             | inr high ↦
                 let (other, at, same) = has-page d (page_at pool frame) (key_to (private_segment seat) index) (sym (held-store d t pool.page_in frame high) ∙ held) in
-                let low = key-low d two legal other (page-there other frame at) in
+                let low = key-low d legal other (page-there other frame at) in
                 absurd (omega (arith, low, ap (λ (k : Key). k.segment) same))
           ]
 
@@ -197,17 +198,17 @@ overlaid-more xs at part x room =
 
 -- where a frame of the store holds something else
 pub keys-store :
-    (d : Layout) (t : ℕ → ℕ) (frames : ℕ) (page_in : List (Option ℕ)) (frame : ℕ) (o : Option ℕ) → 128 ≤ frame → frame < 128 + frames → frame < length page_in
+    (d : Layout) (t : ℕ → ℕ) (frames : ℕ) (page_in : List (Option ℕ)) (frame : ℕ) (o : Option ℕ) → private_frames d.page ≤ frame → frame < private_frames d.page + frames → frame < length page_in
     → slice_set (keys_with d t frames page_in) frame (option_map (key_of_page d) o) ≡ keys_with d t frames (slice_set page_in frame o)
 keys-store d t frames page_in frame o above below inside =
     same_lists (slice_set (keys_with d t frames page_in) frame (option_map (key_of_page d) o)) (keys_with d t frames (slice_set page_in frame o))
     (length-set (keys_with d t frames page_in) frame (option_map (key_of_page d) o) ∙ keys-long d t frames page_in ∙ sym (keys-long d t frames (slice_set page_in frame o)))
     (λ k e less. element k e (omega (arith, less, length-set (keys_with d t frames page_in) frame (option_map (key_of_page d) o), keys-long d t frames page_in)))
   where
-    there : (k : ℕ) (e : Option Key) → k < 128 + frames → (in_page : List (Option ℕ)) → get_or (keys_with d t frames in_page) k e ≡ held_in d t in_page k
-    there k e less in_page = get_or-map-range_with_len (held_in d t in_page) 0 (128 + frames) k k e less (omega arith)
+    there : (k : ℕ) (e : Option Key) → k < private_frames d.page + frames → (in_page : List (Option ℕ)) → get_or (keys_with d t frames in_page) k e ≡ held_in d t in_page k
+    there k e less in_page = get_or-map-range_with_len (held_in d t in_page) 0 (private_frames d.page + frames) k k e less (omega arith)
 
-    element : (k : ℕ) (e : Option Key) → k < 128 + frames
+    element : (k : ℕ) (e : Option Key) → k < private_frames d.page + frames
         → get_or (slice_set (keys_with d t frames page_in) frame (option_map (key_of_page d) o)) k e ≡ get_or (keys_with d t frames (slice_set page_in frame o)) k e
     element k e less = elim (cases_eq k frame) [
       | inl same ↦
@@ -220,50 +221,50 @@ keys-store d t frames page_in frame o above below inside =
       | inr apart ↦
           get_or-set_other (keys_with d t frames page_in) frame k (option_map (key_of_page d) o) e apart
           ∙ there k e less page_in
-          ∙ ap (λ (p : Option ℕ). if nat_lt k 128 then held_private t k else option_map (key_of_page d) p) (sym (get_or-set_other page_in frame k o None apart))
+          ∙ ap (λ (p : Option ℕ). if nat_lt k (private_frames d.page) then held_private d.page t k else option_map (key_of_page d) p) (sym (get_or-set_other page_in frame k o None apart))
           ∙ sym (there k e less (slice_set page_in frame o))
     ]
 
 -- where the private pages of a seat come into the table or leave it
 pub keys-seat :
-    (d : Layout) (t u : ℕ → ℕ) (frames : ℕ) (page_in : List (Option ℕ)) (seat : ℕ) (part : List (Option Key)) → seat < 16 → length part ≡ 8
-    → ((index : ℕ) → index < 8 → (e : Option Key) → get_or part index e ≡ held_private u (seat * 8 + index))
+    (d : Layout) (t u : ℕ → ℕ) (frames : ℕ) (page_in : List (Option ℕ)) (seat : ℕ) (part : List (Option Key)) → seat < 16 → length part ≡ seat_pages d.page
+    → ((index : ℕ) → index < seat_pages d.page → (e : Option Key) → get_or part index e ≡ held_private d.page u (seat * seat_pages d.page + index))
     → ((other : ℕ) → other ≢ seat → u other ≡ t other)
-    → overlaid (keys_with d t frames page_in) (seat * 8) part ≡ keys_with d u frames page_in
+    → overlaid (keys_with d t frames page_in) (seat * seat_pages d.page) part ≡ keys_with d u frames page_in
 keys-seat d t u frames page_in seat part few eight holds others =
-    same_lists (overlaid (keys_with d t frames page_in) (seat * 8) part) (keys_with d u frames page_in)
+    same_lists (overlaid (keys_with d t frames page_in) (seat * seat_pages d.page) part) (keys_with d u frames page_in)
     (long ∙ keys-long d t frames page_in ∙ sym (keys-long d u frames page_in)) (λ k e less. element k e (omega (arith, less, long, keys-long d t frames page_in)))
   where
-    room : seat * 8 + length part ≤ length (keys_with d t frames page_in)
-    room = omega (arith, few, eight, keys-long d t frames page_in)
+    room : seat * seat_pages d.page + length part ≤ length (keys_with d t frames page_in)
+    room = omega (arith, seat-room d.page seat few, eight, keys-long d t frames page_in)
 
-    long : length (overlaid (keys_with d t frames page_in) (seat * 8) part) ≡ length (keys_with d t frames page_in)
-    long = length-overlaid (keys_with d t frames page_in) (seat * 8) part room
+    long : length (overlaid (keys_with d t frames page_in) (seat * seat_pages d.page) part) ≡ length (keys_with d t frames page_in)
+    long = length-overlaid (keys_with d t frames page_in) (seat * seat_pages d.page) part room
 
-    there : (k : ℕ) (e : Option Key) → k < 128 + frames → (v : ℕ → ℕ) → get_or (keys_with d v frames page_in) k e ≡ held_in d v page_in k
-    there k e less v = get_or-map-range_with_len (held_in d v page_in) 0 (128 + frames) k k e less (omega arith)
+    there : (k : ℕ) (e : Option Key) → k < private_frames d.page + frames → (v : ℕ → ℕ) → get_or (keys_with d v frames page_in) k e ≡ held_in d v page_in k
+    there k e less v = get_or-map-range_with_len (held_in d v page_in) 0 (private_frames d.page + frames) k k e less (omega arith)
 
-    stays : (k : ℕ) → k / 8 ≢ seat → held_in d t page_in k ≡ held_in d u page_in k
+    stays : (k : ℕ) → k / seat_pages d.page ≢ seat → held_in d t page_in k ≡ held_in d u page_in k
     stays k apart =
-        ap (λ n. if nat_lt k 128 then (if nat_lt (k % 8) n then Some (key_to (private_segment (k / 8)) (k % 8)) else None) else option_map (key_of_page d) (slice_index_or page_in k None))
-        (sym (others (k / 8) apart))
+        ap (λ n. if nat_lt k (private_frames d.page) then (if nat_lt (k % seat_pages d.page) n then Some (key_to (private_segment (k / seat_pages d.page)) (k % seat_pages d.page)) else None) else option_map (key_of_page d) (slice_index_or page_in k None))
+        (sym (others (k / seat_pages d.page) apart))
 
-    element : (k : ℕ) (e : Option Key) → k < 128 + frames → get_or (overlaid (keys_with d t frames page_in) (seat * 8) part) k e ≡ get_or (keys_with d u frames page_in) k e
-    element k e less = elim (cases_lt k (seat * 8)) [
+    element : (k : ℕ) (e : Option Key) → k < private_frames d.page + frames → get_or (overlaid (keys_with d t frames page_in) (seat * seat_pages d.page) part) k e ≡ get_or (keys_with d u frames page_in) k e
+    element k e less = elim (cases_lt k (seat * seat_pages d.page)) [
       | inl low ↦
-          overlaid_before (keys_with d t frames page_in) (seat * 8) part k e (omega (arith, room)) low
-          ∙ there k e less t ∙ stays k (λ same. absurd (omega (arith, low, same))) ∙ sym (there k e less u)
+          overlaid_before (keys_with d t frames page_in) (seat * seat_pages d.page) part k e (omega (arith, room)) low
+          ∙ there k e less t ∙ stays k (λ same. absurd (omega (arith, seat-before d.page seat k low, same))) ∙ sym (there k e less u)
       | inr high ↦
-          elim (cases_lt k (seat * 8 + length part)) [
+          elim (cases_lt k (seat * seat_pages d.page + length part)) [
             | inl within ↦
-                let back : seat * 8 + (k - seat * 8) ≡ k = omega (arith, high) in
-                overlaid_within (keys_with d t frames page_in) (seat * 8) part k e (omega (arith, room)) high within
-                ∙ holds (k - seat * 8) (omega (arith, within, high, eight)) e
-                ∙ ap (held_private u) back
-                ∙ sym (held-private d u page_in k (omega (arith, within, few, eight)))
+                let back : seat * seat_pages d.page + (k - seat * seat_pages d.page) ≡ k = omega (arith, high) in
+                overlaid_within (keys_with d t frames page_in) (seat * seat_pages d.page) part k e (omega (arith, room)) high within
+                ∙ holds (k - seat * seat_pages d.page) (omega (arith, within, high, eight)) e
+                ∙ ap (held_private d.page u) back
+                ∙ sym (held-private d u page_in k (omega (arith, within, seat-room d.page seat few, eight)))
                 ∙ sym (there k e less u)
             | inr past ↦
-                overlaid_behind (keys_with d t frames page_in) (seat * 8) part k e (omega (arith, room)) past
-                ∙ there k e less t ∙ stays k (λ same. absurd (omega (arith, past, eight, same))) ∙ sym (there k e less u)
+                overlaid_behind (keys_with d t frames page_in) (seat * seat_pages d.page) part k e (omega (arith, room)) past
+                ∙ there k e less t ∙ stays k (λ same. absurd (omega (arith, seat-behind d.page seat k (omega (arith, past, eight)), same))) ∙ sym (there k e less u)
           ]
     ]

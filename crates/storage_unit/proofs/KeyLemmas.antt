@@ -5,7 +5,8 @@ use Rattle.std.specs.List.{prefix_len}
 use Rattle.std.specs.List.Sorted.{IsStrictlyIncreasing}
 use Rattle.std.proofs.lemmas.Bool.Decides.{nat_tests}
 use Rattle.std.proofs.lemmas.List.Sums.{sum_by-cons}
-use Rattle.line_geometry.specs.declared.directory.PageSize.TheVariants.{Two}
+use Rattle.line_geometry.specs.declared.directory.PageSize.{PageSize}
+use Rattle.line_geometry.specs.declared.directory.PageSize.TheVariants.{Two, Four}
 use Rattle.line_geometry.specs.Segments.{page_bytes, bytes_of, is_named}
 use Rattle.line_geometry.specs.Directory.{Layout, length_of, start_of, page_count}
 use Rattle.line_geometry.specs.Legal.{IsLegal}
@@ -13,157 +14,157 @@ use Rattle.inverted_table.specs.declared.key.Key.{Key}
 use Rattle.inverted_table.specs.Keys.{key_to}
 use Rattle.romp_cpu.proofs.WindowLemmas.{named-low}
 use Rattle.storage_unit.specs.Places.{key_among, key_of_page}
+use Rattle.storage_unit.proofs.SizeLemmas.{pages-past, pages-rest, page-less, page-fits, page-same, pages-left}
 
--- the bytes of segments with pages of 2,048 bytes, and where they begin
-abbrev long_of : List (ℕ × ℕ) → ℕ → Option ℕ
-long_of segments identifier = option_map (bytes_of 2048) (find (is_named identifier) segments)
+-- the bytes of segments, by the size of a page, and where they begin
+abbrev long_of : PageSize → List (ℕ × ℕ) → ℕ → Option ℕ
+long_of size segments identifier = option_map (bytes_of (page_bytes size)) (find (is_named identifier) segments)
 
-abbrev begin_of : List (ℕ × ℕ) → ℕ → ℕ
-begin_of segments identifier = sum_by (bytes_of 2048) (take_while (λ segment. not (is_named identifier segment)) segments)
-
--- the same with one more in front
-begin-cons : (identifier : ℕ) (x : ℕ × ℕ) (xs : List (ℕ × ℕ)) → begin_of (x ∷ xs) identifier ≡ (if is_named identifier x then 0 else bytes_of 2048 x + begin_of xs identifier)
-begin-cons identifier x xs = by_test (is_named identifier x)
-  where
-    before : ℕ
-    before = prefix_len (λ y. not (is_named identifier y)) xs
-
-    by_test : (passes : Bool) → sum_by (bytes_of 2048) (take (cond (not passes) (1 + before) 0) (x ∷ xs)) ≡ (if passes then 0 else bytes_of 2048 x + sum_by (bytes_of 2048) (take before xs))
-    by_test true = refl
-    by_test false =
-        let one : 1 + before ≡ suc before = omega arith in
-        ap (λ m. sum_by (bytes_of 2048) (take m (x ∷ xs))) one ∙ sum_by-cons (bytes_of 2048) x (take before xs)
-
--- the key of the page of a place is the page of its segment
-key-of-offset :
-    (segments : List (ℕ × ℕ)) (identifier bytes offset : ℕ) → long_of segments identifier ≡ Some bytes → offset < bytes
-    → key_among segments ((begin_of segments identifier + offset) / 2048) ≡ key_to identifier (offset / 2048)
-key-of-offset [] identifier bytes offset found below = absurd (cc)
-key-of-offset (x ∷ xs) identifier bytes offset found below =
-    ap (λ s. key_among (x ∷ xs) ((s + offset) / 2048)) (begin-cons identifier x xs)
-    ∙ by_name (is_named identifier x) refl found (λ later. key-of-offset xs identifier bytes offset later below)
-  where
-    by_name :
-        (named : Bool) → is_named identifier x ≡ named → option_map (bytes_of 2048) (cond named (Some x) (find (is_named identifier) xs)) ≡ Some bytes
-        → (long_of xs identifier ≡ Some bytes → key_among xs ((begin_of xs identifier + offset) / 2048) ≡ key_to identifier (offset / 2048))
-        → key_among (x ∷ xs) (((if named then 0 else bytes_of 2048 x + begin_of xs identifier) + offset) / 2048) ≡ key_to identifier (offset / 2048)
-    by_name true is found rest =
-        let long : bytes_of 2048 x ≡ bytes = cc in
-        let same : x.0 ≡ identifier = grind (arith, nat_tests, is) in
-        let here : (0 + offset) / 2048 ≡ offset / 2048 = omega arith in
-        let inside : nat_lt (offset / 2048) x.1 ≡ true = let less : offset / 2048 < x.1 = omega (arith, below, long) in grind (arith, nat_tests, less) in
-        ap (key_among (x ∷ xs)) here
-        ∙ ap (λ (b : Bool). if b then key_to x.0 (offset / 2048) else key_among xs (offset / 2048 - x.1)) inside
-        ∙ ap (λ n. key_to n (offset / 2048)) same
-    by_name false is found rest =
-        let later : (bytes_of 2048 x + begin_of xs identifier + offset) / 2048 ≡ x.1 + (begin_of xs identifier + offset) / 2048 = omega arith in
-        let past : nat_lt (x.1 + (begin_of xs identifier + offset) / 2048) x.1 ≡ false = grind (arith, nat_tests) in
-        let back : x.1 + (begin_of xs identifier + offset) / 2048 - x.1 ≡ (begin_of xs identifier + offset) / 2048 = omega arith in
-        ap (key_among (x ∷ xs)) later
-        ∙ ap
-        (λ (b : Bool).
-        if b then key_to x.0 (x.1 + (begin_of xs identifier + offset) / 2048) else key_among xs (x.1 + (begin_of xs identifier + offset) / 2048 - x.1)) past
-        ∙ ap (key_among xs) back
-        ∙ rest found
-
--- identifiers ascend behind the first
-behind : (x : ℕ) (xs : List ℕ) (k : ℕ) → slice_index (x ∷ xs) (k + 1) ≡ slice_index xs k
-behind x xs k = ap (slice_index (x ∷ xs)) (add-one k)
-
-head : (x y : ℕ) (ys : List ℕ) → IsStrictlyIncreasing (x ∷ y ∷ ys) → x < y
-head x y ys all = all 0 (omega arith)
-
-tail : (x : ℕ) (ys : List ℕ) → IsStrictlyIncreasing (x ∷ ys) → IsStrictlyIncreasing ys
-tail x ys all k inside = omega (arith, all (k + 1) (omega arith), behind x ys k, behind x ys (k + 1))
-
-above :
-    (low : ℕ) (segments : List (ℕ × ℕ)) (identifier bytes : ℕ) → IsStrictlyIncreasing (low ∷ map (λ segment. segment.0) segments)
-    → long_of segments identifier ≡ Some bytes → low < identifier
-above low [] identifier bytes ascends found = absurd (cc)
-above low (x ∷ xs) identifier bytes ascends found = by_name (is_named identifier x) refl found (λ later. above x.0 xs identifier bytes (tail low (x.0 ∷ map (λ segment. segment.0) xs) ascends) later)
-  where
-    first : low < x.0
-    first = head low x.0 (map (λ segment. segment.0) xs) ascends
-
-    by_name :
-        (named : Bool) → is_named identifier x ≡ named → option_map (bytes_of 2048) (cond named (Some x) (find (is_named identifier) xs)) ≡ Some bytes
-        → (long_of xs identifier ≡ Some bytes → x.0 < identifier) → low < identifier
-    by_name true is found rest = grind (arith, nat_tests, is, first)
-    by_name false is found rest = omega (arith, first, rest found)
+abbrev begin_of : PageSize → List (ℕ × ℕ) → ℕ → ℕ
+begin_of size segments identifier = sum_by (bytes_of (page_bytes size)) (take_while (λ segment. not (is_named identifier segment)) segments)
 
 -- a page of a segment lies in it, where the flat page does
-record Stands (segments : List (ℕ × ℕ)) (key : Key) (page : ℕ) : Type 0 where
+record Stands (size : PageSize) (segments : List (ℕ × ℕ)) (key : Key) (page : ℕ) : Type 0 where
   bytes : ℕ
-  found : long_of segments key.segment ≡ Some bytes
-  within : key.page * 2048 + 2048 ≤ bytes
-  start : begin_of segments key.segment + key.page * 2048 ≡ page * 2048
+  found : long_of size segments key.segment ≡ Some bytes
+  within : key.page * page_bytes size + page_bytes size ≤ bytes
+  start : begin_of size segments key.segment + key.page * page_bytes size ≡ page * page_bytes size
 
-stands : (segments : List (ℕ × ℕ)) (page : ℕ) → IsStrictlyIncreasing (map (λ segment. segment.0) segments) → page < sum_by (λ segment. segment.1) segments → Stands segments (key_among segments page) page
-stands [] page ascends below = absurd (omega (arith, below))
-stands (x ∷ xs) page ascends below = by_test (nat_lt page x.1) refl (λ less. stands xs (page - x.1) (tail x.0 (map (λ segment. segment.0) xs) ascends) less)
-  where
-    count : sum_by (λ segment. segment.1) (x ∷ xs) ≡ x.1 + sum_by (λ segment. segment.1) xs
-    count = sum_by-cons (λ (segment : ℕ × ℕ). segment.1) x xs
+module _ (size : PageSize) where
+  -- the same with one more in front
+  begin-cons : (identifier : ℕ) (x : ℕ × ℕ) (xs : List (ℕ × ℕ)) → begin_of size (x ∷ xs) identifier ≡ (if is_named identifier x then 0 else bytes_of (page_bytes size) x + begin_of size xs identifier)
+  begin-cons identifier x xs = by_test (is_named identifier x)
+    where
+      before : ℕ
+      before = prefix_len (λ y. not (is_named identifier y)) xs
 
-    equal : (n : ℕ) → is_named n (n, x.1) ≡ true
-    equal n = grind (arith, nat_tests)
+      by_test : (passes : Bool) → sum_by (bytes_of (page_bytes size)) (take (cond (not passes) (1 + before) 0) (x ∷ xs)) ≡ (if passes then 0 else bytes_of (page_bytes size) x + sum_by (bytes_of (page_bytes size)) (take before xs))
+      by_test true = refl
+      by_test false =
+          let one : 1 + before ≡ suc before = omega arith in
+          ap (λ m. sum_by (bytes_of (page_bytes size)) (take m (x ∷ xs))) one ∙ sum_by-cons (bytes_of (page_bytes size)) x (take before xs)
 
-    by_test : (inside : Bool) → nat_lt page x.1 ≡ inside → (page - x.1 < sum_by (λ segment. segment.1) xs → Stands xs (key_among xs (page - x.1)) (page - x.1))
-        → Stands (x ∷ xs) (if inside then key_to x.0 page else key_among xs (page - x.1)) page
-    by_test true is rest =
-        let less : page < x.1 = grind (arith, nat_tests, is) in
-        record {
-          bytes = bytes_of 2048 x;
-          found = ap (λ (b : Bool). option_map (bytes_of 2048) (cond b (Some x) (find (is_named x.0) xs))) (equal x.0);
-          within = omega (arith, less);
-          start = omega (arith, begin-cons x.0 x xs ∙ ap (λ (b : Bool). if b then 0 else bytes_of 2048 x + begin_of xs x.0) (equal x.0));
-        }
-    by_test false is rest =
-        let more : x.1 ≤ page = grind (arith, nat_tests, is) in
-        let later = rest (omega (arith, below, count, more)) in
-        let key = key_among xs (page - x.1) in
-        let low : x.0 < key.segment = above x.0 xs key.segment later.bytes ascends later.found in
-        let other : is_named key.segment x ≡ false = grind (arith, nat_tests, low) in
-        record {
-          bytes = later.bytes;
-          found = ap (λ (b : Bool). option_map (bytes_of 2048) (cond b (Some x) (find (is_named key.segment) xs))) other ∙ later.found;
-          within = later.within;
-          start = omega (arith, begin-cons key.segment x xs ∙ ap (λ (b : Bool). if b then 0 else bytes_of 2048 x + begin_of xs key.segment) other, later.start, more);
-        }
+  -- the key of the page of a place is the page of its segment
+  key-of-offset :
+      (segments : List (ℕ × ℕ)) (identifier bytes offset : ℕ) → long_of size segments identifier ≡ Some bytes → offset < bytes
+      → key_among segments ((begin_of size segments identifier + offset) / page_bytes size) ≡ key_to identifier (offset / page_bytes size)
+  key-of-offset [] identifier bytes offset found below = absurd (cc)
+  key-of-offset (x ∷ xs) identifier bytes offset found below =
+      ap (λ s. key_among (x ∷ xs) ((s + offset) / page_bytes size)) (begin-cons identifier x xs)
+      ∙ by_name (is_named identifier x) refl found (λ later. key-of-offset xs identifier bytes offset later below)
+    where
+      by_name :
+          (named : Bool) → is_named identifier x ≡ named → option_map (bytes_of (page_bytes size)) (cond named (Some x) (find (is_named identifier) xs)) ≡ Some bytes
+          → (long_of size xs identifier ≡ Some bytes → key_among xs ((begin_of size xs identifier + offset) / page_bytes size) ≡ key_to identifier (offset / page_bytes size))
+          → key_among (x ∷ xs) (((if named then 0 else bytes_of (page_bytes size) x + begin_of size xs identifier) + offset) / page_bytes size) ≡ key_to identifier (offset / page_bytes size)
+      by_name true is found rest =
+          let long : bytes_of (page_bytes size) x ≡ bytes = cc in
+          let same : x.0 ≡ identifier = grind (arith, nat_tests, is) in
+          let here : (0 + offset) / page_bytes size ≡ offset / page_bytes size = ap (λ n. n / page_bytes size) (omega arith) in
+          let inside : nat_lt (offset / page_bytes size) x.1 ≡ true = let less : offset / page_bytes size < x.1 = page-less size offset x.1 (omega (arith, below, long)) in grind (arith, nat_tests, less) in
+          ap (key_among (x ∷ xs)) here
+          ∙ ap (λ (b : Bool). if b then key_to x.0 (offset / page_bytes size) else key_among xs (offset / page_bytes size - x.1)) inside
+          ∙ ap (λ n. key_to n (offset / page_bytes size)) same
+      by_name false is found rest =
+          let later : (bytes_of (page_bytes size) x + begin_of size xs identifier + offset) / page_bytes size ≡ x.1 + (begin_of size xs identifier + offset) / page_bytes size =
+          ap (λ n. n / page_bytes size) (omega arith) ∙ pages-past size x.1 (begin_of size xs identifier + offset) in
+          let past : nat_lt (x.1 + (begin_of size xs identifier + offset) / page_bytes size) x.1 ≡ false = grind (arith, nat_tests) in
+          let back : x.1 + (begin_of size xs identifier + offset) / page_bytes size - x.1 ≡ (begin_of size xs identifier + offset) / page_bytes size = omega arith in
+          ap (key_among (x ∷ xs)) later
+          ∙ ap
+          (λ (b : Bool).
+          if b then key_to x.0 (x.1 + (begin_of size xs identifier + offset) / page_bytes size) else key_among xs (x.1 + (begin_of size xs identifier + offset) / page_bytes size - x.1)) past
+          ∙ ap (key_among xs) back
+          ∙ rest found
 
-module _ (d : Layout) (two : d.page ≡ Two) (legal : IsLegal d.segments) where
-  long-is : (identifier : ℕ) → length_of d identifier ≡ long_of d.segments identifier
-  long-is identifier = ap (λ size. option_map (bytes_of (page_bytes size)) (find (is_named identifier) d.segments)) two
+  -- identifiers ascend behind the first
+  behind : (x : ℕ) (xs : List ℕ) (k : ℕ) → slice_index (x ∷ xs) (k + 1) ≡ slice_index xs k
+  behind x xs k = ap (slice_index (x ∷ xs)) (add-one k)
 
-  begin-is : (identifier : ℕ) → start_of d identifier ≡ begin_of d.segments identifier
-  begin-is identifier = ap (λ size. sum_by (bytes_of (page_bytes size)) (take_while (λ segment. not (is_named identifier segment)) d.segments)) two
+  head : (x y : ℕ) (ys : List ℕ) → IsStrictlyIncreasing (x ∷ y ∷ ys) → x < y
+  head x y ys all = all 0 (omega arith)
 
+  tail : (x : ℕ) (ys : List ℕ) → IsStrictlyIncreasing (x ∷ ys) → IsStrictlyIncreasing ys
+  tail x ys all k inside = omega (arith, all (k + 1) (omega arith), behind x ys k, behind x ys (k + 1))
+
+  above :
+      (low : ℕ) (segments : List (ℕ × ℕ)) (identifier bytes : ℕ) → IsStrictlyIncreasing (low ∷ map (λ segment. segment.0) segments)
+      → long_of size segments identifier ≡ Some bytes → low < identifier
+  above low [] identifier bytes ascends found = absurd (cc)
+  above low (x ∷ xs) identifier bytes ascends found = by_name (is_named identifier x) refl found (λ later. above x.0 xs identifier bytes (tail low (x.0 ∷ map (λ segment. segment.0) xs) ascends) later)
+    where
+      first : low < x.0
+      first = head low x.0 (map (λ segment. segment.0) xs) ascends
+
+      by_name :
+          (named : Bool) → is_named identifier x ≡ named → option_map (bytes_of (page_bytes size)) (cond named (Some x) (find (is_named identifier) xs)) ≡ Some bytes
+          → (long_of size xs identifier ≡ Some bytes → x.0 < identifier) → low < identifier
+      by_name true is found rest = grind (arith, nat_tests, is, first)
+      by_name false is found rest = omega (arith, first, rest found)
+
+  stands : (segments : List (ℕ × ℕ)) (page : ℕ) → IsStrictlyIncreasing (map (λ segment. segment.0) segments) → page < sum_by (λ segment. segment.1) segments → Stands size segments (key_among segments page) page
+  stands [] page ascends below = absurd (omega (arith, below))
+  stands (x ∷ xs) page ascends below = by_test (nat_lt page x.1) refl (λ less. stands xs (page - x.1) (tail x.0 (map (λ segment. segment.0) xs) ascends) less)
+    where
+      count : sum_by (λ segment. segment.1) (x ∷ xs) ≡ x.1 + sum_by (λ segment. segment.1) xs
+      count = sum_by-cons (λ (segment : ℕ × ℕ). segment.1) x xs
+
+      equal : (n : ℕ) → is_named n (n, x.1) ≡ true
+      equal n = grind (arith, nat_tests)
+
+      by_test : (inside : Bool) → nat_lt page x.1 ≡ inside → (page - x.1 < sum_by (λ segment. segment.1) xs → Stands size xs (key_among xs (page - x.1)) (page - x.1))
+          → Stands size (x ∷ xs) (if inside then key_to x.0 page else key_among xs (page - x.1)) page
+      by_test true is rest =
+          let less : page < x.1 = grind (arith, nat_tests, is) in
+          record {
+            bytes = bytes_of (page_bytes size) x;
+            found = ap (λ (b : Bool). option_map (bytes_of (page_bytes size)) (cond b (Some x) (find (is_named x.0) xs))) (equal x.0);
+            within = page-fits size page x.1 less;
+            start = omega (arith, begin-cons x.0 x xs ∙ ap (λ (b : Bool). if b then 0 else bytes_of (page_bytes size) x + begin_of size xs x.0) (equal x.0));
+          }
+      by_test false is rest =
+          let more : x.1 ≤ page = grind (arith, nat_tests, is) in
+          let later = rest (omega (arith, below, count, more)) in
+          let key = key_among xs (page - x.1) in
+          let low : x.0 < key.segment = above x.0 xs key.segment later.bytes ascends later.found in
+          let other : is_named key.segment x ≡ false = grind (arith, nat_tests, low) in
+          record {
+            bytes = later.bytes;
+            found = ap (λ (b : Bool). option_map (bytes_of (page_bytes size)) (cond b (Some x) (find (is_named key.segment) xs))) other ∙ later.found;
+            within = later.within;
+            start = omega (arith, begin-cons key.segment x xs ∙ ap (λ (b : Bool). if b then 0 else bytes_of (page_bytes size) x + begin_of size xs key.segment) other, later.start, pages-left size x.1 page more);
+          }
+
+module _ (d : Layout) (legal : IsLegal d.segments) where
   -- the page of a place of the store
   pub key-of-place :
-      (segment bytes offset : ℕ) → length_of d segment ≡ Some bytes → offset < bytes → key_of_page d ((start_of d segment + offset) / 2048) ≡ key_to segment (offset / 2048)
-  key-of-place segment bytes offset found below =
-      ap (λ s. key_of_page d ((s + offset) / 2048)) (begin-is segment) ∙ key-of-offset d.segments segment bytes offset (sym (long-is segment) ∙ found) below
+      (segment bytes offset : ℕ) → length_of d segment ≡ Some bytes → offset < bytes → key_of_page d ((start_of d segment + offset) / page_bytes d.page) ≡ key_to segment (offset / page_bytes d.page)
+  key-of-place segment bytes offset found below = key-of-offset d.page d.segments segment bytes offset found below
 
   -- two pages have two keys, and each is of a segment of the store
   pub same-page : (page other : ℕ) → page < page_count d → other < page_count d → key_of_page d page ≡ key_of_page d other → page ≡ other
   same-page page other below also same =
-      let one = stands d.segments page legal.ascending below in
-      let two = stands d.segments other legal.ascending also in
-      omega (arith, one.start, two.start, ap (λ (key : Key). begin_of d.segments key.segment + key.page * 2048) same)
+      let one = stands d.page d.segments page legal.ascending below in
+      let two = stands d.page d.segments other legal.ascending also in
+      page-same d.page page other (sym one.start ∙ ap (λ (key : Key). begin_of d.page d.segments key.segment + key.page * page_bytes d.page) same ∙ two.start)
 
   pub key-low : (page : ℕ) → page < page_count d → (key_of_page d page).segment < 3840
   key-low page below =
-      let one = stands d.segments page legal.ascending below in
-      named-low d.segments (key_of_page d page).segment one.bytes d.page legal (long-is (key_of_page d page).segment ∙ one.found)
+      let one = stands d.page d.segments page legal.ascending below in
+      named-low d.segments (key_of_page d page).segment one.bytes d.page legal one.found
 
   -- where a segment begins is where a page does
-  pub start-whole : (segment : ℕ) → start_of d segment % 2048 ≡ 0
-  start-whole segment = ap (λ n. n % 2048) (begin-is segment) ∙ whole d.segments
+  pub start-whole : (segment : ℕ) → start_of d segment % page_bytes d.page ≡ 0
+  start-whole segment = whole d.segments
     where
-      whole : (segments : List (ℕ × ℕ)) → begin_of segments segment % 2048 ≡ 0
-      whole [] = refl
-      whole (x ∷ xs) = ap (λ n. n % 2048) (begin-cons segment x xs) ∙ by_name (is_named segment x) (whole xs)
+      none : (size : PageSize) → 0 % page_bytes size ≡ 0
+      none Two = refl
+      none Four = refl
+
+      whole : (segments : List (ℕ × ℕ)) → begin_of d.page segments segment % page_bytes d.page ≡ 0
+      whole [] = none d.page
+      whole (x ∷ xs) = ap (λ n. n % page_bytes d.page) (begin-cons d.page segment x xs) ∙ by_name (is_named segment x) (whole xs)
         where
-          by_name : (named : Bool) → begin_of xs segment % 2048 ≡ 0 → (if named then 0 else bytes_of 2048 x + begin_of xs segment) % 2048 ≡ 0
-          by_name true rest = refl
-          by_name false rest = omega (arith, rest)
+          by_name : (named : Bool) → begin_of d.page xs segment % page_bytes d.page ≡ 0 → (if named then 0 else bytes_of (page_bytes d.page) x + begin_of d.page xs segment) % page_bytes d.page ≡ 0
+          by_name true rest = none d.page
+          by_name false rest = pages-rest d.page x.1 (begin_of d.page xs segment) ∙ rest

@@ -23,12 +23,12 @@ use Rattle.storage_unit.specs.Bytes.{byte_in_frame, byte_over, bytes_over, priva
 use Rattle.storage_unit.specs.Reach.{seat_of, is_there, put_byte, put_in_store, put_at}
 use Rattle.storage_unit.specs.Reached.{IsSound, Lies}
 use Rattle.storage_unit.specs.Rows.{ChangesBytes, StaysClean, LeavesSeats}
-use Rattle.storage_unit.proofs.SizeLemmas.{page-of-line, page-below}
+use Rattle.storage_unit.proofs.SizeLemmas.{rest-below, place-is, frame-high, page-of-line, page-below}
 use Rattle.storage_unit.proofs.ByteLemmas.{in-range, same-bytes, byte-of-all, all-long, over-none, over-some}
 use Rattle.storage_unit.proofs.FillLemmas.{over-part, in-part}
 use Rattle.storage_unit.proofs.PlaceLemmas.{is-private, is-shared, never-refused}
 use Rattle.storage_unit.proofs.PutLemmas.{spots-long, marks-long, put-inside, put-outside, spot-none, place-put, line-put}
-use Rattle.storage_unit.proofs.StoreLemmas.{frame-room, frame-below}
+use Rattle.storage_unit.proofs.StoreLemmas.{frame-room, all-private, frame-below, low-frame}
 use Rattle.storage_unit.proofs.AfterLemmas.{there-frame}
 use Rattle.storage_unit.proofs.OpenLemmas.{each-line, each-byte}
 
@@ -114,28 +114,17 @@ over-in-part xs bytes from count a fits inside =
     ]
 
 module _ (state : Reach) (sound : IsSound state) where
-  -- private frames have no page of the store
-  low-frame : (spot : ℕ) → spot < 128 * 2048 → page_at state.pool (spot / 2048) ≡ None
-  low-frame spot low = by_page (page_at state.pool (spot / 2048)) refl
-    where
-      by_page : (o : Option ℕ) → page_at state.pool (spot / 2048) ≡ o → page_at state.pool (spot / 2048) ≡ None
-      by_page None is = is
-      by_page (Some page) is = absurd (omega (arith, low, (frame-below state sound page (spot / 2048) is).0))
-
-  all-private : 128 * 2048 ≤ length state.pool.bytes
-  all-private = omega (arith, frame-room state sound 127 (omega arith))
-
   -- private bytes stay where the store's are written
   pub private-after : (from : ℕ) (bytes : List ℕ) (seat : ℕ) → seat < 16 → private_bytes (put_in_store state.directory state.pool from bytes) seat ≡ private_bytes state.pool seat
   private-after from bytes seat few =
       same-part (put_in_store state.directory state.pool from bytes).bytes state.pool.bytes (seat * 16384) 16384
-      (omega (arith, few, all-private, spots-long state.directory sound.two state.pool from bytes)) (omega (arith, few, all-private))
+      (omega (arith, few, all-private state sound, spots-long state.directory state.pool from bytes)) (omega (arith, few, all-private state sound))
       (λ k below.
       let spot = seat * 16384 + k in
-      let low : spot < 128 * 2048 = omega (arith, few, below) in
-      let split : spot / 2048 * 2048 + spot % 2048 ≡ spot = omega arith in
+      let low : spot < 262144 = omega (arith, few, below) in
+      let split : spot / page_bytes state.directory.page * page_bytes state.directory.page + spot % page_bytes state.directory.page ≡ spot = place-is state.directory.page spot in
       ap (slice_index (put_in_store state.directory state.pool from bytes).bytes) (sym split)
-      ∙ spot-none state.directory sound.two state.pool from bytes (spot / 2048) (spot % 2048) (low-frame spot low) (omega arith) (omega (arith, low, all-private))
+      ∙ spot-none state.directory state.pool from bytes (spot / page_bytes state.directory.page) (spot % page_bytes state.directory.page) (low-frame state sound spot low) (rest-below state.directory.page spot) (omega (arith, low, all-private state sound, split))
       ∙ ap (slice_index state.pool.bytes) split)
 
   module _ (a : ℕ) (bytes : List ℕ) (seat : ℕ) (few : seat < 16) (fits : a + length bytes ≤ 16384) where
@@ -143,26 +132,25 @@ module _ (state : Reach) (sound : IsSound state) where
     written = record state.pool { bytes = overlaid state.pool.bytes (seat * 16384 + a) bytes }
 
     room : seat * 16384 + a + length bytes ≤ length state.pool.bytes
-    room = omega (arith, few, fits, all-private)
+    room = omega (arith, few, fits, all-private state sound)
 
     -- other private bytes stay
     pub private-other : (other : ℕ) → other < 16 → other ≢ seat → private_bytes (let now : Pool = record state.pool { bytes = overlaid state.pool.bytes (seat * 16384 + a) bytes } in now) other ≡ private_bytes state.pool other
     private-other other low apart =
         same-part written.bytes state.pool.bytes (other * 16384) 16384
-        (omega (arith, low, all-private, length-overlaid state.pool.bytes (seat * 16384 + a) bytes room)) (omega (arith, low, all-private))
+        (omega (arith, low, all-private state sound, length-overlaid state.pool.bytes (seat * 16384 + a) bytes room)) (omega (arith, low, all-private state sound))
         (λ k below. over-part state.pool.bytes (seat * 16384 + a) bytes (other * 16384 + k) room (λ j less same. apart (omega (arith, same, less, below, fits))))
 
     pub private-own : private_bytes (let now : Pool = record state.pool { bytes = overlaid state.pool.bytes (seat * 16384 + a) bytes } in now) seat ≡ overlaid (private_bytes state.pool seat) a bytes
-    private-own = over-in-part state.pool.bytes bytes (seat * 16384) 16384 a (omega (arith, few, all-private)) fits
+    private-own = over-in-part state.pool.bytes bytes (seat * 16384) 16384 a (omega (arith, few, all-private state sound)) fits
 
     -- bytes in frames of the store stay where private ones are written
     pub frame-stays : (place frame : ℕ) → frame_at state.pool (page_of state.directory place) ≡ Some frame
         → byte_in_frame state.directory (let now : Pool = record state.pool { bytes = overlaid state.pool.bytes (seat * 16384 + a) bytes } in now) place frame ≡ byte_in_frame state.directory state.pool place frame
     frame-stays place frame is =
         let high = (frame-below state sound (page_of state.directory place) frame (sound.seen.there (page_of state.directory place) frame is)).0 in
-        ap (λ s. slice_index written.bytes (frame * page_bytes s + place % page_bytes s)) sound.two
-        ∙ over-part state.pool.bytes (seat * 16384 + a) bytes (frame * 2048 + place % 2048) room (λ j less same. absurd (omega (arith, same, less, fits, few, high)))
-        ∙ sym (ap (λ s. slice_index state.pool.bytes (frame * page_bytes s + place % page_bytes s)) sound.two)
+        over-part state.pool.bytes (seat * 16384 + a) bytes (frame * page_bytes state.directory.page + place % page_bytes state.directory.page) room
+        (λ j less same. absurd (omega (arith, same, less, fits, few, frame-high state.directory.page frame high)))
 
     pub store-stays : (committed : List ℕ)
         → bytes_over state.directory (let now : Pool = record state.pool { bytes = overlaid state.pool.bytes (seat * 16384 + a) bytes } in now) committed ≡ bytes_over state.directory state.pool committed
@@ -185,19 +173,19 @@ module _ (state : Reach) (sound : IsSound state) where
         → byte_in_frame state.directory (put_in_store state.directory state.pool a bytes) place frame ≡ put_byte bytes a place (byte_in_frame state.directory state.pool place frame)
     frame-after place frame is =
         let there = sound.seen.there (page_of state.directory place) frame is in
-        place-put state.directory sound.two state.pool a bytes place frame there (frame-room state sound frame (frame-below state sound (page_of state.directory place) frame there).1)
+        place-put state.directory state.pool a bytes place frame there (frame-room state sound frame (frame-below state sound (page_of state.directory place) frame there).1)
 
     -- the marks of its line
     pub marked-after : (place : ℕ) → place < byte_count state.directory
         → is_marked state.directory (put_in_store state.directory state.pool a bytes) place ≡ (is_marked state.directory state.pool place || has (lines_at state.directory (Shared a) (length bytes)) (line_of state.directory place))
-    marked-after place below = line-put state.directory sound.two state.pool a bytes (line_of state.directory place) (line-inside place below)
+    marked-after place below = line-put state.directory state.pool a bytes (line_of state.directory place) (line-inside place below)
 
     -- all lines that have some of the bytes are marked beside those that were
     pub marks-written : (line : ℕ) → is_line_marked (put_in_store state.directory state.pool a bytes) line ≡ (is_line_marked state.pool line || has (lines_at state.directory (Shared a) (length bytes)) line)
     marks-written line = elim (cases_lt (page_of_line line) (length state.pool.marked)) [
-      | inl below ↦ line-put state.directory sound.two state.pool a bytes line below
+      | inl below ↦ line-put state.directory state.pool a bytes line below
       | inr past ↦
-          ap (λ (set : List ℕ). has set (line % 16)) (get_or_past put.marked (page_of_line line) [] (omega (arith, past, marks-long state.directory sound.two state.pool a bytes)))
+          ap (λ (set : List ℕ). has set (line % 16)) (get_or_past put.marked (page_of_line line) [] (omega (arith, past, marks-long state.directory state.pool a bytes)))
           ∙ sym
           (ap (λ (set : List ℕ). has set (line % 16) || has (lines_at state.directory (Shared a) (length bytes)) line) (get_or_past state.pool.marked (page_of_line line) [] past)
           ∙ none (has (lines_at state.directory (Shared a) (length bytes)) line) refl past)

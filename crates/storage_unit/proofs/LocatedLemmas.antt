@@ -15,7 +15,7 @@ use Rattle.flat_machine.specs.Row.{in_segment, in_window, in_register, located}
 use Rattle.romp_cpu.specs.Segments.{register_of_window, registers_of_program}
 use Rattle.romp_cpu.proofs.WindowLemmas.{named-low}
 use Rattle.storage_unit.specs.declared.model.Reach.{Reach}
-use Rattle.storage_unit.specs.Places.{private_segment, is_private, place_at}
+use Rattle.storage_unit.specs.Places.{private_segment, is_private, offset_of, place_at}
 use Rattle.storage_unit.specs.Reach.{seat_of}
 use Rattle.storage_unit.specs.Rows.{HasWindows}
 use Rattle.storage_unit.proofs.PlaceLemmas.{offset-is}
@@ -24,29 +24,29 @@ module _ (d : Layout) (legal : IsLegal d.segments) (seat : ℕ) where
   own : is_private (private_segment seat) ≡ true
   own = grind (arith, nat_tests)
 
-  pub private-at : (o : ℕ) → place_at d (Ok (virtual_at (private_segment seat) o)) ≡ Private o
+  pub private-at : (o : ℕ) → place_at d (Ok (virtual_at d.page (private_segment seat) o)) ≡ Private o
   private-at o =
-      ap (λ (b : Bool). if b then Private (o / 2048 * 2048 + o % 2048) else Shared (start_of d (private_segment seat) + (o / 2048 * 2048 + o % 2048))) own
-      ∙ ap Private (offset-is (private_segment seat) o)
+      ap (λ (b : Bool). if b then Private (offset_of d.page (virtual_at d.page (private_segment seat) o)) else Shared (start_of d (private_segment seat) + offset_of d.page (virtual_at d.page (private_segment seat) o))) own
+      ∙ ap Private (offset-is d.page (private_segment seat) o)
 
   private-lies : (o : ℕ) (inside store : Bool)
-      → place_at d (cond {A = Result Virtual Check} inside (cond {A = Result Virtual Check} (store && false) (Err (record { 0 = 7 })) (Ok (virtual_at (private_segment seat) o))) (Err (record { 0 = 2 })))
+      → place_at d (cond {A = Result Virtual Check} inside (cond {A = Result Virtual Check} (store && false) (Err (record { 0 = 7 })) (Ok (virtual_at d.page (private_segment seat) o))) (Err (record { 0 = 2 })))
       ≡ cond inside (Private o) (Refused 2)
   private-lies o true true = private-at o
   private-lies o true false = private-at o
   private-lies o false store = refl
 
   segment-lies : (segment o : ℕ) (inside refused : Bool) → is_private segment ≡ false
-      → place_at d (cond {A = Result Virtual Check} inside (cond {A = Result Virtual Check} refused (Err (record { 0 = 7 })) (Ok (virtual_at segment o))) (Err (record { 0 = 2 })))
+      → place_at d (cond {A = Result Virtual Check} inside (cond {A = Result Virtual Check} refused (Err (record { 0 = 7 })) (Ok (virtual_at d.page segment o))) (Err (record { 0 = 2 })))
       ≡ cond inside (cond refused (Refused 7) (Shared (start_of d segment + o))) (Refused 2)
   segment-lies segment o true true low = refl
   segment-lies segment o true false low =
-      ap (λ (own : Bool). if own then Private (o / 2048 * 2048 + o % 2048) else Shared (start_of d segment + (o / 2048 * 2048 + o % 2048))) low
-      ∙ ap (λ n. Shared (start_of d segment + n)) (offset-is segment o)
+      ap (λ (own : Bool). if own then Private (offset_of d.page (virtual_at d.page segment o)) else Shared (start_of d segment + offset_of d.page (virtual_at d.page segment o))) low
+      ∙ ap (λ n. Shared (start_of d segment + n)) (offset-is d.page segment o)
   segment-lies segment o false refused low = refl
 
   length-lies : (w : Window) (bytes : Option ℕ) (o n : ℕ) (store : Bool) → length_of d w.segment ≡ bytes
-      → place_at d (located_under (option_map (λ length. record { segment = w.segment; bytes = length; write = w.write }) bytes) o n store)
+      → place_at d (located_under d.page (option_map (λ length. record { segment = w.segment; bytes = length; write = w.write }) bytes) o n store)
       ≡ in_segment d w bytes o n store
   length-lies w None o n store is = refl
   length-lies w (Some bytes) o n store is =
@@ -54,15 +54,15 @@ module _ (d : Layout) (legal : IsLegal d.segments) (seat : ℕ) where
       let low : is_private w.segment ≡ false = grind (arith, nat_tests, few) in
       segment-lies w.segment o (nat_le (o + n) bytes) (store && not w.write) low
 
-  window-lies : (w : Option Window) (o n : ℕ) (store : Bool) → place_at d (located_under (register_of_window d w) o n store) ≡ in_window d w o n store
+  window-lies : (w : Option Window) (o n : ℕ) (store : Bool) → place_at d (located_under d.page (register_of_window d w) o n store) ≡ in_window d w o n store
   window-lies None o n store = refl
   window-lies (Some w) o n store = length-lies w (length_of d w.segment) o n store refl
 
   register-lies : (p : Program) (i o n : ℕ) (store : Bool)
-      → place_at d (located_under (slice_index_or (registers_of_program p d (private_segment seat)) i None) o n store) ≡ in_register p d i o n store
+      → place_at d (located_under d.page (slice_index_or (registers_of_program p d (private_segment seat)).list i None) o n store) ≡ in_register p d i o n store
   register-lies p zero o n store = private-lies o (nat_le (o + n) 16384) store
   register-lies p (suc i) o n store =
-      ap (λ r. place_at d (located_under r o n store)) (get_or-map (register_of_window d) p.windows i None)
+      ap (λ r. place_at d (located_under d.page r o n store)) (get_or-map (register_of_window d) p.windows i None)
       ∙ window-lies (slice_index_or p.windows i None) o n store
 
 -- an access lies where the plain machine has it

@@ -6,7 +6,7 @@ use Rattle.std.proofs.lemmas.Bool.{cases_lt}
 use Rattle.std.proofs.lemmas.Bool.Decides.{nat_tests}
 use Rattle.line_geometry.specs.declared.directory.PageSize.{PageSize}
 use Rattle.line_geometry.specs.declared.directory.PageSize.TheVariants.{Two, Four}
-use Rattle.line_geometry.specs.Segments.{page_bytes}
+use Rattle.line_geometry.specs.Segments.{page_bytes, line_bytes}
 use Rattle.line_geometry.specs.Directory.{Layout}
 use Rattle.line_geometry.specs.Lines.{line_of}
 use Rattle.lock_rules.specs.Sets.{has}
@@ -28,13 +28,13 @@ use Rattle.storage_unit.specs.Places.{place_of, place_at}
 use Rattle.storage_unit.specs.Reach.{is_resident, is_refused, is_in_frame, refuses}
 use Rattle.storage_unit.specs.Reached.{IsSound}
 use Rattle.storage_unit.specs.Rows.{HasWindows, IsOpenLine, IsOpen}
-use Rattle.storage_unit.proofs.PlaceLemmas.{never-refused}
+use Rattle.storage_unit.proofs.PlaceLemmas.{never-refused, registers-page}
 use Rattle.storage_unit.proofs.AnswerLemmas.{permitted-located, permitted-lines, lines-permitted, answered-private}
 use Rattle.storage_unit.proofs.LocatedLemmas.{lies-where}
 
 -- each line from the first to the last of some bytes has one of them
-byte-of-line : (page : PageSize) (at more line : ℕ) → at / (page_bytes page / 16) ≤ line → line ≤ (at + more) / (page_bytes page / 16)
-    → (k : ℕ) × (k ≤ more) × ((at + k) / (page_bytes page / 16) ≡ line)
+byte-of-line : (page : PageSize) (at more line : ℕ) → at / line_bytes page ≤ line → line ≤ (at + more) / line_bytes page
+    → (k : ℕ) × (k ≤ more) × ((at + k) / line_bytes page ≡ line)
 byte-of-line Two at more line above below =
     elim (cases_lt at (line * 128)) [
       | inl later ↦ (line * 128 - at, omega (arith, below), omega (arith, later))
@@ -48,7 +48,7 @@ byte-of-line Four at more line above below =
 
 -- and each byte lies in one of them
 line-of-byte : (page : PageSize) (at more k : ℕ) → k ≤ more
-    → (at / (page_bytes page / 16) ≤ (at + k) / (page_bytes page / 16)) × ((at + k) / (page_bytes page / 16) ≤ (at + more) / (page_bytes page / 16))
+    → (at / line_bytes page ≤ (at + k) / line_bytes page) × ((at + k) / line_bytes page ≤ (at + more) / line_bytes page)
 line-of-byte Two at more k below = (omega arith, omega (arith, below))
 line-of-byte Four at more k below = (omega arith, omega (arith, below))
 
@@ -87,10 +87,12 @@ module _ (f : Reach) (sound : IsSound f) (p : Program) (windows : HasWindows f p
   pub permitted-open : answered f.registers (is_in_frame f) (refuses f) access ≡ Probe.Permitted → IsOpen f (lines_of_access p f.directory access)
   permitted-open permitted =
       let (at, is) = permitted-located f.registers (is_in_frame f) (refuses f) access permitted in
-      let here : answered_at (is_in_frame f) (refuses f) access (Ok at) ≡ Probe.Permitted = ap (answered_at (is_in_frame f) (refuses f) access) (sym is) ∙ permitted in
+      let here : answered_at f.directory.page (is_in_frame f) (refuses f) access (Ok at) ≡ Probe.Permitted =
+      ap (λ page. answered_at page (is_in_frame f) (refuses f) access (Ok at)) (sym (registers-page f sound))
+      ∙ ap (answered_at f.registers.page (is_in_frame f) (refuses f) access) (sym is) ∙ permitted in
       by_store access.store (lines_at f.directory place access.bytes) (each place at (lies-at at is) here)
     where
-      each : (place : Located) (at : Virtual) → place_of f.directory at ≡ place → answered_at (is_in_frame f) (refuses f) access (Ok at) ≡ Probe.Permitted
+      each : (place : Located) (at : Virtual) → place_of f.directory at ≡ place → answered_at f.directory.page (is_in_frame f) (refuses f) access (Ok at) ≡ Probe.Permitted
           → (line : ℕ) → has (lines_at f.directory place access.bytes) line ≡ true → IsOpenLine f line access.store
       each (Private a) at lies here line inside = absurd (cc)
       each (Refused code) at lies here line inside = absurd (cc)
@@ -107,7 +109,8 @@ module _ (f : Reach) (sound : IsSound f) (p : Program) (windows : HasWindows f p
   pub open-permitted : (at : Virtual) → located_by f.registers access.address access.bytes access.store ≡ Ok at → IsOpen f (lines_of_access p f.directory access)
       → answered f.registers (is_in_frame f) (refuses f) access ≡ Probe.Permitted
   open-permitted at is opens =
-      ap (answered_at (is_in_frame f) (refuses f) access) is
+      ap (answered_at f.registers.page (is_in_frame f) (refuses f) access) is
+      ∙ ap (λ page. answered_at page (is_in_frame f) (refuses f) access (Ok at)) (registers-page f sound)
       ∙ by_place place (lies-at at is) (by_store access.store (lines_at f.directory place access.bytes) opens)
     where
       by_store : (store : Bool) (lines : List ℕ) → IsOpen f (if store then record { reads = []; writes = lines } else record { reads = lines; writes = [] })
@@ -117,7 +120,7 @@ module _ (f : Reach) (sound : IsSound f) (p : Program) (windows : HasWindows f p
 
       by_place : (place : Located) → place_of f.directory at ≡ place
           → ((line : ℕ) → has (lines_at f.directory place access.bytes) line ≡ true → IsOpenLine f line access.store)
-          → answered_at (is_in_frame f) (refuses f) access (Ok at) ≡ Probe.Permitted
+          → answered_at f.directory.page (is_in_frame f) (refuses f) access (Ok at) ≡ Probe.Permitted
       by_place (Private a) lies all = answered-private f at access.bytes access a refl lies
       by_place (Refused code) lies all = absurd (never-refused f.directory at code lies)
       by_place (Shared a) lies all = lines-permitted f at access.bytes access a refl lies (λ k below. let one = all (line_of f.directory (a + k)) (each-byte f.directory a access.bytes k below) in (sym (sound.seen.resident (page_of_line (line_of f.directory (a + k)))) ∙ one.resident, one.permits))

@@ -1,10 +1,11 @@
 -- Where the bytes of an access lie, one by one, and the frames that have them.
-use Rattle.std.proofs.Common.{◌≡◌, ℕ, ◌+◌, ◌-◌, ◌*◌, ◌/◌, ◌%◌, ◌<◌, ◌≤◌, ◌^◌, Bool, true, false, List, refl, sym, ◌∙◌, ap, arith, replicate, Option, Some, None, Result, Ok, Err, ◌⊎◌, inl, inr}
+use Rattle.std.proofs.Common.{◌≡◌, ℕ, ◌+◌, ◌-◌, ◌*◌, ◌/◌, ◌%◌, ◌<◌, ◌≤◌, ◌^◌, Bool, true, false, List, refl, sym, ◌∙◌, ap, subst, arith, replicate, Option, Some, None, Result, Ok, Err, ◌⊎◌, inl, inr}
 use Rattle.std.specs.Prelude.{◌&&◌, not, nat_le, nat_lt, cond, slice_index_or, if◌then◌else◌, is_some}
 use Rattle.std.proofs.lemmas.Bool.{leb-true, cases_lt}
 use Rattle.std.proofs.lemmas.Bool.Decides.{nat_tests}
 use Rattle.std.proofs.lemmas.List.{get_or-replicate, get_or_past}
 use Rattle.std.proofs.lemmas.Nat.{div-add-mod'}
+use Rattle.line_geometry.specs.declared.directory.PageSize.{PageSize}
 use Rattle.line_geometry.specs.Segments.{page_bytes}
 use Rattle.line_geometry.specs.Directory.{Layout, length_of, start_of, byte_count}
 use Rattle.line_geometry.specs.Lines.{page_of}
@@ -14,35 +15,35 @@ use Rattle.flat_machine.specs.declared.machine.Located.TheVariants.{Private, Sha
 use Rattle.segment_regs.specs.declared.registers.Check.{Check}
 use Rattle.segment_regs.specs.declared.registers.SegmentRegister.{SegmentRegister}
 use Rattle.segment_regs.specs.declared.registers.Virtual.{Virtual}
-use Rattle.segment_regs.specs.Registers.{virtual_at, bytes_on, located_under, located_by}
+use Rattle.segment_regs.specs.Registers.{Registers, virtual_at, bytes_on, located_under, located_by}
 use Rattle.inverted_table.specs.Keys.{key_to, key_of}
 use Rattle.inverted_table.specs.Placed.{look_up}
 use Rattle.frame_pool.specs.Pool.{frame_at}
 use Rattle.romp_cpu.proofs.WindowLemmas.{bytes-low}
 use Rattle.storage_unit.specs.declared.model.Reach.{Reach}
 use Rattle.storage_unit.specs.Places.{is_private, offset_of, place_of, place_at, on, key_of_page}
-use Rattle.storage_unit.specs.Held.{IsUnder, AreReached, pages_begun, table_of}
+use Rattle.storage_unit.specs.Held.{IsUnder, AreReached, seat_pages, pages_begun, table_of}
 use Rattle.storage_unit.specs.Reach.{byte_of, byte_at, is_there}
 use Rattle.storage_unit.specs.Reached.{IsSound, Lies, AreThere}
-use Rattle.storage_unit.proofs.SizeLemmas.{page-of-line, page-below}
+use Rattle.storage_unit.proofs.SizeLemmas.{rest-below, byte-on-page, page-at, seat-page, same-page-on, page-of-line, page-below}
 use Rattle.storage_unit.proofs.KeyLemmas.{key-of-place, start-whole}
 use Rattle.storage_unit.proofs.HeldLemmas.{finds-page, finds-private}
 
 -- an access lies under a register
-pub record Under (registers : List (Option SegmentRegister)) (address n : ℕ) (at : Virtual) : Type 0 where
+pub record Under (registers : Registers) (address n : ℕ) (at : Virtual) : Type 0 where
   pub register : SegmentRegister
-  pub stands : slice_index_or registers (address / 2 ^ 28) None ≡ Some register
+  pub stands : slice_index_or registers.list (address / 2 ^ 28) None ≡ Some register
   pub fits : address % 2 ^ 28 + n ≤ register.bytes
-  pub is : at ≡ virtual_at register.segment (address % 2 ^ 28)
+  pub is : at ≡ virtual_at registers.page register.segment (address % 2 ^ 28)
 
 -- an access that isn't refused lies under one
-pub under : (registers : List (Option SegmentRegister)) (address n : ℕ) (store : Bool) (at : Virtual) → located_by registers address n store ≡ Ok at → Under registers address n at
-under registers address n store at is = by_register (slice_index_or registers (address / 2 ^ 28) None) refl is
+pub under : (registers : Registers) (address n : ℕ) (store : Bool) (at : Virtual) → located_by registers address n store ≡ Ok at → Under registers address n at
+under registers address n store at is = by_register (slice_index_or registers.list (address / 2 ^ 28) None) refl is
   where
     by_tests :
-        (register : SegmentRegister) (inside refused : Bool) → slice_index_or registers (address / 2 ^ 28) None ≡ Some register
+        (register : SegmentRegister) (inside refused : Bool) → slice_index_or registers.list (address / 2 ^ 28) None ≡ Some register
         → nat_le (address % 2 ^ 28 + n) register.bytes ≡ inside
-        → cond {A = Result Virtual Check} inside (cond {A = Result Virtual Check} refused (Err (record { 0 = 7 })) (Ok (virtual_at register.segment (address % 2 ^ 28)))) (Err (record { 0 = 2 })) ≡ Ok at
+        → cond {A = Result Virtual Check} inside (cond {A = Result Virtual Check} refused (Err (record { 0 = 7 })) (Ok (virtual_at registers.page register.segment (address % 2 ^ 28)))) (Err (record { 0 = 2 })) ≡ Ok at
         → Under registers address n at
     by_tests register true true stands fits found = absurd (cc)
     by_tests register true false stands fits found =
@@ -50,26 +51,26 @@ under registers address n store at is = by_register (slice_index_or registers (a
     by_tests register false refused stands fits found = absurd (cc)
 
     by_register :
-        (register : Option SegmentRegister) → slice_index_or registers (address / 2 ^ 28) None ≡ register
-        → located_under register (address % 2 ^ 28) n store ≡ Ok at → Under registers address n at
+        (register : Option SegmentRegister) → slice_index_or registers.list (address / 2 ^ 28) None ≡ register
+        → located_under registers.page register (address % 2 ^ 28) n store ≡ Ok at → Under registers address n at
     by_register None stands found = absurd (cc)
     by_register (Some register) stands found =
         by_tests register (nat_le (address % 2 ^ 28 + n) register.bytes) (store && not register.write) stands refl found
 
 -- the offset of a byte at an offset
-pub offset-is : (segment offset : ℕ) → offset_of (virtual_at segment offset) ≡ offset
-offset-is segment offset = omega (arith, div-add-mod' offset 2048)
+pub offset-is : (page : PageSize) (segment offset : ℕ) → offset_of page (virtual_at page segment offset) ≡ offset
+offset-is page segment offset = div-add-mod' offset (page_bytes page)
 
 -- a byte so many on lies so many bytes on
-pub place-on : (directory : Layout) (at : Virtual) (k : ℕ) → place_of directory (bytes_on at k) ≡ on (place_of directory at) k
+pub place-on : (directory : Layout) (at : Virtual) (k : ℕ) → place_of directory (bytes_on directory.page at k) ≡ on (place_of directory at) k
 place-on directory at k = by_test (is_private at.segment)
   where
     by_test :
         (own : Bool)
-        → (if own then Private (offset_of (bytes_on at k)) else Shared (start_of directory at.segment + offset_of (bytes_on at k)))
-        ≡ on (if own then Private (offset_of at) else Shared (start_of directory at.segment + offset_of at)) k
-    by_test true = ap Private (offset-is at.segment (offset_of at + k))
-    by_test false = ap Shared (ap (λ n. start_of directory at.segment + n) (offset-is at.segment (offset_of at + k)) ∙ omega arith)
+        → (if own then Private (offset_of directory.page (bytes_on directory.page at k)) else Shared (start_of directory at.segment + offset_of directory.page (bytes_on directory.page at k)))
+        ≡ on (if own then Private (offset_of directory.page at) else Shared (start_of directory at.segment + offset_of directory.page at)) k
+    by_test true = ap Private (offset-is directory.page at.segment (offset_of directory.page at + k))
+    by_test false = ap Shared (ap (λ n. start_of directory at.segment + n) (offset-is directory.page at.segment (offset_of directory.page at + k)) ∙ omega arith)
 
 pub on-on : (place : Located) (j k : ℕ) → on (on place j) k ≡ on place (j + k)
 on-on (Private at) j k = ap Private (omega arith)
@@ -80,7 +81,7 @@ on-on (Refused code) j k = refl
 pub never-refused : (directory : Layout) (at : Virtual) (code : ℕ) → place_of directory at ≡ Refused code → ⊥
 never-refused directory at code is = by_test (is_private at.segment) is
   where
-    by_test : (own : Bool) → (if own then Private (offset_of at) else Shared (start_of directory at.segment + offset_of at)) ≡ Refused code → ⊥
+    by_test : (own : Bool) → (if own then Private (offset_of directory.page at) else Shared (start_of directory at.segment + offset_of directory.page at)) ≡ Refused code → ⊥
     by_test true is = cc
     by_test false is = cc
 
@@ -98,15 +99,22 @@ selected state sound some =
     let told = sound.selected.seat (state.runner - 1) is in
     record { seat = state.runner - 1; runner = is; few = omega (arith, sound.selected.few, some); begun = told.0; reached = told.1 }
 
+-- the registers go by the store's pages
+pub registers-page : (state : Reach) → IsSound state → state.registers.page ≡ state.directory.page
+registers-page state sound = elim (cases_lt 0 state.runner) [
+  | inl some ↦ (selected state sound some).reached.page
+  | inr none ↦ ap (λ (registers : Registers). registers.page) (sound.selected.none (omega (arith, none)))
+]
+
 -- where nothing stands under any register, none lies anywhere
-pub no-register : (state : Reach) (address : ℕ) {n : ℕ} (at : Virtual) → Under state.registers address n at → state.registers ≡ replicate 16 None → ⊥
+pub no-register : (state : Reach) (address : ℕ) {n : ℕ} (at : Virtual) → Under state.registers address n at → state.registers ≡ record { page = state.directory.page; list = replicate 16 None } → ⊥
 no-register state address at u is = by_place (cases_lt (address / 2 ^ 28) 16)
   where
     by_place : (address / 2 ^ 28 < 16) ⊎ (16 ≤ address / 2 ^ 28) → ⊥
     by_place (inl below) =
-        let clash : None ≡ Some u.register = sym (get_or-replicate 16 (address / 2 ^ 28) None None below) ∙ ap (λ registers. slice_index_or registers (address / 2 ^ 28) None) (sym is) ∙ u.stands in cc
+        let clash : None ≡ Some u.register = sym (get_or-replicate 16 (address / 2 ^ 28) None None below) ∙ ap (λ (registers : Registers). slice_index_or registers.list (address / 2 ^ 28) None) (sym is) ∙ u.stands in cc
     by_place (inr past) =
-        let clash : None ≡ Some u.register = sym (get_or_past (replicate 16 None) (address / 2 ^ 28) None past) ∙ ap (λ registers. slice_index_or registers (address / 2 ^ 28) None) (sym is) ∙ u.stands in cc
+        let clash : None ≡ Some u.register = sym (get_or_past (replicate 16 None) (address / 2 ^ 28) None past) ∙ ap (λ (registers : Registers). slice_index_or registers.list (address / 2 ^ 28) None) (sym is) ∙ u.stands in cc
 
 module _ (state : Reach) (sound : IsSound state) (address n : ℕ) (at : Virtual) (u : Under state.registers address n at) where
   -- where something stands under a register a seat is selected
@@ -119,8 +127,11 @@ module _ (state : Reach) (sound : IsSound state) (address n : ℕ) (at : Virtual
   stands : IsUnder state.directory one.seat u.register
   stands = one.reached.under (address / 2 ^ 28) u.register u.stands
 
-  offset : offset_of at ≡ address % 2 ^ 28
-  offset = ap offset_of u.is ∙ offset-is u.register.segment (address % 2 ^ 28)
+  is-at : at ≡ virtual_at state.directory.page u.register.segment (address % 2 ^ 28)
+  is-at = u.is ∙ ap (λ page. virtual_at page u.register.segment (address % 2 ^ 28)) (registers-page state sound)
+
+  offset : offset_of state.directory.page at ≡ address % 2 ^ 28
+  offset = ap (offset_of state.directory.page) is-at ∙ offset-is state.directory.page u.register.segment (address % 2 ^ 28)
 
   segment : at.segment ≡ u.register.segment
   segment = ap (λ (v : Virtual). v.segment) u.is
@@ -134,7 +145,7 @@ module _ (state : Reach) (sound : IsSound state) (address n : ℕ) (at : Virtual
 
   pub lies : Lies state at n
   lies = record {
-    within = omega (arith, ap (λ (v : Virtual). v.byte) u.is);
+    within = subst (λ (v : Virtual). v.byte < page_bytes state.directory.page) (sym is-at) (rest-below state.directory.page (address % 2 ^ 28));
     few = omega (arith, offset, u.fits, few-bytes);
     private = λ own.
         let told = stands.private (ap is_private (sym segment) ∙ own) in
@@ -145,18 +156,19 @@ module _ (state : Reach) (sound : IsSound state) (address n : ℕ) (at : Virtual
   }
 
   -- each byte of it
-  pub part : (k m : ℕ) → k + m ≤ n → located_by state.registers (address + k) m false ≡ Ok (bytes_on at k)
+  pub part : (k m : ℕ) → k + m ≤ n → located_by state.registers (address + k) m false ≡ Ok (bytes_on state.directory.page at k)
   part k m below =
       let few : address % 2 ^ 28 + k ≤ 2 ^ 22 = omega (arith, u.fits, few-bytes, below) in
       let first : (address + k) / 2 ^ 28 ≡ address / 2 ^ 28 = omega arith in
       let rest : (address + k) % 2 ^ 28 ≡ address % 2 ^ 28 + k = omega arith in
       let inside : nat_le (address % 2 ^ 28 + k + m) u.register.bytes ≡ true = grind (arith, nat_tests, u.fits) in
-      ap (λ i. located_under (slice_index_or state.registers i None) ((address + k) % 2 ^ 28) m false) first
-      ∙ ap (λ o. located_under (slice_index_or state.registers (address / 2 ^ 28) None) o m false) rest
-      ∙ ap (λ r. located_under r (address % 2 ^ 28 + k) m false) u.stands
-      ∙ ap (λ (test : Bool). cond {A = Result Virtual Check} test (Ok (virtual_at u.register.segment (address % 2 ^ 28 + k))) (Err (record { 0 = 2 }))) inside
-      ∙ ap (λ s. Ok (virtual_at s (address % 2 ^ 28 + k))) (sym segment)
-      ∙ ap (λ o. Ok (virtual_at at.segment (o + k))) (sym offset)
+      ap (λ i. located_under state.registers.page (slice_index_or state.registers.list i None) ((address + k) % 2 ^ 28) m false) first
+      ∙ ap (λ o. located_under state.registers.page (slice_index_or state.registers.list (address / 2 ^ 28) None) o m false) rest
+      ∙ ap (λ r. located_under state.registers.page r (address % 2 ^ 28 + k) m false) u.stands
+      ∙ ap (λ (test : Bool). cond {A = Result Virtual Check} test (Ok (virtual_at state.registers.page u.register.segment (address % 2 ^ 28 + k))) (Err (record { 0 = 2 }))) inside
+      ∙ ap (λ page. Ok (virtual_at page u.register.segment (address % 2 ^ 28 + k))) (registers-page state sound)
+      ∙ ap (λ s. Ok (virtual_at state.directory.page s (address % 2 ^ 28 + k))) (sym segment)
+      ∙ ap (λ o. Ok (virtual_at state.directory.page at.segment (o + k))) (sym offset)
 
   -- the byte shown there
   pub byte-on : (k : ℕ) → k < n → byte_at state (address + k) ≡ byte_of state (on (place_of state.directory at) k)
@@ -164,93 +176,92 @@ module _ (state : Reach) (sound : IsSound state) (address n : ℕ) (at : Virtual
       ap (λ located. byte_of state (place_at state.directory located)) (part k 1 (omega arith))
       ∙ ap (byte_of state) (place-on state.directory at k)
 
-  pub itself : at ≡ virtual_at at.segment (offset_of at)
-  itself = u.is ∙ ap (λ s. virtual_at s (address % 2 ^ 28)) (sym segment) ∙ ap (virtual_at at.segment) (sym offset)
+  pub itself : at ≡ virtual_at state.directory.page at.segment (offset_of state.directory.page at)
+  itself = is-at ∙ ap (λ s. virtual_at state.directory.page s (address % 2 ^ 28)) (sym segment) ∙ ap (virtual_at state.directory.page at.segment) (sym offset)
 
 -- the first byte of a range that isn't refused, as it is located alone
 pub first-byte : (state : Reach) → IsSound state → (address n : ℕ) (store : Bool) (at : Virtual) → located_by state.registers address n store ≡ Ok at → located_by state.registers address 0 false ≡ Ok at
 first-byte state sound address n store at is =
     let u = under state.registers address n store at is in
     let here : address + 0 ≡ address = omega arith in
-    let none : offset_of at + 0 ≡ offset_of at = omega arith in
+    let none : offset_of state.directory.page at + 0 ≡ offset_of state.directory.page at = omega arith in
     ap (λ a. located_by state.registers a 0 false) (sym here)
     ∙ part state sound address n at u 0 0 (omega arith)
-    ∙ ap (λ o. Ok (virtual_at at.segment o)) none
+    ∙ ap (λ o. Ok (virtual_at state.directory.page at.segment o)) none
     ∙ ap Ok (sym (itself state sound address n at u))
 
 -- bytes behind some of them lie there too
-pub lies-on : (state : Reach) (at : Virtual) (k m n : ℕ) → k + m ≤ n → Lies state at n → Lies state (bytes_on at k) m
+pub lies-on : (state : Reach) (at : Virtual) (k m n : ℕ) → k + m ≤ n → Lies state at n → Lies state (bytes_on state.directory.page at k) m
 lies-on state at k m n less lies =
-    let offset : offset_of (bytes_on at k) ≡ offset_of at + k = offset-is at.segment (offset_of at + k) in
+    let offset : offset_of state.directory.page (bytes_on state.directory.page at k) ≡ offset_of state.directory.page at + k = offset-is state.directory.page at.segment (offset_of state.directory.page at + k) in
     record {
-      within = omega arith;
+      within = rest-below state.directory.page (offset_of state.directory.page at + k);
       few = omega (arith, less, lies.few, offset);
       private = λ own. let (seat, runner, few, segment, begun, fits) = lies.private own in (seat, runner, few, segment, begun, omega (arith, less, fits, offset));
       shared = λ own. let (bytes, found, fits, within) = lies.shared own in (bytes, found, omega (arith, less, fits, offset), within);
     }
 
-pub there-on : (state : Reach) (at : Virtual) (k m n : ℕ) → k + m ≤ n → AreThere state at n → AreThere state (bytes_on at k) m
+pub there-on : (state : Reach) (at : Virtual) (k m n : ℕ) → k + m ≤ n → AreThere state at n → AreThere state (bytes_on state.directory.page at k) m
 there-on state at k m n less there past below =
     ap (λ place. is_there state (on place past)) (place-on state.directory at k)
     ∙ ap (is_there state) (on-on (place_of state.directory at) k past)
     ∙ there (k + past) (omega (arith, less, below))
 
 -- a place of private storage, or of the store
-pub private-is : (d : Layout) (at : Virtual) → is_private at.segment ≡ true → place_of d at ≡ Private (offset_of at)
-private-is d at own = ap (λ (b : Bool). if b then Private (offset_of at) else Shared (start_of d at.segment + offset_of at)) own
+pub private-is : (d : Layout) (at : Virtual) → is_private at.segment ≡ true → place_of d at ≡ Private (offset_of d.page at)
+private-is d at own = ap (λ (b : Bool). if b then Private (offset_of d.page at) else Shared (start_of d at.segment + offset_of d.page at)) own
 
-pub shared-is : (d : Layout) (at : Virtual) → is_private at.segment ≡ false → place_of d at ≡ Shared (start_of d at.segment + offset_of at)
-shared-is d at own = ap (λ (b : Bool). if b then Private (offset_of at) else Shared (start_of d at.segment + offset_of at)) own
+pub shared-is : (d : Layout) (at : Virtual) → is_private at.segment ≡ false → place_of d at ≡ Shared (start_of d at.segment + offset_of d.page at)
+shared-is d at own = ap (λ (b : Bool). if b then Private (offset_of d.page at) else Shared (start_of d at.segment + offset_of d.page at)) own
 
-pub is-private : (d : Layout) (at : Virtual) (a : ℕ) → place_of d at ≡ Private a → (is_private at.segment ≡ true) × (offset_of at ≡ a)
+pub is-private : (d : Layout) (at : Virtual) (a : ℕ) → place_of d at ≡ Private a → (is_private at.segment ≡ true) × (offset_of d.page at ≡ a)
 is-private d at a is = by_test (is_private at.segment) refl is
   where
-    by_test : (own : Bool) → is_private at.segment ≡ own → (if own then Private (offset_of at) else Shared (start_of d at.segment + offset_of at)) ≡ Private a → (is_private at.segment ≡ true) × (offset_of at ≡ a)
+    by_test : (own : Bool) → is_private at.segment ≡ own → (if own then Private (offset_of d.page at) else Shared (start_of d at.segment + offset_of d.page at)) ≡ Private a → (is_private at.segment ≡ true) × (offset_of d.page at ≡ a)
     by_test true own is = (own, cc)
     by_test false own is = absurd (cc)
 
-pub is-shared : (d : Layout) (at : Virtual) (a : ℕ) → place_of d at ≡ Shared a → (is_private at.segment ≡ false) × (start_of d at.segment + offset_of at ≡ a)
+pub is-shared : (d : Layout) (at : Virtual) (a : ℕ) → place_of d at ≡ Shared a → (is_private at.segment ≡ false) × (start_of d at.segment + offset_of d.page at ≡ a)
 is-shared d at a is = by_test (is_private at.segment) refl is
   where
-    by_test : (own : Bool) → is_private at.segment ≡ own → (if own then Private (offset_of at) else Shared (start_of d at.segment + offset_of at)) ≡ Shared a → (is_private at.segment ≡ false) × (start_of d at.segment + offset_of at ≡ a)
+    by_test : (own : Bool) → is_private at.segment ≡ own → (if own then Private (offset_of d.page at) else Shared (start_of d at.segment + offset_of d.page at)) ≡ Shared a → (is_private at.segment ≡ false) × (start_of d at.segment + offset_of d.page at ≡ a)
     by_test false own is = (own, cc)
     by_test true own is = absurd (cc)
 
 -- the frame that the table finds for some bytes that lie there
 module _ (state : Reach) (sound : IsSound state) (at : Virtual) (n : ℕ) (some : 0 < n) (lies : Lies state at n) where
-  pub finds-own : (seat : ℕ) → state.runner ≡ seat + 1 → is_private at.segment ≡ true → look_up (table_of state).keys (key_of at) ≡ Some (seat * 8 + at.page)
+  pub finds-own : (seat : ℕ) → state.runner ≡ seat + 1 → is_private at.segment ≡ true → look_up (table_of state).keys (key_of at) ≡ Some (seat * seat_pages state.directory.page + at.page)
   finds-own seat is own =
       let (other, runner, few, segment, begun, fits) = lies.private own in
       let same : other ≡ seat = omega (arith, is, runner) in
-      let small : at.page < 8 = omega (arith, fits, some) in
-      let inside : nat_lt at.page 8 ≡ true = grind (arith, nat_tests, small) in
+      let small : at.page < seat_pages state.directory.page = seat-page state.directory.page at.page at.byte n some fits in
+      let inside : nat_lt at.page (seat_pages state.directory.page) ≡ true = grind (arith, nat_tests, small) in
       ap (λ s. look_up (table_of state).keys (key_to s at.page)) segment
-      ∙ finds-private state.directory sound.two sound.legal state.pool sound.seen sound.size sound.pages (pages_begun state.begun) other at.page few small
-      ∙ ap (λ (on : Bool). if nat_lt at.page (if on then 8 else 0) then Some (other * 8 + at.page) else None) begun
-      ∙ ap (λ (b : Bool). if b then Some (other * 8 + at.page) else None) inside
-      ∙ ap (λ s. Some (s * 8 + at.page)) same
+      ∙ finds-private state.directory sound.legal state.pool sound.seen sound.size sound.pages (pages_begun state.directory.page state.begun) other at.page few small
+      ∙ ap (λ (on : Bool). if nat_lt at.page (if on then seat_pages state.directory.page else 0) then Some (other * seat_pages state.directory.page + at.page) else None) begun
+      ∙ ap (λ (b : Bool). if b then Some (other * seat_pages state.directory.page + at.page) else None) inside
+      ∙ ap (λ s. Some (s * seat_pages state.directory.page + at.page)) same
 
-  place-below : is_private at.segment ≡ false → start_of state.directory at.segment + offset_of at < byte_count state.directory
+  place-below : is_private at.segment ≡ false → start_of state.directory at.segment + offset_of state.directory.page at < byte_count state.directory
   place-below own = let (bytes, found, fits, within) = lies.shared own in omega (arith, fits, within, some)
 
-  pub finds-shared : is_private at.segment ≡ false → look_up (table_of state).keys (key_of at) ≡ frame_at state.pool (page_of state.directory (start_of state.directory at.segment + offset_of at))
+  pub finds-shared : is_private at.segment ≡ false → look_up (table_of state).keys (key_of at) ≡ frame_at state.pool (page_of state.directory (start_of state.directory at.segment + offset_of state.directory.page at))
   finds-shared own =
       let (bytes, found, fits, within) = lies.shared own in
-      let place = start_of state.directory at.segment + offset_of at in
-      let here : offset_of at / 2048 ≡ at.page = omega (arith, lies.within) in
-      let key = key-of-place state.directory sound.two sound.legal at.segment bytes (offset_of at) found (omega (arith, fits, some)) in
+      let place = start_of state.directory at.segment + offset_of state.directory.page at in
+      let here : offset_of state.directory.page at / page_bytes state.directory.page ≡ at.page = page-at state.directory.page at.page at.byte lies.within in
+      let key = key-of-place state.directory sound.legal at.segment bytes (offset_of state.directory.page at) found (omega (arith, fits, some)) in
       ap (λ p. look_up (table_of state).keys (key_to at.segment p)) (sym here)
       ∙ ap (look_up (table_of state).keys) (sym key)
-      ∙ ap (λ p. look_up (table_of state).keys (key_of_page state.directory p)) (sym (ap (λ s. place / page_bytes s) sound.two))
-      ∙ finds-page state.directory sound.two sound.legal state.pool sound.seen sound.size sound.pages (pages_begun state.begun) (page_of state.directory place)
+      ∙ finds-page state.directory sound.legal state.pool sound.seen sound.size sound.pages (pages_begun state.directory.page state.begun) (page_of state.directory place)
       (page-below state.directory place (place-below own))
 
   -- the place of a byte of the store in its page
-  pub place-byte : (start_of state.directory at.segment + offset_of at) % 2048 ≡ at.byte
-  place-byte = omega (arith, start-whole state.directory sound.two sound.legal at.segment, lies.within)
+  pub place-byte : (start_of state.directory at.segment + offset_of state.directory.page at) % page_bytes state.directory.page ≡ at.byte
+  place-byte = byte-on-page state.directory.page (start_of state.directory at.segment) at.page at.byte (start-whole state.directory sound.legal at.segment) lies.within
 
   -- a byte of the same page is in a frame exactly where the table finds one
-  pub there-found : (k : ℕ) → at.byte + k < 2048 → is_there state (on (place_of state.directory at) k) ≡ is_some (look_up (table_of state).keys (key_of at))
+  pub there-found : (k : ℕ) → at.byte + k < page_bytes state.directory.page → is_there state (on (place_of state.directory at) k) ≡ is_some (look_up (table_of state).keys (key_of at))
   there-found k within = by_test (is_private at.segment) refl
     where
       by_test : (own : Bool) → is_private at.segment ≡ own → is_there state (on (place_of state.directory at) k) ≡ is_some (look_up (table_of state).keys (key_of at))
@@ -259,11 +270,9 @@ module _ (state : Reach) (sound : IsSound state) (at : Virtual) (n : ℕ) (some 
           ap (λ place. is_there state (on place k)) (private-is state.directory at own)
           ∙ ap (λ (o : Option ℕ). is_some o) (sym (finds-own seat runner own))
       by_test false own =
-          let place = start_of state.directory at.segment + offset_of at in
-          let same : (place + k) / 2048 ≡ place / 2048 = omega (arith, place-byte, within) in
+          let place = start_of state.directory at.segment + offset_of state.directory.page at in
+          let same : (place + k) / page_bytes state.directory.page ≡ place / page_bytes state.directory.page = same-page-on state.directory.page place k (omega (arith, place-byte, within)) in
           ap (λ p. is_there state (on p k)) (shared-is state.directory at own)
           ∙ ap (λ p. is_some (frame_at state.pool p)) (page-of-line state.directory.page (place + k))
-          ∙ ap (λ s. is_some (frame_at state.pool ((place + k) / page_bytes s))) sound.two
           ∙ ap (λ p. is_some (frame_at state.pool p)) same
-          ∙ ap (λ s. is_some (frame_at state.pool (place / page_bytes s))) (sym sound.two)
           ∙ ap (λ (o : Option ℕ). is_some o) (sym (finds-shared own))

@@ -1,9 +1,9 @@
 -- The answers of the pages and lines of a range, each asked for once.
-use Rattle.std.proofs.Common.{◌≡◌, ℕ, ◌+◌, ◌-◌, ◌/◌, ◌%◌, ◌<◌, ◌≤◌, Bool, true, false, sym, ◌∙◌, ap, arith, Some, None, inl, inr}
+use Rattle.std.proofs.Common.{◌≡◌, ℕ, ◌+◌, ◌-◌, ◌*◌, ◌/◌, ◌%◌, ◌<◌, ◌≤◌, Bool, true, false, sym, ◌∙◌, ap, arith, Some, None, inl, inr}
 use Rattle.std.specs.Prelude.{not, find}
 use Rattle.std.specs.List.{range_with_len}
 use Rattle.std.proofs.lemmas.Bool.{cases_lt}
-use Rattle.line_geometry.specs.Segments.{page_bytes}
+use Rattle.line_geometry.specs.Segments.{page_bytes, line_bytes}
 use Rattle.line_geometry.specs.Lines.{line_of}
 use Rattle.segment_regs.specs.declared.registers.Virtual.{Virtual}
 use Rattle.segment_regs.specs.Registers.{bytes_on}
@@ -11,6 +11,7 @@ use Rattle.storage_unit.specs.declared.model.Reach.{Reach}
 use Rattle.storage_unit.specs.Places.{is_private, place_of, on}
 use Rattle.storage_unit.specs.Reach.{is_there, is_kept_from, is_refused}
 use Rattle.storage_unit.specs.Reached.{IsSound, Lies, is_absent}
+use Rattle.storage_unit.proofs.SizeLemmas.{byte-at, page-some, same-line-on}
 use Rattle.storage_unit.proofs.FindLemmas.{none-found, first-found}
 use Rattle.storage_unit.proofs.PlaceLemmas.{place-on, on-on, lies-on, private-is, there-found}
 
@@ -18,7 +19,7 @@ module _ (state : Reach) (sound : IsSound state) (first : Virtual) (n : ℕ) (so
   abbrev test : ℕ → Bool
   test past = not (is_there state (on (place_of state.directory first) past))
 
-  here : (k : ℕ) → first.byte + k < 2048 → not (is_there state (on (place_of state.directory first) k)) ≡ is_absent state first
+  here : (k : ℕ) → first.byte + k < page_bytes state.directory.page → not (is_there state (on (place_of state.directory first) k)) ≡ is_absent state first
   here k within = ap not (there-found state sound first n some lies k within)
 
   -- the page of the first byte is in no frame
@@ -26,32 +27,35 @@ module _ (state : Reach) (sound : IsSound state) (first : Virtual) (n : ℕ) (so
   absent-first is = sym (first-found test 0 n 0 (omega arith) (omega (arith, some)) (λ k above below. absurd (omega (arith, below))) (here 0 (omega (arith, lies.within)) ∙ is))
 
   -- it is in one, and the others are in the same
-  pub none-absent : is_absent state first ≡ false → first.byte + n ≤ 2048 → None ≡ find (λ past. not (is_there state (on (place_of state.directory first) past))) (range_with_len 0 n)
+  pub none-absent : is_absent state first ≡ false → first.byte + n ≤ page_bytes state.directory.page → None ≡ find (λ past. not (is_there state (on (place_of state.directory first) past))) (range_with_len 0 n)
   none-absent is within = sym (none-found test 0 n (λ k above below. here k (omega (arith, below, within)) ∙ is))
 
-  module _ (rest : ℕ) (are : first.byte + rest ≡ 2048) (more : rest < n) where
+  module _ (rest : ℕ) (are : first.byte + rest ≡ page_bytes state.directory.page) (more : rest < n) where
     abbrev next : Virtual
-    next = bytes_on first rest
+    next = bytes_on state.directory.page first rest
 
-    there : (k : ℕ) → rest ≤ k → k < n → not (is_there state (on (place_of state.directory first) k)) ≡ is_absent state (bytes_on first rest)
+    page-end : first.page * page_bytes state.directory.page + first.byte + rest ≡ (first.page + 1) * page_bytes state.directory.page + 0
+    page-end = omega (arith, are)
+
+    there : (k : ℕ) → rest ≤ k → k < n → not (is_there state (on (place_of state.directory first) k)) ≡ is_absent state (bytes_on state.directory.page first rest)
     there k above below =
-        let start : next.byte ≡ 0 = omega (arith, are) in
+        let start : next.byte ≡ 0 = ap (λ n. n % page_bytes state.directory.page) page-end ∙ byte-at state.directory.page (first.page + 1) 0 (omega (arith, page-some state.directory.page)) in
         let split : rest + (k - rest) ≡ k = omega (arith, above) in
         ap (λ m. not (is_there state (on (place_of state.directory first) m))) (sym split)
         ∙ ap (λ place. not (is_there state place)) (sym (on-on (place_of state.directory first) rest (k - rest)))
         ∙ ap (λ place. not (is_there state (on place (k - rest)))) (sym (place-on state.directory first rest))
         ∙ ap not
         (there-found state sound next (n - rest) (omega (arith, more)) (lies-on state first rest (n - rest) n (omega (arith, more)) lies) (k - rest)
-        (omega (arith, start, above, below, few)))
+        (omega (arith, start, above, below, few, page-some state.directory.page)))
 
     -- the next page is in none
-    pub absent-next : is_absent state first ≡ false → is_absent state (bytes_on first rest) ≡ true
+    pub absent-next : is_absent state first ≡ false → is_absent state (bytes_on state.directory.page first rest) ≡ true
         → Some rest ≡ find (λ past. not (is_there state (on (place_of state.directory first) past))) (range_with_len 0 n)
     absent-next is gone =
         sym (first-found test 0 n rest (omega arith) (omega (arith, more)) (λ k above below. here k (omega (arith, below, are)) ∙ is) (there rest (omega arith) more ∙ gone))
 
     -- both are in one
-    pub none-next : is_absent state first ≡ false → is_absent state (bytes_on first rest) ≡ false
+    pub none-next : is_absent state first ≡ false → is_absent state (bytes_on state.directory.page first rest) ≡ false
         → None ≡ find (λ past. not (is_there state (on (place_of state.directory first) past))) (range_with_len 0 n)
     none-next is also =
         sym
@@ -62,14 +66,12 @@ module _ (state : Reach) (sound : IsSound state) (first : Virtual) (n : ℕ) (so
         ]))
 
 -- bytes of the same line are refused alike
-pub same-line : (state : Reach) → IsSound state → (place past k : ℕ) (store : Bool) → past ≤ k → k < past + (128 - (place + past) % 128)
+pub same-line : (state : Reach) (place past rest k : ℕ) (store : Bool) → rest + (place + past) % line_bytes state.directory.page ≡ line_bytes state.directory.page → past ≤ k → k < past + rest
     → is_refused state (line_of state.directory (place + k)) store ≡ is_refused state (line_of state.directory (place + past)) store
-same-line state sound place past k store above below =
-    let size : page_bytes state.directory.page / 16 ≡ 128 = ap (λ s. page_bytes s / 16) sound.two in
-    let same : (place + k) / 128 ≡ (place + past) / 128 = omega (arith, above, below) in
-    ap (λ b. is_refused state ((place + k) / b) store) size
-    ∙ ap (λ l. is_refused state l store) same
-    ∙ ap (λ b. is_refused state ((place + past) / b) store) (sym size)
+same-line state place past rest k store are above below =
+    let on : place + past + (k - past) ≡ place + k = omega (arith, above) in
+    ap (λ n. is_refused state (line_of state.directory n) store) (sym on)
+    ∙ ap (λ l. is_refused state l store) (same-line-on state.directory.page (place + past) (k - past) (omega (arith, are, above, below)))
 
 -- of private storage none is refused
 pub private-kept : (state : Reach) (first : Virtual) (n : ℕ) (store : Bool) → is_private first.segment ≡ true

@@ -9,8 +9,7 @@ use Rattle.std.proofs.lemmas.List.FromFn.{get_or-map-range_with_len, length-map-
 use Rattle.std.proofs.lemmas.Grind.{same_number_lists}
 use Rattle.owned_list.specs.Overlay.{overlaid}
 use Rattle.owned_list.proofs.Overlay.{length-overlaid}
-use Rattle.line_geometry.specs.declared.directory.PageSize.TheVariants.{Two}
-use Rattle.line_geometry.specs.Segments.{page_bytes}
+use Rattle.line_geometry.specs.Segments.{page_bytes, line_bytes}
 use Rattle.line_geometry.specs.Directory.{Layout}
 use Rattle.line_geometry.specs.Lines.{line_of, page_of}
 use Rattle.line_geometry.specs.LineSets.{union, between, lines_where}
@@ -27,6 +26,7 @@ use Rattle.frame_pool.specs.Pool.{frame_at, page_at, marks_at, lines_of_part}
 use Rattle.storage_unit.specs.Held.{AreOfPages}
 use Rattle.storage_unit.specs.Bytes.{is_line_marked, byte_in_frame}
 use Rattle.storage_unit.specs.Reach.{put_byte, spot_put, marks_put, put_in_store}
+use Rattle.storage_unit.proofs.SizeLemmas.{rest-below, place-is, page-at, byte-at, same-page-on, rest-on, page-between, line-is, line-few, line-order}
 use Rattle.storage_unit.proofs.FillLemmas.{over-part, in-part}
 
 -- a byte among those that are put, and one that isn't
@@ -43,16 +43,13 @@ put-outside bytes from place old outside = by_test (nat_le from place && nat_lt 
     by_test true is = absurd (outside (grind (arith, nat_tests, is)) (grind (arith, nat_tests, is)))
 
 -- the lines of some bytes
-pub has-lines : (d : Layout) (from count line : ℕ) → d.page ≡ Two → 0 < count → has (lines_at d (Shared from) count) line ≡ (nat_le (from / 128) line && nat_le line ((from + count - 1) / 128))
-has-lines d from zero line two some = absurd (omega (arith, some))
-has-lines d from (suc more) line two some =
-    let size : page_bytes d.page / 16 ≡ 128 = ap (λ s. page_bytes s / 16) two in
+pub has-lines : (d : Layout) (from count line : ℕ) → 0 < count → has (lines_at d (Shared from) count) line ≡ (nat_le (line_of d from) line && nat_le line (line_of d (from + count - 1)))
+has-lines d from zero line some = absurd (omega (arith, some))
+has-lines d from (suc more) line some =
     let last : from + suc more - 1 ≡ from + more = omega arith in
-    let order : from / 128 ≤ (from + more) / 128 = omega arith in
     has-range (line_of d from) (line_of d (from + more) + 1 - line_of d from) line
-    ∙ ap (λ b. nat_le (from / b) line && nat_lt line (from / b + ((from + more) / b + 1 - from / b))) size
-    ∙ ap (λ (b : Bool). nat_le (from / 128) line && b) (same (from / 128) ((from + more) / 128) line order)
-    ∙ ap (λ n. nat_le (from / 128) line && nat_le line (n / 128)) (sym last)
+    ∙ ap (λ (b : Bool). nat_le (line_of d from) line && b) (same (line_of d from) (line_of d (from + more)) line (line-order d.page from (from + more) (omega arith)))
+    ∙ ap (λ n. nat_le (line_of d from) line && nat_le line (line_of d n)) (sym last)
   where
     same : (low high line : ℕ) → low ≤ high → nat_lt line (low + (high + 1 - low)) ≡ nat_le line high
     same low high line order = let sum : low + (high + 1 - low) ≡ high + 1 = omega (arith, order) in ap (nat_lt line) sum ∙ test
@@ -60,7 +57,7 @@ has-lines d from (suc more) line two some =
         test : nat_lt line (high + 1) ≡ nat_le line high
         test = grind (arith, nat_tests)
 
-module _ (d : Layout) (two : d.page ≡ Two) (pool : Pool) (from : ℕ) (bytes : List ℕ) where
+module _ (d : Layout) (pool : Pool) (from : ℕ) (bytes : List ℕ) where
   pub spots-long : length (put_in_store d pool from bytes).bytes ≡ length pool.bytes
   spots-long = length-map-range_with_len (spot_put d pool from bytes) 0 (length pool.bytes)
 
@@ -68,39 +65,30 @@ module _ (d : Layout) (two : d.page ≡ Two) (pool : Pool) (from : ℕ) (bytes :
   marks-long = length-map-range_with_len (marks_put d pool from (length bytes)) 0 (length pool.marked)
 
   -- a byte of a frame with a page of the store
-  pub spot-there : (frame page o : ℕ) → page_at pool frame ≡ Some page → o < 2048 → frame * 2048 + o < length pool.bytes
-      → slice_index (put_in_store d pool from bytes).bytes (frame * 2048 + o) ≡ put_byte bytes from (page * 2048 + o) (slice_index pool.bytes (frame * 2048 + o))
+  pub spot-there : (frame page o : ℕ) → page_at pool frame ≡ Some page → o < page_bytes d.page → frame * page_bytes d.page + o < length pool.bytes
+      → slice_index (put_in_store d pool from bytes).bytes (frame * page_bytes d.page + o) ≡ put_byte bytes from (page * page_bytes d.page + o) (slice_index pool.bytes (frame * page_bytes d.page + o))
   spot-there frame page o there less below =
-      let spot = frame * 2048 + o in
-      let first : spot / 2048 ≡ frame = omega (arith, less) in
-      let rest : spot % 2048 ≡ o = omega (arith, less) in
+      let spot = frame * page_bytes d.page + o in
       get_or-map-range_with_len (spot_put d pool from bytes) 0 (length pool.bytes) spot spot 0 below (omega arith)
-      ∙ ap (λ s. option_map_or (λ p. put_byte bytes from (p * page_bytes s + spot % page_bytes s) (slice_index pool.bytes spot)) (page_at pool (spot / page_bytes s)) (slice_index pool.bytes spot)) two
-      ∙ ap (λ n. option_map_or (λ p. put_byte bytes from (p * 2048 + n) (slice_index pool.bytes spot)) (page_at pool (spot / 2048)) (slice_index pool.bytes spot)) rest
-      ∙ ap (λ n. option_map_or (λ p. put_byte bytes from (p * 2048 + o) (slice_index pool.bytes spot)) (page_at pool n) (slice_index pool.bytes spot)) first
-      ∙ ap (λ (p : Option ℕ). option_map_or (λ q. put_byte bytes from (q * 2048 + o) (slice_index pool.bytes spot)) p (slice_index pool.bytes spot)) there
+      ∙ ap (λ n. option_map_or (λ p. put_byte bytes from (p * page_bytes d.page + n) (slice_index pool.bytes spot)) (page_at pool (spot / page_bytes d.page)) (slice_index pool.bytes spot)) (byte-at d.page frame o less)
+      ∙ ap (λ n. option_map_or (λ p. put_byte bytes from (p * page_bytes d.page + o) (slice_index pool.bytes spot)) (page_at pool n) (slice_index pool.bytes spot)) (page-at d.page frame o less)
+      ∙ ap (λ (p : Option ℕ). option_map_or (λ q. put_byte bytes from (q * page_bytes d.page + o) (slice_index pool.bytes spot)) p (slice_index pool.bytes spot)) there
 
   -- and of one without
-  pub spot-none : (frame o : ℕ) → page_at pool frame ≡ None → o < 2048 → frame * 2048 + o < length pool.bytes
-      → slice_index (put_in_store d pool from bytes).bytes (frame * 2048 + o) ≡ slice_index pool.bytes (frame * 2048 + o)
+  pub spot-none : (frame o : ℕ) → page_at pool frame ≡ None → o < page_bytes d.page → frame * page_bytes d.page + o < length pool.bytes
+      → slice_index (put_in_store d pool from bytes).bytes (frame * page_bytes d.page + o) ≡ slice_index pool.bytes (frame * page_bytes d.page + o)
   spot-none frame o none less below =
-      let spot = frame * 2048 + o in
-      let first : spot / 2048 ≡ frame = omega (arith, less) in
+      let spot = frame * page_bytes d.page + o in
       get_or-map-range_with_len (spot_put d pool from bytes) 0 (length pool.bytes) spot spot 0 below (omega arith)
-      ∙ ap (λ s. option_map_or (λ p. put_byte bytes from (p * page_bytes d.page + spot % page_bytes d.page) (slice_index pool.bytes spot)) (page_at pool (spot / page_bytes s)) (slice_index pool.bytes spot)) two
-      ∙ ap (λ n. option_map_or (λ p. put_byte bytes from (p * page_bytes d.page + spot % page_bytes d.page) (slice_index pool.bytes spot)) (page_at pool n) (slice_index pool.bytes spot)) first
+      ∙ ap (λ n. option_map_or (λ p. put_byte bytes from (p * page_bytes d.page + spot % page_bytes d.page) (slice_index pool.bytes spot)) (page_at pool n) (slice_index pool.bytes spot)) (page-at d.page frame o less)
       ∙ ap (λ (p : Option ℕ). option_map_or (λ q. put_byte bytes from (q * page_bytes d.page + spot % page_bytes d.page) (slice_index pool.bytes spot)) p (slice_index pool.bytes spot)) none
 
   -- a place of the store that is in a frame
-  pub place-put : (place frame : ℕ) → page_at pool frame ≡ Some (page_of d place) → frame * 2048 + 2048 ≤ length pool.bytes
+  pub place-put : (place frame : ℕ) → page_at pool frame ≡ Some (page_of d place) → frame * page_bytes d.page + page_bytes d.page ≤ length pool.bytes
       → byte_in_frame d (put_in_store d pool from bytes) place frame ≡ put_byte bytes from place (byte_in_frame d pool place frame)
   place-put place frame there room =
-      let page : page_of d place ≡ place / 2048 = ap (λ s. place / page_bytes s) two in
-      let whole : place / 2048 * 2048 + place % 2048 ≡ place = omega arith in
-      ap (λ s. slice_index (put_in_store d pool from bytes).bytes (frame * page_bytes s + place % page_bytes s)) two
-      ∙ spot-there frame (place / 2048) (place % 2048) (there ∙ ap (λ n. Some n) page) (omega arith) (omega (arith, room))
-      ∙ ap (λ n. put_byte bytes from n (slice_index pool.bytes (frame * 2048 + place % 2048))) whole
-      ∙ ap (λ s. put_byte bytes from place (slice_index pool.bytes (frame * page_bytes s + place % page_bytes s))) (sym two)
+      spot-there frame (page_of d place) (place % page_bytes d.page) there (rest-below d.page place) (omega (arith, room, rest-below d.page place))
+      ∙ ap (λ n. put_byte bytes from n (byte_in_frame d pool place frame)) (place-is d.page place)
 
   -- the marks of a line
   pub line-put : (line : ℕ) → page_of_line line < length pool.marked
@@ -115,44 +103,47 @@ module _ (d : Layout) (two : d.page ≡ Two) (pool : Pool) (from : ℕ) (bytes :
       ∙ ap (has (lines_at d (Shared from) (length bytes))) whole)
 
 -- bytes of one page that are written over those of its frame
-module _ (d : Layout) (two : d.page ≡ Two) (pool : Pool) (seen : IsSeen pool) (marks : AreOfPages pool.marked) (from : ℕ) (bytes : List ℕ) (frame : ℕ)
-    (some : 0 < length bytes) (within : from % 2048 + length bytes ≤ 2048) (there : page_at pool frame ≡ Some (from / 2048)) (room : frame * 2048 + 2048 ≤ length pool.bytes) where
+module _ (d : Layout) (pool : Pool) (seen : IsSeen pool) (marks : AreOfPages pool.marked) (from : ℕ) (bytes : List ℕ) (frame : ℕ)
+    (some : 0 < length bytes) (within : from % page_bytes d.page + length bytes ≤ page_bytes d.page) (there : page_at pool frame ≡ Some (from / page_bytes d.page)) (room : frame * page_bytes d.page + page_bytes d.page ≤ length pool.bytes) where
   abbrev at : ℕ
-  at = frame * 2048 + from % 2048
+  at = frame * page_bytes d.page + from % page_bytes d.page
 
-  fits : frame * 2048 + from % 2048 + length bytes ≤ length pool.bytes
+  whole : from / page_bytes d.page * page_bytes d.page + from % page_bytes d.page ≡ from
+  whole = place-is d.page from
+
+  fits : frame * page_bytes d.page + from % page_bytes d.page + length bytes ≤ length pool.bytes
   fits = omega (arith, room, within)
 
-  pub page-bytes : overlaid pool.bytes (frame * 2048 + from % 2048) bytes ≡ (put_in_store d pool from bytes).bytes
+  pub page-bytes : overlaid pool.bytes (frame * page_bytes d.page + from % page_bytes d.page) bytes ≡ (put_in_store d pool from bytes).bytes
   page-bytes =
-      same_number_lists (overlaid pool.bytes at bytes) (put_in_store d pool from bytes).bytes (long ∙ sym (spots-long d two pool from bytes))
+      same_number_lists (overlaid pool.bytes at bytes) (put_in_store d pool from bytes).bytes (long ∙ sym (spots-long d pool from bytes))
       (λ k below. element k (omega (arith, below, long)))
     where
       long : length (overlaid pool.bytes at bytes) ≡ length pool.bytes
       long = length-overlaid pool.bytes at bytes fits
 
       -- in another frame
-      elsewhere : (k : ℕ) → k / 2048 ≢ frame → slice_index (overlaid pool.bytes at bytes) k ≡ slice_index pool.bytes k
-      elsewhere k apart = over-part pool.bytes at bytes k fits (λ j less same. apart (omega (arith, same, less, within)))
+      elsewhere : (k : ℕ) → k / page_bytes d.page ≢ frame → slice_index (overlaid pool.bytes at bytes) k ≡ slice_index pool.bytes k
+      elsewhere k apart = over-part pool.bytes at bytes k fits (λ j less same. apart (ap (λ n. n / page_bytes d.page) (sym same ∙ omega arith) ∙ page-at d.page frame (from % page_bytes d.page + j) (omega (arith, less, within))))
 
       -- in the same frame
-      same-frame : (o : ℕ) → o < 2048 → slice_index (overlaid pool.bytes at bytes) (frame * 2048 + o) ≡ put_byte bytes from (from / 2048 * 2048 + o) (slice_index pool.bytes (frame * 2048 + o))
-      same-frame o less = elim (cases_lt o (from % 2048)) [
+      same-frame : (o : ℕ) → o < page_bytes d.page → slice_index (overlaid pool.bytes at bytes) (frame * page_bytes d.page + o) ≡ put_byte bytes from (from / page_bytes d.page * page_bytes d.page + o) (slice_index pool.bytes (frame * page_bytes d.page + o))
+      same-frame o less = elim (cases_lt o (from % page_bytes d.page)) [
         | inl low ↦
-            over-part pool.bytes at bytes (frame * 2048 + o) fits (λ j small same. absurd (omega (arith, same, low)))
-            ∙ sym (put-outside bytes from (from / 2048 * 2048 + o) (slice_index pool.bytes (frame * 2048 + o)) (λ above below. absurd (omega (arith, above, low))))
+            over-part pool.bytes at bytes (frame * page_bytes d.page + o) fits (λ j small same. absurd (omega (arith, same, low)))
+            ∙ sym (put-outside bytes from (from / page_bytes d.page * page_bytes d.page + o) (slice_index pool.bytes (frame * page_bytes d.page + o)) (λ above below. absurd (omega (arith, above, low, whole))))
         | inr high ↦
-            elim (cases_lt o (from % 2048 + length bytes)) [
+            elim (cases_lt o (from % page_bytes d.page + length bytes)) [
               | inl inside ↦
-                  let spot : frame * 2048 + o ≡ at + (o - from % 2048) = omega (arith, high) in
-                  let back : from / 2048 * 2048 + o - from ≡ o - from % 2048 = omega (arith, high) in
+                  let spot : frame * page_bytes d.page + o ≡ at + (o - from % page_bytes d.page) = omega (arith, high) in
+                  let back : from / page_bytes d.page * page_bytes d.page + o - from ≡ o - from % page_bytes d.page = omega (arith, high, whole) in
                   ap (slice_index (overlaid pool.bytes at bytes)) spot
-                  ∙ in-part pool.bytes at bytes (o - from % 2048) fits (omega (arith, high, inside))
-                  ∙ sym (put-inside bytes from (from / 2048 * 2048 + o) (slice_index pool.bytes (frame * 2048 + o)) (omega (arith, high)) (omega (arith, inside))
+                  ∙ in-part pool.bytes at bytes (o - from % page_bytes d.page) fits (omega (arith, high, inside))
+                  ∙ sym (put-inside bytes from (from / page_bytes d.page * page_bytes d.page + o) (slice_index pool.bytes (frame * page_bytes d.page + o)) (omega (arith, high, whole)) (omega (arith, inside, whole))
                   ∙ ap (slice_index bytes) back)
               | inr past ↦
-                  over-part pool.bytes at bytes (frame * 2048 + o) fits (λ j small same. absurd (omega (arith, same, past, small)))
-                  ∙ sym (put-outside bytes from (from / 2048 * 2048 + o) (slice_index pool.bytes (frame * 2048 + o)) (λ above below. absurd (omega (arith, below, past))))
+                  over-part pool.bytes at bytes (frame * page_bytes d.page + o) fits (λ j small same. absurd (omega (arith, same, past, small)))
+                  ∙ sym (put-outside bytes from (from / page_bytes d.page * page_bytes d.page + o) (slice_index pool.bytes (frame * page_bytes d.page + o)) (λ above below. absurd (omega (arith, below, past, whole))))
             ]
       ]
 
@@ -161,118 +152,118 @@ module _ (d : Layout) (two : d.page ≡ Two) (pool : Pool) (seen : IsSeen pool) 
 
       element : (k : ℕ) → k < length pool.bytes → slice_index (overlaid pool.bytes at bytes) k ≡ slice_index (put_in_store d pool from bytes).bytes k
       element k below =
-          let split : k / 2048 * 2048 + k % 2048 ≡ k = omega arith in
-          elim (cases_eq (k / 2048) frame) [
+          let split : k / page_bytes d.page * page_bytes d.page + k % page_bytes d.page ≡ k = place-is d.page k in
+          elim (cases_eq (k / page_bytes d.page) frame) [
             | inl same ↦
-                let here : frame * 2048 + k % 2048 ≡ k = omega (arith, split, same) in
+                let here : frame * page_bytes d.page + k % page_bytes d.page ≡ k = ap (λ n. n * page_bytes d.page + k % page_bytes d.page) (sym same) ∙ split in
                 ap (slice_index (overlaid pool.bytes at bytes)) (sym here)
-                ∙ same-frame (k % 2048) (omega arith)
-                ∙ sym (spot-there d two pool from bytes frame (from / 2048) (k % 2048) there (omega arith) (omega (arith, here, below)))
+                ∙ same-frame (k % page_bytes d.page) (rest-below d.page k)
+                ∙ sym (spot-there d pool from bytes frame (from / page_bytes d.page) (k % page_bytes d.page) there (rest-below d.page k) (omega (arith, here, below)))
                 ∙ ap (slice_index (put_in_store d pool from bytes).bytes) here
             | inr apart ↦
                 elsewhere k apart
                 ∙ ap (slice_index pool.bytes) (sym split)
-                ∙ by_page (page_at pool (k / 2048)) refl apart
+                ∙ by_page (page_at pool (k / page_bytes d.page)) refl apart
                 ∙ ap (slice_index (put_in_store d pool from bytes).bytes) split
           ]
         where
-          by_page : (o : Option ℕ) → page_at pool (k / 2048) ≡ o → k / 2048 ≢ frame
-              → slice_index pool.bytes (k / 2048 * 2048 + k % 2048) ≡ slice_index (put_in_store d pool from bytes).bytes (k / 2048 * 2048 + k % 2048)
-          by_page None is apart = sym (spot-none d two pool from bytes (k / 2048) (k % 2048) is (omega arith) (omega (arith, below)))
+          by_page : (o : Option ℕ) → page_at pool (k / page_bytes d.page) ≡ o → k / page_bytes d.page ≢ frame
+              → slice_index pool.bytes (k / page_bytes d.page * page_bytes d.page + k % page_bytes d.page) ≡ slice_index (put_in_store d pool from bytes).bytes (k / page_bytes d.page * page_bytes d.page + k % page_bytes d.page)
+          by_page None is apart = sym (spot-none d pool from bytes (k / page_bytes d.page) (k % page_bytes d.page) is (rest-below d.page k) (omega (arith, place-is d.page k, below)))
           by_page (Some page) is apart =
               sym
-              (spot-there d two pool from bytes (k / 2048) page (k % 2048) is (omega arith) (omega (arith, below))
-              ∙ put-outside bytes from (page * 2048 + k % 2048) (slice_index pool.bytes (k / 2048 * 2048 + k % 2048))
+              (spot-there d pool from bytes (k / page_bytes d.page) page (k % page_bytes d.page) is (rest-below d.page k) (omega (arith, place-is d.page k, below))
+              ∙ put-outside bytes from (page * page_bytes d.page + k % page_bytes d.page) (slice_index pool.bytes (k / page_bytes d.page * page_bytes d.page + k % page_bytes d.page))
               (λ above below.
-              let same : page ≡ from / 2048 = omega (arith, above, below, within) in
-              apart (one (k / 2048) frame (sym (seen.back page (k / 2048) is) ∙ ap (frame_at pool) same ∙ seen.back (from / 2048) frame there))))
+              let same : page ≡ from / page_bytes d.page = page-between d.page page (k % page_bytes d.page) from (length bytes) (rest-below d.page k) within above below in
+              apart (one (k / page_bytes d.page) frame (sym (seen.back page (k / page_bytes d.page) is) ∙ ap (frame_at pool) same ∙ seen.back (from / page_bytes d.page) frame there))))
+
+  -- the lines of the first and the last of the bytes, by the page
+  first-line : line_of d from ≡ from / page_bytes d.page * 16 + from % page_bytes d.page / line_bytes d.page
+  first-line = line-is d.page from
+
+  last-line : line_of d (from + length bytes - 1) ≡ from / page_bytes d.page * 16 + (from % page_bytes d.page + length bytes - 1) / line_bytes d.page
+  last-line =
+      let more = length bytes - 1 in
+      let inside : from % page_bytes d.page + more < page_bytes d.page = omega (arith, some, within) in
+      let last : from + length bytes - 1 ≡ from + more = omega (arith, some) in
+      let rest : from % page_bytes d.page + more ≡ from % page_bytes d.page + length bytes - 1 = omega (arith, some) in
+      ap (line_of d) last
+      ∙ line-is d.page (from + more)
+      ∙ ap (λ n. n * 16 + (from + more) % page_bytes d.page / line_bytes d.page) (same-page-on d.page from more inside)
+      ∙ ap (λ n. from / page_bytes d.page * 16 + n / line_bytes d.page) (rest-on d.page from more inside ∙ rest)
+
+  added : (base low high : ℕ) → nat_le low high ≡ nat_le (base + low) (base + high)
+  added base low high = elim (cases_lt high low) [
+    | inl less ↦
+        let one : nat_le low high ≡ false = grind (arith, nat_tests, less) in
+        let other : nat_le (base + low) (base + high) ≡ false = grind (arith, nat_tests, less) in
+        one ∙ sym other
+    | inr more ↦
+        let one : nat_le low high ≡ true = grind (arith, nat_tests, more) in
+        let other : nat_le (base + low) (base + high) ≡ true = grind (arith, nat_tests, more) in
+        one ∙ sym other
+  ]
 
   -- the lines of the part are those of the bytes
-  part-lines : (line : ℕ) → line < 16 → has (lines_of_part d.page (from % 2048) (length bytes)) line ≡ has (lines_at d (Shared from) (length bytes)) (from / 2048 * 16 + line)
+  part-lines : (line : ℕ) → line < 16 → has (lines_of_part d.page (from % page_bytes d.page) (length bytes)) line ≡ has (lines_at d (Shared from) (length bytes)) (from / page_bytes d.page * 16 + line)
   part-lines line few =
-      let size : line_size d.page ≡ 128 = ap line_size two in
+      let base = from / page_bytes d.page * 16 in
+      let low = from % page_bytes d.page / line_bytes d.page in
+      let high = (from % page_bytes d.page + length bytes - 1) / line_bytes d.page in
       let none : (length bytes == 0) ≡ false = grind (arith, nat_tests, some) in
-      ap (λ (b : Bool). has (if b then [] else between (from % 2048 / line_size d.page) ((from % 2048 + length bytes - 1) / line_size d.page)) line) none
-      ∙ ap (λ s. has (between (from % 2048 / s) ((from % 2048 + length bytes - 1) / s)) line) size
-      ∙ is_in_where-below (λ x. nat_le (from % 2048 / 128) x && nat_le x ((from % 2048 + length bytes - 1) / 128)) line few
-      ∙ same
-      ∙ sym (has-lines d from (length bytes) (from / 2048 * 16 + line) two some)
-    where
-      first : nat_le (from % 2048 / 128) line ≡ nat_le (from / 128) (from / 2048 * 16 + line)
-      first = elim (cases_lt line (from % 2048 / 128)) [
-        | inl low ↦
-            let a : nat_le (from % 2048 / 128) line ≡ false = grind (arith, nat_tests, low) in
-            let less : from / 2048 * 16 + line < from / 128 = omega (arith, low) in
-            let b : nat_le (from / 128) (from / 2048 * 16 + line) ≡ false = grind (arith, nat_tests, less) in
-            a ∙ sym b
-        | inr high ↦
-            let a : nat_le (from % 2048 / 128) line ≡ true = grind (arith, nat_tests, high) in
-            let more : from / 128 ≤ from / 2048 * 16 + line = omega (arith, high) in
-            let b : nat_le (from / 128) (from / 2048 * 16 + line) ≡ true = grind (arith, nat_tests, more) in
-            a ∙ sym b
-      ]
-
-      last : nat_le line ((from % 2048 + length bytes - 1) / 128) ≡ nat_le (from / 2048 * 16 + line) ((from + length bytes - 1) / 128)
-      last = elim (cases_lt ((from % 2048 + length bytes - 1) / 128) line) [
-        | inl low ↦
-            let a : nat_le line ((from % 2048 + length bytes - 1) / 128) ≡ false = grind (arith, nat_tests, low) in
-            let less : (from + length bytes - 1) / 128 < from / 2048 * 16 + line = omega (arith, low, some) in
-            let b : nat_le (from / 2048 * 16 + line) ((from + length bytes - 1) / 128) ≡ false = grind (arith, nat_tests, less) in
-            a ∙ sym b
-        | inr high ↦
-            let a : nat_le line ((from % 2048 + length bytes - 1) / 128) ≡ true = grind (arith, nat_tests, high) in
-            let more : from / 2048 * 16 + line ≤ (from + length bytes - 1) / 128 = omega (arith, high, some) in
-            let b : nat_le (from / 2048 * 16 + line) ((from + length bytes - 1) / 128) ≡ true = grind (arith, nat_tests, more) in
-            a ∙ sym b
-      ]
-
-      same : (nat_le (from % 2048 / 128) line && nat_le line ((from % 2048 + length bytes - 1) / 128))
-          ≡ (nat_le (from / 128) (from / 2048 * 16 + line) && nat_le (from / 2048 * 16 + line) ((from + length bytes - 1) / 128))
-      same = ap (λ (b : Bool). b && nat_le line ((from % 2048 + length bytes - 1) / 128)) first ∙ ap (λ (b : Bool). nat_le (from / 128) (from / 2048 * 16 + line) && b) last
+      ap (λ (b : Bool). has (if b then [] else between low high) line) none
+      ∙ is_in_where-below (λ x. nat_le low x && nat_le x high) line few
+      ∙ ap (λ (b : Bool). b && nat_le line high) (added base low line ∙ ap (λ n. nat_le n (base + line)) (sym first-line))
+      ∙ ap (λ (b : Bool). nat_le (line_of d from) (base + line) && b) (added base line high ∙ ap (nat_le (base + line)) (sym last-line))
+      ∙ sym (has-lines d from (length bytes) (base + line) some)
 
   -- no line of another page has some of them
-  other-lines : (page line : ℕ) → page ≢ from / 2048 → line < 16 → has (lines_at d (Shared from) (length bytes)) (page * 16 + line) ≡ false
+  other-lines : (page line : ℕ) → page ≢ from / page_bytes d.page → line < 16 → has (lines_at d (Shared from) (length bytes)) (page * 16 + line) ≡ false
   other-lines page line apart few =
-      has-lines d from (length bytes) (page * 16 + line) two some
-      ∙ by_tests (nat_le (from / 128) (page * 16 + line)) (nat_le (page * 16 + line) ((from + length bytes - 1) / 128)) refl refl
+      has-lines d from (length bytes) (page * 16 + line) some
+      ∙ by_tests (nat_le (line_of d from) (page * 16 + line)) (nat_le (page * 16 + line) (line_of d (from + length bytes - 1))) refl refl
     where
-      by_tests : (low high : Bool) → nat_le (from / 128) (page * 16 + line) ≡ low → nat_le (page * 16 + line) ((from + length bytes - 1) / 128) ≡ high → (low && high) ≡ false
+      high : (from % page_bytes d.page + length bytes - 1) / line_bytes d.page < 16
+      high = line-few d.page (from % page_bytes d.page + length bytes - 1) (omega (arith, some, within))
+
+      by_tests : (low high : Bool) → nat_le (line_of d from) (page * 16 + line) ≡ low → nat_le (page * 16 + line) (line_of d (from + length bytes - 1)) ≡ high → (low && high) ≡ false
       by_tests false high a b = refl
       by_tests true false a b = refl
       by_tests true true a b =
-          let above : from / 128 ≤ page * 16 + line = grind (arith, nat_tests, a) in
-          let below : page * 16 + line ≤ (from + length bytes - 1) / 128 = grind (arith, nat_tests, b) in
-          absurd (apart (omega (arith, above, below, few, within, some)))
+          let above : line_of d from ≤ page * 16 + line = grind (arith, nat_tests, a) in
+          let below : page * 16 + line ≤ line_of d (from + length bytes - 1) = grind (arith, nat_tests, b) in
+          absurd (apart (omega (arith, above, below, few, first-line, last-line, high)))
 
   pub page-marks :
-      from / 2048 < length pool.marked
-      → slice_set pool.marked (from / 2048) (union (marks_at pool (from / 2048)) (lines_of_part d.page (from % 2048) (length bytes))) ≡ (put_in_store d pool from bytes).marked
+      from / page_bytes d.page < length pool.marked
+      → slice_set pool.marked (from / page_bytes d.page) (union (marks_at pool (from / page_bytes d.page)) (lines_of_part d.page (from % page_bytes d.page) (length bytes))) ≡ (put_in_store d pool from bytes).marked
   page-marks below =
-      same_lists (slice_set pool.marked (from / 2048) set) (put_in_store d pool from bytes).marked
-      (length-set pool.marked (from / 2048) set ∙ sym (marks-long d two pool from bytes)) (λ k e less. element k e (omega (arith, less, length-set pool.marked (from / 2048) set)))
+      same_lists (slice_set pool.marked (from / page_bytes d.page) set) (put_in_store d pool from bytes).marked
+      (length-set pool.marked (from / page_bytes d.page) set ∙ sym (marks-long d pool from bytes)) (λ k e less. element k e (omega (arith, less, length-set pool.marked (from / page_bytes d.page) set)))
     where
       set : List ℕ
-      set = union (marks_at pool (from / 2048)) (lines_of_part d.page (from % 2048) (length bytes))
+      set = union (marks_at pool (from / page_bytes d.page)) (lines_of_part d.page (from % page_bytes d.page) (length bytes))
 
       either : (b c : Bool) → b ≡ c → (a : Bool) → (a || b) ≡ (a || c)
       either b c same a = ap (λ (x : Bool). a || x) same
 
-      element : (k : ℕ) (e : List ℕ) → k < length pool.marked → get_or (slice_set pool.marked (from / 2048) set) k e ≡ get_or (put_in_store d pool from bytes).marked k e
-      element k e less = elim (cases_eq k (from / 2048)) [
+      element : (k : ℕ) (e : List ℕ) → k < length pool.marked → get_or (slice_set pool.marked (from / page_bytes d.page) set) k e ≡ get_or (put_in_store d pool from bytes).marked k e
+      element k e less = elim (cases_eq k (from / page_bytes d.page)) [
         | inl same ↦
-            ap (λ n. get_or (slice_set pool.marked (from / 2048) set) n e) same
-            ∙ get_or-set_same pool.marked (from / 2048) set e below
+            ap (λ n. get_or (slice_set pool.marked (from / page_bytes d.page) set) n e) same
+            ∙ get_or-set_same pool.marked (from / page_bytes d.page) set e below
             ∙ where-alike
-            (λ x. has (marks_at pool (from / 2048)) x || has (lines_of_part d.page (from % 2048) (length bytes)) x)
-            (λ x. has (marks_at pool (from / 2048)) x || has (lines_where (λ y. has (lines_at d (Shared from) (length bytes)) (from / 2048 * 16 + y))) x)
+            (λ x. has (marks_at pool (from / page_bytes d.page)) x || has (lines_of_part d.page (from % page_bytes d.page) (length bytes)) x)
+            (λ x. has (marks_at pool (from / page_bytes d.page)) x || has (lines_where (λ y. has (lines_at d (Shared from) (length bytes)) (from / page_bytes d.page * 16 + y))) x)
             (λ x few.
             either _ _
-            (part-lines x few ∙ sym (is_in_where-below (λ y. has (lines_at d (Shared from) (length bytes)) (from / 2048 * 16 + y)) x few))
-            (has (marks_at pool (from / 2048)) x))
+            (part-lines x few ∙ sym (is_in_where-below (λ y. has (lines_at d (Shared from) (length bytes)) (from / page_bytes d.page * 16 + y)) x few))
+            (has (marks_at pool (from / page_bytes d.page)) x))
             ∙ ap (marks_put d pool from (length bytes)) (sym same)
             ∙ sym (get_or-map-range_with_len (marks_put d pool from (length bytes)) 0 (length pool.marked) k k e less (omega arith))
         | inr apart ↦
-            get_or-set_other pool.marked (from / 2048) k set e apart
+            get_or-set_other pool.marked (from / page_bytes d.page) k set e apart
             ∙ get_or_default pool.marked k e [] less
             ∙ sym (marks k)
             ∙ where-alike (λ x. has (marks_at pool k) x) (λ x. has (marks_at pool k) x || has (lines_where (λ y. has (lines_at d (Shared from) (length bytes)) (k * 16 + y))) x)

@@ -28,7 +28,7 @@ use Rattle.romp_cpu.specs.declared.storage.Access.{Access}
 use Rattle.romp_cpu.specs.declared.storage.Fault.{Fault}
 use Rattle.romp_cpu.specs.declared.storage.Probe.{Probe}
 use Rattle.romp_cpu.specs.Shown.{bytes_from, halfword_of, access_to}
-use Rattle.romp_cpu.specs.Answers.{answered_at, answered, answer_in}
+use Rattle.romp_cpu.specs.Answers.{answered, answer_in}
 use Rattle.romp_cpu.specs.Tried.{Seen, Tried, seen_in, undone, refused_by, unless_refused, tried}
 use Rattle.romp_cpu.specs.Attempts.{access_of_plan, place_of, bytes_in, ChecksAlike, Agrees, GivesRow, GivesAll, GivesBy, GivesOver, GivesPlan, GivesEveryRow, IsCpuOf, StoresAll, left_by, state_after, lines_of_access}
 use Rattle.romp_cpu.proofs.AttemptLemmas.{plan-same}
@@ -42,8 +42,8 @@ use Rattle.storage_unit.specs.Reached.{IsSound, Lies, AreThere}
 use Rattle.storage_unit.specs.Rows.{plain_over, HasWindows, IsOpen, IsShutOut, IsRow, GoesOpen, MarksWritten, ChangesBytes, StaysClean, LeavesSeats}
 use Rattle.storage_unit.proofs.ByteLemmas.{in-range, byte-of-all, all-long, over-some}
 use Rattle.storage_unit.proofs.PlaceLemmas.{under, lies, byte-on, first-byte, never-refused, selected}
-use Rattle.storage_unit.proofs.AnswerLemmas.{permitted-located, permitted-there}
-use Rattle.storage_unit.proofs.StoreLemmas.{frame-room}
+use Rattle.storage_unit.proofs.AnswerLemmas.{permitted-located, permitted-bytes}
+use Rattle.storage_unit.proofs.StoreLemmas.{all-private}
 use Rattle.storage_unit.proofs.AfterLemmas.{there-frame, own-located}
 use Rattle.storage_unit.proofs.LocatedLemmas.{private-at, lies-where}
 use Rattle.storage_unit.proofs.OpenLemmas.{permitted-open, open-permitted}
@@ -105,7 +105,7 @@ store-put f sound address count bytes some long permitted =
       lies = subst (Lies f at) (sym long) (lies f sound address count at u);
       there =
           subst (AreThere f at) (sym long)
-          (permitted-there f at count (access_to address count true) refl (ap (answered_at (is_in_frame f) (refuses f) (access_to address count true)) (sym found) ∙ permitted));
+          (permitted-bytes f sound (access_to address count true) at permitted found);
       is =
           ap (λ (b : Bool). if b then f else put_at f (place_at f.directory (located_by f.registers address 0 false)) bytes) none
           ∙ ap (λ located. put_at f (place_at f.directory located) bytes) (first-byte f sound address count true at found);
@@ -198,9 +198,6 @@ module _ (f : Reach) (sound : IsSound f) (p : Program) (windows : HasWindows f p
 
   seat-few : seat_of f < 16
   seat-few = let one = selected f sound windows.selected in omega (arith, one.runner, one.few)
-
-  all-room : 128 * 2048 ≤ length f.pool.bytes
-  all-room = omega (arith, frame-room f sound 127 (omega arith))
 
   stores-leave : (link : Option (ℕ × ℕ)) (regs : List ℕ) (cs : Cs) (next : ℕ) (at : Virtual) (place : Located) (bytes : List ℕ) (n : Plain)
       → places.place_of f.directory at ≡ place → Lies f at (length bytes) → AreThere f at (length bytes)
@@ -306,14 +303,14 @@ module _ (f : Reach) (sound : IsSound f) (p : Program) (windows : HasWindows f p
 
   -- the plain state agrees with processor and unit
   private-long : length (private_bytes f.pool (seat_of f)) ≡ 16384
-  private-long = range-long f.pool.bytes (seat_of f * 16384) 16384 (omega (arith, seat-few, all-room))
+  private-long = range-long f.pool.bytes (seat_of f * 16384) 16384 (omega (arith, seat-few, all-private f sound))
 
   private-at-byte : (k : ℕ) → k < 16384 → slice_index (private_bytes f.pool (seat_of f)) k ≡ byte_at f k
   private-at-byte k below =
       let one = selected f sound windows.selected in
       in-range f.pool.bytes (seat_of f * 16384) 16384 k below
       ∙ sym (ap (byte_of f) (private-at f.directory sound.legal one.seat k))
-      ∙ sym (ap (λ located. byte_of f (place_at f.directory located)) (own-located f one.seat k 1 one.reached.first (omega (arith, below))))
+      ∙ sym (ap (λ located. byte_of f (place_at f.directory located)) (own-located f one.seat k 1 one.reached (omega (arith, below))))
 
   private-all : private_bytes f.pool (seat_of f) ≡ bytes_from (byte_at f) 0 16384
   private-all =
@@ -354,7 +351,7 @@ module _ (f : Reach) (sound : IsSound f) (p : Program) (windows : HasWindows f p
       by_place (Shared a) at lies-at found =
           let u = under f.registers access.address access.bytes access.store at found in
           let fits = shared-within f at access.bytes a (lies f sound access.address access.bytes at u) lies-at in
-          let there = permitted-there f at access.bytes access refl (ap (answered_at (is_in_frame f) (refuses f) access) (sym found) ∙ permitted) in
+          let there = permitted-bytes f sound access at permitted found in
           same-shown (bytes_over f.directory f.pool committed) access.address a access.bytes (omega (arith, fits, all-long f.directory f.pool committed))
           (λ k below.
           let (frame, has_it) = there-frame f sound (a + k) (sym (ap (λ place. is_there f (on place k)) lies-at) ∙ there k below) in

@@ -8,7 +8,6 @@ use Rattle.std.proofs.lemmas.List.Elements.{All-nil}
 use Rattle.tlb_model.specs.declared.tlb.Pair.{Pair}
 use Rattle.tlb_model.specs.Buffer.{IsOfTable, page_of}
 use Rattle.std.proofs.lemmas.List.FromFn.{get_or-map-range_with_len}
-use Rattle.line_geometry.specs.declared.directory.PageSize.TheVariants.{Two}
 use Rattle.line_geometry.specs.Directory.{Layout, page_count}
 use Rattle.line_geometry.specs.Legal.{IsLegal}
 use Rattle.line_geometry.specs.LineSets.{IsOfPage, difference, passing}
@@ -18,7 +17,7 @@ use Rattle.inverted_table.specs.declared.key.Key.{Key}
 use Rattle.inverted_table.specs.Placed.{Placed, without_frame, look_up}
 use Rattle.frame_pool.specs.declared.model.Pool.{Pool}
 use Rattle.frame_pool.specs.Seen.{IsSeen}
-use Rattle.frame_pool.specs.Sizes as sizes
+use Rattle.frame_pool.specs.Sizes.{private_frames}
 use Rattle.frame_pool.specs.Pool.{frame_at, page_at, marks_at, gone, page_out, with_room, emptied, laid, line_laid}
 use Rattle.frame_pool.proofs.PoolLemmas.{gone-from}
 use Rattle.frame_pool.proofs.SeenLemmas.{gone-absent, gone-frame, gone-stays, seen-gone, Stays}
@@ -133,12 +132,12 @@ pub fold-more : (pool : Pool) (list : List ℕ) (from : List (Option Key)) (page
 fold-more pool [] from page = refl
 fold-more pool (first ∷ list) from page = fold-more pool list (keys_without pool from first) page
 
-module _ (d : Layout) (two : d.page ≡ Two) (legal : IsLegal d.segments) (pool : Pool) (seen : IsSeen pool) (size : pool.page ≡ Two) (pages : length pool.frame_of ≡ page_count d) (t : ℕ → ℕ) where
+module _ (d : Layout) (legal : IsLegal d.segments) (pool : Pool) (seen : IsSeen pool) (size : pool.page ≡ d.page) (pages : length pool.frame_of ≡ page_count d) (t : ℕ → ℕ) where
   abbrev keys : List (Option Key)
   keys = keys_with d t pool.frames pool.page_in
 
-  long : length pool.page_in ≡ 128 + pool.frames
-  long = subst (λ s. length pool.page_in ≡ sizes.frame_count s pool.frames) size seen.page_in
+  long : length pool.page_in ≡ private_frames d.page + pool.frames
+  long = subst (λ s. length pool.page_in ≡ private_frames s + pool.frames) size seen.page_in
 
   -- a page leaves
   pub keys-gone : (page : ℕ) → option_map_or (λ frame. slice_set (keys_with d t pool.frames pool.page_in) frame None) (frame_at pool page) (keys_with d t pool.frames pool.page_in)
@@ -149,8 +148,8 @@ module _ (d : Layout) (two : d.page ≡ Two) (legal : IsLegal d.segments) (pool 
       by_frame None is = ap (λ (p : Pool). keys_with d t p.frames p.page_in) (sym (gone-absent pool page is))
       by_frame (Some frame) is =
           let at = seen.there page frame is in
-          keys-store d t pool.frames pool.page_in frame None (above d two legal pool seen size pages t page frame at) (below d two legal pool seen size pages t page frame at)
-          (omega (arith, long, below d two legal pool seen size pages t page frame at))
+          keys-store d t pool.frames pool.page_in frame None (above d legal pool seen size pages t page frame at) (below d legal pool seen size pages t page frame at)
+          (omega (arith, long, below d legal pool seen size pages t page frame at))
           ∙ ap (λ (p : Pool). keys_with d t p.frames p.page_in) (sym (gone-from pool page frame is))
 
   -- the frame of a page, where it leaves, is one of the table's
@@ -160,7 +159,7 @@ module _ (d : Layout) (two : d.page ≡ Two) (legal : IsLegal d.segments) (pool 
       by_frame : (o : Option ℕ) → frame_at pool page ≡ o → IfSome o (λ frame. frame < length keys)
       by_frame None is = tt
       by_frame (Some frame) is =
-          omega (arith, keys-long d t pool.frames pool.page_in, below d two legal pool seen size pages t page frame (seen.there page frame is))
+          omega (arith, keys-long d t pool.frames pool.page_in, below d legal pool seen size pages t page frame (seen.there page frame is))
 
   -- the frame of the page that goes out is one of the table's
   pub out-inside : (keep : Option ℕ) → IfSome (option_and_then (frame_at pool) (page_out pool keep)) (λ frame. frame < length (keys_with d t pool.frames pool.page_in))
@@ -233,28 +232,28 @@ module _ (d : Layout) (two : d.page ≡ Two) (legal : IsLegal d.segments) (pool 
   pub keys-emptied : fold (keys_without pool) (keys_with d t pool.frames pool.page_in) pool.resident ≡ keys_with d t (emptied pool).frames (emptied pool).page_in
   keys-emptied =
       same_lists (fold (keys_without pool) keys pool.resident) (keys_with d t (emptied pool).frames (emptied pool).page_in)
-      (fold-long pool pool.resident keys ∙ keys-long d t pool.frames pool.page_in ∙ ap (λ n. 128 + n) (sym (emptied-stays pool).frames) ∙ sym (keys-long d t (emptied pool).frames (emptied pool).page_in))
+      (fold-long pool pool.resident keys ∙ keys-long d t pool.frames pool.page_in ∙ ap (λ n. private_frames d.page + n) (sym (emptied-stays pool).frames) ∙ sym (keys-long d t (emptied pool).frames (emptied pool).page_in))
       (λ k e less. element k e (omega (arith, less, fold-long pool pool.resident keys, keys-long d t pool.frames pool.page_in)))
     where
-      there : (k : ℕ) (e : Option Key) → k < 128 + pool.frames → (frames : ℕ) → frames ≡ pool.frames → (in_page : List (Option ℕ)) → get_or (keys_with d t frames in_page) k e ≡ held_in d t in_page k
-      there k e less frames is in_page = get_or-map-range_with_len (held_in d t in_page) 0 (128 + frames) k k e (omega (arith, less, is)) (omega arith)
+      there : (k : ℕ) (e : Option Key) → k < private_frames d.page + pool.frames → (frames : ℕ) → frames ≡ pool.frames → (in_page : List (Option ℕ)) → get_or (keys_with d t frames in_page) k e ≡ held_in d t in_page k
+      there k e less frames is in_page = get_or-map-range_with_len (held_in d t in_page) 0 (private_frames d.page + frames) k k e (omega (arith, less, is)) (omega arith)
 
-      element : (k : ℕ) (e : Option Key) → k < 128 + pool.frames → get_or (fold (keys_without pool) keys pool.resident) k e ≡ get_or (keys_with d t (emptied pool).frames (emptied pool).page_in) k e
+      element : (k : ℕ) (e : Option Key) → k < private_frames d.page + pool.frames → get_or (fold (keys_without pool) keys pool.resident) k e ≡ get_or (keys_with d t (emptied pool).frames (emptied pool).page_in) k e
       element k e less =
           fold-key pool.resident keys k e (omega (arith, less, keys-long d t pool.frames pool.page_in))
           ∙ by_page (page_at pool k) refl
-          ∙ ap (λ (o : Option ℕ). if nat_lt k 128 then held_private t k else option_map (key_of_page d) o) (sym (emptied-page pool k seen))
+          ∙ ap (λ (o : Option ℕ). if nat_lt k (private_frames d.page) then held_private d.page t k else option_map (key_of_page d) o) (sym (emptied-page pool k seen))
           ∙ sym (there k e less (emptied pool).frames (emptied-stays pool).frames (emptied pool).page_in)
         where
           by_page : (o : Option ℕ) → page_at pool k ≡ o
-              → (if option_map_or (has pool.resident) o false then None else get_or keys k e) ≡ (if nat_lt k 128 then held_private t k else option_map (key_of_page d) None)
+              → (if option_map_or (has pool.resident) o false then None else get_or keys k e) ≡ (if nat_lt k (private_frames d.page) then held_private d.page t k else option_map (key_of_page d) None)
           by_page None is =
-              there k e less pool.frames refl pool.page_in ∙ ap (λ (o : Option ℕ). if nat_lt k 128 then held_private t k else option_map (key_of_page d) o) is
+              there k e less pool.frames refl pool.page_in ∙ ap (λ (o : Option ℕ). if nat_lt k (private_frames d.page) then held_private d.page t k else option_map (key_of_page d) o) is
           by_page (Some page) is =
-              let high = above d two legal pool seen size pages t page k is in
+              let high = above d legal pool seen size pages t page k is in
               ap (λ (b : Bool). if b then None else get_or keys k e) (seen.resident page ∙ ap (λ (o : Option ℕ). is_some o) (seen.back page k is))
               ∙ sym (held-store d t (slice_set pool.page_in k None) k high ∙ ap (λ (o : Option ℕ). option_map (key_of_page d) o) (get_or-set_same pool.page_in k None None (omega (arith, less, long))))
-              ∙ ap (λ (o : Option ℕ). if nat_lt k 128 then held_private t k else option_map (key_of_page d) o) (get_or-set_same pool.page_in k None None (omega (arith, less, long)))
+              ∙ ap (λ (o : Option ℕ). if nat_lt k (private_frames d.page) then held_private d.page t k else option_map (key_of_page d) o) (get_or-set_same pool.page_in k None None (omega (arith, less, long)))
 
 -- a buffer without pairs is of every table
 pub none-of_table : (keys : List (Option Key)) → IsOfTable (replicate 16 []) keys

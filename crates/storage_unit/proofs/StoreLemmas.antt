@@ -7,9 +7,9 @@ use Rattle.std.proofs.lemmas.Bool.Decides.{nat_tests}
 use Rattle.std.proofs.lemmas.List.{same_lists, length-append, get_or_append_left, get_or-append_right}
 use Rattle.std.proofs.lemmas.List.FromFn.{get_or-map-range_with_len, length-map-range_with_len}
 use Rattle.std.proofs.lemmas.Grind.{same_number_lists}
-use Rattle.line_geometry.specs.Segments.{page_bytes}
+use Rattle.line_geometry.specs.Segments.{page_bytes, line_bytes}
 use Rattle.line_geometry.specs.Directory.{start_of}
-use Rattle.line_geometry.specs.Lines.{page_of}
+use Rattle.line_geometry.specs.Lines.{line_of, page_of}
 use Rattle.line_geometry.specs.LineSets.{union, lines_where}
 use Rattle.line_geometry.proofs.LineSetLemmas.{where-alike, is_in_where-below, of_page-where}
 use Rattle.lock_rules.specs.Sets.{has}
@@ -20,14 +20,15 @@ use Rattle.segment_regs.specs.declared.registers.Virtual.{Virtual}
 use Rattle.inverted_table.specs.Keys.{key_of}
 use Rattle.inverted_table.specs.Placed.{look_up}
 use Rattle.frame_pool.specs.declared.model.Pool.{Pool}
-use Rattle.frame_pool.specs.Sizes as sizes
+use Rattle.frame_pool.specs.Sizes.{private_frames, frame_count}
 use Rattle.frame_pool.specs.Pool.{frame_at, page_at, marks_at, marked_in, with_marks, with_bytes, lines_of_part}
 use Rattle.frame_pool.proofs.SoundLemmas.{page_part}
 use Rattle.storage_unit.specs.declared.model.Reach.{Reach}
 use Rattle.storage_unit.specs.Places.{is_private, offset_of, place_of, on}
-use Rattle.storage_unit.specs.Held.{AreOfPages, table_of}
+use Rattle.storage_unit.specs.Held.{AreOfPages, seat_pages, table_of}
 use Rattle.storage_unit.specs.Reach.{put_byte, spot_put, marks_put, put_in_store, put_at}
 use Rattle.storage_unit.specs.Reached.{IsSound, Lies}
+use Rattle.storage_unit.proofs.SizeLemmas.{page-less, private-whole, seat-bytes, seat-frame, seat-page, line-order, line-next}
 use Rattle.storage_unit.proofs.StateLemmas.{marks-set}
 use Rattle.frame_pool.proofs.SeenLemmas.{some-within}
 use Rattle.frame_pool.proofs.LayLemmas.{overlaid-joined}
@@ -38,15 +39,33 @@ one-of : (a b : ℕ) → Some a ≡ Some b → a ≡ b
 one-of a b same = cc
 
 -- the frames have room for a page
-pub frame-room : (state : Reach) → IsSound state → (frame : ℕ) → frame < 128 + state.pool.frames → frame * 2048 + 2048 ≤ length state.pool.bytes
+pub frame-room : (state : Reach) → IsSound state → (frame : ℕ) → frame < frame_count state.directory.page state.pool.frames → frame * page_bytes state.directory.page + page_bytes state.directory.page ≤ length state.pool.bytes
 frame-room state sound frame below =
-    omega (arith, page_part frame (128 + state.pool.frames) 2048 below, sound.seen.bytes ∙ ap (λ s. sizes.frame_count s state.pool.frames * page_bytes s) sound.size)
+    omega (arith, page_part frame (frame_count state.directory.page state.pool.frames) (page_bytes state.directory.page) below, sound.seen.bytes ∙ ap (λ s. frame_count s state.pool.frames * page_bytes s) sound.size)
 
-pub frame-below : (state : Reach) → IsSound state → (page frame : ℕ) → page_at state.pool frame ≡ Some page → (128 ≤ frame) × (frame < 128 + state.pool.frames)
+-- private storage is in the frames
+pub all-private : (state : Reach) → IsSound state → 262144 ≤ length state.pool.bytes
+all-private state sound =
+    omega (arith, private-whole state.directory.page, sound.seen.bytes ∙ ap (λ s. frame_count s state.pool.frames * page_bytes s) sound.size)
+
+pub frame-below : (state : Reach) → IsSound state → (page frame : ℕ) → page_at state.pool frame ≡ Some page → (private_frames state.directory.page ≤ frame) × (frame < frame_count state.directory.page state.pool.frames)
 frame-below state sound page frame is = (
-  subst (λ s. sizes.private_frames s ≤ frame) sound.size (sound.seen.above page frame is),
-  subst (λ s. frame < sizes.frame_count s state.pool.frames) sound.size (sound.seen.below page frame is),
+  subst (λ s. private_frames s ≤ frame) sound.size (sound.seen.above page frame is),
+  subst (λ s. frame < frame_count s state.pool.frames) sound.size (sound.seen.below page frame is),
 )
+
+-- private frames have no page of the store
+pub private-none : (state : Reach) → IsSound state → (frame : ℕ) → frame < private_frames state.directory.page → page_at state.pool frame ≡ None
+private-none state sound frame low = by_page (page_at state.pool frame) refl
+  where
+    by_page : (o : Option ℕ) → page_at state.pool frame ≡ o → page_at state.pool frame ≡ None
+    by_page None is = is
+    by_page (Some page) is = absurd (omega (arith, low, (frame-below state sound page frame is).0))
+
+pub low-frame : (state : Reach) → IsSound state → (spot : ℕ) → spot < 262144 → page_at state.pool (spot / page_bytes state.directory.page) ≡ None
+low-frame state sound spot low =
+    private-none state sound (spot / page_bytes state.directory.page)
+    (page-less state.directory.page spot (private_frames state.directory.page) (omega (arith, low, private-whole state.directory.page)))
 
 -- marks of the page in a frame
 pub marked-of_pages : (pool : Pool) (frame : ℕ) (lines : List ℕ) → AreOfPages pool.marked → AreOfPages (marked_in pool frame lines).marked
@@ -57,7 +76,7 @@ marked-of_pages pool frame lines all = by_page (page_at pool frame)
     by_page (Some page) = marks-set pool.marked page (union (marks_at pool page) lines) all (of_page-where _)
 
 -- bytes that are written over those of the frame that the table found
-module _ (state : Reach) (sound : IsSound state) (at : Virtual) (bytes : List ℕ) (some : 0 < length bytes) (lies : Lies state at (length bytes)) (within : at.byte + length bytes ≤ 2048)
+module _ (state : Reach) (sound : IsSound state) (at : Virtual) (bytes : List ℕ) (some : 0 < length bytes) (lies : Lies state at (length bytes)) (within : at.byte + length bytes ≤ page_bytes state.directory.page)
     (frame : ℕ) (found : look_up (table_of state).keys (key_of at) ≡ Some frame) where
   abbrev written : Pool
   written = with_bytes (marked_in state.pool frame (lines_of_part state.pool.page at.byte (length bytes))) (frame * page_bytes state.pool.page + at.byte) bytes
@@ -67,37 +86,34 @@ module _ (state : Reach) (sound : IsSound state) (at : Virtual) (bytes : List �
   put-found = elim (cases_Bool (is_private at.segment)) [
     | inl own ↦
         let (seat, runner, few, segment, begun, fits) = lies.private own in
-        let same : seat * 8 + at.page ≡ frame = one-of (seat * 8 + at.page) frame (sym (finds-own state sound at (length bytes) some lies seat runner own) ∙ found) in
-        let spot : frame * 2048 + at.byte ≡ (state.runner - 1) * 16384 + offset_of at = omega (arith, runner, same) in
-        let none : page_at state.pool frame ≡ None = no-page (page_at state.pool frame) refl (omega (arith, same, few, fits, some)) in
+        let same : seat * seat_pages state.directory.page + at.page ≡ frame = one-of (seat * seat_pages state.directory.page + at.page) frame (sym (finds-own state sound at (length bytes) some lies seat runner own) ∙ found) in
+        let small = seat-page state.directory.page at.page at.byte (length bytes) some fits in
+        let spot : frame * page_bytes state.directory.page + at.byte ≡ (state.runner - 1) * 16384 + offset_of state.directory.page at =
+        omega (arith, runner, seat-bytes state.directory.page seat at.page, ap (λ n. n * page_bytes state.directory.page) same) in
+        let none : page_at state.pool frame ≡ None =
+        private-none state sound frame (subst (λ f. f < private_frames state.directory.page) same (seat-frame state.directory.page seat at.page few small)) in
         ap (λ (o : Option ℕ). (let now : Reach = record state { pool = with_bytes (option_map_or (λ page. with_marks state.pool page (lines_of_part state.pool.page at.byte (length bytes))) o state.pool) (frame * page_bytes state.pool.page + at.byte) bytes } in now)) none
         ∙ ap (λ s. (let now : Reach = record state { pool = with_bytes state.pool (frame * page_bytes s + at.byte) bytes } in now)) sound.size
         ∙ ap (λ n. (let now : Reach = record state { pool = with_bytes state.pool n bytes } in now)) spot
         ∙ sym (ap (λ place. put_at state place bytes) (private-is state.directory at own))
     | inr other ↦
-        let place = start_of state.directory at.segment + offset_of at in
-        let byte : place % 2048 ≡ at.byte = place-byte state sound at (length bytes) some lies in
-        let page : page_of state.directory place ≡ place / 2048 = ap (λ s. place / page_bytes s) sound.two in
-        let there : page_at state.pool frame ≡ Some (place / 2048) =
-        sound.seen.there (place / 2048) frame (ap (frame_at state.pool) (sym page) ∙ sym (finds-shared state sound at (length bytes) some lies other) ∙ found) in
-        let room = frame-room state sound frame (frame-below state sound (place / 2048) frame there).1 in
-        let inside : place % 2048 + length bytes ≤ 2048 = omega (arith, byte, within) in
-        let low : place / 2048 < length state.pool.marked = omega (arith, sound.seen.marked, page-there (place / 2048) frame there) in
+        let place = start_of state.directory at.segment + offset_of state.directory.page at in
+        let byte : place % page_bytes state.directory.page ≡ at.byte = place-byte state sound at (length bytes) some lies in
+        let there : page_at state.pool frame ≡ Some (page_of state.directory place) =
+        sound.seen.there (page_of state.directory place) frame (sym (finds-shared state sound at (length bytes) some lies other) ∙ found) in
+        let room = frame-room state sound frame (frame-below state sound (page_of state.directory place) frame there).1 in
+        let inside : place % page_bytes state.directory.page + length bytes ≤ page_bytes state.directory.page = omega (arith, byte, within) in
+        let low : page_of state.directory place < length state.pool.marked = omega (arith, sound.seen.marked, page-there (page_of state.directory place) frame there) in
         ap (λ (o : Option ℕ). (let now : Reach = record state { pool = with_bytes (option_map_or (λ p. with_marks state.pool p (lines_of_part state.pool.page at.byte (length bytes))) o state.pool) (frame * page_bytes state.pool.page + at.byte) bytes } in now)) there
-        ∙ ap (λ s. (let now : Reach = record state { pool = with_bytes (with_marks state.pool (place / 2048) (lines_of_part s at.byte (length bytes))) (frame * page_bytes s + at.byte) bytes } in now)) (sound.size ∙ sym sound.two)
-        ∙ ap (λ n. (let now : Reach = record state { pool = with_bytes (with_marks state.pool (place / 2048) (lines_of_part state.directory.page n (length bytes))) (frame * page_bytes state.directory.page + n) bytes } in now)) (sym byte)
-        ∙ ap (λ s. (let now : Reach = record state { pool = with_bytes (with_marks state.pool (place / 2048) (lines_of_part state.directory.page (place % 2048) (length bytes))) (frame * page_bytes s + place % 2048) bytes } in now)) sound.two
-        ∙ ap (λ (list : List ℕ). (let now : Reach = record state { pool = record state.pool { bytes = list; marked = slice_set state.pool.marked (place / 2048) (union (marks_at state.pool (place / 2048)) (lines_of_part state.directory.page (place % 2048) (length bytes))) } } in now))
-        (page-bytes state.directory sound.two state.pool sound.seen sound.marks place bytes frame some inside there room)
+        ∙ ap (λ s. (let now : Reach = record state { pool = with_bytes (with_marks state.pool (page_of state.directory place) (lines_of_part s at.byte (length bytes))) (frame * page_bytes s + at.byte) bytes } in now)) sound.size
+        ∙ ap (λ n. (let now : Reach = record state { pool = with_bytes (with_marks state.pool (page_of state.directory place) (lines_of_part state.directory.page n (length bytes))) (frame * page_bytes state.directory.page + n) bytes } in now)) (sym byte)
+        ∙ ap (λ (list : List ℕ). (let now : Reach = record state { pool = record state.pool { bytes = list; marked = slice_set state.pool.marked (page_of state.directory place) (union (marks_at state.pool (page_of state.directory place)) (lines_of_part state.directory.page (place % page_bytes state.directory.page) (length bytes))) } } in now))
+        (page-bytes state.directory state.pool sound.seen sound.marks place bytes frame some inside there room)
         ∙ ap (λ (list : List (List ℕ)). (let now : Reach = record state { pool = record state.pool { bytes = (put_in_store state.directory state.pool place bytes).bytes; marked = list } } in now))
-        (page-marks state.directory sound.two state.pool sound.seen sound.marks place bytes frame some inside there room low)
+        (page-marks state.directory state.pool sound.seen sound.marks place bytes frame some inside there room low)
         ∙ sym (ap (λ p. put_at state p bytes) (shared-is state.directory at other))
   ]
     where
-      no-page : (o : Option ℕ) → page_at state.pool frame ≡ o → frame < 128 → o ≡ None
-      no-page None is below = refl
-      no-page (Some page) is below = absurd (omega (arith, below, (frame-below state sound page frame is).0))
-
       page-there : (page f : ℕ) → page_at state.pool f ≡ Some page → page < length state.pool.frame_of
       page-there page f is = some-within state.pool.frame_of page f (sound.seen.back page f is)
 
@@ -169,20 +185,23 @@ module _ (state : Reach) (sound : IsSound state) (place : Located) (first second
   lines-twice : (p line : ℕ) → (has (lines_at state.directory (Shared p) (length first)) line || has (lines_at state.directory (Shared (p + length first)) (length second)) line)
       ≡ has (lines_at state.directory (Shared p) (length (first ++ second))) line
   lines-twice p line =
-      ap (λ (b : Bool). b || has (lines_at state.directory (Shared (p + length first)) (length second)) line) (has-lines state.directory p (length first) line sound.two some)
-      ∙ ap (λ (b : Bool). (nat_le (p / 128) line && nat_le line ((p + length first - 1) / 128)) || b) (has-lines state.directory (p + length first) (length second) line sound.two more)
+      ap (λ (b : Bool). b || has (lines_at state.directory (Shared (p + length first)) (length second)) line) (has-lines state.directory p (length first) line some)
+      ∙ ap (λ (b : Bool). (nat_le (line_of state.directory p) line && nat_le line (line_of state.directory (p + length first - 1))) || b) (has-lines state.directory (p + length first) (length second) line more)
       ∙ tests
-      ∙ sym (has-lines state.directory p (length (first ++ second)) line sound.two (omega (arith, some, length-append first second)) ∙ ap (λ n. nat_le (p / 128) line && nat_le line ((p + n - 1) / 128)) (length-append first second))
+      ∙ sym (has-lines state.directory p (length (first ++ second)) line (omega (arith, some, length-append first second)) ∙ ap (λ n. nat_le (line_of state.directory p) line && nat_le line (line_of state.directory (p + n - 1))) (length-append first second))
     where
-      tests : ((nat_le (p / 128) line && nat_le line ((p + length first - 1) / 128)) || (nat_le ((p + length first) / 128) line && nat_le line ((p + length first + length second - 1) / 128)))
-          ≡ (nat_le (p / 128) line && nat_le line ((p + (length first + length second) - 1) / 128))
+      tests : ((nat_le (line_of state.directory p) line && nat_le line (line_of state.directory (p + length first - 1))) || (nat_le (line_of state.directory (p + length first)) line && nat_le line (line_of state.directory (p + length first + length second - 1))))
+          ≡ (nat_le (line_of state.directory p) line && nat_le line (line_of state.directory (p + (length first + length second) - 1)))
       tests =
           let last : p + length first + length second - 1 ≡ p + (length first + length second) - 1 = omega arith in
-          let a : p / 128 ≤ (p + length first) / 128 = omega arith in
-          let b : (p + length first) / 128 ≤ (p + length first - 1) / 128 + 1 = omega (arith, some) in
-          let c : (p + length first - 1) / 128 ≤ (p + (length first + length second) - 1) / 128 = omega (arith, more) in
-          ap (λ n. (nat_le (p / 128) line && nat_le line ((p + length first - 1) / 128)) || (nat_le ((p + length first) / 128) line && nat_le line (n / 128))) last
-          ∙ joined (p / 128) ((p + length first - 1) / 128) ((p + length first) / 128) ((p + (length first + length second) - 1) / 128) line a b c
+          let on : p + length first - 1 + 1 ≡ p + length first = omega (arith, some) in
+          let a : line_of state.directory p ≤ line_of state.directory (p + length first) = line-order state.directory.page p (p + length first) (omega arith) in
+          let b : line_of state.directory (p + length first) ≤ line_of state.directory (p + length first - 1) + 1 =
+          subst (λ n. n / line_bytes state.directory.page ≤ line_of state.directory (p + length first - 1) + 1) on (line-next state.directory.page (p + length first - 1)) in
+          let c : line_of state.directory (p + length first - 1) ≤ line_of state.directory (p + (length first + length second) - 1) =
+          line-order state.directory.page (p + length first - 1) (p + (length first + length second) - 1) (omega (arith, more)) in
+          ap (λ n. (nat_le (line_of state.directory p) line && nat_le line (line_of state.directory (p + length first - 1))) || (nat_le (line_of state.directory (p + length first)) line && nat_le line (line_of state.directory n))) last
+          ∙ joined (line_of state.directory p) (line_of state.directory (p + length first - 1)) (line_of state.directory (p + length first)) (line_of state.directory (p + (length first + length second) - 1)) line a b c
         where
           joined : (low mid next high line : ℕ) → low ≤ next → next ≤ mid + 1 → mid ≤ high
               → ((nat_le low line && nat_le line mid) || (nat_le next line && nat_le line high)) ≡ (nat_le low line && nat_le line high)

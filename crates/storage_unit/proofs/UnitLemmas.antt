@@ -29,7 +29,6 @@ use Rattle.storage_unit.specs.UnitLending.{with_unit_part}
 pub unit-sound : (unit : Unit) → IsSound (reach_of unit)
 unit-sound unit = record {
   sixteen = unit.sixteen;
-  two = unit.two;
   legal = unit.legal;
   seen = pool-seen unit.pool;
   size = unit.pool_size;
@@ -41,7 +40,7 @@ unit-sound unit = record {
 
 -- so its pool is one of its store
 pub sound-fits : (state : Reach) → IsSound state → Fits state.directory state.pool
-sound-fits state sound = record { seen = sound.seen; size = sound.size ∙ sym sound.two; pages = sound.pages; marks = sound.marks }
+sound-fits state sound = record { seen = sound.seen; size = sound.size; pages = sound.pages; marks = sound.marks }
 
 -- what is seen of it once a frame that was lent has been filled
 pub lent-page :
@@ -59,12 +58,12 @@ lent-page unit frame part below long =
 pub program-reached :
     (directory : Layout) (program : Program) (seat : ℕ) → IsLegal directory.segments
     → AreReached directory seat (registers_of_program program directory (private_segment seat))
-program-reached directory program seat legal = record { first = refl; under = under }
+program-reached directory program seat legal = record { page = refl; first = refl; under = under }
   where
     private-under : (register : SegmentRegister) → private_register (private_segment seat) ≡ register → IsUnder directory seat register
     private-under register is = subst (IsUnder directory seat) is (record { private = λ own. (refl, refl); shared = λ other. absurd (let own : is_private (private_segment seat) ≡ true = grind (arith, nat_tests) in let clash : true ≡ false = sym own ∙ other in cc) })
 
-    under : (number : ℕ) (register : SegmentRegister) → slice_index_or (registers_of_program program directory (private_segment seat)) number None ≡ Some register → IsUnder directory seat register
+    under : (number : ℕ) (register : SegmentRegister) → slice_index_or (registers_of_program program directory (private_segment seat)).list number None ≡ Some register → IsUnder directory seat register
     under zero register stands = private-under register (cc)
     under (suc number) register stands =
         let found = register-window program directory (private_segment seat) number register stands in

@@ -2,41 +2,46 @@
 use Rattle.std.specs.Prelude.{◌≡◌, ℕ, ◌+◌, ◌/◌, ◌%◌, ◌<◌, nat_lt, if◌then◌else◌, Bool, true, false, List, [], map, replicate, slice_index_or, slice_set, Option, Some, None, option_map}
 use Rattle.std.specs.List.{range_with_len}
 use Rattle.std.specs.Option.{option_map_or}
+use Rattle.line_geometry.specs.declared.directory.PageSize.{PageSize}
+use Rattle.line_geometry.specs.declared.directory.PageSize.TheVariants.{Two, Four}
 use Rattle.line_geometry.specs.Directory.{Layout, length_of}
 use Rattle.line_geometry.specs.LineSets.{IsOfPage}
 use Rattle.segment_regs.specs.declared.registers.SegmentRegister.{SegmentRegister}
-use Rattle.segment_regs.specs.Registers.{private_register}
+use Rattle.segment_regs.specs.Registers.{Registers, private_register}
 use Rattle.inverted_table.specs.declared.key.Key.{Key}
 use Rattle.inverted_table.specs.Keys.{key_to}
 use Rattle.inverted_table.specs.Placed.{Placed}
 use Rattle.frame_pool.specs.declared.model.Pool.{Pool}
+use Rattle.frame_pool.specs.Sizes.{private_frames}
 use Rattle.frame_pool.specs.Pool.{frame_at}
 use Rattle.storage_unit.specs.declared.model.Reach.{Reach}
 use Rattle.storage_unit.specs.Places.{private_segment, is_private, key_of_page}
 
--- the private frames: eight for each of sixteen seats
-abbrev pub private_frames : ℕ
-private_frames = 128
+-- the private pages of a seat: 16,384 bytes in all
+abbrev pub seat_pages : PageSize → ℕ
+seat_pages Two = 8
+seat_pages Four = 4
 
--- how many private pages of a seat are in the table: all eight while it is begun, else none
-abbrev pub pages_begun : List Bool → (seat : ℕ) → ℕ
-pages_begun begun seat = if slice_index_or begun seat false then 8 else 0
+-- how many private pages of a seat are in the table: all of them while it is begun, else none
+abbrev pub pages_begun : PageSize → List Bool → (seat : ℕ) → ℕ
+pages_begun size begun seat = if slice_index_or begun seat false then seat_pages size else 0
 
 -- what a private frame holds: the page of its seat, if that is among so many
-abbrev pub held_private : (in_table : ℕ → ℕ) → (frame : ℕ) → Option Key
-held_private in_table frame = if nat_lt (frame % 8) (in_table (frame / 8)) then Some (key_to (private_segment (frame / 8)) (frame % 8)) else None
+abbrev pub held_private : PageSize → (in_table : ℕ → ℕ) → (frame : ℕ) → Option Key
+held_private size in_table frame =
+    if nat_lt (frame % seat_pages size) (in_table (frame / seat_pages size)) then Some (key_to (private_segment (frame / seat_pages size)) (frame % seat_pages size)) else None
 
 -- what a frame holds: a private page, or the page of the store that the pool has in it
 abbrev pub held_in : Layout → (in_table : ℕ → ℕ) → List (Option ℕ) → (frame : ℕ) → Option Key
 held_in directory in_table page_in frame =
-    if nat_lt frame private_frames then held_private in_table frame else option_map (key_of_page directory) (slice_index_or page_in frame None)
+    if nat_lt frame (private_frames directory.page) then held_private directory.page in_table frame else option_map (key_of_page directory) (slice_index_or page_in frame None)
 
 -- what all frames hold
 abbrev pub keys_with : Layout → (in_table : ℕ → ℕ) → (frames : ℕ) → List (Option ℕ) → List (Option Key)
-keys_with directory in_table frames page_in = map (held_in directory in_table page_in) (range_with_len 0 (private_frames + frames))
+keys_with directory in_table frames page_in = map (held_in directory in_table page_in) (range_with_len 0 (private_frames directory.page + frames))
 
 abbrev pub keys_of : Layout → (begun : List Bool) → (frames : ℕ) → List (Option ℕ) → List (Option Key)
-keys_of directory begun frames page_in = keys_with directory (pages_begun begun) frames page_in
+keys_of directory begun frames page_in = keys_with directory (pages_begun directory.page begun) frames page_in
 
 -- the keys without those of the frame that a pool has a page in
 abbrev pub keys_without : Pool → List (Option Key) → (page : ℕ) → List (Option Key)
@@ -59,13 +64,14 @@ pub record IsUnder (directory : Layout) (seat : ℕ) (register : SegmentRegister
   pub private : is_private register.segment ≡ true → (register.segment ≡ private_segment seat) × (register.bytes ≡ 16384)
   pub shared : is_private register.segment ≡ false → length_of directory register.segment ≡ Some register.bytes
 
--- registers that a seat may have: the first is its private segment's
-pub record AreReached (directory : Layout) (seat : ℕ) (registers : List (Option SegmentRegister)) : Type 0 where
-  pub first : slice_index_or registers 0 None ≡ Some (private_register (private_segment seat))
-  pub under : (number : ℕ) (register : SegmentRegister) → slice_index_or registers number None ≡ Some register → IsUnder directory seat register
+-- registers that a seat may have: their pages are the store's, and the first is its private segment's
+pub record AreReached (directory : Layout) (seat : ℕ) (registers : Registers) : Type 0 where
+  pub page : registers.page ≡ directory.page
+  pub first : slice_index_or registers.list 0 None ≡ Some (private_register (private_segment seat))
+  pub under : (number : ℕ) (register : SegmentRegister) → slice_index_or registers.list number None ≡ Some register → IsUnder directory seat register
 
 -- the seat that is selected was begun, and the registers are those that it may have; where none is, nothing stands under any
-pub record IsSelected (directory : Layout) (begun : List Bool) (runner : ℕ) (registers : List (Option SegmentRegister)) : Type 0 where
-  pub none : runner ≡ 0 → registers ≡ replicate 16 None
+pub record IsSelected (directory : Layout) (begun : List Bool) (runner : ℕ) (registers : Registers) : Type 0 where
+  pub none : runner ≡ 0 → registers ≡ record { page = directory.page; list = replicate 16 None }
   pub few : runner < 17
   pub seat : (seat : ℕ) → runner ≡ seat + 1 → (slice_index_or begun seat false ≡ true) × AreReached directory seat registers

@@ -1,5 +1,7 @@
 -- Where bytes lie: private storage, the flat place in the store, and the page that the table knows.
 use Rattle.std.specs.Prelude.{ℕ, ◌+◌, ◌-◌, ◌*◌, nat_le, nat_lt, if◌then◌else◌, Bool, List, [], ◌∷◌, Result, Ok, Err}
+use Rattle.line_geometry.specs.declared.directory.PageSize.{PageSize}
+use Rattle.line_geometry.specs.Segments.{page_bytes}
 use Rattle.line_geometry.specs.Directory.{Layout, start_of}
 use Rattle.flat_machine.specs.declared.machine.Located.{Located}
 use Rattle.flat_machine.specs.declared.machine.Located.TheVariants.{Private, Shared, Refused}
@@ -15,14 +17,14 @@ private_segment seat = 3840 + seat
 abbrev pub is_private : ℕ → Bool
 is_private segment = nat_le 3840 segment
 
--- the offset of a byte in its segment
-abbrev pub offset_of : Virtual → ℕ
-offset_of at = at.page * 2048 + at.byte
+-- the offset of a byte in its segment, by the size of a page
+abbrev pub offset_of : PageSize → Virtual → ℕ
+offset_of page at = at.page * page_bytes page + at.byte
 
 -- where a byte lies: at an offset of private storage, or at a place of the store
 abbrev pub place_of : Layout → Virtual → Located
 place_of directory at =
-    if is_private at.segment then Private (offset_of at) else Shared (start_of directory at.segment + offset_of at)
+    if is_private at.segment then Private (offset_of directory.page at) else Shared (start_of directory at.segment + offset_of directory.page at)
 
 -- where an access lies, or that it is refused
 abbrev pub place_at : Layout → Result Virtual Check → Located

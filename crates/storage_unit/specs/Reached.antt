@@ -1,7 +1,7 @@
 -- What holds of the state of every unit, and the bytes that the seat that is selected may reach.
 use Rattle.std.specs.Prelude.{◌≡◌, ℕ, ◌+◌, ◌≤◌, ◌<◌, ◌^◌, not, Bool, true, false, List, map, length, is_some, slice_index_or, Some}
 use Rattle.std.specs.List.{range_with_len}
-use Rattle.line_geometry.specs.declared.directory.PageSize.TheVariants.{Two}
+use Rattle.line_geometry.specs.Segments.{page_bytes}
 use Rattle.line_geometry.specs.Directory.{length_of, start_of, byte_count, page_count}
 use Rattle.line_geometry.specs.Legal.{IsLegal}
 use Rattle.inverted_table.specs.Keys.{key_of}
@@ -18,10 +18,9 @@ use Rattle.storage_unit.specs.Reach.{byte_of, is_there}
 -- registers name
 pub record IsSound (state : Reach) : Type 0 where
   pub sixteen : length state.begun ≡ 16
-  pub two : state.directory.page ≡ Two
   pub legal : IsLegal state.directory.segments
   pub seen : IsSeen state.pool
-  pub size : state.pool.page ≡ Two
+  pub size : state.pool.page ≡ state.directory.page
   pub pages : length state.pool.frame_of ≡ page_count state.directory
   pub entries : length state.entries ≡ page_count state.directory
   pub marks : AreOfPages state.pool.marked
@@ -30,10 +29,10 @@ pub record IsSound (state : Reach) : Type 0 where
 -- so many bytes from a byte on lie in the private storage of the seat that is selected, which is begun, or in a segment of
 -- the store
 pub record Lies (state : Reach) (at : Virtual) (count : ℕ) : Type 0 where
-  pub within : at.byte < 2048
-  pub few : offset_of at + count ≤ 2 ^ 22
-  pub private : is_private at.segment ≡ true → (seat : ℕ) × (state.runner ≡ seat + 1) × (seat < 16) × (at.segment ≡ private_segment seat) × (slice_index_or state.begun seat false ≡ true) × (offset_of at + count ≤ 16384)
-  pub shared : is_private at.segment ≡ false → (bytes : ℕ) × (length_of state.directory at.segment ≡ Some bytes) × (offset_of at + count ≤ bytes) × (start_of state.directory at.segment + bytes ≤ byte_count state.directory)
+  pub within : at.byte < page_bytes state.directory.page
+  pub few : offset_of state.directory.page at + count ≤ 2 ^ 22
+  pub private : is_private at.segment ≡ true → (seat : ℕ) × (state.runner ≡ seat + 1) × (seat < 16) × (at.segment ≡ private_segment seat) × (slice_index_or state.begun seat false ≡ true) × (offset_of state.directory.page at + count ≤ 16384)
+  pub shared : is_private at.segment ≡ false → (bytes : ℕ) × (length_of state.directory at.segment ≡ Some bytes) × (offset_of state.directory.page at + count ≤ bytes) × (start_of state.directory at.segment + bytes ≤ byte_count state.directory)
 
 -- so many bytes from a byte on are in frames
 abbrev pub AreThere : Reach → Virtual → (count : ℕ) → Type 0

@@ -13,7 +13,7 @@ made directory frames =
       entries = replicate (page_count directory) unowned;
       begun = replicate 16 false;
       directory = directory;
-      registers = replicate 16 None;
+      registers = record { page = directory.page; list = replicate 16 None };
       runner = 0;
     }
 
@@ -30,7 +30,7 @@ abbrev pub ended : Reach → (seat : ℕ) → Reach
 ended state seat =
     record state {
       begun = slice_set state.begun seat false;
-      registers = if state.runner == seat + 1 then replicate 16 None else state.registers;
+      registers = if state.runner == seat + 1 then record { page = state.directory.page; list = replicate 16 None } else state.registers;
       runner = if state.runner == seat + 1 then 0 else state.runner;
     }
 

@@ -5,6 +5,7 @@ pub mod laws;
 mod model;
 mod private;
 mod serving;
+mod sizes;
 mod storage;
 #[cfg(test)]
 mod tests;

@@ -1,14 +1,14 @@
 // The unit as a storage.
 ghost use Rattle.std.specs.Prelude.{◌≡◌, ◌+◌, ◌*◌, ◌-◌, ◌<◌, ◌≤◌, ◌^◌, ℕ, length, find, not, Ok};
 ghost use Rattle.std.specs.List.{range_with_len};
-ghost use Rattle.byteorder.specs.Endian.{big_number};
 ghost use Rattle.segment_regs.specs.Registers.{bytes_on};
-ghost use Rattle.line_geometry.specs.Directory.{byte_count};
+ghost use Rattle.line_geometry.specs.Segments.{page_bytes};
+ghost use Rattle.line_geometry.specs.Directory.{byte_count, start_of};
 ghost use Rattle.line_geometry.specs.Lines.{line_of};
 ghost use Rattle.romp_cpu.specs.Answers.{answered_at};
 ghost use Rattle.romp_cpu.specs.Attempts.{IsOfFewBytes};
 ghost use Rattle.romp_cpu.specs.declared.storage.Access.{Access};
-ghost use Rattle.storage_unit.specs.Places.{place_of, on};
+ghost use Rattle.storage_unit.specs.Places.{offset_of, place_of, on};
 ghost use Rattle.storage_unit.specs.Reach.{is_there, is_kept_from, is_in_frame, refuses, is_refused, put_at};
 ghost use Rattle.storage_unit.specs.Rows.{tried_over, GivesRows, ChangesBytes, StaysClean, LeavesSeats};
 ghost use Rattle.storage_unit.specs.Reached.{Lies, AreThere, bytes_shown, is_absent};
@@ -18,39 +18,54 @@ ghost use Rattle.inverted_table.specs.Placed.{look_up};
 
 use super::model::Reach;
 use super::private::PRIVATE;
+use super::sizes::{byte_past, first_frame, offset_of, rest_of_line};
 use super::unit::Unit;
 use byteorder::{BigEndian, ByteOrder};
 use romp_cpu::{Access, Attempt, Cpu, Fault, Probe, Storage};
 use segment_regs::{Check, Virtual};
 
-/// The byte so many past another in its segment.
-fn byte_past(first: Virtual, past: u16) -> Virtual
-    requires { first.page * 2048 + first.byte ≤ 2 ^ 22 }
-    ensures { result ≡ bytes_on first past }
-{
-    let offset = first.page * 2048 + u32::from(first.byte) + u32::from(past);
-    Virtual {
-        segment: first.segment,
-        page: offset / 2048,
-        byte: (offset % 2048) as u16,
-    }
-}
-
 impl Unit {
     ghost use Rattle.storage_unit.specs.View.{reach_of};
+
+    /// The byte so many past another in its segment.
+    #[inline]
+    fn past(&self, first: Virtual, past: u16) -> Virtual
+        requires { offset_of (reach_of self.now).directory.page first ≤ 2 ^ 22 }
+        ensures { result ≡ bytes_on (reach_of self.now).directory.page first past }
+    {
+        byte_past(self.directory.page(), first, past)
+    }
+
+    /// How many bytes of its page begin with this one.
+    #[inline(always)]
+    fn rest(&self, first: Virtual) -> u16
+        requires { first.byte < page_bytes (reach_of self.now).directory.page }
+        ensures { first.byte + result ≡ page_bytes (reach_of self.now).directory.page }
+    {
+        self.directory.page().bytes() - first.byte
+    }
+
+    /// The place of a byte of the store.
+    #[inline(always)]
+    fn place_of(&self, first: Virtual) -> u32
+        requires { offset_of (reach_of self.now).directory.page first ≤ 2 ^ 22 }
+        ensures { result ≡ start_of (reach_of self.now).directory first.segment + offset_of (reach_of self.now).directory.page first }
+    {
+        self.directory.start_of(first.segment) + offset_of(self.directory.page(), first)
+    }
 
     /// The answer to an access of so many bytes that begins at a byte.
     #[inline(always)]
     fn answer(&mut self, first: Virtual, bytes: u8, store: bool) -> Probe
         requires { Lies (reach_of self.old) first bytes }
-        ensures answer { (access : Access) → access.bytes ≡ bytes → access.store ≡ store → result ≡ answered_at (is_in_frame (reach_of self.old)) (refuses (reach_of self.old)) access (Ok first) }
+        ensures answer { (access : Access) → access.bytes ≡ bytes → access.store ≡ store → result ≡ answered_at (reach_of self.old).directory.page (is_in_frame (reach_of self.old)) (refuses (reach_of self.old)) access (Ok first) }
         ensures state { reach_of self.new ≡ reach_of self.old }
     {
         if let Some(past) = self.first_absent(first, bytes) {
-            return Probe::Fault(Fault::Page(byte_past(first, past)));
+            return Probe::Fault(Fault::Page(self.past(first, past)));
         }
         match self.first_refused(first, bytes, store) {
-            Some(past) => Probe::Fault(Fault::Lock(byte_past(first, past))),
+            Some(past) => Probe::Fault(Fault::Lock(self.past(first, past))),
             None => Probe::Permitted,
         }
     }
@@ -64,14 +79,14 @@ impl Unit {
         if bytes == 0 {
             return None;
         }
+        let rest = self.rest(first);
         if self.is_absent(first) {
             return Some(0);
         }
-        let rest = 2048 - first.byte;
         if u16::from(bytes) <= rest {
             return None;
         }
-        if self.is_absent(byte_past(first, rest)) {
+        if self.is_absent(self.past(first, rest)) {
             Some(rest)
         } else {
             None
@@ -96,12 +111,7 @@ impl Unit {
         if first.segment >= PRIVATE {
             return None;
         }
-        let offset = first.page * 2048 + u32::from(first.byte);
-        self.first_refused_from(
-            self.directory.start_of(first.segment) + offset,
-            bytes,
-            store,
-        )
+        self.first_refused_from(self.place_of(first), bytes, store)
     }
 
     /// The same of bytes of the store from a place on.
@@ -115,7 +125,7 @@ impl Unit {
             if self.is_refused(here, store) {
                 return Some(past);
             }
-            past += 128 - (here % 128) as u16;
+            past += rest_of_line(self.directory.page(), here);
         }
         None
     }
@@ -137,22 +147,10 @@ impl Unit {
         ensures { result ≡ look_up (table_of (reach_of self.now)).keys (key_of first) }
     {
         if first.segment >= PRIVATE {
-            return Some(u16::from(self.runner - 1) * 8 + first.page as u16);
+            return Some(first_frame(self.directory.page(), self.runner - 1) + first.page as u16);
         }
-        let offset = first.page * 2048 + u32::from(first.byte);
-        let place = self.directory.start_of(first.segment) + offset;
-        self.pool.frame_of(self.directory.page_of(place))
-    }
-
-    /// The halfword of two bytes that lie in frames.
-    fn halfword(&self, first: Virtual) -> u16
-        requires lies { Lies (reach_of self.now) first 2 }
-        requires there { AreThere (reach_of self.now) first 2 }
-        ensures { result ≡ big_number 2 (bytes_shown (reach_of self.now) (place_of (reach_of self.now).directory first) 2) }
-    {
-        let mut halfword = [0; 2];
-        self.copy(first, &mut halfword);
-        BigEndian::read_u16(&halfword)
+        let page = self.directory.page_of(self.place_of(first));
+        self.pool.frame_of(page)
     }
 
     /// Copies some bytes that lie in frames; those of one page at once.
@@ -163,7 +161,7 @@ impl Unit {
         requires there { AreThere (reach_of self.now) first (length into.old) }
         ensures { into.new ≡ bytes_shown (reach_of self.now) (place_of (reach_of self.now).directory first) (length into.old) }
     {
-        if into.len() <= 2048 - usize::from(first.byte) {
+        if into.len() <= usize::from(self.rest(first)) {
             self.copy_part(first, into);
         } else {
             self.copy_parts(first, into);
@@ -177,13 +175,13 @@ impl Unit {
         requires there { AreThere (reach_of self.now) first (length into.old) }
         ensures { into.new ≡ bytes_shown (reach_of self.now) (place_of (reach_of self.now).directory first) (length into.old) }
     {
-        let rest = 2048 - usize::from(first.byte);
+        let rest = usize::from(self.rest(first));
         if into.len() <= rest {
             self.copy_part(first, into);
         } else {
             let (front, back) = into.split_at_mut(rest);
             self.copy_part(first, front);
-            self.copy_parts(byte_past(first, rest as u16), back);
+            self.copy_parts(self.past(first, rest as u16), back);
         }
     }
 
@@ -191,7 +189,7 @@ impl Unit {
     #[inline(always)]
     fn copy_part(&self, first: Virtual, into: &mut [u8])
         requires some { 0 < length into.old }
-        requires within { first.byte + length into.old ≤ 2048 }
+        requires within { first.byte + length into.old ≤ page_bytes (reach_of self.now).directory.page }
         requires lies { Lies (reach_of self.now) first (length into.old) }
         requires there { AreThere (reach_of self.now) first (length into.old) }
         ensures { into.new ≡ bytes_shown (reach_of self.now) (place_of (reach_of self.now).directory first) (length into.old) }
@@ -209,7 +207,7 @@ impl Unit {
         requires there { AreThere (reach_of self.old) first (length from.now) }
         ensures { reach_of self.new ≡ put_at (reach_of self.old) (place_of (reach_of self.old).directory first) from.now }
     {
-        if from.len() <= 2048 - usize::from(first.byte) {
+        if from.len() <= usize::from(self.rest(first)) {
             self.put_part(first, from);
         } else {
             self.put_parts(first, from);
@@ -223,12 +221,13 @@ impl Unit {
         requires there { AreThere (reach_of self.old) first (length from.now) }
         ensures { reach_of self.new ≡ put_at (reach_of self.old) (place_of (reach_of self.old).directory first) from.now }
     {
-        let rest = 2048 - usize::from(first.byte);
+        let rest = usize::from(self.rest(first));
         if from.len() <= rest {
             self.put_part(first, from);
         } else {
+            let next = self.past(first, rest as u16);
             self.put_part(first, &from[..rest]);
-            self.put_parts(byte_past(first, rest as u16), &from[rest..]);
+            self.put_parts(next, &from[rest..]);
         }
     }
 
@@ -236,7 +235,7 @@ impl Unit {
     #[inline(always)]
     fn put_part(&mut self, first: Virtual, from: &[u8])
         requires some { 0 < length from.now }
-        requires within { first.byte + length from.now ≤ 2048 }
+        requires within { first.byte + length from.now ≤ page_bytes (reach_of self.old).directory.page }
         requires lies { Lies (reach_of self.old) first (length from.now) }
         requires there { AreThere (reach_of self.old) first (length from.now) }
         ensures { reach_of self.new ≡ put_at (reach_of self.old) (place_of (reach_of self.old).directory first) from.now }
@@ -275,15 +274,8 @@ impl Storage for Unit {
         if self.runner == 0 {
             return Some(0);
         }
-        let at = address % 2048;
-        if at == 2047 {
-            return match self.registers.locate(address, 2, false) {
-                Ok(first) => Some(self.halfword(first)),
-                Err(_) => Some(0),
-            };
-        }
-        let frame = u16::from(self.runner - 1) * 8 + (address / 2048) as u16;
-        Some(BigEndian::read_u16(self.pool.part(frame, at as usize, 2)))
+        let bytes = self.pool.private_part(self.runner - 1, address as usize, 2);
+        Some(BigEndian::read_u16(bytes))
     }
 
     #[inline(always)]

@@ -1,6 +1,5 @@
 // The unit's parts, and that they agree.
 ghost use Rattle.std.specs.Prelude.{◌≡◌, ◌≤◌, length, IfOk};
-ghost use Rattle.line_geometry.specs.declared.directory.PageSize.TheVariants.{Two};
 ghost use Rattle.line_geometry.specs.Directory.{page_count};
 ghost use Rattle.line_geometry.specs.Legal.{IsLegal};
 ghost use Rattle.frame_pool.specs.View.{pool_of};
@@ -10,7 +9,7 @@ ghost use Rattle.tlb_model.specs.Buffer.{IsOfTable, found, after_found};
 ghost use Rattle.storage_unit.specs.Held.{keys_of, AreOfPages, IsSelected, table_of};
 ghost use Rattle.storage_unit.specs.Served.{made};
 
-use super::private::PRIVATE_FRAMES;
+use super::sizes::private_frames;
 use frame_pool::FramePool;
 use inverted_table::Table;
 use line_geometry::Directory;
@@ -19,8 +18,8 @@ use std::alloc::{AllocError, Global};
 use store_format::Header;
 use tlb_model::Tlb;
 
-/// Frames, page table and look-aside buffer of a store with pages of 2,048 bytes, with the segment registers of the seat
-/// that is selected (docs/MODEL.md). They agree: the table has a page of the store in a frame exactly where the pool has
+/// Frames, page table and look-aside buffer of a store, with the segment registers of the seat that is selected
+/// (docs/MODEL.md). They agree: the table has a page of the store in a frame exactly where the pool has
 /// it there, and a seat's private pages in its private frames exactly where it is begun; and each pair of the buffer is in
 /// the table. So no part is lent to be written, but the bytes of a frame.
 #[derive(Drop)]
@@ -33,9 +32,8 @@ pub struct Unit {
     pub(crate) registers: SegmentRegs,
     pub(crate) runner: u8,
     ghost sixteen: { length begun ≡ 16 },
-    ghost two: { directory.page ≡ Two },
     ghost legal: { IsLegal directory.segments },
-    ghost pool_size: { (pool_of pool).page ≡ Two },
+    ghost pool_size: { (pool_of pool).page ≡ directory.page },
     ghost pages: { length (pool_of pool).frame_of ≡ page_count directory },
     ghost entries: { length table.entries ≡ page_count directory },
     ghost marks: { AreOfPages (pool_of pool).marked },
@@ -59,15 +57,16 @@ impl Unit {
         ensures { IfOk result (λ unit. reach_of unit ≡ made header.now.directory frames) }
     {
         let directory = *header.directory();
+        let page = directory.page();
         let pages = directory.pages();
         let _segments = directory.segments();
         Ok(Unit {
-            pool: FramePool::new(alloc, directory.page(), frames, pages)?,
-            table: Table::new(alloc, PRIVATE_FRAMES + frames, pages)?,
+            pool: FramePool::new(alloc, page, frames, pages)?,
+            table: Table::new(alloc, private_frames(page) + frames, pages)?,
             buffer: Tlb::new(),
             begun: [false; 16],
             directory,
-            registers: SegmentRegs::none(),
+            registers: SegmentRegs::none(page),
             runner: 0,
         })
     }

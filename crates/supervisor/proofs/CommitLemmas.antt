@@ -2,6 +2,7 @@
 use Rattle.std.proofs.Common.{◌≡◌, ◌⊎◌, inl, inr, ⊎_elim, ℕ, ◌+◌, ◌*◌, ◌%◌, ◌^◌, ◌<◌, ◌≤◌, List, [], ◌∷◌, ◌++◌, length, refl, sym, ◌∙◌, ap, subst, arith, Option, Some, length-append}
 use Rattle.std.specs.Prelude.{◌==◌, ◌&&◌, not, filter, Bool, None, true, false, vec_len, vec_capacity, slice_set}
 use Rattle.std.proofs.lemmas.List.{map-append}
+use Rattle.line_geometry.specs.Directory.{Layout}
 use Rattle.line_geometry.specs.FlatStore.{FlatStore}
 use Rattle.std.proofs.lemmas.Bool.{eq-eqb}
 use Rattle.lock_rules.specs.Sets.{has}
@@ -168,7 +169,7 @@ out-is a seat committed now taken follows at =
 
 -- a commit over committed bytes, at a state, whose record gives what it commits
 module _ {W : Type 0} (G : Ghosts W) (s : Session) (seat : ℕ) (sound : IsSound s) (before after : W) (over : IsOver s (held_of G before)) (now : Plain)
-    (lines : List RecordLine) (gives : laid over.committed lines ≡ now.store) where
+    (lines : List RecordLine) (gives : laid (activity s).reach.directory.page over.committed lines ≡ now.store) where
   abbrev fine : Desk
   fine = fine_desk s over.committed seat now
 
@@ -187,7 +188,8 @@ module _ {W : Type 0} (G : Ghosts W) (s : Session) (seat : ℕ) (sound : IsSound
   pub stands-more : one_more lines (stands (held_of G before)) ≡ Stands ((number_of s.store + 1) % 2 ^ 64) (keeps now.store)
   stands-more =
       ap (one_more lines) over.stood
-      ∙ ap (λ (bytes : List ℕ). let that : Standing = Stands ((number_of s.store + 1) % 2 ^ 64) (keeps bytes) in that) gives
+      ∙ ap (λ (bytes : List ℕ). let that : Standing = Stands ((number_of s.store + 1) % 2 ^ 64) (keeps bytes) in that)
+      (ap (λ (d : Layout). laid d.page over.committed lines) sound.directory ∙ gives)
 
   number-now : (number : ℕ) (next : Desk) → number ≡ number_of s.store → next.order ≡ order_of s ++ (number_in (activity s).seating seat, (sitter (activity s).seating seat).rows + 1) ∷ []
       → (number + 1) % 2 ^ 64 ≡ number_after s.opened next

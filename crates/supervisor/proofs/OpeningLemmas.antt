@@ -2,15 +2,13 @@
 use Rattle.std.proofs.Common.{◌≡◌, ℕ, ◌+◌, ◌*◌, ◌%◌, ◌^◌, List, [], length, take, sym, ◌∙◌, ap, arith, Option}
 use Rattle.std.specs.Prelude.{false, unwrap_or, fold}
 use Rattle.std.proofs.Math.Nat.{mod-mod}
-use Rattle.line_geometry.specs.declared.directory.PageSize.{PageSize}
-use Rattle.line_geometry.specs.Directory.{Layout, byte_count, page_count}
+use Rattle.line_geometry.specs.Directory.{Layout, byte_count}
 use Rattle.line_geometry.specs.FlatStore.{FlatStore}
-use Rattle.line_geometry.specs.Segments.{page_bytes}
-use Rattle.line_geometry.proofs.Within.{byte_count-pages}
+use Rattle.line_geometry.proofs.Within.{byte_count-lines}
 use Rattle.flat_machine.specs.declared.machine.Program.{Program}
 use Rattle.outside.specs.declared.world.Outside.{Ghosts}
 use Rattle.outside.specs.Runs.{OnlyAsks, held_of}
-use Rattle.store_format.specs.Header.{HasRanges, header_of, most_lines}
+use Rattle.store_format.specs.Header.{header_of, most_lines}
 use Rattle.store_format.specs.Stands.{Stands, stands, laid, home_of}
 use Rattle.store_format.proofs.Stores.{stands_is}
 use Rattle.redo_journal.proofs.Newest.{store_agrees}
@@ -29,25 +27,23 @@ use Rattle.supervisor.specs.Session.{activity, desk_of}
 
 -- the committed bytes of a store that bytes show
 pub committed_in : (held : List ℕ) (store : KeptStore) → Shows held store → List ℕ
-committed_in held store shows = fold laid (home_of held store.header) shows.read.records
+committed_in held store shows = fold (laid store.header.directory.page) (home_of held store.header) shows.read.records
 
 -- the bytes stand for the store's number and these
 pub stood-store : (held : List ℕ) (store : KeptStore) (shows : Shows held store)
     → stands held ≡ Stands (number_of store) (record { directory = store.header.directory; bytes = committed_in held store shows })
 unfolding committed_in
 stood-store held store shows =
-    let flat : FlatStore = record { directory = store.header.directory; bytes = fold laid (home_of held store.header) shows.read.records } in
+    let flat : FlatStore = record { directory = store.header.directory; bytes = fold (laid store.header.directory.page) (home_of held store.header) shows.read.records } in
     stands_is held store.header store.bank.which store.bank.base store.bank.gate shows.read.records (shown_store held store shows)
     ∙ ap (λ (n : ℕ). Stands ((store.bank.base + n) % 2 ^ 64) flat) shows.read.count
 
 -- and they are as many as its directory says
-pub committed-long : (held : List ℕ) (store : KeptStore) (shows : Shows held store) → HasRanges store.header → length (committed_in held store shows) ≡ byte_count store.header.directory
+pub committed-long : (held : List ℕ) (store : KeptStore) (shows : Shows held store) → length (committed_in held store shows) ≡ byte_count store.header.directory
 unfolding committed_in
-committed-long held store shows ranges =
+committed-long held store shows =
     let agree = store_agrees held store.header store.bank.which store.bank.base store.bank.gate shows.read.records (shown_store held store shows) in
-    let pages : byte_count store.header.directory ≡ page_count store.header.directory * 2048 =
-    byte_count-pages store.header.directory ∙ ap (λ (size : PageSize). page_count store.header.directory * page_bytes size) ranges.page in
-    agree.long ∙ omega arith ∙ sym pages
+    agree.long ∙ sym (byte_count-lines store.header.directory)
 
 pub has-stood : (held : List ℕ) (store : KeptStore) → Shows held store → HasStood store.header held
 has-stood held store shows = (
@@ -64,7 +60,6 @@ pub record IsMade (frames : ℕ) (s : Session) : Type 0 where
   pub still_open : s.closed ≡ false
   pub number : s.opened ≡ number_of s.store
   pub no_order : s.order.items ≡ []
-  pub ranges : HasRanges s.store.header
   pub directory : s.store.header.directory ≡ (activity s).reach.directory
   pub first : (committed : List ℕ) → length committed ≡ byte_count s.store.header.directory → Begins (activity s) (opened frames 16 (most_lines s.store.header) (record { directory = s.store.header.directory; bytes = committed })) committed
 
@@ -80,7 +75,7 @@ module _ (frames : ℕ) (s : Session) (made : IsMade frames s) where
   made-opened G old new asks tracks =
       let same : held_of G new ≡ held_of G old = ap (λ (those : Option (List ℕ)). unwrap_or those []) asks.held in
       let committed : List ℕ = committed_in (held_of G new) s.store tracks.shows in
-      let long : length committed ≡ byte_count s.store.header.directory = committed-long (held_of G new) s.store tracks.shows made.ranges in
+      let long : length committed ≡ byte_count s.store.header.directory = committed-long (held_of G new) s.store tracks.shows in
       let stood : stands (held_of G new) ≡ Stands (number_of s.store) (record { directory = s.store.header.directory; bytes = committed }) = stood-store (held_of G new) s.store tracks.shows in
       record {
         sure = tracks.sure;

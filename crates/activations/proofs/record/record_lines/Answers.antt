@@ -1,13 +1,17 @@
-use Rattle.std.proofs.Common.{◌+◌, ◌*◌, ℕ, List, length, refl, sym, ◌∙◌, ap, subst, arith}
+use Rattle.std.proofs.Common.{◌+◌, ◌*◌, ◌≤◌, ℕ, List, length, refl, sym, ◌∙◌, ap, subst, arith}
 use Rattle.std.specs.Prelude.{IsSome}
 use Rattle.line_geometry.specs.Directory.{page_count}
+use Rattle.line_geometry.specs.Segments.{line_bytes}
 use Rattle.line_geometry.specs.declared.line_set.LinesOf.{LinesOf}
 use Rattle.frame_pool.specs.View.{pool_of}
 use Rattle.frame_pool.proofs.SeenLemmas.{pool-seen}
-use Rattle.redo_journal.specs.Kept.{with_line}
+use Rattle.store_format.specs.Header.{Header}
+use Rattle.store_format.specs.Bank.{record_bytes}
+use Rattle.redo_journal.specs.Kept.{begun_of, with_line}
 use Rattle.restart.specs.Kept.{KeptStore}
 use Rattle.activations.proofs.RecordLemmas.{Adds, adds-all, adds-none, adds-next, adds-one, next-line, next-above, next-room}
 use Rattle.activations.proofs.RecordBytes.{shown-long}
+use Rattle.activations.proofs.SizeLemmas.{lines-fit}
 use Rattle.activations.proofs.record.record_lines.Goals as goal
 
 pub loop-line-init : goal.loop-line-init
@@ -25,7 +29,8 @@ record_line-requires-clause-begun c = subst (λ (store : KeptStore). IsSome stor
 pub record_line-requires-clause-whole : goal.record_line-requires-clause-whole
 record_line-requires-clause-whole c =
     ap (λ (bytes : List ℕ). length bytes) c.written_line.ensures
-    ∙ shown-long (pool_of c.args.pool.now) (pool-seen c.args.pool.now) c.requires.size c.args.page c.in-Some.line c.requires.page (next-line (adds-next c.in-Some.ensures.steps c.loop-line.invariant))
+    ∙ shown-long (pool_of c.args.pool.now) (pool-seen c.args.pool.now) c.args.page c.in-Some.line c.requires.page (next-line (adds-next c.in-Some.ensures.steps c.loop-line.invariant))
+    ∙ ap line_bytes (c.requires.size ∙ sym (ap (λ (store : KeptStore). store.header.directory.page) c.loop-line.invariant.shape))
 
 pub record_line-requires-clause-below : goal.record_line-requires-clause-below
 record_line-requires-clause-below c =
@@ -41,8 +46,9 @@ record_line-requires-clause-ascending c =
 pub record_line-requires-clause-room : goal.record_line-requires-clause-room
 record_line-requires-clause-room c =
     let room = next-room (adds-next c.in-Some.ensures.steps c.loop-line.invariant) in
-    let same = ap (λ (store : KeptStore). store.header.bank_bytes) c.loop-line.invariant.shape in
-    omega (arith, room, same)
+    subst (λ (header : Header). record_bytes header.directory.page (length (begun_of c.loop-line.store.bank) + 1) + 1 ≤ header.bank_bytes)
+    (sym (ap (λ (store : KeptStore). store.header) c.loop-line.invariant.shape))
+    (lines-fit c.args.store.now.header.directory.page c.args.store.now.header.bank_bytes (length (begun_of c.loop-line.store.bank)) room)
 
 pub loop-line-preserved : goal.loop-line-preserved
 loop-line-preserved c =

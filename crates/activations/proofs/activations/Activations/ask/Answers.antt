@@ -30,7 +30,7 @@ contend-requires-clause-sound c =
     subst (λ (s : Seating). IsSound (record a { seating = s })) (sym c.wait.ensures)
     (sound-asking a c.args.seat c.request-request.result c.requires.sound c.requires.taken
     (asked-within a (wants_of c.args.touch.now) c.request-request.result.wants.items c.requires.sound c.requires.wanted c.request-request.ensures)
-    (asked-whole (wants_of c.args.touch.now) c.request-request.result.wants.items c.requires.wanted.sets c.request-request.ensures))
+    (asked-whole a.reach.directory (wants_of c.args.touch.now) c.request-request.result.wants.items c.requires.wanted.sets c.request-request.ensures))
 
 pub contend-requires-clause-waits : goal.contend-requires-clause-waits
 contend-requires-clause-waits c =

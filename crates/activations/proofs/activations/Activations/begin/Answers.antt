@@ -27,7 +27,7 @@ returns-then-taken-eq16-clause-left c =
 pub returns-then-taken-eq16-clause-is_begin : goal.returns-then-taken-eq16-clause-is_begin
 returns-then-taken-eq16-clause-is_begin c =
     begin-goes (activity_of c.args.self.now) c.args.program c.args.args c.requires.sound _ _ c.requires.known
-    (sound-fits (reach_of c.args.self.now.unit) (unit-sound c.args.self.now.unit)) c.args.self.now.unit.two
+    (sound-fits (reach_of c.args.self.now.unit) (unit-sound c.args.self.now.unit))
     (returns-then-taken-eq16-clause-answer c) (returns-then-taken-eq16-clause-left c)
 
 -- a segment is absent
@@ -47,7 +47,7 @@ returns-in-Some-clause-left c = sym (ap (λ (b : Begun × Activity). b.1) (refus
 pub returns-in-Some-clause-is_begin : goal.returns-in-Some-clause-is_begin
 returns-in-Some-clause-is_begin c =
     begin-goes (activity_of c.args.self.now) c.args.program c.args.args c.requires.sound _ _ c.requires.known
-    (sound-fits (reach_of c.args.self.now.unit) (unit-sound c.args.self.now.unit)) c.args.self.now.unit.two
+    (sound-fits (reach_of c.args.self.now.unit) (unit-sound c.args.self.now.unit))
     (returns-in-Some-clause-answer c) (returns-in-Some-clause-left c)
 
 -- it sat down, since not all are taken
@@ -99,5 +99,5 @@ returns-clause-sound c = subst IsSound (sym (returns-clause-left c)) (sound-begi
 pub returns-clause-is_begin : goal.returns-clause-is_begin
 returns-clause-is_begin c =
     begin-goes (activity_of c.args.self.now) c.args.program c.args.args c.requires.sound _ _ c.requires.known
-    (sound-fits (reach_of c.args.self.now.unit) (unit-sound c.args.self.now.unit)) c.args.self.now.unit.two
+    (sound-fits (reach_of c.args.self.now.unit) (unit-sound c.args.self.now.unit))
     (returns-clause-answer c) (returns-clause-left c)

@@ -33,9 +33,9 @@ returns-clause-served g c begins attempt next committed order is_store number go
     let later = subst IsSound c.take.ensures.shape c.take.ensures.sound in
     let below : (page : ℕ) → has refused page ≡ true → page < length a.reach.entries =
     λ page inside. subst (λ (n : ℕ). page < n) (sym sound.entries) (picked-below (page_count a.reach.directory) c.args.touch.now c.args.refused c.requires.wanted.within page inside) in
-    let grants = granted-same mid (locked a seat wants owned) seat refused a.reach.entries owned (ap (λ (x : Activity). x.seating) c.take.ensures.shape) c.take.ensures.granted in
-    subst (λ (counts : Counts). Serves c.bring.result begins new seat committed order counts) (sym (ap counts_of c.bring.ensures.tally))
-    (serves-by _ _ _ _ _ _ c.bring.result begins new seat committed order (record before { pages = counted }) c.bring.ensures.shape c.bring.ensures.resident c.bring.ensures.fetched
+    let grants = granted-same mid (locked a seat wants owned) seat wants refused a.reach.entries owned (ap (λ (x : Activity). x.seating) c.take.ensures.shape) (ap (λ (x : Activity). x.reach.directory) c.take.ensures.shape) c.take.ensures.granted in
+    subst (λ (counts : Counts). Serves c.bring.result begins new seat wants committed order counts) (sym (ap counts_of c.bring.ensures.tally))
+    (serves-by _ _ _ _ _ _ c.bring.result begins new seat wants committed order (record before { pages = counted }) c.bring.ensures.shape c.bring.ensures.resident c.bring.ensures.fetched
     (served-so begins attempt refused a seat committed order before wants owned sound c.requires.taken later c.requires.wanted number free lines below grants next goes
     g.W.Outside c.args.store.now c.args.outside.now mid new counted c.take.ensures.shape is_store c.requires.selected.runner)
     c.bring.ensures.ends c.bring.ensures.broke

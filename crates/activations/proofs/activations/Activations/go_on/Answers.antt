@@ -1,21 +1,43 @@
-use Rattle.std.proofs.Common.{◌≡◌, subst, inl, inr}
+use Rattle.std.proofs.Common.{◌≡◌, true, sym, subst, inl, inr}
 use Rattle.romp_cpu.specs.declared.cpu.Attempt.{Attempt}
 use Rattle.activations.specs.Attempted.{WasAttempted}
+use Rattle.activations.specs.Activity.{Activity}
+use Rattle.activations.specs.Follows.{IsSound}
+use Rattle.activations.specs.Instructed.{GoesUncounted}
+use Rattle.activations.specs.Serving.{pages_lowered}
+use Rattle.activations.proofs.GrantingLemmas.{lowered-sound}
+use Rattle.lock_rules.specs.Sets.{has}
+use Rattle.activations.specs.Kept.{KeepsParts}
+use Rattle.activations.specs.Touched.{wants_of}
 use Rattle.activations.specs.View.{activity_of}
 use Rattle.activations.proofs.GoOnLemmas.{took-served, not-check, not-commit, took-either}
 use Rattle.activations.proofs.KeptLemmas.{keeps-took, keeps-checked}
 use Rattle.activations.proofs.activations.Activations.go_on.Goals as goal
 
+pub returns-in-Went-clause-sound : goal.returns-in-Went-clause-sound
+returns-in-Went-clause-sound c =
+    let a = activity_of c.args.self.now in
+    let ran = activity_of c.execute.new.self in
+    let took = took-either c.execute.result a ran c.args.seat c.in-Went.is c.execute.ensures.went in
+    subst IsSound (sym c.lower.ensures.shape)
+    (lowered-sound ran c.args.seat (pages_lowered ran c.args.seat (wants_of c.args.touch.now)) (activity_of c.lower.new.self).reach.entries c.execute.ensures.sound
+    (subst (λ (x : Activity). has x.seating.taken c.args.seat ≡ true) (sym took.shape) c.requires.taken) c.lower.ensures.lowered)
+
 pub returns-in-Went-clause-parts : goal.returns-in-Went-clause-parts
 returns-in-Went-clause-parts c =
     let a = activity_of c.args.self.now in
-    keeps-took a (activity_of c.execute.new.self) c.args.seat (took-either c.execute.result a (activity_of c.execute.new.self) c.args.seat c.in-Went.is c.execute.ensures.went)
+    let took = took-either c.execute.result a (activity_of c.execute.new.self) c.args.seat c.in-Went.is c.execute.ensures.went in
+    subst (λ (x : Activity). KeepsParts a x 0) (sym c.lower.ensures.shape)
+    (let keeps = keeps-took a (activity_of c.execute.new.self) c.args.seat took in
+    record { programs = keeps.programs; most_lines = keeps.most_lines; next = keeps.next; directory = keeps.directory; fewer = keeps.fewer; rows = keeps.rows })
 
 pub returns-in-Went-clause-went : goal.returns-in-Went-clause-went
 returns-in-Went-clause-went c begins committed order counts served =
     let a = activity_of c.args.self.now in
-    took-served begins a (activity_of c.execute.new.self) c.args.seat committed order counts served
+    subst (λ (x : Activity). GoesUncounted begins x c.args.seat committed order counts) (sym c.lower.ensures.shape)
+    (took-served begins a (activity_of c.execute.new.self) c.args.seat (wants_of c.args.touch.now) committed order counts served
     (took-either c.execute.result a (activity_of c.execute.new.self) c.args.seat c.in-Went.is c.execute.ensures.went)
+    (activity_of c.lower.new.self).reach.entries c.lower.ensures.lowered)
 
 pub returns-in-Check-clause-parts : goal.returns-in-Check-clause-parts
 returns-in-Check-clause-parts c =
@@ -24,7 +46,7 @@ returns-in-Check-clause-parts c =
 
 pub returns-in-Check-clause-went : goal.returns-in-Check-clause-went
 returns-in-Check-clause-went c begins committed order counts served =
-    absurd (not-check begins (activity_of c.args.self.now) (activity_of c.execute.new.self) c.args.seat committed order counts served c.in-Check.code
+    absurd (not-check begins (activity_of c.args.self.now) (activity_of c.execute.new.self) c.args.seat (wants_of c.args.touch.now) committed order counts served c.in-Check.code
     (subst (λ (attempt : Attempt). WasAttempted attempt (activity_of c.args.self.now) c.args.seat (activity_of c.execute.new.self)) c.in-Check.is c.execute.ensures.went))
 
 pub returns-in-Fault-clause-parts : goal.returns-in-Fault-clause-parts
@@ -41,6 +63,6 @@ returns-in-Fault-clause-went c begins committed order counts served = elim c.in-
       absurd (served.is_open access
       (subst (λ (attempt : Attempt). WasAttempted attempt (activity_of c.args.self.now) c.args.seat (activity_of c.execute.new.self)) is c.execute.ensures.went).1)
   | inr is ↦
-      absurd (not-commit begins (activity_of c.args.self.now) (activity_of c.execute.new.self) c.args.seat committed order counts served
+      absurd (not-commit begins (activity_of c.args.self.now) (activity_of c.execute.new.self) c.args.seat (wants_of c.args.touch.now) committed order counts served
       (subst (λ (attempt : Attempt). WasAttempted attempt (activity_of c.args.self.now) c.args.seat (activity_of c.execute.new.self)) is c.execute.ensures.went))
 ]

@@ -36,6 +36,12 @@ record_lines-requires-clause-page c =
     let pages = (unit-sound c.args.self.now.unit).pages in
     omega (arith, below, all, pages, c.requires.sound.pages)
 
+pub record_lines-requires-clause-size : goal.record_lines-requires-clause-size
+record_lines-requires-clause-size c =
+    ap (λ (pool : Pool). pool.page) c.pool.ensures
+    ∙ (unit-sound c.args.self.now.unit).size
+    ∙ ap (λ (d : Layout). d.page) (sym (ap (λ (store : KeptStore). store.header.directory) c.loop-page.invariant ∙ c.requires.directory))
+
 pub record_lines-requires-clause-below : goal.record_lines-requires-clause-below
 record_lines-requires-clause-below c =
     let below = page-held c.args.self.now.seats.holding c.locks-locks.result.now c.args.seat c.held_pages-page-items.result.now c.loop-page.page-index c.locks-locks.ensures c.requires.sound.seating.whole c.requires.seat c.loop-page-test.true c.held_pages-page-items.ensures.each in

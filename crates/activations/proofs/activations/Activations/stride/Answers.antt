@@ -4,9 +4,14 @@ use Rattle.romp_cpu.specs.declared.cpu.Attempt.{Attempt}
 use Rattle.activations.specs.Attempted.{WasAttempted}
 use Rattle.activations.specs.View.{activity_of}
 use Rattle.activations.proofs.GoOnLemmas.{took-either}
-use Rattle.activations.proofs.KeptLemmas.{keeps-two, keeps-took}
-use Rattle.activations.proofs.StrideLemmas.{strode-more, came-still}
+use Rattle.activations.proofs.KeptLemmas.{keeps-itself, keeps-two, keeps-took}
+use Rattle.activations.proofs.StrideLemmas.{strode-none, strode-more, came-still}
 use Rattle.activations.proofs.activations.Activations.stride.Goals as goal
+
+pub loop-ran-init : goal.loop-ran-init
+loop-ran-init c =
+    let a = activity_of c.args.self.now in
+    (c.requires.sound, c.requires.taken, c.requires.selected, omega arith, strode-none a c.args.seat, keeps-itself a)
 
 pub loop-ran-preserved : goal.loop-ran-preserved
 loop-ran-preserved c =

@@ -22,16 +22,15 @@ returns-then-first-ge-PRIVATE-clause-lines c =
 pub touch_from-requires-clause-within : goal.touch_from-requires-clause-within
 touch_from-requires-clause-within c =
     let low : is_private c.in-Ok.first.segment ≡ false = grind (arith, nat_tests, c.if-first-ge-PRIVATE.false) in
-    subst (λ (d : Layout). start_of d c.in-Ok.first.segment + offset_of c.in-Ok.first + c.args.access.bytes ≤ byte_count d) c.args.self.now.same
+    subst (λ (d : Layout). start_of d c.in-Ok.first.segment + offset_of d.page c.in-Ok.first + c.args.access.bytes ≤ byte_count d) c.args.self.now.same
     (touches-within (activity_of c.args.self.now) c.args.seat c.requires.sound c.requires.taken c.args.self.now.unit.legal c.args.access c.in-Ok.first
     (sym c.locate.ensures ∙ c.in-Ok.is) low)
 
 pub returns-else-first-ge-PRIVATE-clause-lines : goal.returns-else-first-ge-PRIVATE-clause-lines
 returns-else-first-ge-PRIVATE-clause-lines c =
     let low : is_private c.in-Ok.first.segment ≡ false = grind (arith, nat_tests, c.if-first-ge-PRIVATE.false) in
-    let offset = offset_of c.in-Ok.first in
     c.touch_from.ensures.lines
-    ∙ ap (λ (d : Layout). lines_between (line_of d (start_of d c.in-Ok.first.segment + offset)) (line_of d (start_of d c.in-Ok.first.segment + offset + c.args.access.bytes - 1)) c.args.access.store)
+    ∙ ap (λ (d : Layout). lines_between (line_of d (start_of d c.in-Ok.first.segment + offset_of d.page c.in-Ok.first)) (line_of d (start_of d c.in-Ok.first.segment + offset_of d.page c.in-Ok.first + c.args.access.bytes - 1)) c.args.access.store)
     (sym c.args.self.now.same)
     ∙ touches-shared (activity_of c.args.self.now) c.args.seat c.requires.sound c.requires.taken c.args.self.now.unit.legal c.args.access c.in-Ok.first
     (sym c.locate.ensures ∙ c.in-Ok.is) low c.requires.some

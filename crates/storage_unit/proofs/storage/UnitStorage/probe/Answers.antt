@@ -1,7 +1,9 @@
-use Rattle.std.proofs.Common.{sym, ◌∙◌, ap}
+use Rattle.std.proofs.Common.{refl, sym, ◌∙◌, ap, Ok}
 use Rattle.segment_regs.specs.Registers.{located_by}
+use Rattle.romp_cpu.specs.Answers.{answered_at}
+use Rattle.storage_unit.specs.Reach.{is_in_frame, refuses}
 use Rattle.storage_unit.specs.View.{reach_of}
-use Rattle.storage_unit.proofs.PlaceLemmas.{under, lies}
+use Rattle.storage_unit.proofs.PlaceLemmas.{under, lies, registers-page}
 use Rattle.storage_unit.proofs.UnitLemmas.{unit-sound}
 use Rattle.storage_unit.proofs.storage.UnitStorage.probe.Goals as goal
 
@@ -11,3 +13,13 @@ answer-requires c =
     let wants = c.args.wants.now in
     let found = ap (λ n. located_by unit.registers wants.address n wants.store) (sym c.from-bytes.ensures) ∙ sym c.locate.ensures ∙ c.in-Ok.is in
     lies (reach_of unit) (unit-sound unit) wants.address wants.bytes c.in-Ok.first (under unit.registers wants.address wants.bytes wants.store c.in-Ok.first found)
+
+pub returns-in-Ok-clause-answer : goal.returns-in-Ok-clause-answer
+returns-in-Ok-clause-answer c =
+    let unit = c.args.self.now in
+    let state = reach_of unit in
+    let wants = c.args.wants.now in
+    let found = ap (λ n. located_by unit.registers wants.address n wants.store) (sym c.from-bytes.ensures) ∙ sym c.locate.ensures ∙ c.in-Ok.is in
+    c.answer.ensures.answer wants refl refl
+    ∙ ap (λ page. answered_at page (is_in_frame state) (refuses state) wants (Ok c.in-Ok.first)) (sym (registers-page state (unit-sound unit)))
+    ∙ ap (answered_at unit.registers.page (is_in_frame state) (refuses state) wants) (sym found)

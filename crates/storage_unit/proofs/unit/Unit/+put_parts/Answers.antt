@@ -14,19 +14,19 @@ use Rattle.storage_unit.proofs.StoreLemmas.{put-then}
 use Rattle.storage_unit.proofs.UnitLemmas.{unit-sound}
 use Rattle.storage_unit.proofs.unit.Unit.+put_parts.Goals as goal
 
-behind : (state now : Reach) (first next : Virtual) (place : Located) (part : List ℕ) (rest m n : ℕ) → now ≡ put_at state place part → next ≡ bytes_on first rest → rest + m ≤ n
+behind : (state now : Reach) (first next : Virtual) (place : Located) (part : List ℕ) (rest m n : ℕ) → now ≡ put_at state place part → next ≡ bytes_on state.directory.page first rest → rest + m ≤ n
     → Lies state first n → AreThere state first n → Lies now next m × AreThere now next m
 behind state now first next place part rest m n after is less lies there =
     subst (λ (s : Reach). Lies s next m × AreThere s next m) (sym after)
     (subst (λ (v : Virtual). Lies (put_at state place part) v m × AreThere (put_at state place part) v m) (sym is)
-    (lies-after state place part (bytes_on first rest) m (lies-on state first rest m n less lies), there-after state place part (bytes_on first rest) m (there-on state first rest m n less there)))
+    (lies-after state place part (bytes_on state.directory.page first rest) m (lies-on state first rest m n less lies), there-after state place part (bytes_on state.directory.page first rest) m (there-on state first rest m n less there)))
 
 -- what is left after the first page
 left : (from : List ℕ) (rest : ℕ) → rest ≤ length from → take (length from - rest) (drop rest from) ≡ drop rest from
 left from rest less = take_all (length from - rest) (drop rest from) (simp length-drop (omega arith))
 
 joined : (state middle now : Reach) (sound : IsSound state) (first next : Virtual) (rest : ℕ) (from part other : List ℕ) → 0 < length part → 0 < length other → part ++ other ≡ from → length part ≡ rest
-    → Lies state first (length from) → next ≡ bytes_on first rest
+    → Lies state first (length from) → next ≡ bytes_on state.directory.page first rest
     → middle ≡ put_at state (place_of state.directory first) part → now ≡ put_at middle (place_of middle.directory next) other → now ≡ put_at state (place_of state.directory first) from
 joined state middle now sound first next rest from part other some more whole long lies is one two =
     two
@@ -43,21 +43,21 @@ put_parts-requires t c =
     let state = reach_of c.args.self.now in
     let from = c.args.from.now in
     let n = length from in
-    let rest = 2048 - c.from-rest.result in
+    let rest = c.from-rest.result in
     let long : length (take (n - rest) (drop rest from)) ≡ n - rest = ap length (left from rest (omega (arith, c.if-from-rest.false))) ∙ length-drop rest from in
-    let both = behind state (reach_of c.put_part-else-from-rest.new.self) c.args.first c.byte_past.result (place_of state.directory c.args.first) _ rest (length (take (n - rest) (drop rest from))) n
-    c.put_part-else-from-rest.ensures c.byte_past.ensures (omega (arith, long, c.if-from-rest.false)) c.requires.lies c.requires.there in
-    (omega (arith, long, c.decreases, c.if-from-rest.false, c.from-rest.ensures, c.requires.lies.within), (omega (arith, long, c.if-from-rest.false), (both.0, both.1)))
+    let both = behind state (reach_of c.put_part-else-from-rest.new.self) c.args.first c.past-next.result (place_of state.directory c.args.first) _ rest (length (take (n - rest) (drop rest from))) n
+    c.put_part-else-from-rest.ensures c.past-next.ensures (omega (arith, long, c.if-from-rest.false)) c.requires.lies c.requires.there in
+    (omega (arith, long, c.decreases, c.if-from-rest.false, c.from-rest.ensures, c.rest.ensures, c.requires.lies.within), (omega (arith, long, c.if-from-rest.false), (both.0, both.1)))
 
 pub returns-else-from-rest : goal.returns-else-from-rest
 returns-else-from-rest t c =
     let unit = c.args.self.now in
     let from = c.args.from.now in
     let n = length from in
-    let rest = 2048 - c.from-rest.result in
-    let some : 0 < rest = omega (arith, c.from-rest.ensures, c.requires.lies.within) in
+    let rest = c.from-rest.result in
+    let some : 0 < rest = omega (arith, c.from-rest.ensures, c.rest.ensures, c.requires.lies.within) in
     let less : rest < n = omega (arith, c.if-from-rest.false) in
-    joined (reach_of unit) (reach_of c.put_part-else-from-rest.new.self) (reach_of c.put_parts.new.self) (unit-sound unit) c.args.first c.byte_past.result rest from (take rest from) (drop rest from)
+    joined (reach_of unit) (reach_of c.put_part-else-from-rest.new.self) (reach_of c.put_parts.new.self) (unit-sound unit) c.args.first c.past-next.result rest from (take rest from) (drop rest from)
     (simp length-take (omega (arith, some, less))) (simp length-drop (omega (arith, less))) (take-append-drop rest from) (simp length-take (omega (arith, less)))
-    c.requires.lies c.byte_past.ensures c.put_part-else-from-rest.ensures
-    (c.put_parts.ensures ∙ ap (put_at (reach_of c.put_part-else-from-rest.new.self) (place_of c.put_part-else-from-rest.new.self.directory c.byte_past.result)) (left from rest (omega (arith, less))))
+    c.requires.lies c.past-next.ensures c.put_part-else-from-rest.ensures
+    (c.put_parts.ensures ∙ ap (put_at (reach_of c.put_part-else-from-rest.new.self) (place_of c.put_part-else-from-rest.new.self.directory c.past-next.result)) (left from rest (omega (arith, less))))

@@ -26,28 +26,29 @@ module _ (state : Reach) (first : Virtual) (bytes : ℕ) (store : Bool) where
   refused = find (λ past. is_kept_from state (on (place_of state.directory first) past) store) (range_with_len 0 bytes)
 
   by : (access : Access) → access.bytes ≡ bytes → access.store ≡ store
-      → unless_absent_at (option_map (bytes_on first) absent) (option_map (bytes_on first) refused) ≡ answered_at (is_in_frame state) (refuses state) access (Ok first)
+      → unless_absent_at (option_map (bytes_on state.directory.page first) absent) (option_map (bytes_on state.directory.page first) refused) ≡ answered_at state.directory.page (is_in_frame state) (refuses state) access (Ok first)
   by access same stores =
-      ap (λ b. unless_absent_at (option_map (bytes_on first) absent) (option_map (bytes_on first) (find (λ past. is_kept_from state (on (place_of state.directory first) past) b) (range_with_len 0 bytes)))) (sym stores)
+      ap (λ b. unless_absent_at (option_map (bytes_on state.directory.page first) absent) (option_map (bytes_on state.directory.page first) (find (λ past. is_kept_from state (on (place_of state.directory first) past) b) (range_with_len 0 bytes)))) (sym stores)
       ∙ sym (answered-by state first bytes access same)
 
-  page : (past : ℕ) (at : Virtual) → absent ≡ Some past → at ≡ bytes_on first past → (access : Access) → access.bytes ≡ bytes → access.store ≡ store
-      → Probe.Fault (Fault.Page at) ≡ answered_at (is_in_frame state) (refuses state) access (Ok first)
+  page : (past : ℕ) (at : Virtual) → absent ≡ Some past → at ≡ bytes_on state.directory.page first past → (access : Access) → access.bytes ≡ bytes → access.store ≡ store
+      → Probe.Fault (Fault.Page at) ≡ answered_at state.directory.page (is_in_frame state) (refuses state) access (Ok first)
   page past at is named access same stores =
       ap (λ (v : Virtual). Probe.Fault (Fault.Page v)) named
-      ∙ ap (λ (o : Option ℕ). unless_absent_at (option_map (bytes_on first) o) (option_map (bytes_on first) refused)) (sym is)
+      ∙ ap (λ (o : Option ℕ). unless_absent_at (option_map (bytes_on state.directory.page first) o) (option_map (bytes_on state.directory.page first) refused)) (sym is)
       ∙ by access same stores
 
   rest : (o : Option ℕ) → absent ≡ None → refused ≡ o → (access : Access) → access.bytes ≡ bytes → access.store ≡ store
-      → unless_refused_at (option_map (bytes_on first) o) ≡ answered_at (is_in_frame state) (refuses state) access (Ok first)
+      → unless_refused_at (option_map (bytes_on state.directory.page first) o) ≡ answered_at state.directory.page (is_in_frame state) (refuses state) access (Ok first)
   rest o none is access same stores =
-      ap (λ (p : Option ℕ). unless_refused_at (option_map (bytes_on first) p)) (sym is)
-      ∙ ap (λ (p : Option ℕ). unless_absent_at (option_map (bytes_on first) p) (option_map (bytes_on first) refused)) (sym none)
+      ap (λ (p : Option ℕ). unless_refused_at (option_map (bytes_on state.directory.page first) p)) (sym is)
+      ∙ ap (λ (p : Option ℕ). unless_absent_at (option_map (bytes_on state.directory.page first) p) (option_map (bytes_on state.directory.page first) refused)) (sym none)
       ∙ by access same stores
 
 pub returns-in-Some-clause-answer : goal.returns-in-Some-clause-answer
 returns-in-Some-clause-answer c = λ access same stores.
-    page (reach_of c.args.self.now) c.args.first c.args.bytes c.args.store c.in-Some.past c.byte_past.result (sym c.first_absent.ensures.value ∙ c.in-Some.is) c.byte_past.ensures access same stores
+    page (reach_of c.args.self.now) c.args.first c.args.bytes c.args.store c.in-Some.past c.past.result (sym c.first_absent.ensures.value ∙ c.in-Some.is)
+    (c.past.ensures ∙ ap (λ (s : Reach). bytes_on s.directory.page c.args.first c.in-Some.past) c.first_absent.ensures.state) access same stores
 
 refused-is : (state now : Reach) (first : Virtual) (bytes : ℕ) (store : Bool) (o result : Option ℕ) → now ≡ state
     → result ≡ find (λ past. is_kept_from now (on (place_of now.directory first) past) store) (range_with_len 0 bytes) → result ≡ o
@@ -58,7 +59,7 @@ refused-is state now first bytes store o result same is was =
 pub returns-in-Some-first_refused-clause-answer : goal.returns-in-Some-first_refused-clause-answer
 returns-in-Some-first_refused-clause-answer c = λ access same stores.
     let state = reach_of c.args.self.now in
-    ap (λ (v : Virtual). Probe.Fault (Fault.Lock v)) c.byte_past-in-Some-first_refused.ensures
+    ap (λ (v : Virtual). Probe.Fault (Fault.Lock v)) (c.past-in-Some-first_refused.ensures ∙ ap (λ (s : Reach). bytes_on s.directory.page c.args.first c.in-Some-first_refused.past) c.first_absent.ensures.state)
     ∙ rest state c.args.first c.args.bytes c.args.store (Some c.in-Some-first_refused.past) (sym c.first_absent.ensures.value ∙ none-of c.first_absent.result c.in_default.not-Some)
     (refused-is state (reach_of c.first_absent.new.self) c.args.first c.args.bytes c.args.store (Some c.in-Some-first_refused.past) c.first_refused.result c.first_absent.ensures.state c.first_refused.ensures c.in-Some-first_refused.is)
     access same stores

@@ -1,8 +1,8 @@
-use Rattle.std.proofs.Common.{◌≡◌, ℕ, ◌+◌, ◌-◌, ◌*◌, ◌<◌, Bool, true, false, List, ◌++◌, length, replicate, sym, ◌∙◌, ap, subst, arith, Option, None, inl, inr}
-use Rattle.std.specs.Prelude.{nat_lt, if◌then◌else◌, slice_set, slice_index_or, Some}
+use Rattle.std.proofs.Common.{◌≡◌, ℕ, ◌+◌, ◌-◌, ◌*◌, ◌<◌, ◌≤◌, Bool, true, false, List, ◌++◌, length, replicate, sym, ◌∙◌, ap, subst, arith, Option, None, inl, inr}
+use Rattle.std.specs.Prelude.{nat_lt, if◌then◌else◌, slice_set, slice_range, slice_index_or, Some}
 use Rattle.std.proofs.lemmas.Bool.{cases_eq}
 use Rattle.std.proofs.lemmas.Bool.Decides.{nat_tests}
-use Rattle.std.proofs.lemmas.List.{get_or_default, get_or-set_same, get_or-set_other, length-set}
+use Rattle.std.proofs.lemmas.List.{get_or_default, get_or-set_same, get_or-set_other, length-set, length-take, length-drop, length-append, length-replicate}
 use Rattle.owned_list.specs.Overlay.{overlaid}
 use Rattle.inverted_table.specs.declared.key.Key.{Key}
 use Rattle.inverted_table.specs.Keys.{key_to}
@@ -10,56 +10,82 @@ use Rattle.inverted_table.specs.Placed.{Placed, key_in, look_up}
 use Rattle.frame_pool.specs.declared.model.Pool.{Pool}
 use Rattle.frame_pool.specs.View.{pool_of}
 use Rattle.frame_pool.proofs.SeenLemmas.{pool-seen}
+use Rattle.frame_pool.specs.Sizes.{private_frames}
 use Rattle.frame_pool.specs.Pool.{with_bytes}
+use Rattle.frame_pool.specs.PoolLending.{with_frame_part}
+use Rattle.frame_pool.proofs.LendLemmas.{lent-part}
 use Rattle.storage_unit.specs.View.{reach_of}
 use Rattle.storage_unit.specs.declared.unit.Unit.{Unit}
 use Rattle.storage_unit.specs.Places.{private_segment}
-use Rattle.storage_unit.specs.Held.{keys_of, pages_begun, first_keys, AreOfPages}
+use Rattle.storage_unit.specs.Held.{seat_pages, keys_of, pages_begun, first_keys, AreOfPages}
+use Rattle.storage_unit.proofs.SizeLemmas.{seat-frame, seat-room}
 use Rattle.storage_unit.proofs.HeldLemmas.{key-at, keys-long, held-private, finds-private, keys-seat}
 use Rattle.storage_unit.proofs.PrivateLemmas.{first-long, begun-other, holds-first, free-at}
+use Rattle.storage_unit.proofs.StoreLemmas.{all-private}
+use Rattle.storage_unit.proofs.UnitLemmas.{unit-sound}
 use Rattle.storage_unit.proofs.unit.Unit.begin.Goals as goal
 
 -- the seat isn't begun
 not-begun : (unit : Unit) (seat : ℕ) → seat < 16 → slice_index_or unit.begun seat true ≡ false → slice_index_or unit.begun seat false ≡ false
 not-begun unit seat few fresh = get_or_default unit.begun seat false true (omega (arith, few, unit.sixteen)) ∙ fresh
 
-free : (unit : Unit) (seat index : ℕ) → seat < 16 → index < 8 → slice_index_or unit.begun seat true ≡ false → key_in unit.table.keys (seat * 8 + index) ≡ None
+free : (unit : Unit) (seat index : ℕ) → seat < 16 → index < seat_pages unit.directory.page → slice_index_or unit.begun seat true ≡ false → key_in unit.table.keys (seat * seat_pages unit.directory.page + index) ≡ None
 free unit seat index few small fresh =
     let pool = pool_of unit.pool in
-    let t = pages_begun unit.begun in
-    ap (λ (keys : List (Option Key)). key_in keys (seat * 8 + index)) unit.held
-    ∙ key-at unit.directory t pool.frames pool.page_in (seat * 8 + index) (omega (arith, few, small))
-    ∙ held-private unit.directory t pool.page_in (seat * 8 + index) (omega (arith, few, small))
-    ∙ free-at unit.begun seat index (not-begun unit seat few fresh) small
+    let t = pages_begun unit.directory.page unit.begun in
+    ap (λ (keys : List (Option Key)). key_in keys (seat * seat_pages unit.directory.page + index)) unit.held
+    ∙ key-at unit.directory t pool.frames pool.page_in (seat * seat_pages unit.directory.page + index) (omega (arith, seat-frame unit.directory.page seat index few small))
+    ∙ held-private unit.directory t pool.page_in (seat * seat_pages unit.directory.page + index) (seat-frame unit.directory.page seat index few small)
+    ∙ free-at unit.directory.page unit.begun seat index (not-begun unit seat few fresh) small
 
-absent : (unit : Unit) (seat index : ℕ) → seat < 16 → index < 8 → slice_index_or unit.begun seat true ≡ false → look_up unit.table.keys (key_to (private_segment seat) index) ≡ None
+absent : (unit : Unit) (seat index : ℕ) → seat < 16 → index < seat_pages unit.directory.page → slice_index_or unit.begun seat true ≡ false → look_up unit.table.keys (key_to (private_segment seat) index) ≡ None
 absent unit seat index few small fresh =
     let pool = pool_of unit.pool in
     let outside : nat_lt index 0 ≡ false = grind (arith, nat_tests) in
     ap (λ (keys : List (Option Key)). look_up keys (key_to (private_segment seat) index)) unit.held
-    ∙ finds-private unit.directory unit.two unit.legal pool (pool-seen unit.pool) unit.pool_size unit.pages (pages_begun unit.begun) seat index few small
-    ∙ ap (λ (on : Bool). if nat_lt index (if on then 8 else 0) then Some (seat * 8 + index) else None) (not-begun unit seat few fresh)
-    ∙ ap (λ (b : Bool). if b then Some (seat * 8 + index) else None) outside
+    ∙ finds-private unit.directory unit.legal pool (pool-seen unit.pool) unit.pool_size unit.pages (pages_begun unit.directory.page unit.begun) seat index few small
+    ∙ ap (λ (on : Bool). if nat_lt index (if on then seat_pages unit.directory.page else 0) then Some (seat * seat_pages unit.directory.page + index) else None) (not-begun unit seat few fresh)
+    ∙ ap (λ (b : Bool). if b then Some (seat * seat_pages unit.directory.page + index) else None) outside
 
-room : (unit : Unit) → length unit.table.keys ≡ 128 + (pool_of unit.pool).frames
-room unit = ap length unit.held ∙ keys-long unit.directory (pages_begun unit.begun) (pool_of unit.pool).frames (pool_of unit.pool).page_in
+room : (unit : Unit) → length unit.table.keys ≡ private_frames unit.directory.page + (pool_of unit.pool).frames
+room unit = ap length unit.held ∙ keys-long unit.directory (pages_begun unit.directory.page unit.begun) (pool_of unit.pool).frames (pool_of unit.pool).page_in
 
 pub enter_pages-requires : goal.enter_pages-requires
 enter_pages-requires c =
     let unit = c.args.self.now in
+    let seat = c.args.seat in
+    let page = unit.directory.page in
+    let first : c.first_frame.result ≡ seat * seat_pages page = c.first_frame.ensures.value ∙ ap (λ s. seat * seat_pages s) c.page-page.ensures in
+    let count : c.seat_pages.result ≡ seat_pages page = c.seat_pages.ensures.value ∙ ap seat_pages c.page-page.ensures in
     record {
-      few = omega (arith, c.from-first.ensures, c.requires.seat);
-      room = omega (arith, c.from-first.ensures, c.requires.seat, room unit);
-      free = λ index small. ap (λ n. key_in unit.table.keys (n * 8 + index)) c.from-first.ensures ∙ free unit c.args.seat index c.requires.seat small c.requires.fresh;
-      absent = λ index small. ap (λ n. look_up unit.table.keys (key_to (3840 + n) index)) c.from.ensures ∙ absent unit c.args.seat index c.requires.seat small c.requires.fresh;
+      few = c.first_frame.ensures.few;
+      pages = c.seat_pages.ensures.few;
+      room = omega (arith, first, count, seat-room page seat c.requires.seat, room unit);
+      free = λ index small. ap (λ n. key_in unit.table.keys (n + index)) first ∙ free unit seat index c.requires.seat (omega (arith, small, count)) c.requires.fresh;
+      absent = λ index small. ap (λ n. look_up unit.table.keys (key_to (3840 + n) index)) c.from.ensures ∙ absent unit seat index c.requires.seat (omega (arith, small, count)) c.requires.fresh;
     }
 
-pub fill_pages-requires : goal.fill_pages-requires
-fill_pages-requires c = record {
-  few = omega (arith, c.from-first.ensures, c.requires.seat);
-  size = c.args.self.now.pool_size;
-  image = c.requires.image;
-}
+-- the private bytes of the seat, filled
+lent-long : (unit : Unit) (seat : ℕ) → seat < 16 → length (slice_range (pool_of unit.pool).bytes (seat * 16384) (seat * 16384 + 16384)) ≡ 16384
+lent-long unit seat few = simp (length-take, length-drop) (omega (arith, few, all-private (reach_of unit) (unit-sound unit)))
+
+filled : (unit : Unit) (seat : ℕ) (image lent bytes : List ℕ) → seat < 16 → length image ≤ 16384 → lent ≡ slice_range (pool_of unit.pool).bytes (seat * 16384) (seat * 16384 + 16384)
+    → bytes ≡ image ++ replicate (length lent - length image) 0
+    → pool_of (with_frame_part unit.pool (seat * 16384) bytes) ≡ with_bytes (pool_of unit.pool) (seat * 16384) (image ++ replicate (16384 - length image) 0)
+filled unit seat image lent bytes few short borrowed is =
+    lent-part unit.pool (seat * 16384) bytes (omega (arith, few, long, all-private (reach_of unit) (unit-sound unit)))
+    ∙ ap (with_bytes (pool_of unit.pool) (seat * 16384)) whole
+  where
+    whole : bytes ≡ image ++ replicate (16384 - length image) 0
+    whole = is ∙ ap (λ n. image ++ replicate (n - length image) 0) (ap length borrowed ∙ lent-long unit seat few)
+
+    long : length bytes ≡ 16384
+    long = ap length whole ∙ length-append image (replicate (16384 - length image) 0) ∙ omega (arith, short, length-replicate {A = ℕ} (16384 - length image) 0)
+
+pub lay_image-requires : goal.lay_image-requires
+lay_image-requires c =
+    let unit = c.args.self.now in
+    omega (arith, c.requires.image, ap length c.private_mut.ensures.value, lent-long unit c.args.seat c.requires.seat)
 
 pub invariant_of-self : goal.invariant_of-self
 invariant_of-self c =
@@ -67,11 +93,13 @@ invariant_of-self c =
     let pool = pool_of unit.pool in
     let seat = c.args.seat in
     let inside : seat < length unit.begun = omega (arith, c.requires.seat, unit.sixteen) in
+    let page = unit.directory.page in
     let at : c.from-2.result ≡ seat = c.from-2.ensures in
-    let new = c.fill_pages.ensures in
+    let first : c.first_frame.result ≡ seat * seat_pages page = c.first_frame.ensures.value ∙ ap (λ s. seat * seat_pages s) c.page-page.ensures in
+    let count : c.seat_pages.result ≡ seat_pages page = c.seat_pages.ensures.value ∙ ap seat_pages c.page-page.ensures in
+    let new = filled unit seat c.args.image.now c.private_mut.result.now c.lay_image.new.bytes c.requires.seat c.requires.image c.private_mut.ensures.value c.lay_image.ensures in
     record {
       sixteen = length-set unit.begun c.from-2.result true ∙ unit.sixteen;
-      two = unit.two;
       legal = unit.legal;
       pool_size = ap (λ (p : Pool). p.page) new ∙ unit.pool_size;
       pages = ap (λ (p : Pool). length p.frame_of) new ∙ unit.pages;
@@ -79,11 +107,12 @@ invariant_of-self c =
       marks = subst (λ (list : List (List ℕ)). AreOfPages list) (sym (ap (λ (p : Pool). p.marked) new)) unit.marks;
       held =
           ap (λ (t : Placed). t.keys) c.enter_pages.ensures.table
-          ∙ ap (λ n. overlaid unit.table.keys (n * 8) (first_keys (3840 + c.from.result) 8)) c.from-first.ensures
-          ∙ ap (λ n. overlaid unit.table.keys (seat * 8) (first_keys (3840 + n) 8)) c.from.ensures
-          ∙ ap (λ (keys : List (Option Key)). overlaid keys (seat * 8) (first_keys (private_segment seat) 8)) unit.held
-          ∙ keys-seat unit.directory (pages_begun unit.begun) (pages_begun (slice_set unit.begun seat true)) pool.frames pool.page_in seat (first_keys (private_segment seat) 8) c.requires.seat
-          (first-long (private_segment seat) 8) (λ index small e. holds-first unit.begun seat index e inside small) (λ other apart. begun-other unit.begun seat other true apart)
+          ∙ ap (λ n. overlaid unit.table.keys n (first_keys (3840 + c.from.result) c.seat_pages.result)) first
+          ∙ ap (λ n. overlaid unit.table.keys (seat * seat_pages page) (first_keys (3840 + n) c.seat_pages.result)) c.from.ensures
+          ∙ ap (λ n. overlaid unit.table.keys (seat * seat_pages page) (first_keys (private_segment seat) n)) count
+          ∙ ap (λ (keys : List (Option Key)). overlaid keys (seat * seat_pages page) (first_keys (private_segment seat) (seat_pages page))) unit.held
+          ∙ keys-seat unit.directory (pages_begun unit.directory.page unit.begun) (pages_begun unit.directory.page (slice_set unit.begun seat true)) pool.frames pool.page_in seat (first_keys (private_segment seat) (seat_pages page)) c.requires.seat
+          (first-long (private_segment seat) (seat_pages page)) (λ index small e. holds-first page unit.begun seat index e inside small) (λ other apart. begun-other page unit.begun seat other true apart)
           ∙ ap (λ n. keys_of unit.directory (slice_set unit.begun n true) pool.frames pool.page_in) (sym at)
           ∙ ap (λ (p : Pool). keys_of unit.directory (slice_set unit.begun c.from-2.result true) p.frames p.page_in) (sym new);
       remembered = c.enter_pages.ensures.of_table unit.buffer unit.remembered;
@@ -108,8 +137,8 @@ returns c =
     let unit = c.args.self.now in
     let old = reach_of unit in
     let image : List ℕ = c.args.image.now ++ replicate (16384 - length c.args.image.now) 0 in
-    let at : c.from-first.result * 8 * 2048 ≡ c.args.seat * 16384 = omega (arith, c.from-first.ensures) in
-    let pool : pool_of c.fill_pages.new.pool ≡ with_bytes old.pool (c.args.seat * 16384) image = c.fill_pages.ensures ∙ ap (λ n. with_bytes old.pool n image) at in
+    let pool : pool_of (with_frame_part unit.pool (c.args.seat * 16384) c.lay_image.new.bytes) ≡ with_bytes old.pool (c.args.seat * 16384) image =
+    filled unit c.args.seat c.args.image.now c.private_mut.result.now c.lay_image.new.bytes c.requires.seat c.requires.image c.private_mut.ensures.value c.lay_image.ensures in
     let entries : c.enter_pages.new.table.entries ≡ old.entries = ap (λ (t : Placed). t.entries) c.enter_pages.ensures.table in
     let begun : slice_set unit.begun c.from-2.result true ≡ slice_set unit.begun c.args.seat true = ap (λ n. slice_set unit.begun n true) c.from-2.ensures in
     λ i. record { pool = pool i; entries = entries i; begun = begun i; directory = old.directory; registers = old.registers; runner = old.runner }

@@ -6,11 +6,10 @@ use Rattle.inverted_table.specs.Placed.{Placed, key_in, look_up, without_frame}
 use Rattle.tlb_model.specs.Buffer.{IsOfTable}
 use Rattle.tlb_model.proofs.TableLemmas.{of_table-entered}
 use Rattle.frame_pool.specs.declared.model.Pool.{Pool}
-use Rattle.frame_pool.specs.Sizes as sizes
+use Rattle.frame_pool.specs.Sizes.{private_frames, frame_count}
 use Rattle.frame_pool.specs.Pool.{frame_at, page_out, with_room, Brought}
 use Rattle.frame_pool.specs.Seen.{IsSeen}
 use Rattle.lock_rules.specs.Sets.{has}
-use Rattle.line_geometry.specs.declared.directory.PageSize.TheVariants.{Two}
 use Rattle.line_geometry.specs.Directory.{page_count}
 use Rattle.std.proofs.lemmas.List.{length-set}
 use Rattle.frame_pool.specs.View.{pool_of}
@@ -27,7 +26,7 @@ module _ (unit : Unit) (page : ℕ) (keep : Option ℕ) where
   frame-inside left is =
       subst (λ (o : Option ℕ). IfSome o (λ frame. frame < length unit.table.keys)) (sym is)
       (subst (λ (keys : List (Option Key)). IfSome (option_and_then (frame_at (pool_of unit.pool)) (page_out (pool_of unit.pool) keep)) (λ frame. frame < length keys)) (sym unit.held)
-      (out-inside unit.directory unit.two unit.legal (pool_of unit.pool) (pool-seen unit.pool) unit.pool_size unit.pages (pages_begun unit.begun) keep))
+      (out-inside unit.directory unit.legal (pool_of unit.pool) (pool-seen unit.pool) unit.pool_size unit.pages (pages_begun unit.directory.page unit.begun) keep))
 
   abbrev room : Pool
   room = with_room (pool_of unit.pool) keep
@@ -40,7 +39,7 @@ module _ (unit : Unit) (page : ℕ) (keep : Option ℕ) where
       ∙ without-keys unit.table left
       ∙ ap (λ (o : Option ℕ). option_map_or (λ frame. slice_set unit.table.keys frame None) o unit.table.keys) is
       ∙ ap (λ (keys : List (Option Key)). option_map_or (λ frame. slice_set keys frame None) (option_and_then (frame_at (pool_of unit.pool)) (page_out (pool_of unit.pool) keep)) keys) unit.held
-      ∙ keys-room unit.directory unit.two unit.legal (pool_of unit.pool) (pool-seen unit.pool) unit.pool_size unit.pages (pages_begun unit.begun) keep
+      ∙ keys-room unit.directory unit.legal (pool_of unit.pool) (pool-seen unit.pool) unit.pool_size unit.pages (pages_begun unit.directory.page unit.begun) keep
 
   module _ (new : Pool) (frame : ℕ) (came : Brought (pool_of unit.pool) new page keep frame) (within : page < page_count unit.directory) (absent : has (pool_of unit.pool).resident page ≡ false) where
     stays : Stays (pool_of unit.pool) room
@@ -49,33 +48,33 @@ module _ (unit : Unit) (page : ℕ) (keep : Option ℕ) where
     seen : IsSeen room
     seen = (room-stays (pool_of unit.pool) keep (pool-seen unit.pool)).0
 
-    size : room.page ≡ Two
+    size : room.page ≡ unit.directory.page
     size = stays.page ∙ unit.pool_size
 
     pages : length room.frame_of ≡ page_count unit.directory
     pages = stays.frame_of ∙ unit.pages
 
-    above : 128 ≤ frame
-    above = subst (λ s. sizes.private_frames s ≤ frame) unit.pool_size came.above
+    above : private_frames unit.directory.page ≤ frame
+    above = subst (λ s. private_frames s ≤ frame) unit.pool_size came.above
 
-    below : frame < 128 + room.frames
-    below = omega (arith, subst (λ s. frame < sizes.frame_count s (pool_of unit.pool).frames) unit.pool_size came.below, stays.frames)
+    below : frame < frame_count unit.directory.page room.frames
+    below = omega (arith, subst (λ s. frame < frame_count s (pool_of unit.pool).frames) unit.pool_size came.below, stays.frames)
 
     free : key_in (keys_of unit.directory unit.begun room.frames room.page_in) frame ≡ None
     free =
-        key-at unit.directory (pages_begun unit.begun) room.frames room.page_in frame below
-        ∙ held-store unit.directory (pages_begun unit.begun) room.page_in frame above
+        key-at unit.directory (pages_begun unit.directory.page unit.begun) room.frames room.page_in frame below
+        ∙ held-store unit.directory (pages_begun unit.directory.page unit.begun) room.page_in frame above
         ∙ ap (λ (o : Option ℕ). option_map (key_of_page unit.directory) o) came.free
 
     unfound : look_up (keys_of unit.directory unit.begun room.frames room.page_in) (key_of_page unit.directory page) ≡ None
     unfound =
-        finds-page unit.directory unit.two unit.legal room seen size pages (pages_begun unit.begun) page within
+        finds-page unit.directory unit.legal room seen size pages (pages_begun unit.directory.page unit.begun) page within
         ∙ room-none (pool_of unit.pool) keep page (absent-frame (pool_of unit.pool) page (pool-seen unit.pool) absent)
 
     entered-keys : slice_set (keys_of unit.directory unit.begun room.frames room.page_in) frame (Some (key_of_page unit.directory page)) ≡ keys_of unit.directory unit.begun new.frames new.page_in
     entered-keys =
-        keys-store unit.directory (pages_begun unit.begun) room.frames room.page_in frame (Some page) above below
-        (omega (arith, below, subst (λ s. length room.page_in ≡ sizes.frame_count s room.frames) size seen.page_in))
+        keys-store unit.directory (pages_begun unit.directory.page unit.begun) room.frames room.page_in frame (Some page) above below
+        (omega (arith, below, subst (λ s. length room.page_in ≡ frame_count s room.frames) size seen.page_in))
         ∙ ap (λ (p : Pool). keys_of unit.directory unit.begun p.frames p.page_in) (sym came.rest)
 
 pub leave_frame-requires : goal.leave_frame-requires
@@ -89,7 +88,7 @@ enter-requires-clause-frame c =
     omega (
       arith,
       ap length keys,
-      keys-long unit.directory (pages_begun unit.begun) room.frames room.page_in,
+      keys-long unit.directory (pages_begun unit.directory.page unit.begun) room.frames room.page_in,
       below unit c.args.page c.args.keep (pool_of c.bring-slot.new.self) c.bring-slot.result.frame c.bring-slot.ensures.brought c.requires.page c.requires.absent,
     )
 
@@ -129,7 +128,6 @@ invariant_of-self c =
     let old = stays unit c.args.page c.args.keep new frame came c.requires.page c.requires.absent in
     record {
       sixteen = unit.sixteen;
-      two = unit.two;
       legal = unit.legal;
       pool_size = ap (λ (p : Pool). p.page) came.rest ∙ old.page ∙ unit.pool_size;
       pages = ap (λ (p : Pool). length p.frame_of) came.rest ∙ length-set (with_room (pool_of unit.pool) c.args.keep).frame_of c.args.page (Some frame) ∙ old.frame_of ∙ unit.pages;
@@ -144,7 +142,7 @@ invariant_of-self c =
           (of_table-entered c.leave_frame.new.buffer left_keys frame (key_of_page unit.directory c.args.page)
           (omega (
             arith,
-            keys-long unit.directory (pages_begun unit.begun) room.frames room.page_in,
+            keys-long unit.directory (pages_begun unit.directory.page unit.begun) room.frames room.page_in,
             below unit c.args.page c.args.keep new frame came c.requires.page c.requires.absent,
           ))
           (free unit c.args.page c.args.keep new frame came c.requires.page c.requires.absent)

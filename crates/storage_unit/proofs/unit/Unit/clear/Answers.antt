@@ -11,7 +11,6 @@ invariant_of-self c =
     let new = c.clear.ensures in
     record {
       sixteen = unit.sixteen;
-      two = unit.two;
       legal = unit.legal;
       pool_size = unit.pool_size;
       pages = unit.pages;

@@ -4,6 +4,7 @@ use Rattle.inverted_table.specs.Placed.{look_up}
 use Rattle.segment_regs.specs.declared.registers.Virtual.{Virtual}
 use Rattle.frame_pool.specs.Pool.{part_of}
 use Rattle.frame_pool.specs.View.{pool_of}
+use Rattle.line_geometry.specs.Segments.{page_bytes}
 use Rattle.storage_unit.specs.declared.unit.Unit.{Unit}
 use Rattle.storage_unit.specs.Places.{place_of}
 use Rattle.storage_unit.specs.Held.{table_of}
@@ -19,7 +20,7 @@ part-requires-clause-frame c =
     found-below (reach_of unit) c.args.first c.in-Some.frame (unit-sound unit) (sym c.frame_at.ensures ∙ c.in-Some.is)
 
 -- what was copied
-part-is : (unit : Unit) (at : Virtual) (n byte frame : ℕ) (part : List ℕ) → 0 < n → at.byte + n ≤ 2048 → Lies (reach_of unit) at n
+part-is : (unit : Unit) (at : Virtual) (n byte frame : ℕ) (part : List ℕ) → 0 < n → at.byte + n ≤ page_bytes unit.directory.page → Lies (reach_of unit) at n
     → look_up (table_of (reach_of unit)).keys (key_of at) ≡ Some frame → byte ≡ at.byte → part ≡ part_of (pool_of unit.pool) frame byte n
     → part ≡ bytes_shown (reach_of unit) (place_of unit.directory at) n
 part-is unit at n byte frame part some within lies is same copied =

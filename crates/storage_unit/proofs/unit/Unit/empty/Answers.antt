@@ -17,8 +17,8 @@ pub leave_all-requires : goal.leave_all-requires
 leave_all-requires c =
     let unit = c.args.self.now in
     let pool = pool_of unit.pool in
-    let count : frame_count pool.page pool.frames ≡ 128 + pool.frames = ap (λ s. frame_count s pool.frames) unit.pool_size in
-    omega (arith, count, ap length unit.held, keys-long unit.directory (pages_begun unit.begun) pool.frames pool.page_in)
+    let count : frame_count pool.page pool.frames ≡ frame_count unit.directory.page pool.frames = ap (λ s. frame_count s pool.frames) unit.pool_size in
+    omega (arith, count, ap length unit.held, keys-long unit.directory (pages_begun unit.directory.page unit.begun) pool.frames pool.page_in)
 
 pub invariant_of-self : goal.invariant_of-self
 invariant_of-self c =
@@ -29,7 +29,6 @@ invariant_of-self c =
     let table = c.leave_all.ensures in
     record {
       sixteen = unit.sixteen;
-      two = unit.two;
       legal = unit.legal;
       pool_size = ap (λ (p : Pool). p.page) new ∙ stays.page ∙ unit.pool_size;
       pages = ap (λ (p : Pool). length p.frame_of) new ∙ stays.frame_of ∙ unit.pages;
@@ -38,7 +37,7 @@ invariant_of-self c =
       held =
           ap (λ (t : Placed). t.keys) table
           ∙ ap (λ (keys : List (Option Key)). fold (keys_without pool) keys pool.resident) unit.held
-          ∙ keys-emptied unit.directory unit.two unit.legal pool (pool-seen unit.pool) unit.pool_size unit.pages (pages_begun unit.begun)
+          ∙ keys-emptied unit.directory unit.legal pool (pool-seen unit.pool) unit.pool_size unit.pages (pages_begun unit.directory.page unit.begun)
           ∙ ap (λ (p : Pool). keys_of unit.directory unit.begun p.frames p.page_in) (sym new);
       remembered = subst (λ (classes : List (List Pair)). IsOfTable classes c.leave_all.new.table.keys) (sym c.new-self.ensures) (none-of_table c.leave_all.new.table.keys);
       selected = unit.selected;

@@ -1,4 +1,5 @@
 use Rattle.std.proofs.Common.{◌-◌, sym, ◌∙◌, ap, arith}
+use Rattle.segment_regs.specs.Registers.{bytes_on}
 use Rattle.storage_unit.specs.declared.model.Reach.{Reach}
 use Rattle.storage_unit.specs.Reached.{is_absent}
 use Rattle.storage_unit.specs.View.{reach_of}
@@ -16,20 +17,20 @@ pub returns-then-from-rest-clause-value : goal.returns-then-from-rest-clause-val
 returns-then-from-rest-clause-value c =
     let unit = c.args.self.now in
     none-absent (reach_of unit) (unit-sound unit) c.args.first c.args.bytes (omega (arith, c.if-bytes-eq0.false)) (omega (arith, c.ranges.bytes.fits)) c.requires
-    (sym c.is_absent.ensures.value ∙ c.if-is_absent.false) (omega (arith, c.if-from-rest.true, c.from.ensures, c.requires.within))
+    (sym c.is_absent.ensures.value ∙ c.if-is_absent.false) (omega (arith, c.if-from-rest.true, c.from.ensures, c.rest-rest.ensures))
 
 pub returns-then-is_absent-2-clause-value : goal.returns-then-is_absent-2-clause-value
 returns-then-is_absent-2-clause-value c =
     let unit = c.args.self.now in
     absent-next (reach_of unit) (unit-sound unit) c.args.first c.args.bytes (omega (arith, c.if-bytes-eq0.false)) (omega (arith, c.ranges.bytes.fits)) c.requires
-    (2048 - c.args.first.byte) (omega (arith, c.requires.within)) (omega (arith, c.if-from-rest.false, c.from.ensures))
+    c.rest-rest.result c.rest-rest.ensures (omega (arith, c.if-from-rest.false, c.from.ensures))
     (sym c.is_absent.ensures.value ∙ c.if-is_absent.false)
-    (ap (is_absent (reach_of unit)) (sym c.byte_past.ensures) ∙ ap (λ (state : Reach). is_absent state c.byte_past.result) (sym c.is_absent.ensures.state) ∙ sym c.is_absent-2.ensures.value ∙ c.if-is_absent-2.true)
+    (ap (is_absent (reach_of unit)) (sym (c.past.ensures ∙ ap (λ (state : Reach). bytes_on state.directory.page c.args.first c.rest-rest.result) c.is_absent.ensures.state)) ∙ ap (λ (state : Reach). is_absent state c.past.result) (sym c.is_absent.ensures.state) ∙ sym c.is_absent-2.ensures.value ∙ c.if-is_absent-2.true)
 
 pub returns-else-is_absent-2-clause-value : goal.returns-else-is_absent-2-clause-value
 returns-else-is_absent-2-clause-value c =
     let unit = c.args.self.now in
     none-next (reach_of unit) (unit-sound unit) c.args.first c.args.bytes (omega (arith, c.if-bytes-eq0.false)) (omega (arith, c.ranges.bytes.fits)) c.requires
-    (2048 - c.args.first.byte) (omega (arith, c.requires.within)) (omega (arith, c.if-from-rest.false, c.from.ensures))
+    c.rest-rest.result c.rest-rest.ensures (omega (arith, c.if-from-rest.false, c.from.ensures))
     (sym c.is_absent.ensures.value ∙ c.if-is_absent.false)
-    (ap (is_absent (reach_of unit)) (sym c.byte_past.ensures) ∙ ap (λ (state : Reach). is_absent state c.byte_past.result) (sym c.is_absent.ensures.state) ∙ sym c.is_absent-2.ensures.value ∙ c.if-is_absent-2.false)
+    (ap (is_absent (reach_of unit)) (sym (c.past.ensures ∙ ap (λ (state : Reach). bytes_on state.directory.page c.args.first c.rest-rest.result) c.is_absent.ensures.state)) ∙ ap (λ (state : Reach). is_absent state c.past.result) (sym c.is_absent.ensures.state) ∙ sym c.is_absent-2.ensures.value ∙ c.if-is_absent-2.false)

@@ -1,12 +1,12 @@
-use Rattle.std.proofs.Common.{◌+◌, sym, ◌∙◌, ap, arith, inl, inr}
+use Rattle.std.proofs.Common.{◌+◌, ◌/◌, ◌%◌, sym, ◌∙◌, ap, arith, inl, inr}
 use Rattle.std.proofs.lemmas.Bool.{cases_lt}
+use Rattle.line_geometry.specs.Segments.{page_bytes, line_bytes}
 use Rattle.line_geometry.specs.Lines.{line_of}
 use Rattle.line_geometry.proofs.Legal.{legal-bytes}
 use Rattle.storage_unit.specs.Reach.{is_refused}
 use Rattle.storage_unit.specs.View.{reach_of}
 use Rattle.storage_unit.proofs.FindLemmas.{none-found, first-found}
 use Rattle.storage_unit.proofs.ProbeLemmas.{same-line}
-use Rattle.storage_unit.proofs.UnitLemmas.{unit-sound}
 use Rattle.storage_unit.proofs.unit.Unit.first_refused_from.Goals as goal
 
 pub overflow_add-here : goal.overflow_add-here
@@ -35,7 +35,8 @@ loop-past-preserved c = λ k below.
     elim (cases_lt k c.loop-past.past) [
       | inl before ↦ c.loop-past.invariant k before
       | inr after ↦
-          same-line (reach_of unit) (unit-sound unit) c.args.place c.loop-past.past k c.args.store after (omega (arith, below, c.from-in-loop-past.ensures))
+          same-line (reach_of unit) c.args.place c.loop-past.past c.rest_of_line-past.result k c.args.store (ap (λ n. c.rest_of_line-past.result + (c.args.place + n) % line_bytes unit.directory.page) (sym c.from-in-loop-past.ensures)
+          ∙ ap (λ s. c.rest_of_line-past.result + (c.args.place + c.from-in-loop-past.result) % line_bytes s) (sym c.page.ensures) ∙ c.rest_of_line-past.ensures.value ∙ ap (λ s. line_bytes s) c.page.ensures) after (omega (arith, below, c.from-in-loop-past.ensures))
           ∙ ap (λ n. is_refused (reach_of unit) (line_of unit.directory (c.args.place + n)) c.args.store) (sym c.from-in-loop-past.ensures)
           ∙ sym c.is_refused.ensures ∙ c.if-is_refused.false
     ]

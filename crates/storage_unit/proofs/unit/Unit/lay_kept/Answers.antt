@@ -14,7 +14,6 @@ invariant_of-self c =
     let new : pool_of c.lay_kept.new.self ≡ _ = c.lay_kept.ensures ∙ laid-bytes (pool_of unit.pool) c.args.page in
     record {
       sixteen = unit.sixteen;
-      two = unit.two;
       legal = unit.legal;
       pool_size = ap (λ (p : Pool). p.page) new ∙ unit.pool_size;
       pages = ap (λ (p : Pool). length p.frame_of) new ∙ unit.pages;

@@ -1,12 +1,13 @@
-use Rattle.std.proofs.Common.{◌≡◌, ℕ, List, length, replicate, sym, ◌∙◌, ap, subst, arith, Option, None, refl}
+use Rattle.std.proofs.Common.{◌≡◌, ℕ, ◌+◌, List, length, replicate, sym, ◌∙◌, ap, subst, arith, Option, None, refl}
 use Rattle.std.specs.Prelude.{false}
 use Rattle.std.proofs.lemmas.List.{length-replicate}
-use Rattle.line_geometry.specs.declared.directory.PageSize.TheVariants.{Two}
 use Rattle.line_geometry.specs.Directory.{Layout}
 use Rattle.inverted_table.specs.Placed.{Placed, unowned}
 use Rattle.tlb_model.specs.declared.tlb.Pair.{Pair}
 use Rattle.tlb_model.specs.Buffer.{IsOfTable}
+use Rattle.segment_regs.specs.Registers.{Registers}
 use Rattle.frame_pool.specs.declared.model.Pool.{Pool}
+use Rattle.frame_pool.specs.Sizes.{private_frames}
 use Rattle.storage_unit.specs.Held.{AreOfPages, keys_of}
 use Rattle.storage_unit.proofs.PrivateLemmas.{keys-bare}
 use Rattle.storage_unit.proofs.StateLemmas.{none-of_table, marks-none}
@@ -15,21 +16,20 @@ use Rattle.storage_unit.proofs.unit.Unit.new.Goals as goal
 pub invariant_of-result : goal.invariant_of-result
 invariant_of-result c =
     let d = c.directory.result.now in
-    let page : d.page ≡ Two = ap (λ (l : Layout). l.page) c.directory.ensures.value ∙ c.directory.ensures.ranges.page in
     let pool = c.in_ok-new.ensures in
     let table = c.in_ok-new-2.ensures in
     record {
       sixteen = refl;
-      two = page;
       legal = c.segments-segments.ensures.legal;
-      pool_size = ap (λ (p : Pool). p.page) pool ∙ c.page.ensures ∙ page;
+      pool_size = ap (λ (p : Pool). p.page) pool ∙ c.page-page.ensures;
       pages = ap (λ (p : Pool). length p.frame_of) pool ∙ length-replicate c.pages-pages.result (let none : Option ℕ = None in none) ∙ c.pages-pages.ensures.value;
       entries = ap (λ (t : Placed). length t.entries) table ∙ length-replicate c.pages-pages.result unowned ∙ c.pages-pages.ensures.value;
       marks = subst (λ (list : List (List ℕ)). AreOfPages list) (sym (ap (λ (p : Pool). p.marked) pool)) (marks-none c.pages-pages.result);
       held =
           ap (λ (t : Placed). t.keys) table
+          ∙ ap (λ n. replicate (n + c.args.frames) None) (c.private_frames.ensures.value ∙ ap private_frames c.page-page.ensures)
           ∙ keys-bare d c.args.frames _
           ∙ ap (λ (p : Pool). keys_of d (replicate 16 false) p.frames p.page_in) (sym pool);
       remembered = subst (λ (classes : List (List Pair)). IsOfTable classes c.in_ok-new-2.field-0.keys) (sym c.new-3.ensures) (none-of_table c.in_ok-new-2.field-0.keys);
-      selected = record { none = λ is. c.none.ensures; few = omega arith; seat = λ seat is. absurd (omega (arith, is)) };
+      selected = record { none = λ is. c.none.ensures ∙ ap (λ page. (let none : Registers = record { page = page; list = replicate 16 None } in none)) c.page-page.ensures; few = omega arith; seat = λ seat is. absurd (omega (arith, is)) };
     }

@@ -6,7 +6,7 @@ use Rattle.segment_regs.specs.declared.registers.Virtual.{Virtual}
 use Rattle.inverted_table.specs.Keys.{key_of}
 use Rattle.inverted_table.specs.Placed.{look_up}
 use Rattle.frame_pool.specs.declared.model.Pool.{Pool}
-use Rattle.frame_pool.specs.Sizes as sizes
+use Rattle.frame_pool.specs.Sizes.{frame_count}
 use Rattle.frame_pool.specs.Pool.{marked_in, page_at, with_marks, with_bytes, lines_of_part, part_of}
 use Rattle.frame_pool.specs.PoolLending.{with_frame_part, with_marked}
 use Rattle.frame_pool.specs.View.{pool_of}
@@ -21,10 +21,10 @@ use Rattle.storage_unit.proofs.StoreLemmas.{frame-room, marked-of_pages, put-fou
 use Rattle.storage_unit.proofs.UnitLemmas.{unit-sound}
 use Rattle.storage_unit.proofs.unit.Unit.put_part.Goals as goal
 
-module _ (unit : Unit) (at : Virtual) (frame byte n : ℕ) (is : look_up (table_of (reach_of unit)).keys (key_of at) ≡ Some frame) (same : byte ≡ at.byte) (within : at.byte + n ≤ 2048) where
+module _ (unit : Unit) (at : Virtual) (frame byte n : ℕ) (is : look_up (table_of (reach_of unit)).keys (key_of at) ≡ Some frame) (same : byte ≡ at.byte) (within : at.byte + n ≤ page_bytes unit.directory.page) where
   room : frame * page_bytes unit.pool.places.page + byte + n ≤ length unit.pool.bytes.items.items
   room =
-      let below = subst (λ s. frame < sizes.frame_count s unit.pool.places.frames) unit.pool_size (found-below (reach_of unit) at frame (unit-sound unit) is) in
+      let below = subst (λ s. frame < frame_count s unit.pool.places.frames) unit.pool_size (found-below (reach_of unit) at frame (unit-sound unit) is) in
       omega (arith, frame-room (reach_of unit) (unit-sound unit) frame below, ap (λ s. frame * page_bytes s) unit.pool_size, same, within)
 
   part-long : length (part_of (pool_of unit.pool) frame byte n) ≡ n
@@ -87,7 +87,6 @@ invariant_of-self c =
     let same = marked-same (pool_of unit.pool) frame lines in
     record {
       sixteen = unit.sixteen;
-      two = unit.two;
       legal = unit.legal;
       pool_size = ap (λ (p : Pool). p.page) new ∙ same.page ∙ unit.pool_size;
       pages = ap (λ (p : Pool). length p.frame_of) new ∙ same.frame_of ∙ unit.pages;

@@ -14,7 +14,6 @@ invariant_of-self c =
     let new = c.set_authority.ensures in
     record {
       sixteen = unit.sixteen;
-      two = unit.two;
       legal = unit.legal;
       pool_size = unit.pool_size;
       pages = unit.pages;

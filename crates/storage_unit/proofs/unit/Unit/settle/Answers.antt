@@ -15,7 +15,6 @@ invariant_of-self c =
     let new = c.settle.ensures in
     record {
       sixteen = unit.sixteen;
-      two = unit.two;
       legal = unit.legal;
       pool_size = ap (λ (p : Pool). p.page) new ∙ unit.pool_size;
       pages = ap (λ (p : Pool). length p.frame_of) new ∙ unit.pages;

@@ -10,7 +10,6 @@ invariant_of-self c =
     let unit = c.args.self.now in
     record {
       sixteen = unit.sixteen;
-      two = unit.two;
       legal = unit.legal;
       pool_size = unit.pool_size;
       pages = unit.pages;

@@ -19,7 +19,7 @@ leave_frame-requires c =
     let pool = pool_of unit.pool in
     subst (λ (o : Option ℕ). IfSome o (λ frame. frame < length unit.table.keys)) (sym c.frame_of.ensures.value)
     (subst (λ (keys : List (Option Key)). IfSome (frame_at pool c.args.page) (λ frame. frame < length keys)) (sym unit.held)
-    (frame-inside unit.directory unit.two unit.legal pool (pool-seen unit.pool) unit.pool_size unit.pages (pages_begun unit.begun) c.args.page))
+    (frame-inside unit.directory unit.legal pool (pool-seen unit.pool) unit.pool_size unit.pages (pages_begun unit.directory.page unit.begun) c.args.page))
 
 pub undo-requires : goal.undo-requires
 undo-requires c = omega (arith, c.requires, c.args.self.now.pages)
@@ -35,7 +35,6 @@ invariant_of-self c =
     let table = c.leave_frame.ensures.table ∙ ap (λ (o : Option ℕ). option_map_or (λ frame. (let t : Placed = record unit.table { keys = slice_set unit.table.keys frame None } in t)) o unit.table) c.frame_of.ensures.value in
     record {
       sixteen = unit.sixteen;
-      two = unit.two;
       legal = unit.legal;
       pool_size = ap (λ (p : Pool). p.page) new ∙ stays.page ∙ unit.pool_size;
       pages = ap (λ (p : Pool). length p.frame_of) new ∙ stays.frame_of ∙ unit.pages;
@@ -47,7 +46,7 @@ invariant_of-self c =
           ap (λ (t : Placed). t.keys) table
           ∙ without-keys unit.table (frame_at pool c.args.page)
           ∙ ap (λ (keys : List (Option Key)). option_map_or (λ frame. slice_set keys frame None) (frame_at pool c.args.page) keys) unit.held
-          ∙ keys-gone unit.directory unit.two unit.legal between seen unit.pool_size unit.pages (pages_begun unit.begun) c.args.page
+          ∙ keys-gone unit.directory unit.legal between seen unit.pool_size unit.pages (pages_begun unit.directory.page unit.begun) c.args.page
           ∙ ap (λ (p : Pool). keys_of unit.directory unit.begun p.frames p.page_in) (sym new);
       remembered = c.leave_frame.ensures.of_table unit.remembered;
       selected = unit.selected;

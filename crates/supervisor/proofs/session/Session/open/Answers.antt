@@ -2,7 +2,7 @@ use Rattle.std.proofs.Common.{rules, length, false, ◌≡◌, refl, sym, ◌∙
 use Rattle.outside.specs.Runs.{held_of}
 use Rattle.line_geometry.specs.Directory.{byte_count}
 use Rattle.line_geometry.specs.FlatStore.{FlatStore}
-use Rattle.store_format.specs.Header.{Header, HasRanges, most_lines}
+use Rattle.store_format.specs.Header.{Header, most_lines}
 use Rattle.desk.specs.Desk.{opened}
 use Rattle.activations.specs.Begins.{Begins}
 use Rattle.supervisor.specs.Session.{activity}
@@ -24,9 +24,6 @@ made_session g c = record {
   closed = false;
 }
 
-ranges_are : (g : given.Over) (c : goal.After-number-opened g) → HasRanges c.in_ok-store.store.header
-ranges_are g c = search rules
-
 -- it is made anew
 is-made : (g : given.Over) (c : goal.After-number-opened g) → IsMade c.args.frames (made_session g c)
 is-made g c =
@@ -38,7 +35,6 @@ is-made g c =
       still_open = refl;
       number = c.number-opened.ensures;
       no_order = c.in_ok-order.ensures.items;
-      ranges = ranges_are g c;
       directory = sym (directory ∙ ap (λ (those : Header). those.directory) header);
       first = λ committed. subst
           (λ (those : Header). length committed ≡ byte_count those.directory → Begins (activity (made_session g c)) (opened c.args.frames 16 (most_lines those) (let flat : FlatStore = record { directory = those.directory; bytes = committed } in flat)) committed)

@@ -1,0 +1,11 @@
+use Rattle.std.proofs.Common.{◌<◌, sym, subst}
+use Rattle.line_geometry.specs.Directory.{page_count}
+use Rattle.activations.specs.Activity.{Activity}
+use Rattle.activations.specs.View.{activity_of}
+use Rattle.activations.proofs.GrantingLemmas.{second_within}
+use Rattle.activations.proofs.activations.Activations.lower.Goals as goal
+
+pub lower_page-requires-in-Two-2-clause-page : goal.lower_page-requires-in-Two-2-clause-page
+lower_page-requires-in-Two-2-clause-page c =
+    subst (λ (a : Activity). c.in-Two.second.page < page_count a.reach.directory) (sym c.lower_page-in-Two.ensures.shape)
+    (second_within (page_count (activity_of c.args.self.now).reach.directory) c.args.touch.now c.in-Two.first c.in-Two.second c.requires.pages c.in-Two.is)

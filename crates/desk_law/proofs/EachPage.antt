@@ -1,0 +1,77 @@
+-- Authority once each of some pages has the one that is told of it.
+use Rattle.std.specs.Prelude.{◌≡◌, refl, ℕ, ◌<◌, ◌==◌, ◌⊎◌, suc, Bool, true, false, List, [], ◌∷◌, length, slice_index_or, slice_set}
+use Rattle.std.proofs.Common.{arith, ap, sym, ◌∙◌, subst, inl, inr}
+use Rattle.std.proofs.lemmas.Bool.{eqb-true, eq-eqb, both_ways, or_cases, or_parts, cases_Bool, cases_lt}
+use Rattle.std.proofs.lemmas.List.{length-set, get_or-set_same, get_or-set_other, get_or_past}
+use Rattle.lock_rules.specs.Sets.{has}
+use Rattle.desk.specs.Desk.{Authority, nobody}
+use Rattle.desk.specs.Instruction.{with_each}
+
+pub length-each : (of : ℕ → Authority) (pages : List ℕ) (authority : List Authority) → length (with_each of pages authority) ≡ length authority
+length-each of [] authority = refl
+length-each of (page ∷ pages) authority = length-each of pages (slice_set authority page (of page)) ∙ length-set authority page (of page)
+
+pub each-not : (of : ℕ → Authority) (pages : List ℕ) (authority : List Authority) (page : ℕ) → has pages page ≡ false
+    → slice_index_or (with_each of pages authority) page nobody ≡ slice_index_or authority page nobody
+each-not of [] authority page out = refl
+each-not of (one ∷ pages) authority page out =
+    let parts = or_parts (one == page) (has pages page) out in
+    each-not of pages (slice_set authority one (of one)) page parts.1
+    ∙ get_or-set_other authority one page (of one) nobody (λ same. both_ways (one == page) parts.0 (eq-eqb one page (sym same)))
+
+pub each-is : (of : ℕ → Authority) (pages : List ℕ) (authority : List Authority) (page : ℕ) → page < length authority → has pages page ≡ true
+    → slice_index_or (with_each of pages authority) page nobody ≡ of page
+each-is of [] authority page below inside = absurd (cc)
+each-is of (one ∷ pages) authority page below inside =
+    elim (cases_Bool (has pages page)) [
+      | inl later ↦ each-is of pages (slice_set authority one (of one)) page (omega (arith, below, length-set authority one (of one))) later
+      | inr not_later ↦
+          elim (or_cases (one == page) (has pages page) inside) [
+            | inl here ↦
+                let same : one ≡ page = eqb-true one page here in
+                each-not of pages (slice_set authority one (of one)) page not_later
+                ∙ subst (λ (p : ℕ). slice_index_or (slice_set authority one (of one)) p nobody ≡ of p) same
+                (get_or-set_same authority one (of one) nobody (omega (arith, below, same)))
+            | inr later ↦ absurd (both_ways (has pages page) not_later later)
+          ]
+    ]
+
+-- A page has what is told of it, or it isn't among these and has what it had, or there is no such page.
+pub each-at : (of : ℕ → Authority) (pages : List ℕ) (authority : List Authority) (page : ℕ)
+    → (has pages page ≡ true × (slice_index_or (with_each of pages authority) page nobody ≡ of page))
+    ⊎ (has pages page ≡ false × (slice_index_or (with_each of pages authority) page nobody ≡ slice_index_or authority page nobody)
+    ⊎ (slice_index_or (with_each of pages authority) page nobody ≡ nobody))
+each-at of pages authority page =
+    elim (cases_Bool (has pages page)) [
+      | inr out ↦ inr (inl (out, each-not of pages authority page out))
+      | inl inside ↦
+          elim (cases_lt page (length authority)) [
+            | inl below ↦ inl (inside, each-is of pages authority page below inside)
+            | inr past ↦ inr (inr (get_or_past (with_each of pages authority) page nobody (omega (arith, past, length-each of pages authority))))
+          ]
+    ]
+
+pub each-same : (of other : ℕ → Authority) (pages : List ℕ) (authority : List Authority) → ((page : ℕ) → of page ≡ other page)
+    → with_each of pages authority ≡ with_each other pages authority
+each-same of other [] authority same = refl
+each-same of other (page ∷ pages) authority same =
+    ap (λ (one : Authority). with_each of pages (slice_set authority page one)) (same page) ∙ each-same of other pages (slice_set authority page (other page)) same
+
+list-same : (xs ys : List Authority) → length xs ≡ length ys → ((i : ℕ) → i < length xs → slice_index_or xs i nobody ≡ slice_index_or ys i nobody) → xs ≡ ys
+list-same [] [] long same = refl
+list-same [] (y ∷ ys) long same = absurd (omega (arith, long))
+list-same (x ∷ xs) [] long same = absurd (omega (arith, long))
+list-same (x ∷ xs) (y ∷ ys) long same =
+    λ i. same 0 (omega arith) i ∷ list-same xs ys (omega (arith, long)) (λ at below. same (suc at) (omega (arith, below))) i
+
+-- Which pages they are is all that counts, and not their order.
+pub each-alike : (of : ℕ → Authority) (xs ys : List ℕ) (authority : List Authority) → ((page : ℕ) → has xs page ≡ has ys page)
+    → with_each of xs authority ≡ with_each of ys authority
+each-alike of xs ys authority same =
+    list-same (with_each of xs authority) (with_each of ys authority) (length-each of xs authority ∙ sym (length-each of ys authority))
+    (λ page below. by_test page (omega (arith, below, length-each of xs authority)) (has xs page) refl)
+  where
+    by_test : (page : ℕ) → page < length authority → (inside : Bool) → has xs page ≡ inside
+        → slice_index_or (with_each of xs authority) page nobody ≡ slice_index_or (with_each of ys authority) page nobody
+    by_test page below true e = each-is of xs authority page below e ∙ sym (each-is of ys authority page below (sym (same page) ∙ e))
+    by_test page below false e = each-not of xs authority page e ∙ sym (each-not of ys authority page (sym (same page) ∙ e))

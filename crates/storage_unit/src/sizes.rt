@@ -1,0 +1,84 @@
+// Places, by the size of a page.
+ghost use Rattle.std.specs.Prelude.{◌≡◌, ◌+◌, ◌-◌, ◌*◌, ◌/◌, ◌%◌, ◌<◌, ◌≤◌, ◌^◌};
+ghost use Rattle.line_geometry.specs.Segments.{page_bytes, line_bytes};
+ghost use Rattle.segment_regs.specs.Registers.{bytes_on};
+ghost use Rattle.frame_pool.specs.Sizes.{private_frames};
+ghost use Rattle.storage_unit.specs.Held.{seat_pages};
+ghost use Rattle.storage_unit.specs.Places.{offset_of};
+
+use line_geometry::PageSize;
+use segment_regs::{Virtual, virtual_at};
+
+/// The private frames.
+pub fn private_frames(page: PageSize) -> u16
+    ensures value { result ≡ private_frames page }
+    ensures few { result ≤ 128 }
+{
+    match page {
+        PageSize::Two => 128,
+        PageSize::Four => 64,
+    }
+}
+
+/// The private pages of a seat.
+#[inline(always)]
+pub fn seat_pages(page: PageSize) -> u16
+    ensures value { result ≡ seat_pages page }
+    ensures few { result ≤ 8 }
+{
+    match page {
+        PageSize::Two => 8,
+        PageSize::Four => 4,
+    }
+}
+
+/// The first private frame of a seat.
+#[inline(always)]
+pub fn first_frame(page: PageSize, seat: u8) -> u16
+    requires { seat < 16 }
+    ensures value { result ≡ seat * seat_pages page }
+    ensures few { result ≤ 120 }
+{
+    match page {
+        PageSize::Two => u16::from(seat) * 8,
+        PageSize::Four => u16::from(seat) * 4,
+    }
+}
+
+/// The offset of a byte in its segment.
+#[inline(always)]
+pub fn offset_of(page: PageSize, at: Virtual) -> u32
+    requires { offset_of page at < 2 ^ 32 }
+    ensures { result ≡ offset_of page at }
+{
+    match page {
+        PageSize::Two => at.page * 2048 + u32::from(at.byte),
+        PageSize::Four => at.page * 4096 + u32::from(at.byte),
+    }
+}
+
+/// The byte so many past another in its segment.
+#[inline]
+pub fn byte_past(page: PageSize, first: Virtual, past: u16) -> Virtual
+    requires { offset_of page first ≤ 2 ^ 22 }
+    ensures { result ≡ bytes_on page first past }
+{
+    virtual_at(
+        page,
+        first.segment,
+        offset_of(page, first) + u32::from(past),
+    )
+}
+
+/// How many bytes of its line begin with the one at a place of the store.
+#[inline(always)]
+pub fn rest_of_line(page: PageSize, place: u32) -> u16
+    ensures value { result + place % line_bytes page ≡ line_bytes page }
+    ensures some { 1 ≤ result }
+    ensures few { result ≤ 256 }
+{
+    match page {
+        PageSize::Two => 128 - (place % 128) as u16,
+        PageSize::Four => 256 - (place % 256) as u16,
+    }
+}
