@@ -10,8 +10,12 @@ pub struct StdScreen<R: Print> {
 }
 
 impl<R: Print> StdScreen<R> {
-    /// The standard output of this runtime.
-    pub fn new(rt: R) -> Self {
+    ghost use Rattle.std.specs.Prelude.{◌≡◌};
+
+    /// The standard output of this runtime. No fault is counted yet.
+    pub fn new(rt: R) -> Self
+        ensures { ⟦<StdScreen<R> as Screen>⟧.faults result ≡ 0 }
+    {
         StdScreen { rt, faults: 0 }
     }
 }

@@ -11,8 +11,12 @@ pub struct StdSource<I: Read> {
 }
 
 impl<I: Read> StdSource<I> {
-    /// What is read from here, as `rt.stdin()` of a `HostRuntime`.
-    pub fn new(input: I) -> Self {
+    ghost use Rattle.std.specs.Prelude.{◌≡◌};
+
+    /// What is read from here, as `rt.stdin()` of a `HostRuntime`. No fault is counted yet.
+    pub fn new(input: I) -> Self
+        ensures { ⟦<StdSource<I> as Source>⟧.faults result ≡ 0 }
+    {
         StdSource { input, faults: 0 }
     }
 }

@@ -76,22 +76,22 @@ newer lines newest k = option_or (place_in k lines) (newest k)
 agree_line : (page : PageSize) (bound end : ℕ) (image home bytes : List ℕ) (newest : ℕ → Option ℕ) (line : RecordLine) → IsLine page bound end image line → Agree page bound image home bytes newest
     → Agree page bound image home (overlaid bytes (line.line * line_bytes page) line.bytes) (newer (line ∷ []) newest)
 agree_line page bound end image home bytes newest line is agree =
-  let room : line.line * line_bytes page + line_bytes page ≤ bound * line_bytes page = lines-below page line.line bound is.below in record {
-  long = length-overlaid bytes (line.line * line_bytes page) line.bytes (omega (arith, room, is.whole, agree.long)) ∙ agree.long;
-  each = λ k within. elim (cases_eq k line.line) [
-    | inl same ↦
-        let here : (line.line == k) ≡ true = grind (arith, nat_tests) in
-        ap (λ (n : ℕ). bytes_of_line page n (overlaid bytes (line.line * line_bytes page) line.bytes)) same
-        ∙ same_line page bytes line.bytes line.line is.whole (omega (arith, room, agree.long))
-        ∙ is.has
-        ∙ ap (λ (b : Bool). newest_bytes page image home k (option_or (if b then Some (line.at + 4) else None) (newest k))) (sym here)
-    | inr other ↦
-        let here : (line.line == k) ≡ false = grind (arith, nat_tests) in
-        other_line page bytes line.bytes line.line k is.whole (omega (arith, room, agree.long)) other
-        ∙ agree.each k within
-        ∙ ap (λ (b : Bool). newest_bytes page image home k (option_or (if b then Some (line.at + 4) else None) (newest k))) (sym here)
-  ];
-}
+    let room : line.line * line_bytes page + line_bytes page ≤ bound * line_bytes page = lines-below page line.line bound is.below in record {
+      long = length-overlaid bytes (line.line * line_bytes page) line.bytes (omega (arith, room, is.whole, agree.long)) ∙ agree.long;
+      each = λ k within. elim (cases_eq k line.line) [
+        | inl same ↦
+            let here : (line.line == k) ≡ true = grind (arith, nat_tests) in
+            ap (λ (n : ℕ). bytes_of_line page n (overlaid bytes (line.line * line_bytes page) line.bytes)) same
+            ∙ same_line page bytes line.bytes line.line is.whole (omega (arith, room, agree.long))
+            ∙ is.has
+            ∙ ap (λ (b : Bool). newest_bytes page image home k (option_or (if b then Some (line.at + 4) else None) (newest k))) (sym here)
+        | inr other ↦
+            let here : (line.line == k) ≡ false = grind (arith, nat_tests) in
+            other_line page bytes line.bytes line.line k is.whole (omega (arith, room, agree.long)) other
+            ∙ agree.each k within
+            ∙ ap (λ (b : Bool). newest_bytes page image home k (option_or (if b then Some (line.at + 4) else None) (newest k))) (sym here)
+      ];
+    }
 
 abbrev pub AreLines : (page : PageSize) (bound end : ℕ) → List ℕ → List RecordLine → Type 0
 AreLines page bound end image [] = Unit {0}

@@ -54,13 +54,7 @@ pub fn word(number: u32) -> [u8; 4]
 }
 
 /// Notes the places of the lines of a record behind a gate.
-pub fn note(
-    newest: &mut OwnedList<Option<u64>>,
-    body: &[u8],
-    page: PageSize,
-    gate: u64,
-    count: u16,
-)
+pub fn note(newest: &mut OwnedList<Option<u64>>, body: &[u8], page: PageSize, gate: u64, count: u16)
     requires gate { gate < 2 ^ 20 }
     requires body { 10 + entry_bytes page * count ≤ length body.now }
     requires ordered { wrong_line (length newest.old) 0 (lines_from page count (gate + 11) (drop 10 body.now)) ≡ None }

@@ -276,9 +276,8 @@ fn a_fault_while_room_is_made_is_told(rt: HostRuntime) -> Result<(), Fail> {
 
 // A store of 32 lines of 256 bytes, whose bank has room for one record of fifteen.
 fn wide_store(rt: &impl Abort, alloc: Global) -> Result<Vec<u8>, AllocError> {
-    let directory =
-        Directory::with_fine(PageSize::Four, &[(1, 1), (2, 1)], 2).expect(rt, "a directory");
-    Header::new(directory, 4096).fresh(alloc)
+    let directory = Directory::with_fine(PageSize::Four, &[(1, 1), (2, 1)], 2);
+    Header::new(directory.expect(rt, "a directory"), 4096).fresh(alloc)
 }
 
 // That store with one record of fifteen lines.
@@ -295,6 +294,19 @@ fn wide_filled(rt: &impl Abort, alloc: Global) -> Result<Vec<u8>, AllocError> {
     Ok(disk.into_image())
 }
 
+// The first page of such a store.
+fn first_page(rt: &impl Abort, alloc: Global, image: Vec<u8>) -> [u8; 4096] {
+    let mut disk = disk_of(alloc, image, Vec::new(alloc));
+    let store = Durable::open(alloc, &mut disk).expect(rt, "a store");
+    assert!(rt; store.header().directory().page() == PageSize::Four);
+    assert!(rt; store.header().directory().pages() == 2);
+    let mut page = [0; 4096];
+    store
+        .read_page(&mut disk, 0, &mut page)
+        .expect(rt, "a page");
+    page
+}
+
 #[test]
 fn a_store_of_version_two_makes_its_own_room(rt: HostRuntime) -> Result<(), Fail> {
     let alloc = rt.alloc();
@@ -304,22 +316,21 @@ fn a_store_of_version_two_makes_its_own_room(rt: HostRuntime) -> Result<(), Fail
     }
     set_entries(&mut wanted, 275, 15, 256);
     assert_eq!(rt; wide_filled(&rt, alloc)?.as_slice(), wanted.as_slice());
+    let page = first_page(&rt, alloc, wide_filled(&rt, alloc)?);
+    assert_eq!(rt; &page[256..260], [0, 0, 0, 14].as_slice());
     let mut disk = disk_of(alloc, wide_filled(&rt, alloc)?, Vec::new(alloc));
     let mut store = Durable::open(alloc, &mut disk).expect(&rt, "a store");
     assert_eq!(rt; store.header().directory().fine(), 2);
-    store.record_start();
+    assert!(rt; store.header().directory().page() == PageSize::Four);
+    assert!(rt; store.header().directory().line_count() == 32);
+    assert!(rt; store.header().bank_bytes() == 4096);
+    begin_lines(&mut store, 1);
     assert_eq!(rt; store.commit(&mut disk), Kept::Done);
     assert_eq!(rt; store.number(), 2);
-    let mut page = [0; 4096];
-    assert!(rt; store.header().directory().page() == PageSize::Four);
-    assert!(rt; store.header().directory().pages() == 2);
-    store
-        .read_page(&mut disk, 0, &mut page)
-        .expect(&rt, "a page");
-    assert_eq!(rt; &page[256..260], [0, 0, 0, 14].as_slice());
-    for (at, byte) in [(128, 1), (4367, 1), (4368, 0xa5), (4378, 2)] {
+    for (at, byte) in [(128, 1), (4367, 1), (4368, 0xa5), (4370, 1), (4378, 2)] {
         set(&mut wanted, at, byte);
     }
+    set_entries(&mut wanted, 4379, 1, 256);
     set_lines(&mut wanted, 8464, 15, 256);
     let (disk, _) = disk.into_parts();
     assert_eq!(rt; disk.bytes(), wanted.as_slice());

@@ -55,11 +55,7 @@ impl SegmentRegs {
 
     /// The private segment of 16,384 bytes under register 0, to read and write, and under the others the windows: each
     /// is a register, a segment, the segment's bytes, and whether it is to write. All segments have pages of this size.
-    pub fn new(
-        page: PageSize,
-        private: u16,
-        windows: &[(u8, u16, u32, bool)],
-    ) -> SegmentRegs
+    pub fn new(page: PageSize, private: u16, windows: &[(u8, u16, u32, bool)]) -> SegmentRegs
         ensures { result ≡ registers_with page private windows.now }
     {
         let mut registers = [None; 16];

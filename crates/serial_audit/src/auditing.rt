@@ -210,7 +210,12 @@ impl<'j> Progress<'j> {
 fn is_same(one: &Directory, other: &Directory) -> bool
     ensures { IsTrue result ↔ (one.now ≡ other.now) }
 {
-    one.page() == other.page()
-        && one.segments() == other.segments()
-        && one.fine() == other.fine()
+    are_alike(one, other) && one.fine() == other.fine()
+}
+
+/// Whether two directories have the same pages and segments, with whatever flags.
+fn are_alike(one: &Directory, other: &Directory) -> bool
+    ensures { IsTrue result ↔ ((one.now.page ≡ other.now.page) × (one.now.segments ≡ other.now.segments)) }
+{
+    one.page() == other.page() && one.segments() == other.segments()
 }

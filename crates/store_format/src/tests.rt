@@ -67,9 +67,8 @@ fn header_of(rt: &impl Abort) -> Header {
 
 // The same with pages of 4,096 bytes; its second segment is fine.
 fn wide_header_of(rt: &impl Abort) -> Header {
-    let directory =
-        Directory::with_fine(PageSize::Four, &[(1, 4), (2, 2)], 2).expect(rt, "a directory");
-    Header::new(directory, 65_536)
+    let directory = Directory::with_fine(PageSize::Four, &[(1, 4), (2, 2)], 2);
+    Header::new(directory.expect(rt, "a directory"), 65_536)
 }
 
 fn told_where_wrong(

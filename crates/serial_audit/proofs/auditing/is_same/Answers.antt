@@ -1,16 +1,12 @@
-use Rattle.std.proofs.Common.{sym, ◌∙◌, ap, rules}
-use Rattle.std.proofs.lemmas.Slice.Eq.{slice_eq-Decides}
+use Rattle.std.proofs.Common.{sym, ◌∙◌, ap, eq-eqb}
+use Rattle.std.proofs.lemmas.Bool.{eqb-true}
 use Rattle.line_geometry.specs.Directory.{Layout}
-use Rattle.line_geometry.specs.contracts.directory.PageSize.{the_type}
-use Rattle.serial_audit.proofs.SameLemmas.{layout_same, pair_decides}
+use Rattle.serial_audit.proofs.SameLemmas.{layout_same}
 use Rattle.serial_audit.proofs.auditing.is_same.Goals as goal
-use denote.Enum.Bare.{same_true}
 
-pub returns-then-eq : goal.returns-then-eq
-returns-then-eq c =
-    let decides = slice_eq-Decides pair_decides c.segments.result.now c.segments-then-eq.result.now c.eq-then-eq.result c.eq-then-eq.ensures in
-    let page = same_true the_type (search rules) _ _ (sym c.if-eq.ensures) in (
-      λ same. layout_same c.args.one.now c.args.other.now (sym c.page.ensures ∙ page ∙ c.page-2.ensures)
-          (sym c.segments.ensures.value ∙ decides.0 same ∙ c.segments-then-eq.ensures.value),
-      λ is. decides.1 (c.segments.ensures.value ∙ ap (λ (d : Layout). d.segments) is ∙ sym c.segments-then-eq.ensures.value),
+pub returns-then-are_alike : goal.returns-then-are_alike
+returns-then-are_alike c =
+    let alike = c.are_alike.ensures.0 c.if-are_alike.true in (
+      λ same. layout_same c.args.one.now c.args.other.now alike.0 alike.1 (sym c.fine.ensures.value ∙ eqb-true c.fine.result c.fine-then-are_alike.result same ∙ c.fine-then-are_alike.ensures.value),
+      λ is. eq-eqb c.fine.result c.fine-then-are_alike.result (c.fine.ensures.value ∙ ap (λ (d : Layout). d.fine) is ∙ sym c.fine-then-are_alike.ensures.value),
     )

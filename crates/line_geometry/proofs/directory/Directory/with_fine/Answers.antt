@@ -1,4 +1,4 @@
-use Rattle.std.specs.Prelude.{◌≡◌, ◌^◌, nat_lt, if◌then◌else◌, Option, Some, None, false, length}
+use Rattle.std.specs.Prelude.{◌≡◌, ◌^◌, nat_lt, if◌then◌else◌, Some, None, false, length}
 use Rattle.std.proofs.Common.{ap, ◌∙◌, refl}
 use Rattle.line_geometry.specs.declared.directory.DirectoryFault.TheVariants.{Flag}
 use Rattle.line_geometry.specs.Legal.{IsLegal, flagged_fault, flag_count}
