@@ -3,7 +3,6 @@ use Rattle.std.specs.Prelude.{◌≡◌, ℕ, List, Option, Ok, Err}
 use Rattle.outside.specs.Causes.{Rose}
 use Rattle.job_text.specs.Grammar.{Content, job_of}
 use Rattle.call_status.specs.declared.status.Status.{Status}
-use Rattle.call_status.specs.declared.status.Status.TheVariants as status
 use Rattle.call_status.specs.SourceText.{HasRead, IsWhole}
 use Rattle.call_status.specs.Statuses.{IsPastJob, IsPastText}
 

@@ -1,5 +1,5 @@
 // The job of a source.
-ghost use Rattle.std.specs.Prelude.{◌≡◌, ◌≤◌, ℕ, List, IfErr, IfOk, OnOk, Ok};
+ghost use Rattle.std.specs.Prelude.{◌≡◌, ℕ, List, IfErr, IfOk, OnOk, Ok};
 ghost use Rattle.job_text.specs.Grammar.{job_of, content_of};
 ghost use Rattle.job_text.specs.Ready.{IsReady};
 ghost use Rattle.call_status.specs.Reading.{ReadsBy};

@@ -10,7 +10,7 @@ use job_text::JobFault;
 use redo_journal::OpenFault;
 use std::alloc::AllocError;
 
-/// How a call of the console ended (docs/FORMATS.md, "Statuses").
+/// How a call ended (docs/FORMATS.md, "Statuses").
 #[derive(Debug, Clone, Copy, PartialEq, Eq)]
 pub enum Status {
     /// The command went to its end.

@@ -41,7 +41,11 @@ enum Running {
 fn parts_of(running: Running) -> &'static [&'static str] {
     match running {
         Running::Add => &["frames 2\n", PROGRAMS, "begin add 5\nturn 1 9\nend\n"],
-        Running::Move => &["frames 2\n", PROGRAMS, "begin put 7\nturn 1 9\nbegin mv\nturn 2 9\nend\n"],
+        Running::Move => &[
+            "frames 2\n",
+            PROGRAMS,
+            "begin put 7\nturn 1 9\nbegin mv\nturn 2 9\nend\n",
+        ],
         Running::Day => &["frames 4\n", PROGRAMS, DAY, "end\n"],
     }
 }

@@ -384,10 +384,7 @@ fn a_store_is_made_run_on_and_shown(rt: HostRuntime) -> Result<(), Fail> {
     let mut held = Vec::new(alloc);
     for step in &STEPS {
         let job = format!(in alloc; "{FILL}{}end\n", step.events)?;
-        let source = MemorySource::new(
-            Vec::from_slice(alloc, job.as_bytes())?,
-            Vec::new(alloc),
-        );
+        let source = MemorySource::new(Vec::from_slice(alloc, job.as_bytes())?, Vec::new(alloc));
         let bytes = if step.kept {
             held.clone()?
         } else {
@@ -409,7 +406,11 @@ fn a_store_is_made_run_on_and_shown(rt: HostRuntime) -> Result<(), Fail> {
         let disk = MemoryDisk::new(alloc, bytes, refusals);
         let left = call(alloc, step.words, source, disk, fails)?;
         assert_eq!(rt; left.status, step.status, "{}", job);
-        assert!(rt; left.printed.as_slice() == step.printed.as_bytes(), "{}", job);
+        assert!(rt;
+            left.printed.as_slice() == step.printed.as_bytes(),
+            "{}",
+            job
+        );
         if step.kept {
             held = left.held;
         }

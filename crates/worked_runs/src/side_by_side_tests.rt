@@ -352,11 +352,19 @@ fn programs_run_side_by_side(rt: HostRuntime) -> Result<(), Fail> {
         }
         let left = run_fresh(alloc, &job, refused(alloc, row.refusal)?)?;
         assert_eq!(rt; left.status, row.status, "{}", row.name);
-        assert!(rt; left.printed.as_slice() == wanted.as_bytes(), "{}", row.name);
+        assert!(rt;
+            left.printed.as_slice() == wanted.as_bytes(),
+            "{}",
+            row.name
+        );
         if let Some(number) = row.opens {
             let opened = run_on(alloc, NOTHING, left.held, Vec::new(alloc))?;
             let told = format!(in alloc; "open {number}\nend {number}\n")?;
-            assert!(rt; opened.printed.as_slice() == told.as_bytes(), "{}", row.name);
+            assert!(rt;
+                opened.printed.as_slice() == told.as_bytes(),
+                "{}",
+                row.name
+            );
         }
     }
     Ok(())
