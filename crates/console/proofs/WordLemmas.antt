@@ -9,12 +9,14 @@ use Rattle.std.proofs.lemmas.Bool.Decides.{nat_tests}
 use Rattle.std.proofs.lemmas.List.{take_all}
 use Rattle.asm_parse.specs.Number.{number_in}
 use Rattle.asm_parse.proofs.NumberLemmas.{as_number}
+use Rattle.line_geometry.specs.declared.directory.PageSize.{PageSize}
+use Rattle.line_geometry.specs.declared.directory.PageSize.TheVariants.{Two, Four}
 use Rattle.line_geometry.specs.Legal.{IsInRange}
 use Rattle.store_format.specs.Header.{Header}
 use Rattle.store_calls.specs.declared.show.Range.{Range}
 use Rattle.console.specs.declared.words.Command.{Command}
 use Rattle.console.specs.declared.words.Command.TheVariants as command
-use Rattle.console.specs.Words.{AreNumbers, AreWithin, IsAlone, IsForm, IsNoForm, IsNumbered, IsOnStore, NamesStore, SaysNumber, number_of, number_said, numbers_of, spread, word_of}
+use Rattle.console.specs.Words.{AreNumbers, AreWithin, IsAlone, IsForm, IsNoForm, IsNumbered, IsOnStore, NamesStore, SaysNumber, new_word, number_of, number_said, numbers_of, spread, word_of}
 
 -- a word of at most ten bytes
 short : (word : List ℕ) → length word ≤ 10 → number_of word ≡ number_in 10 word
@@ -225,10 +227,19 @@ one_range words one two first second =
     let count : one.count ≡ two.count = cc in
     λ i. record { segment = segment i; from = from i; count = count i }
 
+-- a word that makes a store is of one size of pages
+one_page : (one two : PageSize) → new_word one ≡ new_word two → one ≡ two
+one_page Two Two same = refl
+one_page Four Four same = refl
+one_page Two Four same = absurd (cc)
+one_page Four Two same = absurd (cc)
+
 pub one_header : (words : List (String Global)) (one two : Header) → IsForm (command.New one) words → IsForm (command.New two) words → one ≡ two
 one_header words one two first second =
     let same : one.bank_bytes ∷ spread one.directory.segments ≡ two.bank_bytes ∷ spread two.directory.segments = same_words (command.New one) (command.New two) (map string_bytes words) first.says second.says in
     let bank : one.bank_bytes ≡ two.bank_bytes = cc in
     let segments : one.directory.segments ≡ two.directory.segments = one_spread one.directory.segments two.directory.segments (cc) in
-    let page : one.directory.page ≡ two.directory.page = first.within.0.page ∙ sym second.within.0.page in
-    λ i. record { directory = record { page = page i; segments = segments i }; bank_bytes = bank i }
+    let said : new_word one.directory.page ≡ new_word two.directory.page = let here = first.says.are in let there = second.says.are in cc in
+    let page = one_page one.directory.page two.directory.page said in
+    let fine : one.directory.fine ≡ two.directory.fine = first.within.2 ∙ sym second.within.2 in
+    λ i. record { directory = record { page = page i; segments = segments i; fine = fine i }; bank_bytes = bank i }

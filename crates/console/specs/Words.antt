@@ -3,10 +3,17 @@ use Rattle.std.specs.Prelude.{◌≡◌, ◌≢◌, ◌⊎◌, ℕ, ◌≤◌, n
 use Rattle.std.specs.List.{flat_map}
 use Rattle.std.specs.declared.alloc.Global.{Global}
 use Rattle.asm_parse.specs.Number.{number_in}
+use Rattle.line_geometry.specs.declared.directory.PageSize.{PageSize}
+use Rattle.line_geometry.specs.declared.directory.PageSize.TheVariants.{Two, Four}
 use Rattle.line_geometry.specs.Legal.{IsLegal}
 use Rattle.store_format.specs.Header.{HasRanges}
 use Rattle.console.specs.declared.words.Command.{Command}
 use Rattle.console.specs.declared.words.Command.TheVariants as command
+
+-- the word that makes a store, by the size of its pages
+abbrev pub new_word : PageSize → List ℕ
+new_word Two = codes "new"
+new_word Four = codes "new2"
 
 -- the word of a command
 abbrev pub word_of : Command → List ℕ
@@ -15,7 +22,7 @@ word_of command.Run = codes "run"
 word_of command.List = codes "list"
 word_of command.Drill = codes "drill"
 word_of (command.Show range) = codes "show"
-word_of (command.New header) = codes "new"
+word_of (command.New header) = new_word header.directory.page
 word_of (command.Big transfers) = codes "big"
 word_of command.Audit = codes "audit"
 word_of (command.Trace activation) = codes "trace"
@@ -38,10 +45,10 @@ numbers_of (command.Show range) = range.segment ∷ range.from ∷ range.count �
 numbers_of (command.New header) = header.bank_bytes ∷ spread header.directory.segments
 numbers_of _ = []
 
--- they are within their bounds: at most 65,536 bytes are shown, a new store has a header, and a load has 1 to 512 transfers
+-- they are within their bounds: at most 65,536 bytes are shown, a new store has a header with no fine segment, and a load has 1 to 512 transfers
 abbrev pub AreWithin : Command → Type 0
 AreWithin (command.Show range) = range.count ≤ 65536
-AreWithin (command.New header) = HasRanges header × IsLegal header.directory.segments
+AreWithin (command.New header) = HasRanges header × IsLegal header.directory.segments × (header.directory.fine ≡ 0)
 AreWithin (command.Big transfers) = (1 ≤ transfers) × (transfers ≤ 512)
 AreWithin _ = Unit {0}
 

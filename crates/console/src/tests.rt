@@ -3,6 +3,7 @@
 use super::*;
 use outside::{Call, Disk, Joint, MemoryDisk, MemoryScreen, MemorySource, Refusal};
 use std::alloc::{AllocError, Global};
+use std::process::Abort;
 use std::test::Fail;
 
 /// One program that adds 5 to the first word of segment 1, and a turn of a hundred rows for it.
@@ -378,11 +379,51 @@ const STEPS: [Step; 22] = [
     },
 ];
 
-#[test]
-fn a_store_is_made_run_on_and_shown(rt: HostRuntime) -> Result<(), Fail> {
-    let alloc = rt.alloc();
+/// The same on a store with pages of 4,096 bytes: a record of fifteen lines fits its bank, and one of sixteen doesn't.
+const LARGER: [Step; 7] = [
+    Step {
+        words: &["new2", "s", "4096", "1", "2", "f"],
+        status: Status::Usage,
+        ..STEP
+    },
+    Step {
+        words: &["new2", "s", "4096", "1", "2"],
+        printed: "new 16656\n",
+        ..STEP
+    },
+    Step {
+        words: &["new2", "s", "4096", "1", "2"],
+        status: Status::Exists,
+        ..STEP
+    },
+    Step {
+        words: &["run", "s"],
+        events: "begin fill 30\nturn 1 999\nbegin fill 31\nturn 2 999\n",
+        printed: "open 0\nbegin 1 fill\nturn 1 ran 122 page 1 lock 15\ncommit 1 number 1 steps 122 out -\nbegin 2 fill\n\
+            turn 2 ran 121 page 0 lock 15\njournal 2 lines 16 limit 15\nend 1\n",
+        ..STEP
+    },
+    Step {
+        words: &["show", "s", "1", "3712", "4"],
+        printed: "00000e80 00000001\n",
+        ..STEP
+    },
+    Step {
+        words: &["show", "s", "1", "4094", "4"],
+        printed: "00000ffe 00000000\n",
+        ..STEP
+    },
+    Step {
+        words: &["show", "s", "1", "8191", "2"],
+        status: Status::NoRange,
+        ..STEP
+    },
+];
+
+/// Takes the steps one after another, and leaves the kept disk's bytes.
+fn walk(rt: &impl Abort, alloc: Global, steps: &[Step]) -> Result<Vec<u8>, Fail> {
     let mut held = Vec::new(alloc);
-    for step in &STEPS {
+    for step in steps {
         let job = format!(in alloc; "{FILL}{}end\n", step.events)?;
         let source = MemorySource::new(Vec::from_slice(alloc, job.as_bytes())?, Vec::new(alloc));
         let bytes = if step.kept {
@@ -415,6 +456,14 @@ fn a_store_is_made_run_on_and_shown(rt: HostRuntime) -> Result<(), Fail> {
             held = left.held;
         }
     }
+    Ok(held)
+}
+
+#[test]
+fn a_store_is_made_run_on_and_shown(rt: HostRuntime) -> Result<(), Fail> {
+    let held = walk(&rt, rt.alloc(), &STEPS)?;
     assert_eq!(rt; held.len(), 16_672);
+    let larger = walk(&rt, rt.alloc(), &LARGER)?;
+    assert_eq!(rt; larger.len(), 16_656);
     Ok(())
 }

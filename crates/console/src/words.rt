@@ -25,7 +25,7 @@ pub enum Command {
     Drill,
     /// Bytes of a store in a file are printed.
     Show(Range),
-    /// A store with this header is made in a file.
+    /// A store with this header is made in a file: of version 1 where its pages have 2,048 bytes, else of version 2.
     New(Header),
     /// The load of so many transfers is run, on the disk that is handed in.
     Big(u32),
@@ -111,7 +111,9 @@ fn command_on(word: &str, numbers: &[u32]) -> Option<Command>
     } else if word == "show" {
         range_of(numbers).map(Command::Show)
     } else if word == "new" {
-        header_of(numbers).map(Command::New)
+        header_of(PageSize::Two, numbers).map(Command::New)
+    } else if word == "new2" {
+        header_of(PageSize::Four, numbers).map(Command::New)
     } else {
         None
     }
@@ -144,15 +146,15 @@ fn range_of(numbers: &[u32]) -> Option<Range>
     }
 }
 
-/// The header that these numbers are: the bytes of a bank, and the segments with their pages.
-fn header_of(numbers: &[u32]) -> Option<Header>
+/// The header that these numbers are, with pages of this size: the bytes of a bank, and the segments with their pages.
+fn header_of(page: PageSize, numbers: &[u32]) -> Option<Header>
     ensures { MatchOption result
-        ((header : Layout) → numbers.now ≡ header.bank_bytes ∷ spread header.directory.segments → HasRanges header → IsLegal header.directory.segments → ⊥)
-        (λ header. (numbers.now ≡ header.bank_bytes ∷ spread header.directory.segments) × HasRanges header × IsLegal header.directory.segments) }
+        ((header : Layout) → header.directory.page ≡ page → header.directory.fine ≡ 0 → numbers.now ≡ header.bank_bytes ∷ spread header.directory.segments → HasRanges header → IsLegal header.directory.segments → ⊥)
+        (λ header. (header.directory.page ≡ page) × (header.directory.fine ≡ 0) × (numbers.now ≡ header.bank_bytes ∷ spread header.directory.segments) × HasRanges header × IsLegal header.directory.segments) }
 {
     match numbers {
         [bank_bytes, rest @ ..] if (4_096..=131_072).contains(bank_bytes) => {
-            match directory_of(rest) {
+            match directory_of(page, rest) {
                 Some(directory) => Some(Header::new(directory, *bank_bytes)),
                 None => None,
             }
@@ -161,17 +163,17 @@ fn header_of(numbers: &[u32]) -> Option<Header>
     }
 }
 
-/// The directory of the segments that these numbers are, each an identifier and its pages.
-fn directory_of(numbers: &[u32]) -> Option<Directory>
+/// The directory of the segments that these numbers are, each an identifier and its pages, with pages of this size.
+fn directory_of(page: PageSize, numbers: &[u32]) -> Option<Directory>
     ensures { MatchOption result
         ((segments : List (ℕ × ℕ)) → numbers.now ≡ spread segments → IsLegal segments → ⊥)
-        (λ directory. (directory.page ≡ PageSize.Two) × (numbers.now ≡ spread directory.segments) × IsLegal directory.segments) }
+        (λ directory. (directory.page ≡ page) × (directory.fine ≡ 0) × (numbers.now ≡ spread directory.segments) × IsLegal directory.segments) }
 {
     let mut segments = ArrayVec::<(u16, u16), 15>::new();
     if !add_segments(numbers, &mut segments) {
         return None;
     }
-    match Directory::new(PageSize::Two, segments.as_slice()) {
+    match Directory::new(page, segments.as_slice()) {
         Ok(directory) => Some(directory),
         Err(_) => None,
     }

@@ -19,7 +19,7 @@ fn main(rt: HostRuntime) -> ExitCode {
     ExitCode::from(status.number())
 }
 
-/// The console on the real source and screen, and the disk that the words name: a file, which `new` alone makes, or one
+/// The console on the real source and screen, and the disk that the words name: a file, which `new` and `new2` alone make, or one
 /// in memory, which for `try` and `big` holds the store of `try`.
 fn run(rt: &HostRuntime) -> Result<Ended, Status> {
     let alloc = rt.alloc();
@@ -31,7 +31,7 @@ fn run(rt: &HostRuntime) -> Result<Ended, Status> {
             call(
                 rt,
                 &words,
-                FileDisk::new(rt.clone()?, path, word.as_str() == "new"),
+                FileDisk::new(rt.clone()?, path, makes_store(word.as_str())),
             )
         }
         others if runs_in_memory(others) => {
@@ -68,7 +68,12 @@ fn runs_in_memory(words: &[String]) -> bool {
 
 /// Whether a store stands behind this word.
 fn names_store(word: &str) -> bool {
-    matches!(word, "new" | "run" | "show")
+    matches!(word, "run" | "show") || makes_store(word)
+}
+
+/// Whether this word makes the store's file.
+fn makes_store(word: &str) -> bool {
+    matches!(word, "new" | "new2")
 }
 
 /// The console on this disk.

@@ -1,12 +1,9 @@
 use Rattle.std.proofs.Common.{◌≡◌, ◌*◌, ℕ, List, [], length, sym, ◌∙◌, ap, subst, arith}
 use Rattle.std.specs.Prelude.{IsSome, Option, unwrap_or}
 use Rattle.std.proofs.lemmas.List.{take_all}
-use Rattle.line_geometry.specs.Directory.{Layout, byte_count, page_count}
-use Rattle.line_geometry.specs.Segments.{page_bytes}
-use Rattle.line_geometry.specs.declared.directory.PageSize.{PageSize}
-use Rattle.line_geometry.proofs.Within.{byte_count-pages}
+use Rattle.line_geometry.specs.Directory.{Layout, byte_count}
 use Rattle.outside.specs.Runs.{held_of}
-use Rattle.store_format.specs.Header.{HasRanges, Header}
+use Rattle.store_format.specs.Header.{Header}
 use Rattle.store_format.specs.Stands.{Standing, Stands, stands}
 use Rattle.restart.specs.Kept as restart
 use Rattle.restart.specs.Kept.{number_of}
@@ -18,18 +15,16 @@ use Rattle.store_calls.specs.Show.{bytes_in}
 use Rattle.bundle_calls.proofs.kept.read_store.Goals as goal
 
 -- all bytes of what stands, read from the front on, are the store
-keeps_all : (held : List ℕ) (store : restart.KeptStore) (shows : Shows held store) (ranges : HasRanges store.header) (kept : KeptStore)
-    → kept.directory ≡ store.header.directory → kept.number ≡ number_of store → kept.store.items ≡ bytes_in (stands held) 0 (page_count store.header.directory * 2048)
+keeps_all : (held : List ℕ) (store : restart.KeptStore) (shows : Shows held store) (kept : KeptStore)
+    → kept.directory ≡ store.header.directory → kept.number ≡ number_of store → kept.store.items ≡ bytes_in (stands held) 0 (byte_count store.header.directory)
     → Keeps held kept
-keeps_all held store shows ranges kept directory number items =
+keeps_all held store shows kept directory number items =
     let committed : List ℕ = committed_in held store shows in
-    let long : length committed ≡ byte_count store.header.directory = committed-long held store shows ranges in
-    let pages : byte_count store.header.directory ≡ page_count store.header.directory * 2048 =
-    byte_count-pages store.header.directory ∙ ap (λ (size : PageSize). page_count store.header.directory * page_bytes size) ranges.page in
+    let long : length committed ≡ byte_count store.header.directory = committed-long held store shows in
     let stood : stands held ≡ Stands (number_of store) (record { directory = store.header.directory; bytes = committed }) = stood-store held store shows in
     let all : kept.store.items ≡ committed =
-    items ∙ ap (λ (standing : Standing). bytes_in standing 0 (page_count store.header.directory * 2048)) stood
-    ∙ take_all (page_count store.header.directory * 2048) committed (omega (arith, long, pages)) in
+    items ∙ ap (λ (standing : Standing). bytes_in standing 0 (byte_count store.header.directory)) stood
+    ∙ take_all (byte_count store.header.directory) committed (omega (arith, long)) in
     record {
       stood =
           stood
@@ -49,9 +44,9 @@ returns g c = λ told.
     let shows = c.in_ok-durable.ensures.shows told in
     let header : c.header.result.now ≡ store.header = c.header.ensures in
     let directory : c.directory.result.now ≡ store.header.directory = c.directory.ensures.value ∙ ap (λ (those : Header). those.directory) header in
-    keeps_all old store shows (subst HasRanges header c.directory.ensures.ranges)
+    keeps_all old store shows
     (record { directory = c.directory.result.now; number = c.number.result; store = c.in_ok-all_bytes.field-0 })
     directory c.number.ensures
     (c.in_ok-all_bytes.ensures.read
     (record { told = subst (λ (those : Option (List ℕ)). IsSome those) (sym held) told; shows = subst (λ (those : List ℕ). Shows those store) (sym same) shows })
-    ∙ ap (λ (held : List ℕ). bytes_in (stands held) 0 (page_count store.header.directory * 2048)) same)
+    ∙ ap (λ (held : List ℕ). bytes_in (stands held) 0 (byte_count store.header.directory)) same)
