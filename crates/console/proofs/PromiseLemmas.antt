@@ -1,12 +1,14 @@
 -- Of the commands that read a bundle no end is promised.
-use Rattle.std.proofs.Common.{◌≡◌, ℕ, List, [], ◌∷◌, map, ap, arith, inl, inr}
+use Rattle.std.proofs.Common.{◌≡◌, ℕ, List, [], ◌∷◌, map, refl, sym, ◌∙◌, ap, arith, inl, inr}
 use Rattle.std.specs.Prelude.{codes, slice_index, Option, String, string_bytes}
 use Rattle.std.specs.declared.alloc.Global.{Global}
+use Rattle.line_geometry.specs.declared.directory.PageSize.{PageSize}
+use Rattle.line_geometry.specs.declared.directory.PageSize.TheVariants.{Two, Four}
 use Rattle.outside.specs.declared.world.Outside.{Ghosts}
 use Rattle.console.specs.declared.words.Command.{Command}
 use Rattle.console.specs.declared.words.Command.TheVariants as command
 use Rattle.console.specs.Causes.{HasAll, IsComplete}
-use Rattle.console.specs.Words.{ReadsBundle, Says, word_of}
+use Rattle.console.specs.Words.{ReadsBundle, Says, new_word, word_of}
 
 -- words begin with that of their command
 begins : (form : Command) (words : List (List ℕ)) → Says form words → (rest : List (List ℕ)) × (words ≡ word_of form ∷ rest)
@@ -26,6 +28,11 @@ one_word one two words first second =
     let (other, there) = begins two words second in
     cc
 
+-- a word that makes a store begins with an n
+new_begins : (size : PageSize) → slice_index (new_word size) 0 ≡ 110
+new_begins Two = refl
+new_begins Four = refl
+
 -- a command that reads a bundle
 abbrev IsBundled : Command → Type 0
 IsBundled command.Audit = Unit {0}
@@ -40,7 +47,7 @@ by_audit command.List is = cc
 by_audit command.Drill is = absurd (let first : 100 ≡ 97 = ap (λ (word : List ℕ). slice_index word 0) is in omega (arith, first))
 by_audit command.Run is = cc
 by_audit (command.Show range) is = cc
-by_audit (command.New header) is = cc
+by_audit (command.New header) is = absurd (let first : 110 ≡ 97 = sym (new_begins header.directory.page) ∙ ap (λ (word : List ℕ). slice_index word 0) is in omega (arith, first))
 by_audit (command.Big transfers) is = cc
 
 by_trace : (form : Command) → word_of form ≡ codes "trace" → IsBundled form
@@ -51,7 +58,7 @@ by_trace command.List is = cc
 by_trace command.Drill is = absurd (let first : 100 ≡ 116 = ap (λ (word : List ℕ). slice_index word 0) is in omega (arith, first))
 by_trace command.Run is = cc
 by_trace (command.Show range) is = cc
-by_trace (command.New header) is = cc
+by_trace (command.New header) is = absurd (let first : 110 ≡ 116 = sym (new_begins header.directory.page) ∙ ap (λ (word : List ℕ). slice_index word 0) is in omega (arith, first))
 by_trace (command.Big transfers) is = cc
 
 -- nothing is promised of it

@@ -44,10 +44,10 @@ try-legal : IsLegal try_layout.directory.segments
 try-legal = record { some = omega arith; few = omega arith; in_range = try-in-range; ascending = search rules; pages = omega arith }
 
 try-ranges : HasRanges try_layout
-try-ranges = record { page = refl; least_bank = omega arith; most_bank = omega arith }
+try-ranges = record { least_bank = omega arith; most_bank = omega arith }
 
 pub try-stands : (image : List ℕ) → image ≡ fresh try_layout → stands image ≡ Stands 0 try_flat
-try-stands image is = ap (λ (bytes : List ℕ). stands bytes) is ∙ fresh_stands try_layout try-ranges try-legal
+try-stands image is = ap (λ (bytes : List ℕ). stands bytes) is ∙ fresh_stands try_layout try-ranges try-legal (omega arith)
 
 pub try-standing : (image : List ℕ) → image ≡ fresh try_layout → IsStanding image
 try-standing image is = (0, try_flat, try-stands image is)
