@@ -171,17 +171,22 @@ pub(super) fn call_well(
     call(alloc, words, source, disk, Vec::new(alloc))
 }
 
+/// What the words of a case come to, on a disk that is no store.
+fn run_case(alloc: Global, case: &Case) -> Result<Left, AllocError> {
+    let source = MemorySource::new(
+        Vec::from_slice(alloc, case.text)?,
+        Vec::from_slice(alloc, case.failing_reads)?,
+    );
+    let disk = MemoryDisk::new(alloc, vec![in alloc; 3; 9]?, Vec::new(alloc));
+    let fails = Vec::from_slice(alloc, case.failing_puts)?;
+    call(alloc, case.words, source, disk, fails)
+}
+
 #[test]
 fn a_listing_and_a_drill_leave_the_disk_alone(rt: HostRuntime) -> Result<(), Fail> {
     let alloc = rt.alloc();
     for case in &UNCALLED {
-        let source = MemorySource::new(
-            Vec::from_slice(alloc, case.text)?,
-            Vec::from_slice(alloc, case.failing_reads)?,
-        );
-        let disk = MemoryDisk::new(alloc, vec![in alloc; 3; 9]?, Vec::new(alloc));
-        let fails = Vec::from_slice(alloc, case.failing_puts)?;
-        let left = call(alloc, case.words, source, disk, fails)?;
+        let left = run_case(alloc, case)?;
         assert_eq!(rt; left.status, case.status, "{}", case.name);
         assert!(rt; !left.opened, "{}", case.name);
         assert!(rt; left.printed.as_slice() == case.printed, "{}", case.name);
