@@ -12,7 +12,7 @@ use Rattle.serial_audit.specs.declared.bundle.Bundle.{Bundle}
 use Rattle.call_status.specs.declared.status.Status.{Status}
 use Rattle.call_status.specs.declared.status.Status.TheVariants as status
 use Rattle.bundle_calls.specs.Bundled.{IsBadClosing, IsNoJob, IsOpened, IsWrongPart, WithBundle, part_of}
-use Rattle.bundle_calls.specs.Kept.{Keeps}
+use Rattle.store_calls.specs.Kept.{Keeps}
 use Rattle.call_status.specs.Printed.{put_of}
 use Rattle.call_status.specs.Statuses.{IsOfLines}
 

@@ -12,7 +12,7 @@ use Rattle.serial_audit.specs.declared.bundle.Bundle.{Bundle}
 use Rattle.serial_audit.specs.declared.bundle.Span.{Span}
 use Rattle.call_status.specs.declared.status.Status.{Status}
 use Rattle.call_status.specs.declared.status.Status.TheVariants as status
-use Rattle.bundle_calls.specs.Kept.{Keeps}
+use Rattle.store_calls.specs.Kept.{Keeps}
 use Rattle.call_status.specs.Opening.{IsFaultAt}
 use Rattle.call_status.specs.SourceText.{HasRead, IsWholeBundle}
 

@@ -1,4 +1,3 @@
-pub mod Kept
 pub mod Bundled
 pub mod Audited
 pub mod Traced

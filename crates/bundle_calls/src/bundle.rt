@@ -2,15 +2,15 @@
 ghost use Rattle.std.specs.Prelude.{◌≡◌, ◌⊎◌, ◌-◌, ◌≤◌, ◌<◌, ◌^◌, ℕ, length, IfOk, MatchResult};
 ghost use Rattle.report_text.specs.ReadLines.{AreLinesOf, IsFirstBad};
 ghost use Rattle.bundle_calls.specs.Bundled.{IsOpened, IsShut, part_of};
-ghost use Rattle.bundle_calls.specs.Kept.{Keeps};
+ghost use Rattle.store_calls.specs.Kept.{Keeps};
 ghost use Rattle.call_status.specs.Opening.{IsFaultAt};
 
-use super::kept::{KeptFault, kept_store};
 use call_status::Status;
 use job_text::{Job, read_job};
 use report_text::{LinesFault, OwnedLine, read_lines};
 use serial_audit::{Bundle, KeptStore, Span, split_bundle};
 use std::alloc::Global;
+use store_calls::{KeptFault, kept_store};
 
 /// The numbers of the parts that a status names.
 const REPORT: u8 = 2;

@@ -3,7 +3,6 @@
 
 mod audit;
 mod bundle;
-mod kept;
 mod trace;
 
 pub use audit::audit_source;

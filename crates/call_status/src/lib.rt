@@ -6,5 +6,5 @@ mod source_text;
 mod status;
 
 pub use reading::job_from;
-pub use source_text::{MOST_OF_BUNDLE, MOST_OF_JOB, TextFault, read_text};
+pub use source_text::{MOST_OF_BUNDLE, MOST_OF_JOB, MOST_OF_STORE, TextFault, read_text};
 pub use status::{Status, status_text};

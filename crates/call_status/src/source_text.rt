@@ -9,6 +9,8 @@ use std::alloc::{AllocError, Global};
 
 /// The most bytes that a job may have.
 pub const MOST_OF_JOB: usize = 1_048_576;
+/// The most bytes that the source of a renewal may have.
+pub const MOST_OF_STORE: usize = 4_194_304;
 /// The most bytes that a bundle may have.
 pub const MOST_OF_BUNDLE: usize = 33_554_432;
 

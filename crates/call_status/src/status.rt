@@ -29,7 +29,7 @@ pub enum Status {
     PutFault,
     /// There is no memory.
     NoMemory,
-    /// The source gave more than 1,048,576 bytes, or more than 33,554,432 of a bundle.
+    /// The source gave more than 1,048,576 bytes, 4,194,304 of a store, or 33,554,432 of a bundle.
     TooBig,
     /// There is a store already.
     Exists,

@@ -1,3 +1,4 @@
 pub mod ShowLemmas
 pub mod ShownLemmas
-pub mod MadeLemmas
+pub mod WrittenLemmas
+pub mod RenewLemmas

@@ -1,3 +1,5 @@
 pub mod TryStore
 pub mod Show
 pub mod New
+pub mod Kept
+pub mod Renewed

@@ -3,6 +3,7 @@ use Rattle.std.specs.Prelude.{◌≡◌, ℕ, ◌+◌, ◌<◌, List, [], ◌++�
 use Rattle.std.specs.Option.{option_map}
 use Rattle.outside.specs.declared.world.Outside.{Ghosts}
 use Rattle.outside.specs.Bytes.{Torn}
+use Rattle.outside.specs.Causes.{Rose}
 use Rattle.outside.specs.Durable.{IsSure}
 use Rattle.outside.specs.Moments.{Elapses}
 use Rattle.outside.specs.Runs.{OnlyAsks, Leaves, held_of}
@@ -21,10 +22,10 @@ pub record IsWrittenWhole {W : Type 0} (G : Ghosts W) (bytes : List ℕ) (old ne
   pub sure : IsTrue (G.is_honest old) → IsSome (G.held old) → IsSure G new
   pub writes : G.writes new ≡ option_map (λ count. count + 1) (G.writes old)
 
--- The bytes are those of a store with nothing in it, where they are told, and sure where the disk is honest too; one write succeeded.
-pub record IsFresh {W : Type 0} (G : Ghosts W) (header : Header) (before after : W) : Type 0 where
+-- The bytes are this image, where they are told, and sure where the disk is honest too; one write succeeded on an empty disk.
+pub record IsStored {W : Type 0} (G : Ghosts W) (image : List ℕ) (before after : W) : Type 0 where
   pub empty : IsSome (G.held before) → held_of G before ≡ []
-  pub held : IsSome (G.held before) → G.held after ≡ Some (fresh header)
+  pub held : IsSome (G.held before) → G.held after ≡ Some image
   pub sure : IsTrue (G.is_honest before) → IsSome (G.held before) → IsSure G after
   pub writes : G.writes after ≡ option_map (λ count. count + 1) (G.writes before)
 
@@ -32,32 +33,45 @@ pub record IsFresh {W : Type 0} (G : Ghosts W) (header : Header) (before after :
 abbrev pub IsTornBy : {W : Type 0} → Ghosts W → ℕ → W → W → Type 0
 IsTornBy G count old new = IsSome (G.held old) → IsSome (G.held new) × Torn 0 count (held_of G old) (held_of G new)
 
--- the same of the bytes of a store
-abbrev pub IsTorn : {W : Type 0} → Ghosts W → Header → W → W → Type 0
-IsTorn G header before after = IsTornBy G (total header) before after
-
 -- whenever a crash comes, it leaves what one may have left at the start, or that with any bytes among so many from the front
 abbrev pub LeavesTorn : {W : Type 0} → Ghosts W → ℕ → W → W → Type 0
 LeavesTorn G count before after =
     IsTrue (G.is_honest before) → IsSome (G.held before)
     → Leaves G (λ image seen. (start : List ℕ) × (begun : List ℕ) × G.left_since before (G.moment before) start begun × Torn 0 count start image) before after
 
--- what it did, by the status; other statuses don't come
-abbrev pub MadeBy : {W : Type 0} → Ghosts W → Header → W → W → Status → Type 0
-MadeBy G header before after status.Done = IsFresh G header before after × PrintsBy (G.printed before) (G.printed after) (new_line header) status.Done × PutsOnce G before after
-MadeBy G header before after status.PutFault = IsFresh G header before after × PrintsBy (G.printed before) (G.printed after) (new_line header) status.PutFault
-MadeBy G header before after status.DiskFault = (G.printed after ≡ G.printed before) × IsTorn G header before after
-MadeBy G header before after status.Exists = OnlyAsks G before after × (IsSome (G.held before) → 0 < length (held_of G before))
-MadeBy G header before after status.NoMemory = OnlyAsks G before after
-MadeBy G header before after _ = ⊥
+-- what writing an image and then a line did, by the status; other statuses don't come
+abbrev pub WrittenBy : {W : Type 0} → Ghosts W → (image line : List ℕ) → W → W → Status → Type 0
+WrittenBy G image line before after status.Done = IsStored G image before after × PrintsBy (G.printed before) (G.printed after) line status.Done × PutsOnce G before after
+WrittenBy G image line before after status.PutFault = IsStored G image before after × PrintsBy (G.printed before) (G.printed after) line status.PutFault
+WrittenBy G image line before after status.DiskFault = (G.printed after ≡ G.printed before) × IsTornBy G (length image) before after
+WrittenBy G image line before after status.Exists = OnlyAsks G before after × (IsSome (G.held before) → 0 < length (held_of G before))
+WrittenBy G image line before after status.NoMemory = OnlyAsks G before after
+WrittenBy G image line before after _ = ⊥
+
+-- why the disk isn't empty, or can't be asked
+abbrev pub IsNoEmpty : {W : Type 0} → Ghosts W → W → W → Status → Type 0
+IsNoEmpty G before after status.DiskFault = Rose (G.disk_faults before) (G.disk_faults after)
+IsNoEmpty G before after status.Exists = IsSome (G.held before) → 0 < length (held_of G before)
+IsNoEmpty G before after _ = ⊥
+
+-- a status of writing an image
+abbrev pub IsOfWriting : Status → Type 0
+IsOfWriting status.Done = Unit {0}
+IsOfWriting status.PutFault = Unit {0}
+IsOfWriting status.DiskFault = Unit {0}
+IsOfWriting _ = ⊥
 
 -- what it did; there is no order
-pub record Made {W : Type 0} (G : Ghosts W) (header : Header) (before after : W) (order : List (ℕ × ℕ)) (status : Status) : Type 0 where
+pub record Written {W : Type 0} (G : Ghosts W) (image line : List ℕ) (before after : W) (order : List (ℕ × ℕ)) (status : Status) : Type 0 where
   pub no_order : order ≡ []
   pub honest : G.is_honest after ≡ G.is_honest before
   pub time : Elapses G.moment G.left_since before after
-  pub crash : LeavesTorn G (total header) before after
-  pub by_status : MadeBy G header before after status
+  pub crash : LeavesTorn G (length image) before after
+  pub by_status : WrittenBy G image line before after status
+
+-- what making a store did: its image has nothing in it but the header
+abbrev pub Made : {W : Type 0} → Ghosts W → Header → W → W → List (ℕ × ℕ) → Status → Type 0
+Made G header before after order status = Written G (fresh header) (new_line header) before after order status
 
 -- a status of making a store
 abbrev pub IsOfNew : Status → Type 0

@@ -1,10 +1,15 @@
-//! A store that is made, or whose bytes are shown: the words `new` and `show`, and the store that `try` runs on.
+//! A store that is made, renewed, shown, or read whole: the words `new`, `new2`, `renew` and `show`, and the store that `try` runs on.
 #![tactic(auto)]
 
+mod kept;
 mod new;
 mod opening;
+mod renew;
 mod show;
+mod written;
 
+pub use kept::{KeptFault, kept_store};
 pub use new::make_store;
 pub use opening::try_store;
+pub use renew::renew_store;
 pub use show::{Range, show_range};

@@ -1,18 +1,22 @@
 -- What a header without a fault says.
-use Rattle.std.proofs.Common.{◌≡◌, ℕ, zero, suc, ◌+◌, ◌*◌, ◌-◌, ◌^◌, ◌<◌, ◌≤◌, slice_index, true, false, List, [], ◌∷◌, ◌++◌, length, take, ◌∙◌, ap, arith, inl, inr}
-use Rattle.std.specs.Prelude.{Option, None, Some, All, min, nat_lt, is_some, if◌then◌else◌}
+use Rattle.std.proofs.Common.{◌≡◌, ℕ, zero, suc, ◌+◌, ◌*◌, ◌-◌, ◌%◌, ◌^◌, ◌<◌, ◌≤◌, slice_index, true, false, List, [], ◌∷◌, ◌++◌, length, take, drop, Bool, refl, sym, codes, ◌∙◌, ap, arith, inl, inr}
+use Rattle.std.specs.Prelude.{Option, None, Some, All, min, nat_lt, nat_eq, not, is_some, if◌then◌else◌}
+use Rattle.std.specs.List.{starts_with}
+use Rattle.line_geometry.specs.FlatStore.{FlatStore}
 use Rattle.std.proofs.lemmas.Bool.{cases_lt, cases_eq}
-use Rattle.std.proofs.lemmas.Bool.Decides.{nat_tests}
+use Rattle.std.proofs.lemmas.Bool.Decides.{Decides-eqb, nat_tests}
 use Rattle.line_geometry.specs.declared.directory.PageSize.{PageSize}
 use Rattle.line_geometry.specs.declared.directory.PageSize.TheVariants.{Two, Four}
 use Rattle.line_geometry.specs.Legal.{IsLegal, AreFlags, flag_count}
 use Rattle.store_format.specs.Header.{Header, number_at, within, name_field, segments_of, segment_fields, zeros, spare_fields, page_of, fields, first_fault, header_of, total}
-use Rattle.store_format.specs.Bank.{base_of, bank_of}
-use Rattle.store_format.specs.Stands.{Standing, NotAStore, stands, standing_if, standing_by, chosen}
+use Rattle.store_format.specs.Bank.{Bank, Holds, Faulty, base_of, bank_of}
+use Rattle.store_format.specs.Stands.{Standing, Stands, NotAStore, stands, standing_if, standing_by, chosen}
 use Rattle.store_format.proofs.Checks.{none-append, right_number, length-segments_at}
 use Rattle.store_format.proofs.Segments.{Stays, right_within, segments_legal, stays_all}
 use Rattle.std.proofs.lemmas.List.Elements.{All-head, All-tail}
-use Rattle.std.proofs.lemmas.List.{get_or-drop}
+use Rattle.std.proofs.lemmas.List.{get_or-drop, length-drop, length-take, take-append-drop}
+use Rattle.std.proofs.lemmas.Slice.Eq.{starts_is}
+use Rattle.byteorder.specs.Endian.{big_number}
 use Rattle.std.proofs.lemmas.Nat.{pow_pos}
 
 pub record IsSound (head : List ℕ) : Type 0 where
@@ -99,3 +103,63 @@ faulty_length image header none said other =
           let least : b ≡ min a b = omega arith in
           rw (no, is) (ap NotAStore least)
     ]
+
+-- what stands has a header without a fault, its directory, and a number of 64 bits
+pub stood_header : (image : List ℕ) (number : ℕ) (store : FlatStore) → stands image ≡ Stands number store
+    → (first_fault (length image) (fields (take 128 image)) ≡ None) × (store.directory ≡ (header_of (take 128 image)).directory) × (number < 2 ^ 64)
+unfolding stands
+stood_header image number store is = by_fault (first_fault (length image) (fields (take 128 image))) is
+  where
+    header : Header
+    header = header_of (take 128 image)
+
+    by_bank : (base : ℕ) (bank : Bank) → standing_by image header base bank ≡ Stands number store → (store.directory ≡ header.directory) × (number < 2 ^ 64)
+    by_bank base (Holds gate records) is = (cc, let said : number ≡ (base + length records) % 2 ^ 64 = cc in omega (arith, said))
+    by_bank base (Faulty offset) is = absurd (cc)
+
+    by_length : (short long : Bool) (less more base : ℕ) (bank : Bank) → (if short then NotAStore less else if long then NotAStore more else standing_by image header base bank) ≡ Stands number store → (store.directory ≡ header.directory) × (number < 2 ^ 64)
+    by_length true long less more base bank is = absurd (cc)
+    by_length false true less more base bank is = absurd (cc)
+    by_length false false less more base bank is = by_bank base bank is
+
+    by_fault : (fault : Option ℕ) → standing_if image fault header ≡ Stands number store → (fault ≡ None) × (store.directory ≡ header.directory) × (number < 2 ^ 64)
+    by_fault (Some offset) is = absurd (cc)
+    by_fault None is =
+        let said = by_length (nat_lt (length image) (total header)) (nat_lt (total header) (length image)) (length image) (total header) (base_of image header (chosen image)) (bank_of image header (chosen image)) is in
+        (refl, said.0, said.1)
+
+-- a header without a fault has the name, and its version is 1 or 2
+pub named_header : (image : List ℕ) → first_fault (length image) (fields (take 128 image)) ≡ None
+    → (starts_with nat_eq (take 128 image) (codes "801STORE") ≡ true) × (10 ≤ length image) × (1 ≤ number_at (take 128 image) 8 2) × (number_at (take 128 image) 8 2 ≤ 2)
+named_header image none =
+    let head = take 128 image in
+    let version = within 8 2 (number_at head 8 2) 1 2 in
+    let others = within 10 2 (number_at head 10 2) 1 15 ∷ within 12 4 (number_at head 12 4) 4096 131072 ∷ (segment_fields 16 1 1024 (segments_of head) ++ spare_fields (page_of (number_at head 8 2)) head (length (segments_of head))) in
+    let name = none-append (length image) (name_field head ∷ []) (version ∷ others) none in
+    let versions = none-append (length image) (version ∷ []) others name.1 in
+    let right = right_number (length image) 8 2 (number_at head 8 2) 1 2 (ap (λ (fault : Option ℕ). is_some fault) versions.0) in
+    (named (nat_lt (length image) 8) (starts_with nat_eq head (codes "801STORE")) name.0, omega (arith, right.0), right.1, right.2)
+  where
+    named : (short right : Bool) → (if short then Some (length image) else if not right then Some 0 else None) ≡ None → right ≡ true
+    named true right none = absurd (cc)
+    named false true none = refl
+    named false false none = absurd (cc)
+
+-- a number in two bytes that is 2
+two_bytes : (bytes : List ℕ) → 2 ≤ length bytes → big_number 2 bytes ≡ 2 → (rest : List ℕ) × (bytes ≡ 0 ∷ 2 ∷ rest)
+two_bytes [] long is = absurd (omega arith)
+two_bytes (high ∷ []) long is = absurd (omega arith)
+two_bytes (high ∷ low ∷ rest) long is =
+    let first : high ≡ 0 = omega (arith, is) in
+    let second : low ≡ 2 = omega (arith, is) in
+    (rest, ap (λ (n : ℕ). n ∷ low ∷ rest) first ∙ ap (λ (n : ℕ). 0 ∷ n ∷ rest) second)
+
+-- a name and a version 2 in front
+pub begins_two : (text : List ℕ) → 10 ≤ length text → starts_with nat_eq (take 128 text) (codes "801STORE") ≡ true → number_at (take 128 text) 8 2 ≡ 2 → starts_with nat_eq text (codes "801STORE" ++ 0 ∷ 2 ∷ []) ≡ true
+begins_two text long name two =
+    let head = take 128 text in
+    let named : head ≡ codes "801STORE" ++ drop 8 head = (starts_is Decides-eqb head (codes "801STORE") (starts_with nat_eq head (codes "801STORE")) refl).0 name in
+    let (rest, is) = two_bytes (drop 8 head) (omega (arith, length-drop 8 head, length-take 128 text, long)) two in
+    let whole : text ≡ (codes "801STORE" ++ 0 ∷ 2 ∷ []) ++ (rest ++ drop 128 text) =
+    sym (take-append-drop 128 text) ∙ ap (λ (these : List ℕ). these ++ drop 128 text) (named ∙ ap (λ (these : List ℕ). codes "801STORE" ++ these) is) in
+    (starts_is Decides-eqb text (codes "801STORE" ++ 0 ∷ 2 ∷ []) (starts_with nat_eq text (codes "801STORE" ++ 0 ∷ 2 ∷ [])) refl).1 (rest ++ drop 128 text) whole

@@ -10,7 +10,7 @@ use Rattle.serial_audit.specs.declared.bundle.Bundle.{Bundle}
 use Rattle.call_status.specs.declared.status.Status.{Status}
 use Rattle.bundle_calls.specs.Audited.{IsUnchecked}
 use Rattle.bundle_calls.specs.Bundled.{IsOpened, part_of}
-use Rattle.bundle_calls.specs.Kept.{Keeps}
+use Rattle.store_calls.specs.Kept.{Keeps}
 use Rattle.call_status.specs.Opening.{IsFaultAt}
 use Rattle.bundle_calls.proofs.BundleLemmas.{counted, handed_on}
 use Rattle.bundle_calls.proofs.audit.checked.Goals as goal

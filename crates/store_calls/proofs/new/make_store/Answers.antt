@@ -1,15 +1,18 @@
-use Rattle.std.proofs.Common.{◌∙◌, arith}
-use Rattle.store_calls.proofs.MadeLemmas.{made_put, made_torn}
+use Rattle.std.proofs.Common.{◌≡◌, ℕ, List, [], ◌++◌, ◌∙◌, ap, subst}
+use Rattle.std.specs.Prelude.{codes, decimal}
+use Rattle.store_format.specs.Header.{fresh}
+use Rattle.store_calls.specs.New.{Written, new_line}
+use Rattle.store_calls.proofs.WrittenLemmas.{written_since}
 use Rattle.store_calls.proofs.new.make_store.Goals as goal
-
-pub returns-in-Err-write-clause-made : goal.returns-in-Err-write-clause-made
-returns-in-Err-write-clause-made g c =
-    made_torn g.W.Outside g.met.W.Outside.fewer_later c.args.outside.now c.length.new.outside c.in-Ok-eq0.ensures.asks c.args.header.now c.as_slice.result.now c.write.new.outside
-    (c.as_slice.ensures.value ∙ c.in-Ok-fresh.ensures.bytes) (c.as_slice.ensures.len ∙ c.in-Ok-fresh.ensures.len)
-    c.in-Err-write.ensures.calls c.in-Err-write.ensures.crash c.in-Err-write.ensures.torn
 
 pub returns-clause-made : goal.returns-clause-made
 returns-clause-made g c =
-    made_put g.W.Outside g.met.W.Outside.fewer_later c.args.outside.now c.length.new.outside c.in-Ok-eq0.ensures.asks c.args.header.now c.as_slice.result.now c.write.new.outside
-    (c.as_slice.ensures.value ∙ c.in-Ok-fresh.ensures.bytes) (c.as_slice.ensures.len ∙ c.in-Ok-fresh.ensures.len)
-    c.in-Ok-write.ensures.calls c.in-Ok-write.ensures.crash c.in-Ok-write.ensures.done (λ told. omega (arith, c.in-Ok-eq0.field-0-is, c.in-Ok-eq0.ensures.number told)) c.put_total.new.outside c.put_total.result c.put_total.ensures.only c.put_total.ensures.puts c.put_total.ensures.times
+    let G = g.W.Outside in
+    let header = c.args.header.now in
+    let before = c.args.outside.now in
+    let after = c.write_store.new.outside in
+    let image : c.as_slice.result.now ≡ fresh header = c.as_slice.ensures.value ∙ c.in-Ok.ensures.bytes in
+    let line : c.as_slice-2.result.now ≡ new_line header = c.as_slice-2.ensures ∙ c.new_line-line.ensures ∙ ap (λ (n : ℕ). codes "new " ++ decimal n ++ codes "\n") c.total.ensures.value in
+    subst (λ (bytes : List ℕ). Written G bytes (new_line header) before after [] c.write_store.result) image
+    (subst (λ (bytes : List ℕ). Written G c.as_slice.result.now bytes before after [] c.write_store.result) line
+    (written_since G g.met.W.Outside.fewer_later before c.ask_empty.new.outside c.in_default.ensures.asks c.as_slice.result.now c.as_slice-2.result.now after c.write_store.result c.write_store.ensures.only c.write_store.ensures.written))

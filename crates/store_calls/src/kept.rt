@@ -1,5 +1,5 @@
 // The store that bytes in memory are.
-ghost use Rattle.bundle_calls.specs.declared.kept.KeptFault.TheVariants.{Memory};
+ghost use Rattle.store_calls.specs.declared.kept.KeptFault.TheVariants.{Memory};
 ghost use Rattle.std.specs.Prelude.{◌≡◌, IsSome, IfOk, IfErr, MatchResult};
 ghost use Rattle.line_geometry.specs.Directory.{byte_count};
 ghost use Rattle.outside.specs.Runs.{OnlyAsks, held_of};
@@ -7,7 +7,7 @@ ghost use Rattle.redo_journal.specs.Held.{HoldsAtLeast};
 ghost use Rattle.store_format.specs.Header.{total};
 ghost use Rattle.store_format.specs.Stands.{stands};
 ghost use Rattle.restart.specs.Shows.{IsShown};
-ghost use Rattle.bundle_calls.specs.Kept.{IsWhyNone, Keeps, fault_of};
+ghost use Rattle.store_calls.specs.Kept.{IsWhyNone, Keeps, fault_of};
 ghost use Rattle.store_calls.specs.Show.{bytes_in};
 
 use outside::{Failed, Joint, MemoryDisk, MemoryScreen, Outside};
@@ -64,7 +64,17 @@ impl From<OpenFault> for KeptFault {
 pub fn kept_store(alloc: Global, bytes: &[u8]) -> Result<KeptStore, KeptFault>
     ensures { MatchResult result (Keeps bytes.now) (IsWhyNone bytes.now) }
 {
-    let image = Vec::from_slice(alloc, bytes)?;
+    kept_image(alloc, Vec::from_slice(alloc, bytes)?)
+}
+
+/// The same of bytes that are handed in, which no second copy is made of.
+///
+/// # Errors
+///
+/// As [`KeptFault`] says; it tells an offset exactly where the bytes stand for nothing.
+pub fn kept_image(alloc: Global, image: Vec<u8>) -> Result<KeptStore, KeptFault>
+    ensures { MatchResult result (Keeps image.items) (IsWhyNone image.items) }
+{
     let disk = MemoryDisk::new(alloc, image, Vec::new(alloc));
     let mut outside = Joint::new(disk, MemoryScreen::new(alloc, Vec::new(alloc)));
     read_store(alloc, &mut outside)

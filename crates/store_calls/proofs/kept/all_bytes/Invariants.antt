@@ -4,7 +4,7 @@ use Rattle.outside.specs.Runs.{held_of}
 use Rattle.store_format.specs.Stands.{stands}
 use Rattle.restart.specs.Shows.{IsShown}
 use Rattle.store_calls.specs.Show.{OnlyShows, bytes_in}
-use Rattle.bundle_calls.proofs.kept.all_bytes.Given as goal
+use Rattle.store_calls.proofs.kept.all_bytes.Given as goal
 
 -- the pages so far were read
 abbrev pub invariant-loop-number : goal.invariant-loop-number

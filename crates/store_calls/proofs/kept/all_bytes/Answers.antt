@@ -8,7 +8,7 @@ use Rattle.store_format.specs.Header.{Header}
 use Rattle.restart.specs.Shows.{page_in}
 use Rattle.store_calls.specs.Show.{bytes_in}
 use Rattle.store_calls.proofs.ShowLemmas.{bytes_on, has_pages, held_same, none_in, page_whole, shows_asks, shows_none, shows_on, still_shown}
-use Rattle.bundle_calls.proofs.kept.all_bytes.Goals as goal
+use Rattle.store_calls.proofs.kept.all_bytes.Goals as goal
 
 pub loop-number-init : goal.loop-number-init
 loop-number-init g c =

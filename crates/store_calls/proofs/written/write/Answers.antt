@@ -1,7 +1,7 @@
 use Rattle.std.proofs.Common.{List, ℕ, length}
 use Rattle.outside.specs.Bytes.{Torn}
 use Rattle.outside.proofs.Runs.{leaves_same, still_told}
-use Rattle.store_calls.proofs.new.write.Goals as goal
+use Rattle.store_calls.proofs.written.write.Goals as goal
 
 pub returns-clause-crash : goal.returns-clause-crash
 returns-clause-crash g c = λ honest told.

@@ -6,8 +6,8 @@ use Rattle.redo_journal.specs.declared.fault.OpenFault.{OpenFault}
 use Rattle.redo_journal.specs.declared.fault.OpenFault.TheVariants as open_fault
 use Rattle.serial_audit.specs.declared.auditing.KeptStore.{KeptStore}
 use Rattle.serial_audit.specs.Audit.{flat_of}
-use Rattle.bundle_calls.specs.declared.kept.KeptFault.{KeptFault}
-use Rattle.bundle_calls.specs.declared.kept.KeptFault.TheVariants.{At, Memory}
+use Rattle.store_calls.specs.declared.kept.KeptFault.{KeptFault}
+use Rattle.store_calls.specs.declared.kept.KeptFault.TheVariants.{At, Memory}
 use Rattle.call_status.specs.Opening.{IsFaultAt}
 
 -- the bytes stand for a kept store, which has as many bytes as its segments

@@ -10,9 +10,9 @@ use Rattle.restart.specs.Kept.{number_of}
 use Rattle.restart.specs.Shows.{Shows}
 use Rattle.serial_audit.specs.declared.auditing.KeptStore.{KeptStore}
 use Rattle.restart.proofs.StoodLemmas.{committed_in, committed-long, stood-store}
-use Rattle.bundle_calls.specs.Kept.{Keeps}
+use Rattle.store_calls.specs.Kept.{Keeps}
 use Rattle.store_calls.specs.Show.{bytes_in}
-use Rattle.bundle_calls.proofs.kept.read_store.Goals as goal
+use Rattle.store_calls.proofs.kept.read_store.Goals as goal
 
 -- all bytes of what stands, read from the front on, are the store
 keeps_all : (held : List ℕ) (store : restart.KeptStore) (shows : Shows held store) (kept : KeptStore)

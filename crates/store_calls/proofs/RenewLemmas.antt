@@ -1,0 +1,135 @@
+-- A store of version 2 with what a store of version 1 has.
+use Rattle.std.proofs.Common.{◌≡◌, ◌⊎◌, inl, inr, ℕ, zero, suc, ◌+◌, ◌*◌, ◌/◌, ◌%◌, ◌-◌, ◌^◌, ◌<◌, ◌≤◌, Bool, true, false, List, [], ◌∷◌, ◌++◌, length, map, take, take-suc, get_or, drop, replicate, true≢false, refl, sym, ◌∙◌, ap, subst, arith}
+use Rattle.std.specs.Prelude.{All, nat_eq, codes, sum_by, Option}
+use Rattle.std.specs.List.{starts_with}
+use Rattle.std.specs.List.Sorted.{IsStrictlyIncreasing}
+use Rattle.std.proofs.lemmas.Bool.{cases_eq}
+use Rattle.std.proofs.lemmas.List.{length-append, length-drop, length-replicate, length-map, length-take, map-append}
+use Rattle.std.proofs.lemmas.List.Sums.{sum_by-cons}
+use Rattle.std.proofs.lemmas.Nat.{pow_pos}
+use Rattle.std.proofs.lemmas.List.Elements.{All-nil, All-cons, All-head, All-tail}
+use Rattle.line_geometry.specs.Directory.{Layout, byte_count}
+use Rattle.line_geometry.specs.FlatStore.{FlatStore}
+use Rattle.line_geometry.specs.Legal.{IsInRange, IsLegal}
+use Rattle.line_geometry.specs.Segments.{bytes_of, page_bytes}
+use Rattle.line_geometry.specs.declared.directory.PageSize.{PageSize}
+use Rattle.line_geometry.specs.declared.directory.PageSize.TheVariants.{Two, Four}
+use Rattle.store_format.specs.Header.{Header, HasRanges, header_of, number_at, page_of}
+use Rattle.store_format.specs.Stands.{Stands, stands}
+use Rattle.store_format.proofs.Fresh.{stored_stands}
+use Rattle.store_format.proofs.Sound.{begins_two, named_header, sound_header, stood_header}
+use Rattle.outside.specs.declared.world.Outside.{Ghosts}
+use Rattle.serial_audit.specs.Audit.{flat_of}
+use Rattle.serial_audit.specs.declared.auditing.KeptStore.{KeptStore}
+use Rattle.call_status.specs.declared.status.Status.{Status}
+use Rattle.call_status.specs.declared.status.Status.TheVariants as status
+use Rattle.store_calls.specs.New.{IsNoEmpty, IsOfWriting, Written}
+use Rattle.store_calls.specs.Renewed.{HasOne, IsRenewed, Renewed, is_version_two, renew_line, renewed_header, renewed_image, widened, widened_bytes, widened_segments}
+
+-- the segments of twice the size are those of a directory
+named_same : (segments : List (ℕ × ℕ)) → map (λ segment. segment.0) (widened_segments segments) ≡ map (λ segment. segment.0) segments
+named_same [] = refl
+named_same (segment ∷ segments) = ap (λ (those : List ℕ). segment.0 ∷ those) (named_same segments)
+
+fewer_pages : (segments : List (ℕ × ℕ)) → All IsInRange segments → sum_by (λ segment. segment.1) (widened_segments segments) ≤ sum_by (λ segment. segment.1) segments
+fewer_pages [] range = omega arith
+fewer_pages (segment ∷ segments) range =
+    let here = All-head IsInRange segment segments range in
+    let rest = fewer_pages segments (All-tail IsInRange segment segments range) in
+    omega (arith, rest, here.2, sum_by-cons (λ (those : ℕ × ℕ). those.1) segment segments, sum_by-cons (λ (those : ℕ × ℕ). those.1) (segment.0, (segment.1 + 1) / 2) (widened_segments segments))
+
+still_in_range : (segments : List (ℕ × ℕ)) → All IsInRange segments → All IsInRange (widened_segments segments)
+still_in_range [] range = All-nil IsInRange
+still_in_range (segment ∷ segments) range =
+    let here = All-head IsInRange segment segments range in
+    All-cons IsInRange (segment.0, (segment.1 + 1) / 2) (widened_segments segments)
+    (here.0, here.1, omega (arith, here.2), omega (arith, here.3))
+    (still_in_range segments (All-tail IsInRange segment segments range))
+
+pub widened_legal : (segments : List (ℕ × ℕ)) → IsLegal segments → IsLegal (widened_segments segments)
+widened_legal segments legal =
+    let many : length (widened_segments segments) ≡ length segments = length-map segments (λ (segment : ℕ × ℕ). (segment.0, (segment.1 + 1) / 2)) in
+    record {
+      some = omega (arith, many, legal.some);
+      few = omega (arith, many, legal.few);
+      in_range = still_in_range segments legal.in_range;
+      ascending = subst IsStrictlyIncreasing (sym (named_same segments)) legal.ascending;
+      pages = omega (arith, fewer_pages segments legal.in_range, legal.pages);
+    }
+
+-- one segment more
+pub widened_more : (segments : List (ℕ × ℕ)) (i : ℕ) (d : ℕ × ℕ) → i < length segments
+    → widened_segments (take (i + 1) segments) ≡ widened_segments (take i segments) ++ ((get_or segments i d).0, ((get_or segments i d).1 + 1) / 2) ∷ []
+widened_more segments i d below =
+    let next : i + 1 ≡ suc i = omega arith in
+    ap (λ (n : ℕ). widened_segments (take n segments)) next
+    ∙ ap widened_segments (take-suc segments i d below)
+    ∙ map-append (λ (segment : ℕ × ℕ). (segment.0, (segment.1 + 1) / 2)) (take i segments) (get_or segments i d ∷ [])
+
+-- and have as many bytes as its pages
+pub length-widened : (segments : List (ℕ × ℕ)) (bytes : List ℕ) → length bytes ≡ sum_by (bytes_of 2048) segments → length (widened_bytes segments bytes) ≡ sum_by (bytes_of 4096) (widened_segments segments)
+length-widened [] bytes whole = refl
+length-widened (segment ∷ segments) bytes whole =
+    let own = segment.1 * 2048 in
+    let odd = segment.1 % 2 * 2048 in
+    let parts : length bytes ≡ segment.1 * 2048 + sum_by (bytes_of 2048) segments = whole ∙ sum_by-cons (bytes_of 2048) segment segments in
+    let rest = length-widened segments (drop own bytes) (length-drop own bytes ∙ omega (arith, parts)) in
+    let pages : (segment.1 + 1) / 2 * 4096 ≡ segment.1 * 2048 + segment.1 % 2 * 2048 = omega arith in
+    let taken : length (take own bytes) ≡ own = length-take own bytes ∙ omega (arith, parts) in
+    length-append (take own bytes ++ replicate odd 0) (widened_bytes segments (drop own bytes))
+    ∙ ap (λ (n : ℕ). n + length (widened_bytes segments (drop own bytes))) (length-append (take own bytes) (replicate odd 0) ∙ ap (λ (n : ℕ). n + length {A = ℕ} (replicate odd 0)) taken ∙ ap (λ (n : ℕ). own + n) (length-replicate {A = ℕ} odd 0) ∙ sym pages)
+    ∙ ap (λ (n : ℕ). (segment.1 + 1) / 2 * 4096 + n) rest
+    ∙ sym (sum_by-cons (bytes_of 4096) (segment.0, (segment.1 + 1) / 2) (widened_segments segments))
+
+-- the image of the widened store stands for it
+pub renewed_stands : (bank number : ℕ) (store : FlatStore) → 4096 ≤ bank → bank ≤ 131072 → number < 2 ^ 64 → IsLegal store.directory.segments → length store.bytes ≡ sum_by (bytes_of 2048) store.directory.segments
+    → stands (renewed_image bank number store) ≡ Stands number (widened store)
+renewed_stands bank number store least most low legal whole =
+    stored_stands (renewed_header bank store) number (widened store).bytes (record { least_bank = least; most_bank = most }) (widened_legal store.directory.segments legal) (pow_pos (length (widened_segments store.directory.segments))) low
+    (length-widened store.directory.segments store.bytes whole)
+
+-- what stands and has no version 2 in front is a store of version 1
+pub stood_one : (text : List ℕ) (number : ℕ) (store : FlatStore) → is_version_two text ≡ false → stands text ≡ Stands number store → (store.directory.page ≡ Two) × IsLegal store.directory.segments × (number < 2 ^ 64)
+stood_one text number store plain is =
+    let (none, directory, low) = stood_header text number store is in
+    let (name, long, least, most) = named_header text none in
+    let sound = sound_header (take 128 text) (length text) none in
+    let version = number_at (take 128 text) 8 2 in (
+      elim (cases_eq version 2) [
+        | inl two ↦ absurd (true≢false (sym (begins_two text long name two) ∙ plain))
+        | inr other ↦
+            let one : version ≡ 1 = one_left version least most other in
+            ap (λ (those : Layout). those.page) directory ∙ ap page_of one
+      ],
+      subst (λ (those : Layout). IsLegal those.segments) (sym directory) sound.legal,
+      low,
+    )
+  where
+    one_left : (n : ℕ) → 1 ≤ n → n ≤ 2 → (n ≡ 2 → ⊥) → n ≡ 1
+    one_left n least most other = omega (arith, least, most, other)
+
+-- an old store with an image that was written, or couldn't be
+module _ {W : Type 0} (G : Ghosts W) (bank : ℕ) (left left_now : Option (List ℕ)) (faults faults_now : ℕ) (before after : W) (old : KeptStore) (has : HasOne left left_now old) (least : 4096 ≤ bank) (most : bank ≤ 131072) where
+  renewed_from : (now : Status) → Written G (renewed_image bank old.number (flat_of old)) (renew_line (length (renewed_image bank old.number (flat_of old))) old.number) before after [] now → IsRenewed G bank left left_now before after [] now
+  renewed_from now written = record {
+    text = has.text;
+    whole = has.whole;
+    number = old.number;
+    store = flat_of old;
+    stood = has.stood;
+    stands = renewed_stands bank old.number (flat_of old) least most has.low has.legal has.bytes;
+    written = written;
+  }
+
+  pub renewed_by_writing : (now : Status) → IsOfWriting now → Written G (renewed_image bank old.number (flat_of old)) (renew_line (length (renewed_image bank old.number (flat_of old))) old.number) before after [] now
+      → Renewed G bank left left_now faults faults_now before after [] now
+  renewed_by_writing status.Done of written = record { no_order = refl; by_status = renewed_from status.Done written }
+  renewed_by_writing status.PutFault of written = record { no_order = refl; by_status = renewed_from status.PutFault written }
+  renewed_by_writing status.DiskFault of written = record { no_order = refl; by_status = renewed_from status.DiskFault written }
+  renewed_by_writing _ of written = absurd of
+
+  pub renewed_no_empty : (now : Status) → IsNoEmpty G before after now → Written G (renewed_image bank old.number (flat_of old)) (renew_line (length (renewed_image bank old.number (flat_of old))) old.number) before after [] now
+      → Renewed G bank left left_now faults faults_now before after [] now
+  renewed_no_empty status.DiskFault why written = record { no_order = refl; by_status = renewed_from status.DiskFault written }
+  renewed_no_empty status.Exists why written = record { no_order = refl; by_status = renewed_from status.Exists written }
+  renewed_no_empty _ why written = absurd why

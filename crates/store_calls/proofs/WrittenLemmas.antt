@@ -1,0 +1,141 @@
+-- What making a store did.
+use Rattle.std.proofs.Common.{◌≡◌, ◌⊎◌, inl, inr, ◌+◌, ℕ, List, [], ◌∷◌, length, refl, sym, ◌∙◌, ap, subst, arith}
+use Rattle.std.specs.Prelude.{Option, Some, IsSome, IsTrue, Result, Ok, Err, unwrap_or}
+use Rattle.std.specs.Option.{option_map}
+use Rattle.outside.specs.declared.world.Outside.{Ghosts}
+use Rattle.outside.specs.declared.failed.Failed.{Failed}
+use Rattle.outside.specs.Bytes.{Prints, Torn}
+use Rattle.outside.specs.Moments.{Elapses}
+use Rattle.outside.specs.Runs.{CallsDisk, FewerLater, OnlyAsks, held_of}
+use Rattle.outside.proofs.Runs.{elapses-trans, leaves_on}
+use Rattle.outside.proofs.Torn.{untouched}
+use Rattle.listing.specs.Puts.{Puts, PutsTimes}
+use Rattle.call_status.specs.declared.status.Status.{Status}
+use Rattle.call_status.specs.declared.status.Status.TheVariants as status
+use Rattle.call_status.specs.Printed.{put_of, PrintsBy, PutsOnce}
+use Rattle.store_calls.specs.New.{IsNoEmpty, IsOfWriting, IsStored, IsTornBy, IsWrittenWhole, LeavesTorn, Written, WrittenBy}
+use Rattle.store_calls.proofs.ShowLemmas.{shows_puts, sure_shows}
+
+-- an image was written on an empty disk
+module _ {W : Type 0} (G : Ghosts W) (fewer_later : FewerLater G) (image line : List ℕ) (start mid : W) (calls : CallsDisk G start mid) (torn : LeavesTorn G (length image) start mid) where
+  -- the disk failed
+  pub written_torn : IsTornBy G (length image) start mid → Written G image line start mid [] status.DiskFault
+  written_torn left = record { no_order = refl; honest = calls.honest; time = calls.time; crash = torn; by_status = (calls.quiet.same, left) }
+
+  -- all was written, and the line put
+  module _ (empty : IsSome (G.held start) → held_of G start ≡ []) (written : IsWrittenWhole G image start mid) (after : W) where
+    stored : (result : Result (Unit {0}) Failed) → Puts G line mid after result → IsStored G image start after
+    stored result puts = record {
+      empty = empty;
+      held = λ told. puts.only.held ∙ written.held told (empty told);
+      sure = λ honest told. sure_shows G fewer_later mid after (written.sure honest told) (shows_puts G fewer_later line mid after result puts);
+      writes = puts.only.writes ∙ written.writes;
+    }
+
+    torn-after : (result : Result (Unit {0}) Failed) → Puts G line mid after result → LeavesTorn G (length image) start after
+    torn-after result puts honest told =
+        leaves_on G fewer_later start mid after calls.time puts.only.time (λ (crashed seen : List ℕ). (first : List ℕ) × (begun : List ℕ) × G.left_since start (G.moment start) first begun × Torn 0 (length image) first crashed)
+        (torn honest told)
+        (λ crashed seen left.
+        let (first, since) = puts.images crashed seen left in
+        torn honest told crashed first (fewer_later mid (G.moment start) (G.moment mid) crashed first calls.time.later since))
+
+    put-written : (now : Status) (result : Result (Unit {0}) Failed) → Puts G line mid after result → WrittenBy G image line start after now → Written G image line start after [] now
+    put-written now result puts by = record {
+      no_order = refl;
+      honest = puts.only.honest ∙ calls.honest;
+      time = elapses-trans G fewer_later start mid after calls.time puts.only.time;
+      crash = torn-after result puts;
+      by_status = by;
+    }
+
+    printed-from : (result : Result (Unit {0}) Failed) → Puts G line mid after result → Prints (G.printed start) (G.printed after) line result
+    printed-from result puts = subst (λ (these : Option (List ℕ)). Prints these (G.printed after) line result) calls.quiet.same puts.printed
+
+    once : PutsTimes {T = Unit {0}} G 1 mid after (Ok tt) → PutsOnce G start after
+    once times told = times (subst (λ (these : Option (List ℕ)). IsSome these) (sym calls.quiet.same) told) ∙ ap (λ (n : ℕ). n + 1) calls.puts
+
+    pub written_put : (now : Status) → (now ≡ status.Done) ⊎ (now ≡ status.PutFault) → Puts G line mid after (put_of now) → PutsTimes G 1 mid after (put_of now) → Written G image line start after [] now
+    written_put now (inl is) puts times =
+        let those = subst (λ (this : Status). Puts G line mid after (put_of this)) is puts in
+        subst (λ (this : Status). Written G image line start after [] this) (sym is)
+        (put-written status.Done (Ok tt) those (stored (Ok tt) those, printed-from (Ok tt) those, once (subst (λ (this : Status). PutsTimes G 1 mid after (put_of this)) is times)))
+    written_put now (inr is) puts times =
+        let those = subst (λ (this : Status). Puts G line mid after (put_of this)) is puts in
+        subst (λ (this : Status). Written G image line start after [] this) (sym is)
+        (put-written status.PutFault (Err (record {})) those (stored (Err (record {})) those, printed-from (Err (record {})) those))
+
+-- what was written since the disk was asked was written since before
+module _ {W : Type 0} (G : Ghosts W) (fewer_later : FewerLater G) (before start : W) (asks : OnlyAsks G before start) where
+  told-start : IsSome (G.held before) → IsSome (G.held start)
+  told-start told = subst (λ (these : Option (List ℕ)). IsSome these) (sym asks.held) told
+
+  same-held : held_of G start ≡ held_of G before
+  same-held = ap (λ (these : Option (List ℕ)). unwrap_or these []) asks.held
+
+  still_empty : (IsSome (G.held before) → held_of G before ≡ []) → IsSome (G.held start) → held_of G start ≡ []
+  still_empty empty told = same-held ∙ empty (subst (λ (these : Option (List ℕ)). IsSome these) asks.held told)
+
+  honest-start : IsTrue (G.is_honest before) → IsTrue (G.is_honest start)
+  honest-start honest = subst (λ b. IsTrue b) (sym asks.calls.honest) honest
+
+  torn_on : (count : ℕ) (after : W) → Elapses G.moment G.left_since start after → LeavesTorn G count start after → LeavesTorn G count before after
+  torn_on count after time torn honest told =
+      leaves_on G fewer_later before start after asks.calls.time time (λ (image seen : List ℕ). (first : List ℕ) × (begun : List ℕ) × G.left_since before (G.moment before) first begun × Torn 0 count first image)
+      (λ image seen left. (image, seen, asks.crash told image seen left, untouched 0 count image))
+      (λ image seen left.
+      let (first, begun, since, is) = torn (honest-start honest) (told-start told) image seen left in
+      (first, begun, asks.crash told first begun (fewer_later start (G.moment before) (G.moment start) first begun asks.calls.time.later since), is))
+
+  module _ (image line : List ℕ) (after : W) where
+    stored-since : IsStored G image start after → IsStored G image before after
+    stored-since stored = record {
+      empty = λ told. sym same-held ∙ stored.empty (told-start told);
+      held = λ told. stored.held (told-start told);
+      sure = λ honest told. stored.sure (honest-start honest) (told-start told);
+      writes = stored.writes ∙ ap (option_map (λ count. count + 1)) asks.writes;
+    }
+
+    prints-since : (now : Status) → PrintsBy (G.printed start) (G.printed after) line now → PrintsBy (G.printed before) (G.printed after) line now
+    prints-since now prints = subst (λ (these : Option (List ℕ)). PrintsBy these (G.printed after) line now) asks.calls.quiet.same prints
+
+    by-since : (now : Status) → IsOfWriting now → WrittenBy G image line start after now → WrittenBy G image line before after now
+    by-since status.Done of (stored, prints, once) =
+        (stored-since stored, prints-since status.Done prints, λ told. once (subst (λ (these : Option (List ℕ)). IsSome these) (sym asks.calls.quiet.same) told) ∙ ap (λ (n : ℕ). n + 1) asks.calls.puts)
+    by-since status.PutFault of (stored, prints) = (stored-since stored, prints-since status.PutFault prints)
+    by-since status.DiskFault of (same, torn) = (same ∙ asks.calls.quiet.same, λ told. let left = torn (told-start told) in (left.0, subst (λ (held : List ℕ). Torn 0 (length image) held (held_of G after)) same-held left.1))
+    by-since _ of by = absurd of
+
+    pub written_since : (now : Status) → IsOfWriting now → Written G image line start after [] now → Written G image line before after [] now
+    written_since now of written = record {
+      no_order = refl;
+      honest = written.honest ∙ asks.calls.honest;
+      time = elapses-trans G fewer_later before start after asks.calls.time written.time;
+      crash = torn_on (length image) after written.time written.crash;
+      by_status = by-since now of written.by_status;
+    }
+
+    -- the disk isn't empty, or couldn't be asked
+    pub not_written : (now : Status) → IsNoEmpty G before start now → Written G image line before start [] now
+    not_written now why = record {
+      no_order = refl;
+      honest = asks.calls.honest;
+      time = asks.calls.time;
+      crash = λ honest told crashed seen left. (crashed, seen, asks.crash told crashed seen left, untouched 0 (length image) crashed);
+      by_status = by now why;
+    }
+      where
+        by : (now : Status) → IsNoEmpty G before start now → WrittenBy G image line before start now
+        by status.DiskFault why = (asks.calls.quiet.same, λ told. (told-start told, subst (λ (held : List ℕ). Torn 0 (length image) held (held_of G start)) same-held (untouched 0 (length image) (held_of G start))))
+        by status.Exists why = (asks, why)
+        by _ why = absurd why
+
+    -- there is no memory for the image
+    pub no_memory : Written G image line before start [] status.NoMemory
+    no_memory = record {
+      no_order = refl;
+      honest = asks.calls.honest;
+      time = asks.calls.time;
+      crash = λ honest told crashed seen left. (crashed, seen, asks.crash told crashed seen left, untouched 0 (length image) crashed);
+      by_status = asks;
+    }

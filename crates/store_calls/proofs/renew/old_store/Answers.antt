@@ -1,0 +1,26 @@
+use Rattle.std.proofs.Common.{◌≡◌, false, refl, sym, ◌∙◌, ap, subst}
+use Rattle.line_geometry.specs.Directory.{byte_count}
+use Rattle.line_geometry.specs.Segments.{bytes_of, page_bytes}
+use Rattle.line_geometry.specs.declared.directory.PageSize.{PageSize}
+use Rattle.std.specs.Prelude.{sum_by}
+use Rattle.serial_audit.specs.Audit.{flat_of}
+use Rattle.store_calls.specs.Renewed.{is_version_two, standing_as_one}
+use Rattle.store_calls.proofs.RenewLemmas.{stood_one}
+use Rattle.store_calls.proofs.renew.old_store.Goals as goal
+
+pub returns-in-Ok-clause-has : goal.returns-in-Ok-clause-has
+returns-in-Ok-clause-has g c =
+    let text = c.in_ok-text.text.items in
+    let kept = c.in-Ok.kept in
+    let keeps = c.in-Ok.ensures in
+    let no : is_version_two text ≡ false = ap is_version_two (sym c.deref.ensures.value) ∙ sym c.starts_with.ensures.value ∙ c.if-starts_with.false in
+    let (small, legal, low) = stood_one text kept.number (flat_of kept) no keeps.stood in
+    record {
+      text = text;
+      whole = c.in_ok-text.ensures.bytes;
+      stood = rw no keeps.stood;
+      small = small;
+      legal = legal;
+      low = low;
+      bytes = keeps.whole ∙ ap (λ (page : PageSize). sum_by (bytes_of (page_bytes page)) kept.directory.segments) small;
+    }

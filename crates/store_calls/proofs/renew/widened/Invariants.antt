@@ -1,0 +1,6 @@
+use Rattle.std.proofs.Common.{◌≡◌, take}
+use Rattle.store_calls.specs.Renewed.{widened_segments}
+use Rattle.store_calls.proofs.renew.widened.Given as goal
+
+abbrev pub invariant-loop-segment : goal.invariant-loop-segment
+invariant-loop-segment l = l.segments.items ≡ widened_segments (take l.segment-index l.segment-items)

@@ -1,0 +1,107 @@
+-- A store of version 2 with what a store of version 1 has.
+use Rattle.std.specs.Prelude.{◌≡◌, ◌⊎◌, ℕ, ◌+◌, ◌*◌, ◌/◌, ◌%◌, ◌^◌, ◌<◌, ◌≤◌, nat_eq, if◌then◌else◌, Bool, List, [], ◌∷◌, ◌++◌, codes, decimal, length, map, sum_by, take, drop, replicate, Option}
+use Rattle.std.specs.List.{starts_with}
+use Rattle.line_geometry.specs.FlatStore.{FlatStore}
+use Rattle.line_geometry.specs.Legal.{IsLegal}
+use Rattle.line_geometry.specs.Segments.{bytes_of}
+use Rattle.line_geometry.specs.declared.directory.PageSize.TheVariants.{Two, Four}
+use Rattle.outside.specs.Causes.{Rose}
+use Rattle.outside.specs.declared.world.Outside.{Ghosts}
+use Rattle.outside.specs.Runs.{OnlyAsks}
+use Rattle.store_format.specs.Header.{Header, front}
+use Rattle.store_format.specs.Stands.{Standing, Stands, NotAStore, Damaged, stands}
+use Rattle.serial_audit.specs.Audit.{flat_of}
+use Rattle.serial_audit.specs.declared.auditing.KeptStore.{KeptStore}
+use Rattle.call_status.specs.SourceText.{HasRead, IsAll}
+use Rattle.call_status.specs.declared.status.Status.{Status}
+use Rattle.call_status.specs.declared.status.Status.TheVariants as status
+use Rattle.store_calls.specs.New.{IsOfNew, Written}
+
+-- each segment with half its pages, rounded up
+abbrev pub widened_segments : List (ℕ × ℕ) → List (ℕ × ℕ)
+widened_segments segments = map (λ segment. (segment.0, (segment.1 + 1) / 2)) segments
+
+-- the bytes of each segment, with zeros behind them up to a whole page of 4,096 bytes
+abbrev pub widened_bytes : List (ℕ × ℕ) → List ℕ → List ℕ
+widened_bytes [] bytes = []
+widened_bytes (segment ∷ segments) bytes =
+    (take (segment.1 * 2048) bytes ++ replicate (segment.1 % 2 * 2048) 0) ++ widened_bytes segments (drop (segment.1 * 2048) bytes)
+
+-- a store with pages of 2,048 bytes as one with pages of 4,096, none of them fine
+abbrev pub widened : FlatStore → FlatStore
+widened store = record {
+  directory = record { page = Four; segments = widened_segments store.directory.segments; fine = 0 };
+  bytes = widened_bytes store.directory.segments store.bytes;
+}
+
+-- whether bytes begin with a store's name and version 2
+abbrev pub is_version_two : List ℕ → Bool
+is_version_two bytes = starts_with nat_eq bytes (codes "801STORE" ++ 0 ∷ 2 ∷ [])
+
+-- what bytes stand for as a store of version 1: version 2 is a wrong field there
+abbrev pub standing_as_one : List ℕ → Standing
+standing_as_one bytes = if is_version_two bytes then NotAStore 8 else stands bytes
+
+-- the header of the new store, with a bank of so many bytes
+abbrev pub renewed_header : ℕ → FlatStore → Header
+renewed_header bank store = record { directory = (widened store).directory; bank_bytes = bank }
+
+-- its image: both banks hold nothing, at the old store's number
+abbrev pub renewed_image : (bank number : ℕ) → FlatStore → List ℕ
+renewed_image bank number store = front (renewed_header bank store) number ++ (widened store).bytes
+
+-- the line of a renewed store: how many bytes it has, and its number
+abbrev pub renew_line : (bytes number : ℕ) → List ℕ
+renew_line bytes number = codes "renew " ++ decimal bytes ++ codes " at " ++ decimal number ++ codes "\n"
+
+-- The source had a store of version 1, whole, and the image of the widened store, which stands for it, was written and told.
+pub record IsRenewed {W : Type 0} (G : Ghosts W) (bank : ℕ) (left left_now : Option (List ℕ)) (before after : W) (order : List (ℕ × ℕ)) (status : Status) : Type 0 where
+  pub text : List ℕ
+  pub whole : IsAll 4194304 left left_now text
+  pub number : ℕ
+  pub store : FlatStore
+  pub stood : standing_as_one text ≡ Stands number store
+  pub stands : stands (renewed_image bank number store) ≡ Stands number (widened store)
+  pub written : Written G (renewed_image bank number store) (renew_line (length (renewed_image bank number store)) number) before after order status
+
+-- The source had a store of version 1, whole.
+pub record HasOne (left left_now : Option (List ℕ)) (kept : KeptStore) : Type 0 where
+  pub text : List ℕ
+  pub whole : IsAll 4194304 left left_now text
+  pub stood : standing_as_one text ≡ Stands kept.number (flat_of kept)
+  pub small : kept.directory.page ≡ Two
+  pub legal : IsLegal kept.directory.segments
+  pub low : kept.number < 2 ^ 64
+  pub bytes : length kept.store.items ≡ sum_by (bytes_of 2048) kept.directory.segments
+
+-- bytes are no store of version 1, at this offset
+abbrev pub IsNotOne : List ℕ → ℕ → Type 0
+IsNotOne text offset = (standing_as_one text ≡ NotAStore offset) ⊎ (standing_as_one text ≡ Damaged offset)
+
+-- why it had none, by the status
+abbrev pub IsNoOne : (left left_now : Option (List ℕ)) → (faults faults_now : ℕ) → Status → Type 0
+IsNoOne left left_now faults faults_now status.SourceFault = Rose faults faults_now
+IsNoOne left left_now faults faults_now status.TooBig = HasRead left left_now 4194305
+IsNoOne left left_now faults faults_now (status.Store offset) = (text : List ℕ) × IsAll 4194304 left left_now text × IsNotOne text offset
+IsNoOne left left_now faults faults_now status.NoMemory = Unit {0}
+IsNoOne left left_now faults faults_now _ = ⊥
+
+-- what renewing did, by the status: a source that fails, gives too much or has no store of version 1 leaves the disk alone
+abbrev pub RenewedBy : {W : Type 0} → Ghosts W → (bank : ℕ) → (left left_now : Option (List ℕ)) → (faults faults_now : ℕ) → W → W → List (ℕ × ℕ) → Status → Type 0
+RenewedBy G bank left left_now faults faults_now before after order status.SourceFault = (after ≡ before) × IsNoOne left left_now faults faults_now status.SourceFault
+RenewedBy G bank left left_now faults faults_now before after order status.TooBig = (after ≡ before) × IsNoOne left left_now faults faults_now status.TooBig
+RenewedBy G bank left left_now faults faults_now before after order (status.Store offset) = (after ≡ before) × IsNoOne left left_now faults faults_now (status.Store offset)
+RenewedBy G bank left left_now faults faults_now before after order status.NoMemory = OnlyAsks G before after
+RenewedBy G bank left left_now faults faults_now before after order status = IsRenewed G bank left left_now before after order status
+
+-- what it did; there is no order
+pub record Renewed {W : Type 0} (G : Ghosts W) (bank : ℕ) (left left_now : Option (List ℕ)) (faults faults_now : ℕ) (before after : W) (order : List (ℕ × ℕ)) (status : Status) : Type 0 where
+  pub no_order : order ≡ []
+  pub by_status : RenewedBy G bank left left_now faults faults_now before after order status
+
+-- a status of renewing a store
+abbrev pub IsOfRenew : Status → Type 0
+IsOfRenew (status.Store offset) = Unit {0}
+IsOfRenew status.SourceFault = Unit {0}
+IsOfRenew status.TooBig = Unit {0}
+IsOfRenew other = IsOfNew other

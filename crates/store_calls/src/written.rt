@@ -1,0 +1,84 @@
+// An image that is written on an empty disk, and a line that tells it.
+ghost use Rattle.std.specs.Prelude.{◌≡◌, ◌⊎◌, [], length, IsSome, IfOk, IfErr, OnOk};
+ghost use Rattle.outside.specs.Causes.{Rose, HasCause};
+ghost use Rattle.outside.specs.Runs.{CallsDisk, OnlyAsks, held_of};
+ghost use Rattle.listing.specs.Puts.{Puts, PutsTimes};
+ghost use Rattle.call_status.specs.Printed.{put_of};
+ghost use Rattle.store_calls.specs.New.{IsNoEmpty, IsOfWriting, IsTornBy, IsWrittenWhole, LeavesTorn, Written};
+
+use call_status::Status;
+use outside::{Failed, Outside};
+
+/// Asks whether the disk is empty.
+///
+/// # Errors
+///
+/// [`Status::DiskFault`] where its length can't be told, and [`Status::Exists`] where it holds bytes.
+pub(super) fn ask_empty<W: Outside>(outside: &mut W) -> Result<(), Status>
+    ensures asks { OnlyAsks W.Outside outside.old outside.new }
+    ensures empty { OnOk result (IsSome (W.held outside.old) → held_of W.Outside outside.old ≡ []) }
+    ensures calm { OnOk result (W.disk_faults outside.new ≡ W.disk_faults outside.old) }
+    ensures refused { IfErr result (IsNoEmpty W.Outside outside.old outside.new) }
+{
+    match length(outside) {
+        Err(Failed) => Err(Status::DiskFault),
+        Ok(0) => Ok(()),
+        Ok(_) => Err(Status::Exists),
+    }
+}
+
+/// How many bytes the disk holds.
+fn length<W: Outside>(outside: &mut W) -> Result<u64, Failed>
+    ensures asks { OnlyAsks W.Outside outside.old outside.new }
+    ensures cause { HasCause (W.disk_faults outside.old) (W.disk_faults outside.new) result }
+    ensures number { IfOk result (λ number. IsSome (W.held outside.old) → number ≡ length (held_of W.Outside outside.old)) }
+{
+    outside.length()
+}
+
+/// Writes an image on an empty disk, and puts a line.
+pub(super) fn write_store<W: Outside>(image: &[u8], line: &[u8], outside: &mut W) -> Status
+    requires empty { IsSome (W.held outside.old) → held_of W.Outside outside.old ≡ [] }
+    ensures written { Written W.Outside image.now line.now outside.old outside.new [] result }
+    ensures unfailed { result ≡ Status.Done → W.put_faults outside.new ≡ W.put_faults outside.old }
+    ensures put { result ≡ Status.PutFault → Rose (W.put_faults outside.old) (W.put_faults outside.new) }
+    ensures disk { result ≡ Status.DiskFault → Rose (W.disk_faults outside.old) (W.disk_faults outside.new) }
+    ensures only { IsOfWriting result }
+{
+    match write(image, outside) {
+        Err(Failed) => Status::DiskFault,
+        Ok(()) => put_line(line, outside),
+    }
+}
+
+/// Writes the bytes over the front of the disk and makes them sure.
+fn write<W: Outside>(bytes: &[u8], outside: &mut W) -> Result<(), Failed>
+    ensures calls { CallsDisk W.Outside outside.old outside.new }
+    ensures cause { HasCause (W.disk_faults outside.old) (W.disk_faults outside.new) result }
+    ensures done { OnOk result (IsWrittenWhole W.Outside bytes.now outside.old outside.new) }
+    ensures torn { IsTornBy W.Outside (length bytes.now) outside.old outside.new }
+    ensures crash { LeavesTorn W.Outside (length bytes.now) outside.old outside.new }
+{
+    outside.write_at(0, bytes)?;
+    outside.sync()
+}
+
+/// Puts a line.
+fn put_line<W: Outside>(line: &[u8], outside: &mut W) -> Status
+    ensures puts { Puts W.Outside line.now outside.old outside.new (put_of result) }
+    ensures times { PutsTimes W.Outside 1 outside.old outside.new (put_of result) }
+    ensures only { (result ≡ Status.Done) ⊎ (result ≡ Status.PutFault) }
+{
+    match put(line, outside) {
+        Err(Failed) => Status::PutFault,
+        Ok(()) => Status::Done,
+    }
+}
+
+/// Puts these bytes.
+fn put<W: Outside>(bytes: &[u8], outside: &mut W) -> Result<(), Failed>
+    ensures puts { Puts W.Outside bytes.now outside.old outside.new result }
+    ensures times { PutsTimes W.Outside 1 outside.old outside.new result }
+{
+    outside.put(bytes)
+}

@@ -1,0 +1,32 @@
+use Rattle.std.proofs.Common.{◌≡◌, ℕ, ◌-◌, ◌+◌, ◌*◌, List, length, ◌++◌, replicate, ◌∙◌, ap, arith}
+use Rattle.std.specs.Vec.{vec_len}
+use Rattle.byteorder.specs.Endian.{big_bytes}
+use Rattle.store_format.specs.Header.{Header, header_bytes, front}
+use Rattle.store_format.specs.Stands.{stands}
+use Rattle.store_format.proofs.Fresh.{stored_stands}
+use Rattle.store_format.proofs.header.Header.front.Goals as goal
+
+-- the header, zeros up to the bank, its base and zeros up to the home lines
+pieces : (header : Header) (number first last : ℕ) (head one two three base : List ℕ) → head ≡ header_bytes header → one ≡ head ++ replicate first 0 → base ≡ big_bytes 8 number → two ≡ one ++ base
+    → three ≡ two ++ replicate last 0 → first ≡ 128 → last ≡ 2 * header.bank_bytes + 8 → three ≡ front header number
+pieces header number first last head one two three base is begins says goes ends early late =
+    ends
+    ∙ ap (λ (n : ℕ). two ++ replicate n 0) late
+    ∙ ap (λ (these : List ℕ). these ++ replicate (2 * header.bank_bytes + 8) 0) (goes ∙ ap (λ (these : List ℕ). one ++ these) says ∙ ap (λ (these : List ℕ). these ++ big_bytes 8 number) (begins ∙ ap (λ (these : List ℕ). these ++ replicate first 0) is ∙ ap (λ (n : ℕ). header_bytes header ++ replicate n 0) early))
+
+pub returns-clause-bytes : goal.returns-clause-bytes
+returns-clause-bytes c =
+    let header = c.args.self.now in
+    let wrote = c.in_ok-write_header.ensures in
+    let first = 256 - vec_len c.write_header.new.image in
+    let last = c.home_at.result - vec_len c.extend_from_slice.new.self in
+    pieces header c.args.number first last c.write_header.new.image.items c.add_zeros.new.image.items c.extend_from_slice.new.self.items c.add_zeros-2.new.image.items c.long.result wrote.bytes c.in_ok-add_zeros.ensures.bytes c.long.ensures
+    c.in_ok-extend_from_slice.ensures.items c.in_ok-add_zeros-2.ensures.bytes
+    (omega (arith, wrote.len)) (omega (arith, c.home_at.ensures.value, c.in_ok-extend_from_slice.ensures.len, c.in_ok-add_zeros.ensures.len))
+
+pub returns-clause-stands : goal.returns-clause-stands
+returns-clause-stands c = λ bytes whole.
+    let header = c.args.self.now in
+    let wrote = c.in_ok-write_header.ensures in
+    ap (λ (these : List ℕ). stands (these ++ bytes)) (returns-clause-bytes c)
+    ∙ stored_stands header c.args.number bytes wrote.ranges wrote.legal wrote.flags c.ranges.number.fits whole
