@@ -196,7 +196,7 @@ fn a_joint_is_a_disk_and_a_screen(rt: HostRuntime) -> Result<(), Fail> {
 }
 
 #[test]
-fn a_file_is_opened_once_and_never_cut(rt: HostRuntime) -> Result<(), Fail> {
+fn a_file_is_opened_once_by_one_and_never_cut(rt: HostRuntime) -> Result<(), Fail> {
     let alloc = rt.alloc();
     let _ = fs::remove_file(&rt, "store");
     let mut absent = FileDisk::new(rt, String::from_str(alloc, "store")?, false);
@@ -207,6 +207,10 @@ fn a_file_is_opened_once_and_never_cut(rt: HostRuntime) -> Result<(), Fail> {
     assert_eq!(rt; disk.sync(), Ok(()));
     assert_eq!(rt; absent.sync(), Err(Failed));
 
+    let mut second = FileDisk::new(rt, String::from_str(alloc, "store")?, false);
+    assert_eq!(rt; second.length(), Err(Failed));
+    drop(disk);
+    assert_eq!(rt; second.write_at(0, b"d"), Err(Failed));
     let mut again = FileDisk::new(rt, String::from_str(alloc, "store")?, true);
     let mut into = [0; 2];
     assert_eq!(rt; again.read_at(1, &mut into), Ok(()));
