@@ -3,9 +3,7 @@
 
 use console::{Ended, Status, console, status_text, try_store};
 use outside::{Disk, FileDisk, Joint, MemoryDisk, StdScreen, StdSource};
-use std::fs::OpenOptions;
 use std::process::ExitCode;
-use std::rt::Files;
 use std::{env, io};
 
 fn main(rt: HostRuntime) -> ExitCode {
@@ -27,7 +25,6 @@ fn run(rt: &HostRuntime) -> Result<Ended, Status> {
     match words.as_slice() {
         [word, store, ..] if names_store(word.as_str()) => {
             let path = String::from_str(alloc, store.as_str())?;
-            let _streams = [taken(rt)?, taken(rt)?, taken(rt)?];
             call(
                 rt,
                 &words,
@@ -47,14 +44,6 @@ fn run(rt: &HostRuntime) -> Result<Ended, Status> {
             MemoryDisk::new(alloc, Vec::new(alloc), Vec::new(alloc)),
         ),
     }
-}
-
-/// A file that can be neither read nor written. Three of them take the places of the standard streams that are closed,
-/// so that a store's file gets none of these: a line that is put would be written into it.
-fn taken(rt: &HostRuntime) -> Result<<HostRuntime as Files>::File, Status> {
-    let mut how = OpenOptions::new();
-    how.read(true);
-    rt.open_file(&how, "/").map_err(|_| Status::DiskFault)
 }
 
 /// Whether these words run on the store of `try`: that word alone, or a load and its transfers.
