@@ -49,18 +49,25 @@ rm -f "$scratch/store" "$scratch/wide"
 "$program" new "$scratch/wide" 65536 1 32 >"$scratch/printed"
 cp "$scratch/store" "$scratch/loop"
 
-# in turns, so that both meet what else the machine does: a run of commits without the opening, and as many in C; the best of each
+# in turns, so that all meet what else the machine does: a run of commits without the opening, and as many in C, by syncs of data and by
+# syncs of all; the best of each
 : >"$scratch/ours"
 : >"$scratch/loops"
+: >"$scratch/all"
 for ((round = 0; round < rounds; round++)); do
     all=$(micros 1 "$program" run "$scratch/store" <"$scratch/add.job")
     opening=$(micros 1 "$program" run "$scratch/store" <"$scratch/none.job")
     echo $(((all - opening) / count)) >>"$scratch/ours"
     echo $(($(micros 1 "$scratch/commits" "$scratch/loop" "$count" 143) / count)) >>"$scratch/loops"
+    echo $(($(micros 1 "$scratch/commits" "$scratch/loop" "$count" 143 all) / count)) >>"$scratch/all"
 done
 ours=$(least <"$scratch/ours")
 loop=$(least <"$scratch/loops")
-awk -v ours="$ours" -v loop="$loop" 'BEGIN { printf "| a commit of one line, µs: romp801, the loop in C | %d, %d | %.2f |\n", ours, loop, loop / ours }'
+all=$(least <"$scratch/all")
+awk -v ours="$ours" -v loop="$loop" -v all="$all" 'BEGIN {
+    printf "| a commit of one line, µs: romp801, the loop in C | %d, %d | %.2f |\n", ours, loop, loop / ours
+    printf "| beside the loop in C by fsync | %d, %d | %.2f |\n", ours, all, all / ours
+}'
 
 # a job of a megabyte, and 65,536 bytes
 (
