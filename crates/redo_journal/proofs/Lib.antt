@@ -6,6 +6,7 @@ pub mod NoteLemmas
 pub mod AppendLemmas
 pub mod WithinLemmas
 pub mod ReadLemmas
+pub mod RecordLemmas
 pub mod BankLemmas
 pub mod Newest
 pub mod Places

@@ -5,6 +5,7 @@ pub mod Kept
 pub mod Inside
 pub mod Read
 pub mod Opened
+pub mod Records
 pub mod Tracks
 pub mod Appended
 pub mod Turned

@@ -4,16 +4,18 @@ ghost use Rattle.std.specs.Option.{option_map};
 ghost use Rattle.store_format.specs.Header.{total, HasRanges};
 ghost use Rattle.store_format.specs.Bank.{record_bytes};
 ghost use Rattle.store_format.specs.Stands.{stands, one_more};
-ghost use Rattle.outside.specs.Causes.{Rose};
+ghost use Rattle.outside.specs.Causes.{Rose, HasCause};
 ghost use Rattle.outside.specs.Runs.{OnlyAsks, Leaves, held_of};
 ghost use Rattle.redo_journal.specs.Kept.{KeptBank, place_of, end_of, area_end, number_of, begun_of, needed_end, with_line, unbegun, line_bytes_of, record_bytes_of, SameShape};
 ghost use Rattle.redo_journal.specs.Appended.{kept_after};
 ghost use Rattle.redo_journal.specs.Turned.{turned, head_bytes};
 ghost use Rattle.redo_journal.specs.Held.{HoldsAtLeast, OnlyWrites, WritesOnce};
 ghost use Rattle.redo_journal.specs.Opened.{IsRead, IsBankOf, IsReopenFault, IsOpenFault};
+ghost use Rattle.redo_journal.specs.Records.{IsRecordAt, IsFound, IsCounted, IsLineOf};
 ghost use Rattle.redo_journal.specs.Tracks.{Tracks, IsEither, HoldsOneOf, IsAppended};
 
 use crate::fault::{OpenFault, ReopenFault};
+use crate::find::{Record, read_line, read_record};
 use crate::keep::{Kept, keep_body, write_once};
 use crate::read::{Found, read_bank};
 use crate::record::{fill, forget, head_of_bank, note, word};
@@ -183,6 +185,20 @@ impl Bank {
         self.newest.len() as u32
     }
 
+    /// The number that the bank's records go on from.
+    pub fn base(&self) -> u64
+        ensures { result ≡ self.now.base }
+    {
+        self.base
+    }
+
+    /// How many records the bank has.
+    pub fn records(&self) -> u32
+        ensures { result ≡ self.now.count }
+    {
+        self.count
+    }
+
     /// The number that the bank's records lead to.
     pub fn number(&self) -> u64
         ensures { result ≡ number_of self.now }
@@ -222,6 +238,50 @@ impl Bank {
         } else {
             Some(((left - 12) / entry_bytes(self.page) as u64) as u32)
         }
+    }
+
+    /// The record whose gate lies at a place of the area: at 0 the first, and where one was found, at what lies behind it
+    /// the next. One that with a gate behind it doesn't fit the area is given with no lines and nothing behind it; where
+    /// the disk's bytes are told and are those of the bank, there is none such.
+    ///
+    /// # Errors
+    ///
+    /// Only where the disk's count rose.
+    pub fn record_at<W: Outside>(&self, outside: &mut W, place: u32) -> Result<Record, Failed>
+        requires inside { place < self.now.bank_bytes }
+        requires room { HoldsAtLeast W.Outside (area_end self.now) outside.old }
+        ensures asks { OnlyAsks W.Outside outside.old outside.new }
+        ensures found { IfOk result (IsFound self.now.page self.now.bank_bytes place) }
+        ensures read { IfOk result (λ found. IsSome (W.held outside.old) → (at : IsRecordAt (held_of W.Outside outside.old) self.now place) → IsCounted self.now.page place at.lines found) }
+        ensures cause { HasCause (W.disk_faults outside.old) (W.disk_faults outside.new) result }
+    {
+        let area = place_of(self.which, self.bank_bytes) + 8;
+        read_record(outside, self.page, area, self.bank_bytes, place)
+    }
+
+    /// A line of a record that fits the area: its number, and its bytes into the slice.
+    ///
+    /// # Errors
+    ///
+    /// Only where the disk's count rose.
+    pub fn line_at<W: Outside>(
+        &self,
+        outside: &mut W,
+        of: &Record,
+        index: u16,
+        into: &mut [u8],
+    ) -> Result<u32, Failed>
+        requires fits { of.now.place + record_bytes_of self.now of.now.count < self.now.bank_bytes }
+        requires below { index < of.now.count }
+        requires whole { length into.old ≡ line_bytes_of self.now }
+        requires room { HoldsAtLeast W.Outside (area_end self.now) outside.old }
+        ensures asks { OnlyAsks W.Outside outside.old outside.new }
+        ensures read { IfOk result (λ line. IsSome (W.held outside.old) → (at : IsRecordAt (held_of W.Outside outside.old) self.now of.now.place) → length at.lines ≡ of.now.count → IsLineOf at.lines index line into.new) }
+        ensures cause { HasCause (W.disk_faults outside.old) (W.disk_faults outside.new) result }
+    {
+        let gate = place_of(self.which, self.bank_bytes) + 8 + u64::from(of.place);
+        let at = gate + 11 + u64::from(entries_bytes(self.page, index));
+        read_line(outside, self.page, at, into)
     }
 
     /// Writes the head of the store's other bank: the number as its base, and a closed gate.

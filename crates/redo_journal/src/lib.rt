@@ -3,6 +3,7 @@
 
 mod bank;
 mod fault;
+mod find;
 mod keep;
 mod law;
 mod read;
@@ -10,6 +11,7 @@ mod record;
 
 pub use bank::{Appended, Bank};
 pub use fault::{OpenFault, ReopenFault};
+pub use find::Record;
 pub use keep::{Kept, write_once, write_sure};
 pub use law::what_no_record_has_is_nowhere;
 

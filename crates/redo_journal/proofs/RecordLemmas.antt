@@ -1,0 +1,112 @@
+-- The records of a bank, each at its place.
+use Rattle.std.proofs.Common.{◌≡◌, ℕ, zero, suc, ◌+◌, ◌*◌, ◌<◌, List, [], ◌∷◌, ◌++◌, length, take, drop, refl, sym, subst, ◌∙◌, ap, arith, slice_index}
+use Rattle.std.specs.Prelude.{◌%◌, ◌^◌, ◌==◌, Some, slice_get, Result, Ok, Err, IfOk}
+use Rattle.std.proofs.lemmas.List.{drop-drop}
+use Rattle.byteorder.specs.Endian.{big_number}
+use Rattle.line_geometry.specs.Segments.{line_bytes}
+use Rattle.line_geometry.specs.declared.directory.PageSize.{PageSize}
+use Rattle.store_format.specs.Header.{entry_bytes, number_at}
+use Rattle.store_format.specs.Bank.{RecordLine, lines_from, lines_of, count_of, record_bytes, Area, Gate, Closed, Wrong, Sound, Holds, gate_at, holds_from}
+use Rattle.store_format.proofs.Walk.{IsSound, sound_is, preceded_is}
+use Rattle.redo_journal.proofs.AppendLemmas.{length-lines_from}
+use Rattle.redo_journal.specs.Kept.{KeptBank, place_of}
+use Rattle.redo_journal.specs.Records.{area_bytes, IsRecordAt, IsCounted, IsLine, IsLineOf}
+use Rattle.redo_journal.specs.declared.find.Record.{Record}
+
+-- where a record with these lines stands, in an area with this end
+pub record StandsAt (page : PageSize) (image : List ℕ) (end at : ℕ) (lines : List RecordLine) : Type 0 where
+  pub lines_are : lines ≡ lines_of page at (drop at image)
+  pub count : count_of (drop at image) ≡ length lines
+  pub fits : at + record_bytes page (length lines) < end
+
+of_sound : (page : PageSize) (image : List ℕ) (bound end at : ℕ) (lines : List RecordLine) (next : ℕ) → IsSound page bound end at (drop at image) lines next → StandsAt page image end at lines
+of_sound page image bound end at lines next is =
+    let many : length lines ≡ count_of (drop at image) = ap length is.lines_are ∙ length-lines_from page (count_of (drop at image)) (at + 11) (drop 11 (drop at image)) in
+    record { lines_are = is.lines_are; count = sym many; fits = omega (arith, is.fits, is.is_next, ap (λ (n : ℕ). entry_bytes page * n) many) }
+
+-- a walk finds each record behind those before it
+pub found_at : (image : List ℕ) (area : Area) (most number from gate : ℕ) (before : List (List RecordLine)) (lines : List RecordLine) (after : List (List RecordLine)) (at : Gate)
+    → gate_at image area number from ≡ at → holds_from image area most number at ≡ Holds gate (before ++ lines ∷ after) → StandsAt area.page image area.end (from + area_bytes area.page before) lines
+unfolding holds_from
+found_at image area most number from gate [] lines after (Closed closed) is holds = cc
+found_at image area most number from gate (first ∷ before) lines after (Closed closed) is holds = cc
+found_at image area most number from gate before lines after (Wrong offset) is holds = cc
+found_at image area zero number from gate before lines after (Sound those next) is holds = cc
+found_at image area (suc most) number from gate [] lines after (Sound those next) is holds =
+    let sound = sound_is area.page (slice_index image from == 0xA5) area.bound area.end ((number + 1) % 2 ^ 64) from (drop from image) those next is in
+    let parts = preceded_is those (holds_from image area most (number + 1) (gate_at image area (number + 1) next)) gate (lines ∷ after) holds in
+    let same : those ≡ lines = cc in
+    let place : from ≡ from + area_bytes area.page [] = omega arith in
+    let here = of_sound area.page image area.bound area.end from those next sound in
+    subst (λ (n : ℕ). StandsAt area.page image area.end n lines) place (subst (λ (these : List RecordLine). StandsAt area.page image area.end from these) same here)
+found_at image area (suc most) number from gate (first ∷ before) lines after (Sound those next) is holds =
+    let sound = sound_is area.page (slice_index image from == 0xA5) area.bound area.end ((number + 1) % 2 ^ 64) from (drop from image) those next is in
+    let parts = preceded_is those (holds_from image area most (number + 1) (gate_at image area (number + 1) next)) gate (first ∷ (before ++ lines ∷ after)) holds in
+    let same : those ≡ first = cc in
+    let rest : parts.0 ≡ before ++ lines ∷ after = cc in
+    let here = of_sound area.page image area.bound area.end from those next sound in
+    let place : next + area_bytes area.page before ≡ from + area_bytes area.page (first ∷ before) = omega (arith, sound.is_next, ap (λ (n : ℕ). entry_bytes area.page * n) here.count, ap (λ (these : List RecordLine). entry_bytes area.page * length these) same) in
+    let later = found_at image area most (number + 1) next gate before lines after (gate_at image area (number + 1) next) refl (parts.1 ∙ ap (Holds gate) rest) in
+    subst (λ (n : ℕ). StandsAt area.page image area.end n lines) place later
+
+-- a record of a bank that was read
+pub stands_there : (held : List ℕ) (bank : KeptBank) (place : ℕ) (at : IsRecordAt held bank place) → StandsAt bank.page held (place_of bank.which bank.bank_bytes + 8 + bank.bank_bytes) (place_of bank.which bank.bank_bytes + 8 + place) at.lines
+stands_there held bank place at =
+    let start = place_of bank.which bank.bank_bytes in
+    let number = number_at held start 8 in
+    let area : Area = record { page = bank.page; bound = length bank.newest; end = start + 8 + bank.bank_bytes } in
+    let found = found_at held area bank.bank_bytes number (start + 8) bank.gate at.before at.lines at.after (gate_at held area number (start + 8)) refl (at.read.holds ∙ ap (Holds bank.gate) at.are) in
+    let place_is : start + 8 + area_bytes bank.page at.before ≡ start + 8 + place = omega (arith, at.place_is) in
+    subst (λ (n : ℕ). StandsAt bank.page held (start + 8 + bank.bank_bytes) n at.lines) place_is found
+
+-- one of the lines that bytes begin with
+pub line_there : (page : PageSize) (count at : ℕ) (bytes : List ℕ) (index : ℕ) → index < count
+    → slice_get (lines_from page count at bytes) index ≡ Some (record { line = big_number 4 (drop (entry_bytes page * index) bytes); at = at + entry_bytes page * index; bytes = take (line_bytes page) (drop 4 (drop (entry_bytes page * index) bytes)) })
+line_there page zero at bytes index below = absurd (omega (arith, below))
+line_there page (suc count) at bytes zero below =
+    let none : 0 ≡ entry_bytes page * 0 = omega arith in
+    let place : at ≡ at + entry_bytes page * 0 = omega arith in
+    ap (λ (n : ℕ). Some (record { line = big_number 4 bytes; at = n; bytes = take (line_bytes page) (drop 4 bytes) })) place
+    ∙ ap (λ (n : ℕ). Some (record { line = big_number 4 (drop n bytes); at = at + entry_bytes page * 0; bytes = take (line_bytes page) (drop 4 (drop n bytes)) })) none
+line_there page (suc count) at bytes (suc index) below =
+    let place : at + entry_bytes page + entry_bytes page * index ≡ at + entry_bytes page * suc index = omega arith in
+    let from : entry_bytes page + entry_bytes page * index ≡ entry_bytes page * suc index = omega arith in
+    let rest : drop (entry_bytes page * index) (drop (entry_bytes page) bytes) ≡ drop (entry_bytes page * suc index) bytes = drop-drop (entry_bytes page * index) (entry_bytes page) bytes ∙ ap (λ (n : ℕ). drop n bytes) from in
+    line_there page count (at + entry_bytes page) (drop (entry_bytes page) bytes) index (omega (arith, below))
+    ∙ ap (λ (these : List ℕ). Some (record { line = big_number 4 these; at = at + entry_bytes page + entry_bytes page * index; bytes = take (line_bytes page) (drop 4 these) })) rest
+    ∙ ap (λ (n : ℕ). Some (record { line = big_number 4 (drop (entry_bytes page * suc index) bytes); at = n; bytes = take (line_bytes page) (drop 4 (drop (entry_bytes page * suc index) bytes)) })) place
+
+-- what a value of one sort is, where it is of another
+pub if_ok : {T E : Type 0} (P Q : T → Type 0) (result : Result T E) → ((value : T) → P value → Q value) → IfOk result P → IfOk result Q
+if_ok P Q (Ok value) goes is = goes value is
+if_ok P Q (Err fault) goes is = tt
+
+module _ (held : List ℕ) (bank : KeptBank) (place area : ℕ) (at : IsRecordAt held bank place) (area_is : area ≡ place_of bank.which bank.bank_bytes + 8) where
+  there : StandsAt bank.page held (area + bank.bank_bytes) (area + place) at.lines
+  there = subst (λ (n : ℕ). StandsAt bank.page held (n + bank.bank_bytes) (n + place) at.lines) (sym area_is) (stands_there held bank place at)
+
+  -- the number of lines that stands there
+  number-there : number_at held (area + place + 1) 2 ≡ length at.lines
+  number-there = sym (ap (λ (these : List ℕ). big_number 2 these) (drop-drop 1 (area + place) held)) ∙ there.count
+
+  -- a head that was read counts its lines
+  pub counted : (found : Record) → (place + 11 + entry_bytes bank.page * number_at held (area + place + 1) 2 < bank.bank_bytes → found.count ≡ number_at held (area + place + 1) 2)
+      → (place + 11 + entry_bytes bank.page * number_at held (area + place + 1) 2 < bank.bank_bytes → found.next ≡ place + 11 + entry_bytes bank.page * found.count) → IsCounted bank.page place at.lines found
+  counted found read fits =
+      let within : place + 11 + entry_bytes bank.page * number_at held (area + place + 1) 2 < bank.bank_bytes = omega (arith, there.fits, ap (λ (n : ℕ). entry_bytes bank.page * n) number-there) in
+      let many : found.count ≡ length at.lines = read within ∙ number-there in
+      let behind = fits within in
+      record { count = many; next = omega (arith, behind, ap (λ (n : ℕ). entry_bytes bank.page * n) many) }
+
+  -- and a line that was read is the record's
+  pub lined : (index line : ℕ) (into : List ℕ) → index < length at.lines → IsLine bank.page (drop (area + place + 11 + entry_bytes bank.page * index) held) line into → IsLineOf at.lines index line into
+  lined index line into below is =
+      let bytes : drop (entry_bytes bank.page * index) (drop 11 (drop (area + place) held)) ≡ drop (area + place + 11 + entry_bytes bank.page * index) held =
+      ap (λ (these : List ℕ). drop (entry_bytes bank.page * index) these) (drop-drop 11 (area + place) held) ∙ drop-drop (entry_bytes bank.page * index) (area + place + 11) held in
+      let inside : index < count_of (drop (area + place) held) = omega (arith, below, there.count) in
+      record {
+        one = record { line = big_number 4 (drop (entry_bytes bank.page * index) (drop 11 (drop (area + place) held))); at = area + place + 11 + entry_bytes bank.page * index; bytes = take (line_bytes bank.page) (drop 4 (drop (entry_bytes bank.page * index) (drop 11 (drop (area + place) held)))) };
+        there = ap (λ (these : List RecordLine). slice_get these index) there.lines_are ∙ line_there bank.page (count_of (drop (area + place) held)) (area + place + 11) (drop 11 (drop (area + place) held)) index inside;
+        number = is.number ∙ sym (ap (λ (these : List ℕ). big_number 4 these) bytes);
+        bytes_are = is.bytes_are ∙ sym (ap (λ (these : List ℕ). take (line_bytes bank.page) (drop 4 these)) bytes);
+      }

@@ -1,0 +1,25 @@
+use Rattle.std.proofs.Common.{◌≡◌, ◌+◌, List, ℕ, take, drop, ap, sym, subst, ◌∙◌, arith, IsSome}
+use Rattle.std.specs.Prelude.{Option, [], unwrap_or, IfSome}
+use Rattle.std.proofs.lemmas.List.{drop-drop}
+use Rattle.byteorder.specs.Endian.{big_number}
+use Rattle.byteorder.specs.Numbers.{big_from-take}
+use Rattle.line_geometry.specs.Segments.{line_bytes}
+use Rattle.outside.specs.Bytes.{bytes_at}
+use Rattle.outside.specs.Runs.{held_of}
+use Rattle.store_format.proofs.Padded.{read_is}
+use Rattle.redo_journal.proofs.find.read_line.Goals as goal
+
+pub returns-clause-read : goal.returns-clause-read
+returns-clause-read g c some =
+    let G = g.W.Outside in
+    let held = held_of G c.args.outside.now in
+    let head : c.read_at.new.into ≡ bytes_at held c.args.at 4 = read_is (G.held c.args.outside.now) c.read_at.new.into c.args.at 4 some c.in_ok-read_at.ensures.read in
+    let told = subst (λ (those : Option (List ℕ)). IsSome those) (sym c.read_at.ensures.held) some in
+    let line = line_bytes c.args.page in
+    let bytes : c.read_at-2.new.into ≡ bytes_at held (c.args.at + 4) line =
+    read_is (G.held c.read_at.new.self) c.read_at-2.new.into (c.args.at + 4) line told (subst (λ (n : ℕ). IfSome (G.held c.read_at.new.self) (λ bytes. c.read_at-2.new.into ≡ bytes_at bytes (c.args.at + 4) n)) c.requires.whole c.in_ok-read_at-2.ensures.read)
+    ∙ ap (λ (those : Option (List ℕ)). bytes_at (unwrap_or those []) (c.args.at + 4) line) c.read_at.ensures.held in
+    record {
+      number = c.read_u32.ensures ∙ ap (λ (these : List ℕ). big_number 4 these) head ∙ big_from-take 0 4 4 (drop c.args.at held) (omega arith);
+      bytes_are = bytes ∙ ap (λ (these : List ℕ). take line these) (sym (drop-drop 4 c.args.at held));
+    }
