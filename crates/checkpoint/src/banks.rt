@@ -8,6 +8,7 @@ ghost use Rattle.outside.specs.Causes.{Rose, HasCause};
 ghost use Rattle.outside.specs.Runs.{OnlyAsks, Leaves, held_of};
 ghost use Rattle.redo_journal.specs.Kept.{KeptBank, area_end, number_of, begun_of, needed_end, with_line, unbegun, line_bytes_of, record_bytes_of, SameShape};
 ghost use Rattle.redo_journal.specs.Held.{HoldsAtLeast, OnlyWrites};
+ghost use Rattle.redo_journal.specs.Records.{IsRecordAt, IsFound, IsCounted, IsLineOf};
 ghost use Rattle.redo_journal.specs.Tracks.{Tracks, IsEither, HoldsOneOf, IsAppended};
 ghost use Rattle.redo_journal.specs.Appended as append;
 ghost use Rattle.checkpoint.specs.Chosen.{other, IsChosen, IsOneOf, IsIntact, IsReopenFault, IsOpenFault};
@@ -17,7 +18,7 @@ ghost use Rattle.checkpoint.specs.Moved.{IsSame, IsMoved, IsCheckpointed, kept_a
 use crate::home::write_home;
 use crate::selector::{other_of, read_selector, write_selector};
 use outside::{Failed, Outside};
-use redo_journal::{Appended, Bank, OpenFault, ReopenFault};
+use redo_journal::{Appended, Bank, OpenFault, Record, ReopenFault};
 use std::alloc::{AllocError, Global};
 use std::marker::Model;
 use store_format::{Header, Which};
@@ -100,6 +101,20 @@ impl Banks {
         }
     }
 
+    /// The number that the chosen bank's records go on from.
+    pub fn base(&self) -> u64
+        ensures { result ≡ self.now.base }
+    {
+        self.bank.base()
+    }
+
+    /// How many records the chosen bank has.
+    pub fn records(&self) -> u32
+        ensures { result ≡ self.now.count }
+    {
+        self.bank.records()
+    }
+
     /// The number that the chosen bank's records lead to.
     pub fn number(&self) -> u64
         ensures { result ≡ number_of self.now }
@@ -131,6 +146,47 @@ impl Banks {
         ensures { result ≡ line_bytes_of self.now }
     {
         self.line.len()
+    }
+
+    /// The record of the chosen bank whose gate lies at a place of its area: at 0 the first, and where one was found, at what
+    /// lies behind it the next. One that with a gate behind it doesn't fit the area is given with no lines and nothing
+    /// behind it; where the disk's bytes are told and are those of the bank, there is none such.
+    ///
+    /// # Errors
+    ///
+    /// Only where the disk's count rose.
+    pub fn record_at<W: Outside>(&self, outside: &mut W, place: u32) -> Result<Record, Failed>
+        requires inside { place < self.now.bank_bytes }
+        requires room { HoldsAtLeast W.Outside (store_bytes self.now) outside.old }
+        ensures asks { OnlyAsks W.Outside outside.old outside.new }
+        ensures found { IfOk result (IsFound self.now.page self.now.bank_bytes place) }
+        ensures read { IfOk result (λ found. IsSome (W.held outside.old) → (at : IsRecordAt (held_of W.Outside outside.old) self.now place) → IsCounted self.now.page place at.lines found) }
+        ensures cause { HasCause (W.disk_faults outside.old) (W.disk_faults outside.new) result }
+    {
+        self.bank.record_at(outside, place)
+    }
+
+    /// A line of a record that fits the area: its number, and its bytes into the slice.
+    ///
+    /// # Errors
+    ///
+    /// Only where the disk's count rose.
+    pub fn line_at<W: Outside>(
+        &self,
+        outside: &mut W,
+        of: &Record,
+        index: u16,
+        into: &mut [u8],
+    ) -> Result<u32, Failed>
+        requires fits { of.now.place + record_bytes_of self.now of.now.count < self.now.bank_bytes }
+        requires below { index < of.now.count }
+        requires whole { length into.old ≡ line_bytes_of self.now }
+        requires room { HoldsAtLeast W.Outside (store_bytes self.now) outside.old }
+        ensures asks { OnlyAsks W.Outside outside.old outside.new }
+        ensures read { IfOk result (λ line. IsSome (W.held outside.old) → (at : IsRecordAt (held_of W.Outside outside.old) self.now of.now.place) → length at.lines ≡ of.now.count → IsLineOf at.lines index line into.new) }
+        ensures cause { HasCause (W.disk_faults outside.old) (W.disk_faults outside.new) result }
+    {
+        self.bank.line_at(outside, of, index, into)
     }
 
     /// Begins a record, in place of any other that was begun.

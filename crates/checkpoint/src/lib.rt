@@ -6,4 +6,4 @@ mod home;
 mod selector;
 
 pub use banks::Banks;
-pub use redo_journal::{Appended, OpenFault, ReopenFault};
+pub use redo_journal::{Appended, OpenFault, Record, ReopenFault};

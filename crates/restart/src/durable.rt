@@ -9,6 +9,7 @@ ghost use Rattle.outside.specs.Runs.{OnlyAsks, Leaves, held_of};
 ghost use Rattle.redo_journal.specs.Held.{HoldsAtLeast, IsMoreBy, OnlyWrites};
 ghost use Rattle.redo_journal.specs.Kept.{KeptBank, area_end, begun_of, needed_end, with_line};
 ghost use Rattle.store_format.specs.Bank.{record_bytes};
+ghost use Rattle.redo_journal.specs.Records.{IsRecordAt, IsFound, IsCounted, IsLineOf};
 ghost use Rattle.redo_journal.specs.Tracks.{IsEither};
 ghost use Rattle.restart.specs.Kept.{KeptStore, number_of};
 ghost use Rattle.checkpoint.specs.Moved.{IsSame, kept_after};
@@ -19,7 +20,7 @@ ghost use Rattle.restart.specs.Faults.{IsOpenFault, IsReopenFault};
 use crate::commit::add_record;
 use crate::page::read_newest;
 use crate::start::{start, synced};
-use checkpoint::{Banks, OpenFault, ReopenFault};
+use checkpoint::{Banks, OpenFault, Record, ReopenFault};
 use outside::{Failed, Outside};
 use redo_journal::Kept;
 use std::alloc::Global;
@@ -75,6 +76,20 @@ impl Durable {
         ensures { result.now ≡ self.now.header }
     {
         &self.header
+    }
+
+    /// The number that the chosen bank's records go on from: that of the last checkpoint.
+    pub fn base(&self) -> u64
+        ensures { result ≡ self.now.bank.base }
+    {
+        self.banks.base()
+    }
+
+    /// How many records the chosen bank has.
+    pub fn records(&self) -> u32
+        ensures { result ≡ self.now.bank.count }
+    {
+        self.banks.records()
     }
 
     /// The number of the store: how many commits it has had, modulo 2 to the 64.
@@ -181,6 +196,47 @@ impl Durable {
         ensures done { OnOk result (Tracks W.Outside self.old outside.old → IsEmptied W.Outside self.old self.new outside.old outside.new) }
     {
         self.banks.checkpoint(outside)
+    }
+
+    /// The record of the chosen bank whose gate lies at a place of its area: at 0 the first, and where one was found, at what
+    /// lies behind it the next. One that with a gate behind it doesn't fit the area is given with no lines and nothing
+    /// behind it; where the disk's bytes are told and are those of the bank, there is none such.
+    ///
+    /// # Errors
+    ///
+    /// Only where the disk's count rose.
+    pub fn record_at<W: Outside>(&self, outside: &mut W, place: u32) -> Result<Record, Failed>
+        requires inside { place < self.now.header.bank_bytes }
+        requires room { HoldsAtLeast W.Outside (total self.now.header) outside.old }
+        ensures asks { OnlyAsks W.Outside outside.old outside.new }
+        ensures found { IfOk result (IsFound self.now.header.directory.page self.now.header.bank_bytes place) }
+        ensures read { IfOk result (λ found. IsSome (W.held outside.old) → (at : IsRecordAt (held_of W.Outside outside.old) self.now.bank place) → IsCounted self.now.header.directory.page place at.lines found) }
+        ensures cause { HasCause (W.disk_faults outside.old) (W.disk_faults outside.new) result }
+    {
+        self.banks.record_at(outside, place)
+    }
+
+    /// A line of a record that fits the area: its number, and its bytes into the slice.
+    ///
+    /// # Errors
+    ///
+    /// Only where the disk's count rose.
+    pub fn line_at<W: Outside>(
+        &self,
+        outside: &mut W,
+        of: &Record,
+        index: u16,
+        into: &mut [u8],
+    ) -> Result<u32, Failed>
+        requires fits { of.now.place + record_bytes self.now.header.directory.page of.now.count < self.now.header.bank_bytes }
+        requires below { index < of.now.count }
+        requires whole { length into.old ≡ line_bytes self.now.header.directory.page }
+        requires room { HoldsAtLeast W.Outside (total self.now.header) outside.old }
+        ensures asks { OnlyAsks W.Outside outside.old outside.new }
+        ensures read { IfOk result (λ line. IsSome (W.held outside.old) → (at : IsRecordAt (held_of W.Outside outside.old) self.now.bank of.now.place) → length at.lines ≡ of.now.count → IsLineOf at.lines index line into.new) }
+        ensures cause { HasCause (W.disk_faults outside.old) (W.disk_faults outside.new) result }
+    {
+        self.banks.line_at(outside, of, index, into)
     }
 
     /// Reads a page of the committed store: its home lines, with the newest lines of the bank over them. It takes one

@@ -8,7 +8,7 @@ mod law;
 mod page;
 mod start;
 
-pub use checkpoint::{OpenFault, ReopenFault};
+pub use checkpoint::{OpenFault, Record, ReopenFault};
 pub use durable::Durable;
 pub use law::what_is_shown_stands;
 pub use redo_journal::Kept;

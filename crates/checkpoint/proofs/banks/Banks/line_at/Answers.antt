@@ -1,0 +1,11 @@
+use Rattle.std.proofs.Common.{◌≡◌, length, subst}
+use Rattle.std.specs.Prelude.{IfOk, IsSome}
+use Rattle.outside.specs.Runs.{held_of}
+use Rattle.redo_journal.specs.Kept.{KeptBank}
+use Rattle.redo_journal.specs.Records.{IsRecordAt, IsLineOf}
+use Rattle.checkpoint.proofs.banks.Banks.line_at.Goals as goal
+
+pub returns-clause-read : goal.returns-clause-read
+returns-clause-read g c =
+    subst (λ (bank : KeptBank). IfOk c.line_at.result (λ line. IsSome (g.W.Outside.held c.args.outside.now) → (at : IsRecordAt (held_of g.W.Outside c.args.outside.now) bank c.args.of.now.place) → length at.lines ≡ c.args.of.now.count → IsLineOf at.lines c.args.index line c.line_at.new.into))
+    c.self.view_is c.line_at.ensures.read
