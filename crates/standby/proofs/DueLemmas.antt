@@ -1,0 +1,74 @@
+-- The records of a text that are due.
+use Rattle.std.proofs.Common.{◌≡◌, ℕ, zero, suc, ◌-◌, ◌≤◌, List, [], ◌∷◌, length, map, take, drop, get_or, refl, sym, subst, ◌∙◌, ap, arith}
+use Rattle.std.specs.Prelude.{All, Option}
+use Rattle.std.specs.Option.{option_map}
+use Rattle.std.proofs.Math.ListN.{get_or-map}
+use Rattle.std.proofs.lemmas.List.{drop-map, length-map, take_rest}
+use Rattle.std.proofs.lemmas.List.Elements.{All-drop, All-map}
+use Rattle.std.proofs.lemmas.Option.{slice_get-map}
+use Rattle.line_geometry.specs.Lines.{line_count}
+use Rattle.store_format.specs.Header.{Header, most_lines}
+use Rattle.line_geometry.specs.Segments.{line_bytes}
+use Rattle.standby.specs.Followed.{IsAlike}
+use Rattle.standby.specs.State.{IsFirstLong, IsLongAt}
+use Rattle.standby.specs.Step.{IsFitting}
+use Rattle.standby.specs.Text.{AreLines, IsPacked, IsShip, ShipLine, content_of, record_of}
+use Rattle.standby.specs.declared.text.Ship.{Ship}
+use Rattle.standby.specs.declared.text.ShipRecord.{ShipRecord}
+use Rattle.standby.proofs.BeginLemmas.{length-parted}
+
+all_unmap : {X Y : Type 0} (P : Y → Type 0) (f : X → Y) (xs : List X) → All P (map f xs) → All (λ x. P (f x)) xs
+all_unmap P f xs all k d lt = subst P (get_or-map f xs k d) (all k (f d) (omega (arith, lt, length-map xs f)))
+
+-- each record fits the store
+fits_all : (header : Header) (bytes lines : ℕ) (records : List ShipRecord) → bytes ≡ line_bytes header.directory.page → lines ≡ line_count header.directory → All (IsPacked bytes) records
+    → All (λ kept. AreLines bytes lines 0 (record_of bytes kept)) records → All (λ kept. length kept.lines.items ≤ most_lines header) records → All (IsFitting header) records
+fits_all header bytes lines records same many packed are few k d lt = record {
+  packed = subst (λ (n : ℕ). IsPacked n (get_or records k d)) same (packed k d lt);
+  lines = subst (λ (n : ℕ). AreLines (line_bytes header.directory.page) n 0 (record_of (line_bytes header.directory.page) (get_or records k d))) many (subst (λ (n : ℕ). AreLines n lines 0 (record_of n (get_or records k d))) same (are k d lt));
+  few = few k d lt;
+}
+
+module _ (ship : Ship) (header : Header) (is : IsShip ship) (alike : IsAlike header (content_of ship)) (passed : ℕ) (items slice : List ShipRecord) (items_are : items ≡ ship.records.items) (slice_is : slice ≡ take (length items - passed) (drop passed items)) where
+  slice_rest : slice ≡ drop passed ship.records.items
+  slice_rest = slice_is ∙ take_rest items passed ∙ ap (λ (these : List ShipRecord). drop passed these) items_are
+
+  -- those that the code has are the text's behind the number
+  pub due_are : map (record_of (line_bytes header.directory.page)) slice ≡ drop passed (map (record_of ship.line_bytes) ship.records.items)
+  due_are =
+      ap (λ (these : List ShipRecord). map (record_of (line_bytes header.directory.page)) these) slice_rest
+      ∙ sym (drop-map (record_of (line_bytes header.directory.page)) passed ship.records.items)
+      ∙ ap (λ (n : ℕ). drop passed (map (record_of n) ship.records.items)) (sym alike.bytes)
+
+  pub fitting : All (λ kept. length kept.lines.items ≤ most_lines header) slice → All (IsFitting header) slice
+  fitting few =
+      fits_all header ship.line_bytes ship.lines slice alike.bytes alike.lines
+      (subst (λ (these : List ShipRecord). All (IsPacked ship.line_bytes) these) (sym slice_rest) (All-drop (IsPacked ship.line_bytes) passed ship.records.items is.packed))
+      (subst (λ (these : List ShipRecord). All (λ kept. AreLines ship.line_bytes ship.lines 0 (record_of ship.line_bytes kept)) these) (sym slice_rest)
+      (All-drop (λ (kept : ShipRecord). AreLines ship.line_bytes ship.lines 0 (record_of ship.line_bytes kept)) passed ship.records.items
+      (all_unmap (λ (lines : List ShipLine). AreLines ship.line_bytes ship.lines 0 lines) (record_of ship.line_bytes) ship.records.items is.content.records)))
+      few
+
+  pub few_are : All (λ kept. length kept.lines.items ≤ most_lines header) slice → All (λ lines. length lines ≤ most_lines header) (drop passed (map (record_of ship.line_bytes) ship.records.items))
+  few_are few =
+      subst (λ (these : List (List ShipLine)). All (λ lines. length lines ≤ most_lines header) these) due_are
+      (All-map (λ (lines : List ShipLine). length lines ≤ most_lines header) (record_of (line_bytes header.directory.page)) slice
+      (λ k d lt. let many = length-parted (line_bytes header.directory.page) (get_or slice k d).lines.items (get_or slice k d).bytes.items in let these = few k d lt in omega (arith, many, these)))
+
+  pub first_is : (place : ℕ) → IsLongAt (most_lines header) slice place → IsFirstLong (most_lines header) (drop passed (map (record_of ship.line_bytes) ship.records.items)) place
+  first_is place long =
+      subst (λ (these : List (List ShipLine)). IsFirstLong (most_lines header) these place) due_are
+      (record {
+        lines = record_of (line_bytes header.directory.page) long.kept;
+        there = slice_get-map (record_of (line_bytes header.directory.page)) slice place ∙ ap (λ (kept : Option ShipRecord). option_map (record_of (line_bytes header.directory.page)) kept) long.there;
+        long = omega (arith, long.long, length-parted (line_bytes header.directory.page) long.kept.lines.items long.kept.bytes.items);
+        before =
+            subst (λ (these : List (List ShipLine)). All (λ lines. length lines ≤ most_lines header) these) (map_take (record_of (line_bytes header.directory.page)) place slice)
+            (All-map (λ (lines : List ShipLine). length lines ≤ most_lines header) (record_of (line_bytes header.directory.page)) (take place slice)
+            (λ k d lt. let many = length-parted (line_bytes header.directory.page) (get_or (take place slice) k d).lines.items (get_or (take place slice) k d).bytes.items in let these = long.before k d lt in omega (arith, many, these)));
+      })
+    where
+      map_take : (f : ShipRecord → List ShipLine) (n : ℕ) (xs : List ShipRecord) → map f (take n xs) ≡ take n (map f xs)
+      map_take f zero xs = refl
+      map_take f (suc n) [] = refl
+      map_take f (suc n) (x ∷ xs) = ap (λ (rest : List (List ShipLine)). f x ∷ rest) (map_take f n xs)

@@ -1,0 +1,177 @@
+-- Records that are kept and told, one after another.
+use Rattle.std.proofs.Common.{◌≡◌, ℕ, suc, ◌+◌, ◌-◌, ◌<◌, List, [], ◌++◌, length, take, get_or, refl, sym, ◌∙◌, ap, subst, arith, append-nil, IsSome}
+use Rattle.std.specs.Prelude.{Option, Some, None, Result, Ok, Err, OnErr}
+use Rattle.std.proofs.lemmas.List.{take_all}
+use Rattle.line_geometry.specs.FlatStore.{FlatStore}
+use Rattle.store_format.specs.Stands.{Stands, stands}
+use Rattle.outside.specs.declared.failed.Failed.{Failed}
+use Rattle.outside.specs.declared.world.Outside.{Ghosts}
+use Rattle.outside.specs.Bytes.{Prints}
+use Rattle.outside.specs.Moments.{Elapses}
+use Rattle.outside.specs.Runs.{FewerLater, Leaves, held_of}
+use Rattle.outside.proofs.Durable.{told_is}
+use Rattle.outside.proofs.Prints.{prints_on, prints_same, prints_stop}
+use Rattle.outside.proofs.Runs.{leaves_on}
+use Rattle.restart.specs.Kept.{KeptStore}
+use Rattle.restart.specs.Shows.{Shows, Tracks}
+use Rattle.standby.specs.Followed.{FollowsBy, IsAtNumber, IsStopped, Follows, Keeps, SoFar, broken, kept_text, well}
+use Rattle.standby.specs.Puts.{Puts, shown_of}
+use Rattle.standby.specs.State.{laid_by}
+use Rattle.standby.specs.Step.{IsStep, Steps, followed_of, over, put_of}
+use Rattle.standby.specs.Text.{ShipLine, end_line, kept_line, later, next}
+use Rattle.standby.specs.declared.following.Followed.{Followed}
+use Rattle.standby.specs.declared.following.Followed.TheVariants.{Done, DiskFault, PutFault, Geometry, NotKept, Long}
+use Rattle.standby.proofs.PutLemmas.{PrintedNow, image_is, shown_after, sure_puts}
+use Rattle.standby.proofs.TellLemmas.{at_end, at_some, at_step, kept_front, later_more, laid_more}
+
+printed_none : (told : Option (List ℕ)) → Prints told told [] well
+printed_none None = refl
+printed_none (Some bytes) = ap (λ (these : List ℕ). Some these) (sym (append-nil bytes))
+
+module _ {W : Type 0} (G : Ghosts W) (fewer_later : FewerLater G) (printed_now : PrintedNow G) (bytes number : ℕ) (store : FlatStore) (records : List (List ShipLine)) where
+  -- none yet
+  pub so_far_none : (durable : KeptStore) (now : W) → later number 0 ≡ number → Tracks G durable now → stands (held_of G now) ≡ Stands number store → SoFar G bytes number store records 0 durable now now
+  so_far_none durable now number_is tracks stood =
+      let here : stands (held_of G now) ≡ Stands (later number 0) (laid_by bytes store (take 0 records)) = stood ∙ ap (λ (n : ℕ). Stands n store) (sym number_is) in
+      record {
+        crash = λ told image seen left.
+            let is : image ≡ held_of G now = told_is (G.held now) image tracks.sure.told (tracks.sure.durable image seen left) in
+            at_some bytes number store records (shown_of G now) 0 image seen (omega arith) (ap stands is ∙ here) (told_is (G.printed now) seen told (printed_now now image seen left) ∙ sym (append-nil (shown_of G now)));
+        tracks = tracks;
+        stood = here;
+        printed = printed_none (G.printed now);
+      }
+
+  module _ (i : ℕ) (lt : i < length records) (old_store : KeptStore) (before mid : W) (time : Elapses G.moment G.left_since before mid) (so_far : SoFar G bytes number store records i old_store before mid)
+      (durable : KeptStore) (after : W) (on : Elapses G.moment G.left_since mid after) where
+    -- a crash in the next
+    crash_on : (result : Result (Unit {0}) Followed) → Steps G bytes (later number i) (laid_by bytes store (take i records)) (get_or records i []) durable mid after result → IsSome (G.printed before) → Leaves G (IsAtNumber bytes number store records (shown_of G before)) before after
+    crash_on result steps told =
+        let shown = shown_after (G.printed before) (G.printed mid) (kept_text number i) tt told so_far.printed in
+        leaves_on G fewer_later before mid after time on (IsAtNumber bytes number store records (shown_of G before)) (so_far.crash told)
+        (λ image seen left.
+        at_step bytes number store records (shown_of G before) i image seen lt
+        (subst (λ (printed : List ℕ). IsStep bytes (later number i) (laid_by bytes store (take i records)) (get_or records i []) printed image seen) shown.1 (steps.crash shown.0 image seen left)))
+
+    number_on : next (later number i) ≡ later number (suc i)
+    number_on =
+        let is : i + 1 ≡ suc i = omega arith in
+        later_more number i ∙ ap (later number) is
+
+    -- it is kept and told
+    pub so_far_more : Steps G bytes (later number i) (laid_by bytes store (take i records)) (get_or records i []) durable mid after (Ok tt) → SoFar G bytes number store records (i + 1) durable before after
+    so_far_more steps = record {
+      crash = crash_on (Ok tt) steps;
+      tracks = steps.ends.0;
+      stood = steps.ends.1 ∙ ap (λ (n : ℕ). Stands n (over bytes (laid_by bytes store (take i records)) (get_or records i []))) (later_more number i) ∙ ap (Stands (later number (i + 1))) (laid_more bytes store records i lt);
+      printed =
+          let text : kept_text number i ++ kept_line (next (later number i)) ≡ kept_text number (i + 1) = ap (λ (n : ℕ). kept_text number i ++ kept_line n) number_on ∙ ap (kept_text number) one_on in
+          prints_same (G.printed before) (G.printed after) (kept_text number i ++ kept_line (next (later number i))) (kept_text number (i + 1)) well text
+          (prints_on (G.printed before) (G.printed mid) (G.printed after) (kept_text number i) (kept_line (next (later number i))) tt well so_far.printed steps.ends.2);
+    }
+      where
+        one_on : suc i ≡ i + 1
+        one_on = omega arith
+
+    -- it isn't
+    pub so_far_stopped : (why : Followed) → Steps G bytes (later number i) (laid_by bytes store (take i records)) (get_or records i []) durable mid after (Err why) → Keeps G bytes number store records durable before after why
+    so_far_stopped DiskFault steps = record {
+      crash = crash_on (Err DiskFault) steps;
+      ends = (i, lt, subst (λ (those : Option (List ℕ)). Prints (G.printed before) those (kept_text number i) well) (sym steps.ends) so_far.printed);
+    }
+    so_far_stopped PutFault steps = record {
+      crash = crash_on (Err PutFault) steps;
+      ends =
+          let far : suc i + (length records - suc i) ≡ length records = omega (arith, lt) in
+          let front = kept_front number (suc i) (length records - suc i) in
+          let line = kept_line (later number (suc i)) in
+          let whole : (kept_text number i ++ line) ++ front.0 ≡ kept_text number (length records) = sym front.1 ∙ ap (kept_text number) far in
+          let part = subst (λ (n : ℕ). Prints (G.printed mid) (G.printed after) (kept_line n) broken) number_on steps.ends in
+          prints_same (G.printed before) (G.printed after) ((kept_text number i ++ line) ++ front.0) (kept_text number (length records)) broken whole
+          (prints_stop (G.printed before) (G.printed after) (kept_text number i ++ line) front.0 broken broken refl refl
+          (prints_on (G.printed before) (G.printed mid) (G.printed after) (kept_text number i) line tt broken so_far.printed part));
+    }
+    so_far_stopped Done steps = absurd steps.ends
+    so_far_stopped Geometry steps = absurd steps.ends
+    so_far_stopped NotKept steps = absurd steps.ends
+    so_far_stopped (Long place) steps = absurd steps.ends
+
+  -- all are
+  pub so_far_all : (count : ℕ) (durable : KeptStore) (before now : W) → count ≡ length records → SoFar G bytes number store records count durable before now → Keeps G bytes number store records durable before now Done
+  so_far_all count durable before now all so_far = record {
+    crash = so_far.crash;
+    ends = (
+      record {
+        tracks = so_far.tracks;
+        stood =
+            so_far.stood
+            ∙ ap (λ (n : ℕ). Stands (later number n) (laid_by bytes store (take count records))) all
+            ∙ ap (λ (these : List (List ShipLine)). Stands (later number (length records)) (laid_by bytes store these)) (take_all count records (omega (arith, all)));
+      },
+      prints_same (G.printed before) (G.printed now) (kept_text number count) (kept_text number (length records)) well (ap (kept_text number) all) so_far.printed,
+    );
+  }
+
+  -- and the last line is put behind them
+  module _ (durable : KeptStore) (before mid after : W) (time : Elapses G.moment G.left_since before mid) (keeps : Keeps G bytes number store records durable before mid Done) where
+    abbrev last : List ℕ
+    last = end_line (later number (length records))
+
+    end_crash : {T : Type 0} (how : Result T Failed) → Puts G last mid after how → IsSome (G.printed before) → Leaves G (IsAtNumber bytes number store records (shown_of G before)) before after
+    end_crash how puts told =
+        let shown = shown_after (G.printed before) (G.printed mid) (kept_text number (length records)) tt told keeps.ends.1 in
+        leaves_on G fewer_later before mid after time puts.only.time (IsAtNumber bytes number store records (shown_of G before)) (keeps.crash told)
+        (λ image seen left.
+        let from = image_is G printed_now last mid after how puts keeps.ends.0.tracks.sure shown.0 image seen left in
+        at_end bytes number store records (shown_of G before) image seen from.1.0 (ap stands from.0 ∙ keeps.ends.0.stood)
+        (from.1.1 ∙ ap (λ (printed : List ℕ). printed ++ take from.1.0 last) shown.1))
+
+    pub ended : (line : List ℕ) (result : Result (Unit {0}) Followed) → line ≡ last → OnErr result (result ≡ Err PutFault) → Puts G line mid after (put_of result) → Follows G bytes number store records durable before after (followed_of result)
+    ended line (Ok done) is only puts =
+        let put = subst (λ (these : List ℕ). Puts {T = Unit {0}} G these mid after well) is puts in
+        let sure = sure_puts G printed_now fewer_later last mid after well put keeps.ends.0.tracks.sure in
+        record {
+          crash = end_crash well put;
+          ends = (
+            record {
+              tracks = record { sure = sure.0; shows = subst (λ (held : List ℕ). Shows held durable) (sym sure.1) keeps.ends.0.tracks.shows };
+              stood = ap stands sure.1 ∙ keeps.ends.0.stood;
+            },
+            prints_on (G.printed before) (G.printed mid) (G.printed after) (kept_text number (length records)) last tt well keeps.ends.1 put.printed,
+          );
+        }
+    ended line (Err why) is only puts =
+        let put = subst (λ (these : List ℕ). Puts {T = Unit {0}} G these mid after broken) is puts in
+        let put_is : why ≡ PutFault = cc in
+        let stopped : Follows G bytes number store records durable before after PutFault = record {
+          crash = end_crash broken put;
+          ends = prints_on (G.printed before) (G.printed mid) (G.printed after) (kept_text number (length records)) last tt broken keeps.ends.1 put.printed;
+        } in
+        subst (λ (how : Followed). Follows G bytes number store records durable before after how) (sym put_is) stopped
+
+  -- what stopped in a record stops there
+  pub stopped_early : (durable : KeptStore) (before after : W) (why : Followed) → (why ≡ Done → ⊥) → Keeps G bytes number store records durable before after why → Follows G bytes number store records durable before after why
+  stopped_early durable before after Done differs keeps = absurd (differs refl)
+  stopped_early durable before after DiskFault differs keeps = record { crash = keeps.crash; ends = keeps.ends }
+  stopped_early durable before after PutFault differs keeps = record {
+    crash = keeps.crash;
+    ends = prints_stop (G.printed before) (G.printed after) (kept_text number (length records)) (end_line (later number (length records))) broken broken refl refl keeps.ends;
+  }
+  stopped_early durable before after Geometry differs keeps = absurd keeps.ends
+  stopped_early durable before after NotKept differs keeps = absurd keeps.ends
+  stopped_early durable before after (Long place) differs keeps = absurd keeps.ends
+
+-- a fault isn't the end
+pub not_done : (why : Followed) → IsStopped why → why ≡ Done → ⊥
+not_done Done stopped is = stopped
+not_done DiskFault stopped is = cc
+not_done PutFault stopped is = cc
+not_done Geometry stopped is = cc
+not_done NotKept stopped is = cc
+not_done (Long place) stopped is = cc
+
+-- nothing is called
+pub follows_none : {W : Type 0} (G : Ghosts W) (fewer_later : FewerLater G) (printed_now : PrintedNow G) (bytes number : ℕ) (store : FlatStore) (records : List (List ShipLine)) (durable : KeptStore) (now : W) (how : Followed)
+    → later number 0 ≡ number → Tracks G durable now → stands (held_of G now) ≡ Stands number store → FollowsBy G bytes number store records durable now now how → Follows G bytes number store records durable now now how
+follows_none G fewer_later printed_now bytes number store records durable now how number_is tracks stood ends =
+    record { crash = (so_far_none G fewer_later printed_now bytes number store records durable now number_is tracks stood).crash; ends = ends }

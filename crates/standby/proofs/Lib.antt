@@ -1,0 +1,9 @@
+pub mod PutLemmas
+pub mod GoLemmas
+pub mod TellLemmas
+pub mod StepLemmas
+pub mod BeginLemmas
+pub mod FollowLemmas
+pub mod DueLemmas
+pub mod ShowLemmas
+pub mod ShipLemmas

@@ -1,0 +1,129 @@
+-- The records of a bank, as they are shipped.
+use Rattle.std.proofs.Common.{◌≡◌, ℕ, zero, suc, ◌+◌, ◌<◌, List, [], ◌∷◌, ◌++◌, length, map, take, drop, get_or, refl, sym, ◌∙◌, ap, subst, arith, append_assoc, append-nil}
+use Rattle.std.specs.Prelude.{Some, slice_get}
+use Rattle.std.proofs.lemmas.Grind.{flat_map-append}
+use Rattle.std.proofs.lemmas.Option.{get_or_from_slice_get}
+use Rattle.std.proofs.lemmas.List.{take_more, get_or-map, length-map, length-take-le, take-append-drop}
+use Rattle.line_geometry.specs.declared.directory.PageSize.{PageSize}
+use Rattle.store_format.specs.Bank.{RecordLine, record_bytes}
+use Rattle.redo_journal.specs.declared.find.Record.{Record}
+use Rattle.redo_journal.specs.Kept.{KeptBank}
+use Rattle.redo_journal.specs.Opened.{IsRead}
+use Rattle.redo_journal.specs.Records.{IsCounted, IsRecordAt, area_bytes}
+use Rattle.outside.specs.declared.world.Outside.{Ghosts}
+use Rattle.outside.specs.Runs.{held_of}
+use Rattle.restart.specs.Kept.{KeptStore}
+use Rattle.restart.specs.Shows.{IsShown}
+use Rattle.standby.proofs.ShowLemmas.{still_shown}
+use Rattle.standby.specs.Text.{ShipLine, later, line_line, lines_text, next, record_text, records_text, told}
+
+area_append : (page : PageSize) (xs : List (List RecordLine)) (lines : List RecordLine) → area_bytes page (xs ++ lines ∷ []) ≡ area_bytes page xs + record_bytes page (length lines)
+area_append page [] lines = omega arith
+area_append page (x ∷ xs) lines = omega (arith, area_append page xs lines)
+
+-- the place of the next record
+pub area_more : (page : PageSize) (records : List (List RecordLine)) (i : ℕ) → i < length records → area_bytes page (take (i + 1) records) ≡ area_bytes page (take i records) + record_bytes page (length (get_or records i []))
+area_more page records i lt = ap (area_bytes page) (take_more records i [] lt) ∙ area_append page (take i records) (get_or records i [])
+
+-- and where it is told to lie
+pub next_is : (page paged : PageSize) (place : ℕ) (lines those : List RecordLine) (found : Record) → page ≡ paged → lines ≡ those → IsCounted page place lines found → found.next ≡ place + record_bytes paged (length those)
+next_is page paged place lines those found same is counted =
+    counted.next ∙ ap (λ (size : PageSize). place + record_bytes size (length lines)) same ∙ ap (λ (these : List RecordLine). place + record_bytes paged (length these)) is
+
+split_at : {A : Type 0} (xs : List A) (i : ℕ) (d : A) → i < length xs → xs ≡ take i xs ++ get_or xs i d ∷ drop (i + 1) xs
+split_at [] i d lt = absurd (omega (arith, lt))
+split_at (x ∷ xs) zero d lt = refl
+split_at (x ∷ xs) (suc i) d lt =
+    let same : suc (i + 1) ≡ suc i + 1 = omega arith in
+    ap (λ rest. x ∷ rest) (split_at xs i d (omega (arith, lt))) ∙ ap (λ (n : ℕ). x ∷ (take i xs ++ get_or xs i d ∷ drop n (x ∷ xs))) same
+
+-- the record there
+pub record_there : (held : List ℕ) (bank : KeptBank) (place : ℕ) (read : IsRead held bank) (i : ℕ) → i < length read.records → place ≡ area_bytes bank.page (take i read.records) → (at : IsRecordAt held bank place) × (at.lines ≡ get_or read.records i [])
+record_there held bank place read i lt is = (
+  record { read = read; before = take i read.records; lines = get_or read.records i []; after = drop (i + 1) read.records; are = split_at read.records i [] lt; place_is = is },
+  refl,
+)
+
+pub later_later : (base passed more : ℕ) → later (later base passed) more ≡ later base (passed + more)
+later_later base passed more = omega arith
+
+-- records, and one more
+pub records_append : (number : ℕ) (xs : List (List ShipLine)) (lines : List ShipLine) → records_text number (xs ++ lines ∷ []) ≡ records_text number xs ++ record_text (later number (length xs + 1)) lines
+records_append number [] lines = append-nil (record_text (next number) lines)
+records_append number (x ∷ xs) lines =
+    let same : later (next number) (length xs + 1) ≡ later number (length (x ∷ xs) + 1) = omega arith in
+    ap (λ (rest : List ℕ). record_text (next number) x ++ rest) (records_append (next number) xs lines)
+    ∙ sym (append_assoc (record_text (next number) x) (records_text (next number) xs) (record_text (later (next number) (length xs + 1)) lines))
+    ∙ ap (λ (n : ℕ). (record_text (next number) x ++ records_text (next number) xs) ++ record_text n lines) same
+
+-- records, and others behind them
+pub records_split : (number : ℕ) (xs ys : List (List ShipLine)) → (rest : List ℕ) × (records_text number (xs ++ ys) ≡ records_text number xs ++ rest)
+records_split number [] ys = (records_text number ys, refl)
+records_split number (x ∷ xs) ys =
+    let more = records_split (next number) xs ys in
+    (more.0, ap (λ (rest : List ℕ). record_text (next number) x ++ rest) more.1 ∙ sym (append_assoc (record_text (next number) x) (records_text (next number) xs) more.0))
+
+-- the same record in bytes that are the same
+pub there_still : (first second : List ℕ) (bank : KeptBank) (place : ℕ) → second ≡ first → (at : IsRecordAt first bank place) → (that : IsRecordAt second bank place) × (that.lines ≡ at.lines)
+there_still first second bank place same at = subst (λ (held : List ℕ). (that : IsRecordAt held bank place) × (that.lines ≡ at.lines)) (sym same) (at, refl)
+
+abbrev line_of : ShipLine → List ℕ
+line_of line = line_line line.line line.bytes
+
+abbrev bare : RecordLine → ShipLine
+bare one = record { line = one.line; bytes = one.bytes }
+
+-- a line of a record behind those before it
+module _ (head : List ℕ) (lines : List RecordLine) (i : ℕ) (one : RecordLine) (lt : i < length lines) (there : slice_get lines i ≡ Some one) where
+  inside : i < length (told lines)
+  inside = omega (arith, lt, length-map lines bare)
+
+  here : get_or (told lines) i (bare one) ≡ bare one
+  here = get_or-map bare lines i one (bare one) lt ∙ ap bare (get_or_from_slice_get lines i one one there)
+
+  pub text_more : (head ++ lines_text (take i (told lines))) ++ line_line one.line one.bytes ≡ head ++ lines_text (take (i + 1) (told lines))
+  text_more =
+      append_assoc head (lines_text (take i (told lines))) (line_line one.line one.bytes)
+      ∙ ap (λ (these : List ℕ). head ++ these)
+      (ap (λ (line : ShipLine). lines_text (take i (told lines)) ++ line_of line) (sym here)
+      ∙ ap (λ (these : List ℕ). lines_text (take i (told lines)) ++ these) (sym (append-nil (line_of (get_or (told lines) i (bare one)))))
+      ∙ sym (flat_map-append line_of (take i (told lines)) (get_or (told lines) i (bare one) ∷ []))
+      ∙ ap lines_text (sym (take_more (told lines) i (bare one) inside)))
+
+  pub text_rest : ((head ++ lines_text (take i (told lines))) ++ line_line one.line one.bytes) ++ lines_text (drop (i + 1) (told lines)) ≡ head ++ lines_text (told lines)
+  text_rest =
+      ap (λ (these : List ℕ). these ++ lines_text (drop (i + 1) (told lines))) text_more
+      ∙ append_assoc head (lines_text (take (i + 1) (told lines))) (lines_text (drop (i + 1) (told lines)))
+      ∙ ap (λ (these : List ℕ). head ++ these) (sym (flat_map-append line_of (take (i + 1) (told lines)) (drop (i + 1) (told lines))) ∙ ap lines_text (take-append-drop (i + 1) (told lines)))
+
+-- a record behind those before it
+module _ (number : ℕ) (records : List (List RecordLine)) (i : ℕ) (lt : i < length records) where
+  behind_them : i < length (map told records)
+  behind_them = omega (arith, lt, length-map records told)
+
+  at_place : get_or (map told records) i [] ≡ told (get_or records i [])
+  at_place = get_or-map told records i [] [] lt
+
+  many : length (take i (map told records)) ≡ i
+  many = length-take-le i (map told records) (omega (arith, behind_them))
+
+  pub records_more : records_text number (take i (map told records)) ++ record_text (later number (i + 1)) (told (get_or records i [])) ≡ records_text number (take (i + 1) (map told records))
+  records_more =
+      ap (λ (n : ℕ). records_text number (take i (map told records)) ++ record_text (later number (n + 1)) (told (get_or records i []))) (sym many)
+      ∙ ap (λ (lines : List ShipLine). records_text number (take i (map told records)) ++ record_text (later number (length (take i (map told records)) + 1)) lines) (sym at_place)
+      ∙ sym (records_append number (take i (map told records)) (get_or (map told records) i []))
+      ∙ ap (records_text number) (sym (take_more (map told records) i [] behind_them))
+
+  pub records_rest : (rest : List ℕ) × ((records_text number (take i (map told records)) ++ record_text (later number (i + 1)) (told (get_or records i []))) ++ rest ≡ records_text number (map told records))
+  records_rest =
+      let split = records_split number (take (i + 1) (map told records)) (drop (i + 1) (map told records)) in
+      (split.0, ap (λ (these : List ℕ). these ++ split.0) records_more ∙ sym split.1 ∙ ap (records_text number) (take-append-drop (i + 1) (map told records)))
+
+-- the record with an index of a store that is shown, after calls that only asked
+pub there_in : {W : Type 0} (G : Ghosts W) (store : KeptStore) (old new : W) (shown : IsShown G store old) (index place : ℕ) → G.held new ≡ G.held old → index < length shown.shows.read.records → place ≡ area_bytes store.bank.page (take index shown.shows.read.records)
+    → (still : IsShown G store new) × ((at : IsRecordAt (held_of G new) store.bank place) × (at.lines ≡ get_or shown.shows.read.records index []))
+there_in G store old new shown index place held lt is =
+    let still = still_shown G store old new shown held in
+    let inside = subst (λ (records : List (List RecordLine)). index < length records) (sym still.1) lt in
+    let at = record_there (held_of G new) store.bank place still.0.shows.read index inside (is ∙ ap (λ (records : List (List RecordLine)). area_bytes store.bank.page (take index records)) (sym still.1)) in
+    (still.0, (at.0, at.1 ∙ ap (λ (records : List (List RecordLine)). get_or records index []) still.1))

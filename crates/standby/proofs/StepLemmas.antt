@@ -1,0 +1,125 @@
+-- One record that is kept and told.
+use Rattle.std.proofs.Common.{◌≡◌, inl, inr, ⊎_elim, ℕ, ◌+◌, ◌*◌, List, [], ◌∷◌, ◌++◌, take, refl, sym, ◌∙◌, ap, subst, append-nil, IsSome}
+use Rattle.std.specs.Prelude.{◌%◌, ◌^◌, length, Option, Result, Ok, Err, OnErr, unwrap_or, fold}
+use Rattle.owned_list.specs.Overlay.{overlaid}
+use Rattle.line_geometry.specs.FlatStore.{FlatStore}
+use Rattle.line_geometry.specs.Segments.{line_bytes}
+use Rattle.line_geometry.specs.declared.directory.PageSize.{PageSize}
+use Rattle.store_format.specs.Bank.{RecordLine}
+use Rattle.store_format.specs.Stands as format
+use Rattle.store_format.specs.Stands.{Standing, Stands, home_of, stands, one_more}
+use Rattle.store_format.proofs.Stores.{stands_is}
+use Rattle.restart.proofs.ShowLemmas.{shown_store}
+use Rattle.outside.specs.declared.failed.Failed.{Failed}
+use Rattle.outside.specs.declared.world.Outside.{Ghosts}
+use Rattle.outside.specs.Bytes.{Prints}
+use Rattle.outside.specs.Durable.{IsSure}
+use Rattle.outside.specs.Runs.{CallsDisk, FewerLater, Leaves, held_of}
+use Rattle.outside.proofs.Runs.{leaves_on}
+use Rattle.redo_journal.specs.Kept.{begun_of}
+use Rattle.redo_journal.specs.Tracks.{IsEither}
+use Rattle.restart.specs.Kept.{KeptStore}
+use Rattle.restart.specs.Shows.{Shows, Tracks}
+use Rattle.standby.specs.Puts.{Puts, shown_of}
+use Rattle.standby.specs.State.{laid}
+use Rattle.standby.specs.Followed.{well, broken}
+use Rattle.standby.specs.Step.{IsStep, Steps, over, put_of, with_begun}
+use Rattle.standby.specs.declared.following.Followed.{Followed}
+use Rattle.standby.specs.declared.following.Followed.TheVariants.{DiskFault, PutFault}
+use Rattle.standby.specs.Text.{ShipLine, next, kept_line, told}
+use Rattle.standby.proofs.PutLemmas.{PrintedNow, quiet_is, image_is, sure_puts}
+
+-- the lines of a record lie over a store wherever they stand in the bank
+told_laid : (page : PageSize) (bytes : List ℕ) (lines : List RecordLine) → format.laid page bytes lines ≡ laid (line_bytes page) bytes (told lines)
+told_laid page bytes [] = refl
+told_laid page bytes (line ∷ lines) = told_laid page (overlaid bytes (line.line * line_bytes page) line.bytes) lines
+
+-- what stands one record on
+pub one_over : (begun : List RecordLine) (lines : List ShipLine) (standing : Standing) (number bytes : ℕ) (store : FlatStore) → bytes ≡ line_bytes store.directory.page → told begun ≡ lines → standing ≡ Stands number store → one_more begun standing ≡ Stands (next number) (over bytes store lines)
+one_over begun lines standing number bytes store sized same is =
+    ap (one_more begun) is
+    ∙ ap (λ (these : List ℕ). Stands (next number) (record { directory = store.directory; bytes = these })) (told_laid store.directory.page store.bytes begun)
+    ∙ ap (λ (these : List ShipLine). Stands (next number) (over (line_bytes store.directory.page) store these)) same
+    ∙ ap (λ (n : ℕ). Stands (next number) (over n store lines)) (sym sized)
+
+-- the lines of what stands are as long as those of the store that is shown
+pub sized : (held : List ℕ) (kept : KeptStore) (number : ℕ) (store : FlatStore) → Shows held kept → stands held ≡ Stands number store → line_bytes kept.header.directory.page ≡ line_bytes store.directory.page
+sized held kept number store shows stood =
+    let is = stands_is held kept.header kept.bank.which kept.bank.base kept.bank.gate shows.read.records (shown_store held kept shows) in
+    let same : Stands number store ≡ Stands ((kept.bank.base + length shows.read.records) % 2 ^ 64) (record { directory = kept.header.directory; bytes = fold (format.laid kept.header.directory.page) (home_of held kept.header) shows.read.records }) = sym stood ∙ is in
+    let flat : store ≡ record { directory = kept.header.directory; bytes = fold (format.laid kept.header.directory.page) (home_of held kept.header) shows.read.records } = cc in
+    ap (λ (that : FlatStore). line_bytes that.directory.page) (sym flat)
+
+-- a store with a record begun shows what it did
+shows_begun : (store : KeptStore) (lines : List RecordLine) (held : List ℕ) → Shows held store → Shows held (with_begun store lines)
+shows_begun store lines held shows = record {
+  header = shows.header;
+  chosen_is = shows.chosen_is;
+  read = record { base = shows.read.base; records = shows.read.records; holds = shows.read.holds; count = shows.read.count; newest = shows.read.newest };
+  fits = record { page = shows.fits.page; bank_bytes = shows.fits.bank_bytes; lines = shows.fits.lines };
+}
+
+pub tracks_begun : {W : Type 0} (G : Ghosts W) (store now : KeptStore) (lines : List RecordLine) (outside : W) → now ≡ with_begun store lines → Tracks G store outside → Tracks G now outside
+tracks_begun G store now lines outside is tracks =
+    subst (λ (that : KeptStore). Tracks G that outside) (sym is) (record { sure = tracks.sure; shows = shows_begun store lines (held_of G outside) tracks.shows })
+
+module _ {W : Type 0} (G : Ghosts W) (fewer_later : FewerLater G) (printed_now : PrintedNow G) (number bytes : ℕ) (store : FlatStore) (lines : List ShipLine) (begun : List RecordLine) (before mid : W)
+    (sized : bytes ≡ line_bytes store.directory.page) (same : told begun ≡ lines) (stood : stands (held_of G before) ≡ Stands number store) (calls : CallsDisk G before mid) (either : Leaves G (IsEither begun (held_of G before)) before mid) where
+  abbrev Left : List ℕ → List ℕ → Type 0
+  Left image seen = IsStep bytes number store lines (shown_of G before) image seen
+
+  -- a crash while the disk is called
+  pub in_disk : IsSome (G.printed before) → Leaves G Left before mid
+  in_disk is_told image seen left =
+      let is : seen ≡ shown_of G before = quiet_is G printed_now before mid calls is_told image seen left in
+      ⊎_elim
+      (λ (was : stands image ≡ stands (held_of G before)). inl (was ∙ stood, is))
+      (λ (more : stands image ≡ one_more begun (stands (held_of G before))). inr (more ∙ one_over begun lines (stands (held_of G before)) number bytes store sized same stood, (0, is ∙ sym (append-nil (shown_of G before)))))
+      (either image seen left)
+
+  -- a crash while the line is put
+  pub in_put : {T : Type 0} (after : W) (result : Result T Failed) → IsSure G mid → stands (held_of G mid) ≡ Stands (next number) (over bytes store lines) → Puts G (kept_line (next number)) mid after result
+      → IsSome (G.printed before) → Leaves G Left before after
+  in_put after result sure more puts is_told =
+      let quiet : G.printed mid ≡ G.printed before = calls.quiet.same in
+      let shown : shown_of G mid ≡ shown_of G before = ap (λ (those : Option (List ℕ)). unwrap_or those []) quiet in
+      leaves_on G fewer_later before mid after calls.time puts.only.time Left (in_disk is_told)
+      (λ image seen left.
+      let from = image_is G printed_now (kept_line (next number)) mid after result puts sure (subst (λ (those : Option (List ℕ)). IsSome those) (sym quiet) is_told) image seen left in
+      inr (ap stands from.0 ∙ more, (from.1.0, from.1.1 ∙ ap (λ (these : List ℕ). these ++ take from.1.0 (kept_line (next number))) shown)))
+
+  -- the disk failed
+  pub step_unkept : (durable : KeptStore) → Steps G bytes number store lines durable before mid (Err DiskFault)
+  step_unkept durable = record { crash = in_disk; ends = calls.quiet.same }
+
+  -- the record is kept, and its line is put or not
+  pub step_kept : (durable : KeptStore) (after : W) (line : List ℕ) (result : Result (Unit {0}) Followed) → Tracks G durable mid → stands (held_of G mid) ≡ one_more begun (stands (held_of G before)) → line ≡ kept_line (next number)
+      → OnErr result (result ≡ Err PutFault) → Puts G line mid after (put_of result) → Steps G bytes number store lines durable before after result
+  step_kept durable after line (Ok done) tracks more is only puts =
+      let kept = subst (λ (these : List ℕ). Puts {T = Unit {0}} G these mid after well) is puts in
+      let stands_more = more ∙ one_over begun lines (stands (held_of G before)) number bytes store sized same stood in
+      let sure = sure_puts G printed_now fewer_later (kept_line (next number)) mid after well kept tracks.sure in
+      record {
+        crash = in_put after well tracks.sure stands_more kept;
+        ends = (
+          record { sure = sure.0; shows = subst (λ (held : List ℕ). Shows held durable) (sym sure.1) tracks.shows },
+          ap stands sure.1 ∙ stands_more,
+          subst (λ (those : Option (List ℕ)). Prints those (G.printed after) (kept_line (next number)) well) calls.quiet.same kept.printed,
+        );
+      }
+  step_kept durable after line (Err why) tracks more is only puts =
+      let kept = subst (λ (these : List ℕ). Puts {T = Unit {0}} G these mid after broken) is puts in
+      let stands_more = more ∙ one_over begun lines (stands (held_of G before)) number bytes store sized same stood in
+      let put_is : why ≡ PutFault = cc in
+      let stopped : Steps G bytes number store lines durable before after (Err PutFault) = record {
+        crash = in_put after broken tracks.sure stands_more kept;
+        ends = subst (λ (those : Option (List ℕ)). Prints those (G.printed after) (kept_line (next number)) broken) calls.quiet.same kept.printed;
+      } in
+      subst (λ (how : Followed). Steps G bytes number store lines durable before after (Err how)) (sym put_is) stopped
+
+-- what a commit may leave, by the record that is begun
+pub either_begun : {W : Type 0} (G : Ghosts W) (store now : KeptStore) (begun : List RecordLine) (held : List ℕ) (before mid : W) → now ≡ with_begun store begun → Leaves G (IsEither (begun_of now.bank) held) before mid → Leaves G (IsEither begun held) before mid
+either_begun G store now begun held before mid is either = subst (λ (lines : List RecordLine). Leaves G (IsEither lines held) before mid) (ap (λ (that : KeptStore). begun_of that.bank) is) either
+
+pub more_begun : (store now : KeptStore) (begun : List RecordLine) (standing stood : Standing) → now ≡ with_begun store begun → stood ≡ one_more (begun_of now.bank) standing → stood ≡ one_more begun standing
+more_begun store now begun standing stood is more = more ∙ ap (λ (that : KeptStore). one_more (begun_of that.bank) standing) is

@@ -1,0 +1,137 @@
+-- The lines that tell of records, and what a crash leaves of them.
+use Rattle.std.proofs.Common.{◌≡◌, inl, inr, ⊎_elim, ℕ, zero, suc, ◌+◌, ◌-◌, ◌<◌, ◌≤◌, List, [], ◌∷◌, ◌++◌, length, take, get_or, min, refl, sym, ◌∙◌, ap, arith, append_assoc, append-nil, length-append}
+use Rattle.std.specs.Prelude.{fold, codes, decimal}
+use Rattle.std.proofs.lemmas.Bool.{cases_lt}
+use Rattle.std.proofs.Math.Seq.{take-append-add, take-append_seam}
+use Rattle.std.proofs.lemmas.List.{take_more, take-append-le, take_min}
+use Rattle.std.proofs.lemmas.List.Sums.{fold-append}
+use Rattle.line_geometry.specs.FlatStore.{FlatStore}
+use Rattle.store_format.specs.Stands.{Stands, stands}
+use Rattle.standby.specs.Followed.{kept_text, followed_text, IsAtNumber}
+use Rattle.standby.specs.State.{laid, laid_by}
+use Rattle.standby.specs.Step.{IsStep, over}
+use Rattle.standby.specs.Text.{ShipLine, next, later, end_line, kept_line}
+
+-- a line has bytes
+line_some : (number : ℕ) → 0 < length (kept_line number)
+line_some number = omega (arith, length-append (codes "kept ") (decimal number ++ codes "\n"))
+
+-- more lines are longer
+kept_longer : (number i more : ℕ) → length (kept_text number i) + more ≤ length (kept_text number (i + more))
+kept_longer number i zero =
+    let same : i ≡ i + 0 = omega arith in
+    let long = ap (λ (n : ℕ). length (kept_text number n)) same in
+    omega (arith, long)
+kept_longer number i (suc more) =
+    let same : suc (i + more) ≡ i + suc more = omega arith in
+    let long = ap (λ (n : ℕ). length (kept_text number n)) same in
+    omega (arith, long, kept_longer number i more, length-append (kept_text number (i + more)) (kept_line (later number (suc (i + more)))), line_some (later number (suc (i + more))))
+
+-- so a text of at most these lines tells of no more
+pub kept_few : (number i j count : ℕ) → count ≤ length (kept_text number j) → length (kept_text number i) ≤ count → i ≤ j
+kept_few number i j count few many = ⊎_elim
+    (λ (past : j < i).
+    let far : j + (i - j) ≡ i = omega (arith, past) in
+    let long = ap (λ (n : ℕ). length (kept_text number n)) far in
+    absurd (omega (arith, kept_longer number j (i - j), long, few, many, past)))
+    (λ (within : i ≤ j). within)
+    (cases_lt j i)
+
+-- the lines of the first records are in front of all that is told
+pub kept_front : (number i more : ℕ) → (rest : List ℕ) × (kept_text number (i + more) ≡ kept_text number i ++ rest)
+kept_front number i zero =
+    let same : i + 0 ≡ i = omega arith in
+    ([], ap (kept_text number) same ∙ sym (append-nil (kept_text number i)))
+kept_front number i (suc more) =
+    let same : i + suc more ≡ suc (i + more) = omega arith in
+    let before = kept_front number i more in
+    let line = kept_line (later number (suc (i + more))) in
+    (before.0 ++ line, ap (kept_text number) same ∙ ap (λ (these : List ℕ). these ++ line) before.1 ∙ append_assoc (kept_text number i) before.0 line)
+
+pub told_front : (number i all : ℕ) → i ≤ all → (rest : List ℕ) × (followed_text number all ≡ kept_text number i ++ rest)
+told_front number i all le =
+    let far : i + (all - i) ≡ all = omega (arith, le) in
+    let front = kept_front number i (all - i) in
+    let end = end_line (later number all) in
+    (front.0 ++ end, ap (λ (n : ℕ). kept_text number n ++ end) (sym far) ∙ ap (λ (these : List ℕ). these ++ end) front.1 ∙ append_assoc (kept_text number i) front.0 end)
+
+-- a first part of all, up to the lines of the first records
+pub told_whole : (number i all : ℕ) → i ≤ all → take (length (kept_text number i)) (followed_text number all) ≡ kept_text number i
+told_whole number i all le =
+    let front = told_front number i all le in
+    ap (take (length (kept_text number i))) front.1 ∙ take-append_seam (kept_text number i) front.0
+
+cut_more : (count : ℕ) (one two : List ℕ) → take (min count (length one)) (one ++ two) ≡ take count one
+cut_more count one two = take-append-le (min count (length one)) one two (omega arith) ∙ take_min count one
+
+-- and into the line of the next
+pub told_into : (number i all count : ℕ) → i < all → take (length (kept_text number i) + min count (length (kept_line (later number (suc i))))) (followed_text number all) ≡ kept_text number i ++ take count (kept_line (later number (suc i)))
+told_into number i all count lt =
+    let line = kept_line (later number (suc i)) in
+    let front = told_front number (suc i) all (omega (arith, lt)) in
+    let whole : followed_text number all ≡ kept_text number i ++ (line ++ front.0) = front.1 ∙ append_assoc (kept_text number i) line front.0 in
+    ap (take (length (kept_text number i) + min count (length line))) whole
+    ∙ take-append-add (kept_text number i) (line ++ front.0) (min count (length line))
+    ∙ ap (λ (these : List ℕ). kept_text number i ++ these) (cut_more count line front.0)
+
+-- one number more
+pub later_more : (number i : ℕ) → next (later number i) ≡ later number (i + 1)
+later_more number i = omega arith
+
+-- one record more
+pub laid_more : (bytes : ℕ) (store : FlatStore) (records : List (List ShipLine)) (i : ℕ) → i < length records → over bytes (laid_by bytes store (take i records)) (get_or records i []) ≡ laid_by bytes store (take (i + 1) records)
+laid_more bytes store records i lt =
+    ap (λ (these : List ℕ). let it : FlatStore = record { directory = store.directory; bytes = these } in it)
+    (sym (fold-append (laid bytes) store.bytes (take i records) (get_or records i [] ∷ [])) ∙ ap (fold (laid bytes) store.bytes) (sym (take_more records i [] lt)))
+
+module _ (bytes number : ℕ) (store : FlatStore) (records : List (List ShipLine)) (printed : List ℕ) where
+  -- what stands after so many records, with their lines
+  pub at_some : (i : ℕ) (image seen : List ℕ) → i ≤ length records → stands image ≡ Stands (later number i) (laid_by bytes store (take i records)) → seen ≡ printed ++ kept_text number i → IsAtNumber bytes number store records printed image seen
+  at_some i image seen le stood is = record {
+    j = i;
+    few = le;
+    stood = stood;
+    count = length (kept_text number i);
+    seen_is = is ∙ ap (λ (these : List ℕ). printed ++ these) (sym (told_whole number i (length records) le));
+    told = λ k few many. kept_few number k i (length (kept_text number i)) (omega arith) many;
+  }
+
+  -- what a crash leaves in the next
+  pub at_step : (i : ℕ) (image seen : List ℕ) → i < length records → IsStep bytes (later number i) (laid_by bytes store (take i records)) (get_or records i []) (printed ++ kept_text number i) image seen → IsAtNumber bytes number store records printed image seen
+  at_step i image seen lt (inl was) = at_some i image seen (omega (arith, lt)) was.0 was.1
+  at_step i image seen lt (inr more) =
+      let is : suc i ≡ i + 1 = omega arith in
+      let number_is : next (later number i) ≡ later number (suc i) = later_more number i ∙ ap (later number) (sym is) in
+      let line = kept_line (later number (suc i)) in
+      let count = more.1.0 in
+      record {
+        j = i + 1;
+        few = omega (arith, lt);
+        stood = more.0 ∙ ap (λ (n : ℕ). Stands n (over bytes (laid_by bytes store (take i records)) (get_or records i []))) (later_more number i) ∙ ap (Stands (later number (i + 1))) (laid_more bytes store records i lt);
+        count = length (kept_text number i) + min count (length line);
+        seen_is =
+            more.1.1
+            ∙ append_assoc printed (kept_text number i) (take count (kept_line (next (later number i))))
+            ∙ ap (λ (n : ℕ). printed ++ (kept_text number i ++ take count (kept_line n))) number_is
+            ∙ ap (λ (these : List ℕ). printed ++ these) (sym (told_into number i (length records) count lt));
+        told = λ k few many.
+            let up : k ≤ suc i = kept_few number k (suc i) (length (kept_text number i) + min count (length line)) (omega (arith, length-append (kept_text number i) line)) many in
+            omega (arith, up);
+      }
+
+  -- what it leaves in the last line
+  pub at_end : (image seen : List ℕ) (count : ℕ) → stands image ≡ Stands (later number (length records)) (laid_by bytes store records) → seen ≡ (printed ++ kept_text number (length records)) ++ take count (end_line (later number (length records))) → IsAtNumber bytes number store records printed image seen
+  at_end image seen count stood is =
+      let all = length records in
+      record {
+        j = all;
+        few = omega arith;
+        stood = stood ∙ ap (λ (these : List (List ShipLine)). Stands (later number all) (laid_by bytes store these)) (sym (take_whole records));
+        count = length (kept_text number all) + count;
+        seen_is = is ∙ append_assoc printed (kept_text number all) (take count (end_line (later number all))) ∙ ap (λ (these : List ℕ). printed ++ these) (sym (take-append-add (kept_text number all) (end_line (later number all)) count));
+        told = λ k few many. few;
+      }
+    where
+      take_whole : (these : List (List ShipLine)) → take (length these) these ≡ these
+      take_whole [] = refl
+      take_whole (one ∷ these) = ap (λ (rest : List (List ShipLine)). one ∷ rest) (take_whole these)

@@ -1,0 +1,98 @@
+use Rattle.std.proofs.Common.{◌≡◌, ℕ, ◌+◌, ◌-◌, List, length, map, take, drop, refl, sym, subst, ◌∙◌, ap, arith}
+use Rattle.std.specs.Prelude.{All, ◌≤◌}
+use Rattle.std.proofs.lemmas.List.{length-map}
+use Rattle.line_geometry.specs.Segments.{line_bytes}
+use Rattle.store_format.specs.Header.{most_lines}
+use Rattle.restart.specs.Kept.{number_of}
+use Rattle.standby.specs.Followed.{Follows, IsAlike}
+use Rattle.standby.specs.State.{IsLongAt, behind, due}
+use Rattle.standby.specs.Text.{ShipLine, content_of, later, record_of}
+use Rattle.standby.specs.declared.following.Followed.TheVariants.{Done, Geometry, NotKept, Long}
+use Rattle.standby.specs.declared.text.ShipRecord.{ShipRecord}
+use Rattle.standby.proofs.DueLemmas.{due_are, few_are, first_is, fitting}
+use Rattle.standby.proofs.FollowLemmas.{follows_none}
+use Rattle.standby.proofs.following.follow.Given.{Over}
+use Rattle.standby.proofs.following.follow.Goals as goal
+use Rattle.standby.proofs.following.follow.Goals.{After-long_among}
+
+abbrev passed : (g : Over) (c : goal.After-long_among g) → ℕ
+passed g c = behind c.args.ship.now.start (number_of c.args.durable.now)
+
+-- the records that are asked for
+abbrev slice : (g : Over) (c : goal.After-long_among g) → List ShipRecord
+slice g c = take (length c.deref.result.now - behind c.args.ship.now.start c.number.result) (drop (behind c.args.ship.now.start c.number.result) c.deref.result.now)
+
+slice_is : (g : Over) (c : goal.After-long_among g) → slice g c ≡ take (length c.deref.result.now - passed g c) (drop (passed g c) c.deref.result.now)
+slice_is g c = ap (λ (n : ℕ). take (length c.deref.result.now - behind c.args.ship.now.start n) (drop (behind c.args.ship.now.start n) c.deref.result.now)) c.number.ensures
+
+alike : (g : Over) (c : goal.After-long_among g) → IsAlike c.args.durable.now.header (content_of c.args.ship.now)
+alike g c = c.is_alike.ensures.0 c.if-not-is_alike.false
+
+most : (g : Over) (c : goal.After-long_among g) → c.most_lines.result ≡ most_lines c.args.durable.now.header
+most g c = c.most_lines.ensures.value ∙ ap most_lines c.header.ensures
+
+among : (g : Over) (c : goal.After-long_among g) → passed g c ≤ length (map (record_of c.args.ship.now.line_bytes) c.args.ship.now.records.items)
+among g c =
+    let number = ap (behind c.args.ship.now.start) c.number.ensures in
+    omega (arith, number, c.if-passed-len.false, c.len.ensures, length-map c.args.ship.now.records.items (record_of c.args.ship.now.line_bytes))
+
+due_is : (g : Over) (c : goal.After-long_among g) → map (record_of (line_bytes c.args.durable.now.header.directory.page)) (slice g c) ≡ due (content_of c.args.ship.now) (number_of c.args.durable.now)
+due_is g c = due_are c.args.ship.now c.args.durable.now.header c.requires.ship (alike g c) (passed g c) c.deref.result.now (slice g c) c.deref.ensures.value (slice_is g c)
+
+-- what was done of the records that were asked for is so of those that are due
+of_due : (g : Over) (c : goal.After-long_among g) (follows : ℕ → List (List ShipLine) → Type 0) → follows (line_bytes c.args.durable.now.header.directory.page) (map (record_of (line_bytes c.args.durable.now.header.directory.page)) (slice g c)) → follows c.args.ship.now.line_bytes (due (content_of c.args.ship.now) (number_of c.args.durable.now))
+of_due g c follows is = subst (λ (n : ℕ). follows n (due (content_of c.args.ship.now) (number_of c.args.durable.now))) (sym (alike g c).bytes) (subst (follows (line_bytes c.args.durable.now.header.directory.page)) (due_is g c) is)
+
+few : (g : Over) (c : goal.After-long_among g) → All (λ kept. length kept.lines.items ≤ c.most_lines.result) (slice g c) → All (λ kept. length kept.lines.items ≤ most_lines c.args.durable.now.header) (slice g c)
+few g c short = subst (λ (n : ℕ). All (λ (kept : ShipRecord). length kept.lines.items ≤ n) (slice g c)) (most g c) short
+
+pub returns-then-not-is_alike-clause-follows : goal.returns-then-not-is_alike-clause-follows
+returns-then-not-is_alike-clause-follows g c store tracks stood =
+    follows_none g.W.Outside g.met.W.Outside.fewer_later g.met.W.Outside.printed_now c.args.ship.now.line_bytes (number_of c.args.durable.now) store (due (content_of c.args.ship.now) (number_of c.args.durable.now)) c.args.durable.now c.args.outside.now Geometry (omega arith) tracks stood refl
+
+pub returns-then-passed-len-clause-follows : goal.returns-then-passed-len-clause-follows
+returns-then-passed-len-clause-follows g c store tracks stood =
+    follows_none g.W.Outside g.met.W.Outside.fewer_later g.met.W.Outside.printed_now c.args.ship.now.line_bytes (number_of c.args.durable.now) store (due (content_of c.args.ship.now) (number_of c.args.durable.now)) c.args.durable.now c.args.outside.now NotKept (omega arith) tracks stood refl
+
+pub returns-in-Some-clause-follows : goal.returns-in-Some-clause-follows
+returns-in-Some-clause-follows g c store tracks stood =
+    follows_none g.W.Outside g.met.W.Outside.fewer_later g.met.W.Outside.printed_now c.args.ship.now.line_bytes (number_of c.args.durable.now) store (due (content_of c.args.ship.now) (number_of c.args.durable.now)) c.args.durable.now c.args.outside.now (Long _) (omega arith) tracks stood refl
+
+pub returns-in-Some-clause-long : goal.returns-in-Some-clause-long
+returns-in-Some-clause-long g c number is =
+    let at = (goal.at.returns-in-Some-clause-long g c).After-long_among in
+    let same : later c.number-in-Some.result (c.in-Some.place + 1) ≡ number = cc in
+    let long = subst (λ (n : ℕ). IsLongAt n (slice g at) c.in-Some.place) (most g at) c.in-Some.ensures.first in (
+      alike g at,
+      among g at,
+      (
+        c.in-Some.place,
+        sym same ∙ ap (λ (n : ℕ). later n (c.in-Some.place + 1)) c.number-in-Some.ensures,
+        first_is c.args.ship.now c.args.durable.now.header c.requires.ship (alike g at) (passed g at) c.deref.result.now (slice g at) c.deref.ensures.value (slice_is g at) c.in-Some.place long,
+      ),
+    )
+
+pub keep_all-requires-clause-fitting : goal.keep_all-requires-clause-fitting
+keep_all-requires-clause-fitting g c =
+    let at = (goal.at.keep_all-requires-clause-fitting g c).After-long_among in
+    fitting c.args.ship.now c.args.durable.now.header c.requires.ship (alike g at) (passed g at) c.deref.result.now (slice g at) c.deref.ensures.value (slice_is g at) (few g at c.in-None.ensures.none)
+
+pub returns-in-Ok-clause-fits : goal.returns-in-Ok-clause-fits
+returns-in-Ok-clause-fits g c done =
+    let at = (goal.at.returns-in-Ok-clause-fits g c).After-long_among in
+    (alike g at, among g at, few_are c.args.ship.now c.args.durable.now.header c.requires.ship (alike g at) (passed g at) c.deref.result.now (slice g at) c.deref.ensures.value (slice_is g at) (few g at c.in-None.ensures.none))
+
+pub returns-in-Err-clause-fits : goal.returns-in-Err-clause-fits
+returns-in-Err-clause-fits g c stopped =
+    let at = (goal.at.returns-in-Err-clause-fits g c).After-long_among in
+    (alike g at, among g at, few_are c.args.ship.now c.args.durable.now.header c.requires.ship (alike g at) (passed g at) c.deref.result.now (slice g at) c.deref.ensures.value (slice_is g at) (few g at c.in-None.ensures.none))
+
+pub returns-in-Ok-clause-follows : goal.returns-in-Ok-clause-follows
+returns-in-Ok-clause-follows g c store tracks stood =
+    let at = (goal.at.returns-in-Ok-clause-follows g c).After-long_among in
+    of_due g at (λ (bytes : ℕ) (records : List (List ShipLine)). Follows g.W.Outside bytes (number_of c.args.durable.now) store records c.keep_all.new.durable c.args.outside.now c.keep_all.new.outside Done) (c.in-Ok.ensures.follows store tracks stood)
+
+pub returns-in-Err-clause-follows : goal.returns-in-Err-clause-follows
+returns-in-Err-clause-follows g c store tracks stood =
+    let at = (goal.at.returns-in-Err-clause-follows g c).After-long_among in
+    of_due g at (λ (bytes : ℕ) (records : List (List ShipLine)). Follows g.W.Outside bytes (number_of c.args.durable.now) store records c.keep_all.new.durable c.args.outside.now c.keep_all.new.outside c.in-Err.why) (c.in-Err.ensures.follows store tracks stood)

@@ -1,0 +1,61 @@
+use Rattle.std.proofs.Common.{◌≡◌, ⊎_elim, ◌∙◌, ap}
+use Rattle.std.specs.Prelude.{Err}
+use Rattle.line_geometry.specs.Segments.{line_bytes}
+use Rattle.line_geometry.specs.FlatStore.{FlatStore}
+use Rattle.store_format.specs.Stands.{Stands, stands}
+use Rattle.outside.specs.Runs.{Leaves, held_of}
+use Rattle.redo_journal.specs.Tracks.{IsEither}
+use Rattle.redo_journal.specs.declared.keep.Kept.{Kept}
+use Rattle.restart.specs.Committed.{number_after}
+use Rattle.restart.specs.Kept.{KeptStore, number_of}
+use Rattle.restart.specs.Shows.{Tracks}
+use Rattle.standby.specs.Step.{Steps, put_of}
+use Rattle.standby.specs.Text.{kept_line, next, record_of}
+use Rattle.standby.specs.declared.following.Followed.TheVariants.{DiskFault}
+use Rattle.standby.proofs.GoLemmas.{goes_on, goes_puts, goes_writes}
+use Rattle.standby.proofs.StepLemmas.{either_begun, more_begun, sized, step_kept, step_unkept, tracks_begun}
+use Rattle.standby.proofs.following.keep.Given.{Over}
+use Rattle.standby.proofs.following.keep.Goals as goal
+use Rattle.standby.proofs.following.keep.Goals.{After-commit}
+
+-- the record that is begun is tracked
+tracked : (g : Over) (c : goal.After-commit g) → Tracks g.W.Outside c.args.durable.now c.args.outside.now → Tracks g.W.Outside c.begin.new.durable c.args.outside.now
+tracked g c tracks = tracks_begun g.W.Outside c.args.durable.now c.begin.new.durable c.begin.ensures.begun c.args.outside.now c.begin.ensures.now_is tracks
+
+-- and a crash in its commit leaves the store before it or behind it
+either : (g : Over) (c : goal.After-commit g) → Tracks g.W.Outside c.args.durable.now c.args.outside.now → Leaves g.W.Outside (IsEither c.begin.ensures.begun (held_of g.W.Outside c.args.outside.now)) c.args.outside.now c.commit.new.outside
+either g c tracks =
+    either_begun g.W.Outside c.args.durable.now c.begin.new.durable c.begin.ensures.begun (held_of g.W.Outside c.args.outside.now) c.args.outside.now c.commit.new.outside c.begin.ensures.now_is (c.commit.ensures.crash (tracked g c tracks))
+
+unkept : (g : Over) (c : goal.After-commit g) (store : FlatStore) → Tracks g.W.Outside c.args.durable.now c.args.outside.now → stands (held_of g.W.Outside c.args.outside.now) ≡ Stands (number_of c.args.durable.now) store
+    → Steps g.W.Outside (line_bytes c.args.durable.now.header.directory.page) (number_of c.args.durable.now) store (record_of (line_bytes c.args.durable.now.header.directory.page) c.args.record.now) c.commit.new.self c.args.outside.now c.commit.new.outside (Err DiskFault)
+unkept g c store tracks stood =
+    step_unkept g.W.Outside g.met.W.Outside.fewer_later g.met.W.Outside.printed_now (number_of c.args.durable.now) (line_bytes c.args.durable.now.header.directory.page) store (record_of (line_bytes c.args.durable.now.header.directory.page) c.args.record.now) c.begin.ensures.begun c.args.outside.now c.commit.new.outside
+    (sized (held_of g.W.Outside c.args.outside.now) c.args.durable.now (number_of c.args.durable.now) store tracks.shows stood) c.begin.ensures.lines_are stood c.commit.ensures.only.calls (either g c tracks) c.commit.new.self
+
+pub returns-in-Unwritten : goal.returns-in-Unwritten
+returns-in-Unwritten g c =
+    let at = (goal.at.returns-in-Unwritten g c).After-commit in
+    record {
+      only = goes_writes g.W.Outside c.args.outside.now c.commit.new.outside c.commit.ensures.only;
+      ends = (⊎_elim c.commit.ensures.unwritten_cause c.commit.ensures.doubt_cause c.in-Unwritten.is, c.commit.ensures.only.calls.put);
+      stopped = tt;
+      header = c.commit.ensures.header ∙ ap (λ (store : KeptStore). store.header) c.begin.ensures.now_is;
+      number = tt;
+      steps = unkept g at;
+    }
+
+pub returns-clause-only : goal.returns-clause-only
+returns-clause-only g c =
+    goes_on g.W.Outside g.met.W.Outside.fewer_later c.args.outside.now c.commit.new.outside c.put_line.new.outside (goes_writes g.W.Outside c.args.outside.now c.commit.new.outside c.commit.ensures.only)
+    (goes_puts g.W.Outside c.as_slice.result.now c.commit.new.outside c.put_line.new.outside (put_of c.put_line.result) c.put_line.ensures.puts)
+
+pub returns-clause-steps : goal.returns-clause-steps
+returns-clause-steps g c store tracks stood =
+    let at = (goal.at.returns-clause-steps g c).After-commit in
+    let done = c.commit.ensures.done c.in-Done.is (tracked g at tracks) in
+    let number : c.number.result ≡ next (number_of c.args.durable.now) = c.number.ensures ∙ c.commit.ensures.number ∙ ap (λ (kept : Kept). number_after kept (number_of c.begin.new.durable)) c.in-Done.is ∙ ap (λ (store : KeptStore). next (number_of store)) c.begin.ensures.now_is in
+    step_kept g.W.Outside g.met.W.Outside.fewer_later g.met.W.Outside.printed_now (number_of c.args.durable.now) (line_bytes c.args.durable.now.header.directory.page) store (record_of (line_bytes c.args.durable.now.header.directory.page) c.args.record.now) c.begin.ensures.begun c.args.outside.now c.commit.new.outside
+    (sized (held_of g.W.Outside c.args.outside.now) c.args.durable.now (number_of c.args.durable.now) store tracks.shows stood) c.begin.ensures.lines_are stood c.commit.ensures.only.calls (either g at tracks) c.commit.new.self c.put_line.new.outside c.as_slice.result.now c.put_line.result done.tracks
+    (more_begun c.args.durable.now c.begin.new.durable c.begin.ensures.begun (stands (held_of g.W.Outside c.args.outside.now)) (stands (held_of g.W.Outside c.commit.new.outside)) c.begin.ensures.now_is done.stood)
+    (c.as_slice.ensures ∙ c.fill_kept.ensures ∙ ap kept_line number) c.put_line.ensures.only c.put_line.ensures.puts

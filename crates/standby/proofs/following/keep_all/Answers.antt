@@ -1,0 +1,19 @@
+use Rattle.std.proofs.Common.{◌≡◌, length, map, sym, ◌∙◌, ap}
+use Rattle.std.proofs.lemmas.List.{length-map}
+use Rattle.line_geometry.specs.Segments.{line_bytes}
+use Rattle.restart.specs.Kept.{number_of}
+use Rattle.standby.specs.Text.{end_line, later, record_of}
+use Rattle.standby.proofs.FollowLemmas.{ended, not_done, stopped_early}
+use Rattle.standby.proofs.following.keep_all.Goals as goal
+
+pub returns-in-Err-clause-follows : goal.returns-in-Err-clause-follows
+returns-in-Err-clause-follows g c store tracks stood =
+    stopped_early g.W.Outside g.met.W.Outside.fewer_later g.met.W.Outside.printed_now (line_bytes c.args.durable.now.header.directory.page) (number_of c.args.durable.now) store (map (record_of (line_bytes c.args.durable.now.header.directory.page)) c.args.records.now) c.keep_each.new.durable c.args.outside.now c.keep_each.new.outside c.in-Err.why
+    (not_done c.in-Err.why c.in-Err.ensures.stopped) (c.in-Err.ensures.keeps store tracks stood)
+
+pub returns-clause-follows : goal.returns-clause-follows
+returns-clause-follows g c store tracks stood =
+    let all = map (record_of (line_bytes c.args.durable.now.header.directory.page)) c.args.records.now in
+    let number : c.number.result ≡ later (number_of c.args.durable.now) (length all) = c.number.ensures ∙ c.in-Ok.ensures.number ∙ ap (later (number_of c.args.durable.now)) (sym (length-map c.args.records.now (record_of (line_bytes c.args.durable.now.header.directory.page)))) in
+    ended g.W.Outside g.met.W.Outside.fewer_later g.met.W.Outside.printed_now (line_bytes c.args.durable.now.header.directory.page) (number_of c.args.durable.now) store all c.keep_each.new.durable c.args.outside.now c.keep_each.new.outside c.put_line.new.outside
+    c.keep_each.ensures.only.time (c.in-Ok.ensures.keeps store tracks stood) c.as_slice.result.now c.put_line.result (c.as_slice.ensures ∙ c.fill_end.ensures ∙ ap end_line number) c.put_line.ensures.only c.put_line.ensures.puts

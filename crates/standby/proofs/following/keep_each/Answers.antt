@@ -1,0 +1,83 @@
+use Rattle.std.proofs.Common.{◌≡◌, ℕ, ◌<◌, List, [], length, map, take, get_or, refl, sym, subst, ◌∙◌, ap, arith}
+use Rattle.std.specs.Prelude.{Result, Ok, Err}
+use Rattle.std.proofs.lemmas.List.{get_or-map, length-map}
+use Rattle.line_geometry.specs.Segments.{line_bytes}
+use Rattle.store_format.specs.Header.{Header}
+use Rattle.line_geometry.specs.FlatStore.{FlatStore}
+use Rattle.store_format.specs.Stands.{Stands}
+use Rattle.outside.specs.declared.world.Outside.{Ghosts}
+use Rattle.restart.specs.Kept.{KeptStore, number_of}
+use Rattle.standby.specs.State.{laid_by}
+use Rattle.standby.specs.Step.{Steps}
+use Rattle.standby.specs.Text.{ShipLine, later, next, record_of}
+use Rattle.standby.specs.declared.following.Followed.{Followed}
+use Rattle.standby.specs.declared.text.ShipRecord.{ShipRecord}
+use Rattle.standby.proofs.FollowLemmas.{so_far_all, so_far_more, so_far_none, so_far_stopped}
+use Rattle.standby.proofs.GoLemmas.{goes_none, goes_on}
+use Rattle.standby.proofs.TellLemmas.{later_more}
+use Rattle.standby.proofs.following.keep_each.Goals as goal
+
+-- the same step, by a number, lines and a result that are these
+step_at : {W : Type 0} (G : Ghosts W) (bytes number numbered : ℕ) (store : FlatStore) (lines those : List ShipLine) (durable : KeptStore) (before after : W) (result how : Result (Unit {0}) Followed)
+    → number ≡ numbered → lines ≡ those → result ≡ how → Steps G bytes number store lines durable before after result → Steps G bytes numbered store those durable before after how
+step_at G bytes number numbered store lines those durable before after result how same alike is steps =
+    subst (λ (r : Result (Unit {0}) Followed). Steps G bytes numbered store those durable before after r) is
+    (subst (λ (these : List ShipLine). Steps G bytes numbered store these durable before after result) alike
+    (subst (λ (n : ℕ). Steps G bytes n store lines durable before after result) same steps))
+
+-- the lines of the record at hand
+lines_are : (bytes : ℕ) (records : List ShipRecord) (i : ℕ) (kept : ShipRecord) → i < length records → kept ≡ get_or records i kept → record_of bytes kept ≡ get_or (map (record_of bytes) records) i []
+lines_are bytes records i kept lt is = ap (record_of bytes) is ∙ sym (get_or-map (record_of bytes) records i kept [] lt)
+
+pub loop-record-init : goal.loop-record-init
+loop-record-init g c =
+    let number : number_of c.args.durable.now ≡ later (number_of c.args.durable.now) 0 = omega arith in
+    record {
+      only = goes_none g.W.Outside c.args.outside.now;
+      disk = refl;
+      put = refl;
+      header = refl;
+      number = number;
+      so_far = λ store tracks stood.
+          so_far_none g.W.Outside g.met.W.Outside.fewer_later g.met.W.Outside.printed_now (line_bytes c.args.durable.now.header.directory.page) (number_of c.args.durable.now) store (map (record_of (line_bytes c.args.durable.now.header.directory.page)) c.args.records.now) c.args.durable.now c.args.outside.now (sym number) tracks stood;
+    }
+
+pub returns-in-Err-clause-keeps : goal.returns-in-Err-clause-keeps
+returns-in-Err-clause-keeps g c store tracks stood =
+    let i = c.loop-record.record-index in
+    let all = map (record_of (line_bytes c.args.durable.now.header.directory.page)) c.args.records.now in
+    let so_far = c.loop-record.invariant.so_far store tracks stood in
+    let lt : i < length all = omega (arith, c.loop-record-test.true, length-map c.args.records.now (record_of (line_bytes c.args.durable.now.header.directory.page))) in
+    let steps = subst (λ (header : Header). Steps g.W.Outside (line_bytes header.directory.page) (number_of c.loop-record.durable) (laid_by (line_bytes c.args.durable.now.header.directory.page) store (take i all)) (record_of (line_bytes header.directory.page) c.record-item.result) c.keep.new.durable c.loop-record.outside c.keep.new.outside c.keep.result) c.loop-record.invariant.header
+    (c.keep.ensures.steps (laid_by (line_bytes c.args.durable.now.header.directory.page) store (take i all)) so_far.tracks (so_far.stood ∙ ap (λ (n : ℕ). Stands n (laid_by (line_bytes c.args.durable.now.header.directory.page) store (take i all))) (sym c.loop-record.invariant.number))) in
+    so_far_stopped g.W.Outside g.met.W.Outside.fewer_later g.met.W.Outside.printed_now (line_bytes c.args.durable.now.header.directory.page) (number_of c.args.durable.now) store all i lt c.loop-record.durable c.args.outside.now c.loop-record.outside
+    c.loop-record.invariant.only.time so_far c.keep.new.durable c.keep.new.outside c.keep.ensures.only.time c.in-Err.why
+    (step_at g.W.Outside (line_bytes c.args.durable.now.header.directory.page) (number_of c.loop-record.durable) (later (number_of c.args.durable.now) i) (laid_by (line_bytes c.args.durable.now.header.directory.page) store (take i all)) (record_of (line_bytes c.args.durable.now.header.directory.page) c.record-item.result) (get_or all i []) c.keep.new.durable c.loop-record.outside c.keep.new.outside c.keep.result (Err c.in-Err.why)
+    c.loop-record.invariant.number (lines_are (line_bytes c.args.durable.now.header.directory.page) c.args.records.now i c.record-item.result c.loop-record-test.true c.record-item.is) c.in-Err.is steps)
+
+pub loop-record-preserved : goal.loop-record-preserved
+loop-record-preserved g c =
+    let i = c.loop-record.record-index in
+    let all = map (record_of (line_bytes c.args.durable.now.header.directory.page)) c.args.records.now in
+    let lt : i < length all = omega (arith, c.loop-record-test.true, length-map c.args.records.now (record_of (line_bytes c.args.durable.now.header.directory.page))) in
+    record {
+      only = goes_on g.W.Outside g.met.W.Outside.fewer_later c.args.outside.now c.loop-record.outside c.keep.new.outside c.loop-record.invariant.only c.keep.ensures.only;
+      disk = c.in-Ok.ensures.ends.0 ∙ c.loop-record.invariant.disk;
+      put = c.in-Ok.ensures.ends.1 ∙ c.loop-record.invariant.put;
+      header = c.keep.ensures.header ∙ c.loop-record.invariant.header;
+      number = c.in-Ok.ensures.number ∙ ap next c.loop-record.invariant.number ∙ later_more (number_of c.args.durable.now) i;
+      so_far = λ store tracks stood.
+          let so_far = c.loop-record.invariant.so_far store tracks stood in
+          let steps = subst (λ (header : Header). Steps g.W.Outside (line_bytes header.directory.page) (number_of c.loop-record.durable) (laid_by (line_bytes c.args.durable.now.header.directory.page) store (take i all)) (record_of (line_bytes header.directory.page) c.record-item.result) c.keep.new.durable c.loop-record.outside c.keep.new.outside c.keep.result) c.loop-record.invariant.header
+          (c.keep.ensures.steps (laid_by (line_bytes c.args.durable.now.header.directory.page) store (take i all)) so_far.tracks (so_far.stood ∙ ap (λ (n : ℕ). Stands n (laid_by (line_bytes c.args.durable.now.header.directory.page) store (take i all))) (sym c.loop-record.invariant.number))) in
+          so_far_more g.W.Outside g.met.W.Outside.fewer_later g.met.W.Outside.printed_now (line_bytes c.args.durable.now.header.directory.page) (number_of c.args.durable.now) store all i lt c.loop-record.durable c.args.outside.now c.loop-record.outside
+          c.loop-record.invariant.only.time so_far c.keep.new.durable c.keep.new.outside c.keep.ensures.only.time
+          (step_at g.W.Outside (line_bytes c.args.durable.now.header.directory.page) (number_of c.loop-record.durable) (later (number_of c.args.durable.now) i) (laid_by (line_bytes c.args.durable.now.header.directory.page) store (take i all)) (record_of (line_bytes c.args.durable.now.header.directory.page) c.record-item.result) (get_or all i []) c.keep.new.durable c.loop-record.outside c.keep.new.outside c.keep.result (Ok tt)
+          c.loop-record.invariant.number (lines_are (line_bytes c.args.durable.now.header.directory.page) c.args.records.now i c.record-item.result c.loop-record-test.true c.record-item.is) c.in-Ok.is steps);
+    }
+
+pub returns-clause-keeps : goal.returns-clause-keeps
+returns-clause-keeps g c store tracks stood =
+    let all = map (record_of (line_bytes c.args.durable.now.header.directory.page)) c.args.records.now in
+    so_far_all g.W.Outside g.met.W.Outside.fewer_later g.met.W.Outside.printed_now (line_bytes c.args.durable.now.header.directory.page) (number_of c.args.durable.now) store all c.loop-record.record-index c.loop-record.durable c.args.outside.now c.loop-record.outside
+    (omega (arith, c.loop-record-test.false, c.loop-record.auto.record-index-end, length-map c.args.records.now (record_of (line_bytes c.args.durable.now.header.directory.page)))) (c.loop-record.invariant.so_far store tracks stood)

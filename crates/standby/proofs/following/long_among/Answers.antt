@@ -1,0 +1,27 @@
+use Rattle.std.proofs.Common.{◌≤◌, ℕ, List, length, subst, refl, arith}
+use Rattle.std.specs.Prelude.{All}
+use Rattle.std.proofs.lemmas.Option.{slice_get_read}
+use Rattle.std.proofs.lemmas.List.{take_all}
+use Rattle.std.proofs.lemmas.List.Elements.{All-more}
+use Rattle.standby.specs.declared.text.ShipRecord.{ShipRecord}
+use Rattle.standby.proofs.following.long_among.Goals as goal
+
+abbrev IsShort : ℕ → ShipRecord → Type 0
+IsShort most kept = length kept.lines.items ≤ most
+
+pub returns-then-len-most-clause-first : goal.returns-then-len-most-clause-first
+returns-then-len-most-clause-first c = record {
+  kept = c.index-records-place.result;
+  there = slice_get_read c.args.records.now (length c.args.records.now) c.loop-place.place c.index-records-place.result refl c.loop-place-test.true c.index-records-place.is;
+  long = omega (arith, c.if-len-most.true, c.len.ensures);
+  before = c.loop-place.invariant.short;
+}
+
+pub loop-place-preserved : goal.loop-place-preserved
+loop-place-preserved c = record {
+  short = All-more (IsShort c.args.most) c.args.records.now c.loop-place.place c.index-records-place.result c.loop-place-test.true c.loop-place.invariant.short (subst (IsShort c.args.most) c.index-records-place.is (omega (arith, c.if-len-most.false, c.len.ensures)));
+}
+
+pub returns-clause-none : goal.returns-clause-none
+returns-clause-none c =
+    subst (λ (records : List ShipRecord). All (IsShort c.args.most) records) (take_all c.loop-place.place c.args.records.now c.loop-place-test.false) c.loop-place.invariant.short

@@ -1,0 +1,7 @@
+use Rattle.std.proofs.Common.{◌≤◌, length, take}
+use Rattle.std.specs.Prelude.{All}
+use Rattle.standby.proofs.following.long_among.Given as goal
+
+-- the records so far aren't long
+abbrev pub invariant-loop-place : goal.invariant-loop-place
+invariant-loop-place l = record { short : All (λ kept. length kept.lines.items ≤ l.most) (take l.place l.records) }

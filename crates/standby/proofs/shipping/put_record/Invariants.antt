@@ -1,0 +1,18 @@
+use Rattle.std.proofs.Common.{◌≡◌, ◌++◌, length, take}
+use Rattle.outside.specs.Bytes.{Prints}
+use Rattle.outside.specs.Runs.{held_of}
+use Rattle.redo_journal.specs.Records.{IsRecordAt}
+use Rattle.restart.specs.Shows.{IsShown}
+use Rattle.standby.specs.Followed.{well}
+use Rattle.standby.specs.Puts.{AsksAndPuts}
+use Rattle.standby.specs.Text.{lines_text, record_line, told}
+use Rattle.standby.proofs.shipping.put_record.Given as goal
+
+abbrev pub invariant-loop-index : goal.invariant-loop-index
+invariant-loop-index g l = record {
+  only : AsksAndPuts g.W.Outside l.fn.outside l.outside;
+  disk : g.W.Outside.disk_faults l.outside ≡ g.W.Outside.disk_faults l.fn.outside;
+  put : g.W.Outside.put_faults l.outside ≡ g.W.Outside.put_faults l.fn.outside;
+  so_far : (shown : IsShown g.W.Outside l.durable l.fn.outside) → (at : IsRecordAt (held_of g.W.Outside l.fn.outside) l.durable.bank l.record.place) → l.record.count ≡ length at.lines
+      → Prints (g.W.Outside.printed l.fn.outside) (g.W.Outside.printed l.outside) (record_line l.number l.record.count ++ lines_text (take l.index (told at.lines))) well;
+}

@@ -1,0 +1,138 @@
+use Rattle.std.proofs.Common.{◌≡◌, ⊎_elim, ℕ, ◌+◌, ◌-◌, ◌<◌, List, [], ◌++◌, length, map, take, drop, get_or, refl, sym, subst, ◌∙◌, ap, arith}
+use Rattle.std.specs.Prelude.{◌%◌, ◌^◌, ◌≤◌, Option}
+use Rattle.std.proofs.lemmas.List.{get_or-drop, length-drop, length-map, take-append-drop, take_all}
+use Rattle.store_format.specs.Bank.{RecordLine}
+use Rattle.outside.specs.Bytes.{Prints}
+use Rattle.outside.proofs.Prints.{prints_on, prints_same, prints_stop}
+use Rattle.standby.specs.Followed.{well, broken}
+use Rattle.standby.specs.Text.{later, record_text, records_text, told}
+use Rattle.standby.proofs.ShipLemmas.{area_more, later_later, next_is, records_more, records_rest, records_split, there_in}
+use Rattle.standby.proofs.ShowLemmas.{prints_none, prints_nothing, shows_asks, shows_none, shows_on}
+use Rattle.standby.proofs.shipping.put_records.Goals as goal
+
+pub loop-index-init : goal.loop-index-init
+loop-index-init g c =
+    let none : c.args.passed - c.args.passed ≡ 0 = omega arith in
+    record {
+      only = shows_none g.W.Outside c.args.outside.now;
+      disk = refl;
+      put = refl;
+      inside = c.requires.inside;
+      place = λ shown is. is;
+      so_far = λ shown is.
+          prints_same (g.W.Outside.printed c.args.outside.now) (g.W.Outside.printed c.args.outside.now) [] (records_text (later c.args.durable.now.bank.base c.args.passed) (take (c.args.passed - c.args.passed) (map told (drop c.args.passed shown.shows.read.records)))) well
+          (ap (λ (n : ℕ). records_text (later c.args.durable.now.bank.base c.args.passed) (take n (map told (drop c.args.passed shown.shows.read.records)))) (sym none)) (prints_nothing (g.W.Outside.printed c.args.outside.now));
+    }
+
+-- the number of the record at hand
+number_is : (base passed index number : ℕ) → passed ≤ index → number ≡ later base (index + 1) → number ≡ later (later base passed) (index - passed + 1)
+number_is base passed index number le is =
+    let same : index + 1 ≡ passed + (index - passed + 1) = omega (arith, le) in
+    is ∙ ap (later base) same ∙ sym (later_later base passed (index - passed + 1))
+
+-- the record at hand among those behind so many
+lines_at : (records : List (List RecordLine)) (passed index : ℕ) → passed ≤ index → get_or records index [] ≡ get_or (drop passed records) (index - passed) []
+lines_at records passed index le =
+    let same : passed + (index - passed) ≡ index = omega (arith, le) in
+    ap (λ (n : ℕ). get_or records n []) (sym same) ∙ sym (get_or-drop passed records (index - passed) [])
+
+-- the text of the records so far is a first part of that of all
+part_of : (number : ℕ) (records : List (List RecordLine)) (i : ℕ) → (rest : List ℕ) × (records_text number (take i (map told records)) ++ rest ≡ records_text number (map told records))
+part_of number records i =
+    let split = records_split number (take i (map told records)) (drop i (map told records)) in
+    (split.0, sym split.1 ∙ ap (records_text number) (take-append-drop i (map told records)))
+
+pub returns-in-Err-clause-prints : goal.returns-in-Err-clause-prints
+returns-in-Err-clause-prints g c shown is =
+    let number = later c.args.durable.now.bank.base c.args.passed in
+    let behind = drop c.args.passed shown.shows.read.records in
+    let i = c.loop-index.index - c.args.passed in
+    let rest = part_of number behind i in
+    prints_same (g.W.Outside.printed c.args.outside.now) (g.W.Outside.printed c.record_at.new.outside) (records_text number (take i (map told behind)) ++ rest.0) (records_text number (map told behind)) broken rest.1
+    (prints_on (g.W.Outside.printed c.args.outside.now) (g.W.Outside.printed c.loop-index.outside) (g.W.Outside.printed c.record_at.new.outside) (records_text number (take i (map told behind))) rest.0 tt broken (c.loop-index.invariant.so_far shown is)
+    (prints_none (g.W.Outside.printed c.loop-index.outside) (g.W.Outside.printed c.record_at.new.outside) rest.0 c.record_at.ensures.asks.calls.quiet.same))
+
+pub returns-in-Err-put_record-clause-only : goal.returns-in-Err-put_record-clause-only
+returns-in-Err-put_record-clause-only g c =
+    shows_on g.W.Outside g.met.W.Outside.fewer_later c.args.outside.now c.loop-index.outside c.put_record.new.outside c.loop-index.invariant.only
+    (shows_on g.W.Outside g.met.W.Outside.fewer_later c.loop-index.outside c.record_at.new.outside c.put_record.new.outside (shows_asks g.W.Outside c.loop-index.outside c.record_at.new.outside c.record_at.ensures.asks) c.put_record.ensures.only)
+
+pub returns-in-Err-put_record-clause-prints : goal.returns-in-Err-put_record-clause-prints
+returns-in-Err-put_record-clause-prints g c shown is =
+    let G = g.W.Outside in
+    let old = c.args.outside.now in
+    let loop = c.loop-index.outside in
+    let mid = c.record_at.new.outside in
+    let records = shown.shows.read.records in
+    let index = c.loop-index.index in
+    let i = index - c.args.passed in
+    let number = later c.args.durable.now.bank.base c.args.passed in
+    let behind = drop c.args.passed records in
+    let le : c.args.passed ≤ index = omega (arith, c.loop-index.auto.index) in
+    let lt : index < length records = omega (arith, shown.shows.read.count, c.loop-index-test.true, c.records-index-end.ensures) in
+    let place = c.loop-index.invariant.place shown is in
+    let first = there_in G c.args.durable.now old loop shown index c.loop-index.place c.loop-index.invariant.only.held lt place in
+    let counted = c.in-Ok.ensures.read first.0.told first.1.0 in
+    let at = there_in G c.args.durable.now old mid shown index c.in-Ok.record.place (c.record_at.ensures.asks.held ∙ c.loop-index.invariant.only.held) lt (c.in-Ok.ensures.found.place_is ∙ place) in
+    let part = c.in-Err-put_record.ensures.prints at.0 at.1.0 (counted.count ∙ ap (λ (lines : List RecordLine). length lines) (first.1.1 ∙ sym at.1.1)) in
+    let due : (c.base.result + (c.from.result + 1)) % 2 ^ 64 ≡ later number (i + 1) = number_is c.args.durable.now.bank.base c.args.passed index ((c.base.result + (c.from.result + 1)) % 2 ^ 64) le (omega (arith, c.base.ensures, c.from.ensures)) in
+    let text = ap (λ (lines : List RecordLine). record_text ((c.base.result + (c.from.result + 1)) % 2 ^ 64) (told lines)) at.1.1 ∙ ap (λ (n : ℕ). record_text n (told (get_or records index []))) due ∙ ap (λ (lines : List RecordLine). record_text (later number (i + 1)) (told lines)) (lines_at records c.args.passed index le) in
+    let within : i < length behind = omega (arith, lt, le, length-drop c.args.passed records) in
+    let rest = records_rest number behind i within in
+    let line = record_text (later number (i + 1)) (told (get_or behind i [])) in
+    prints_same (G.printed old) (G.printed c.put_record.new.outside) ((records_text number (take i (map told behind)) ++ line) ++ rest.0) (records_text number (map told behind)) broken rest.1
+    (prints_stop (G.printed old) (G.printed c.put_record.new.outside) (records_text number (take i (map told behind)) ++ line) rest.0 broken broken refl refl
+    (prints_on (G.printed old) (G.printed loop) (G.printed c.put_record.new.outside) (records_text number (take i (map told behind))) line tt broken (c.loop-index.invariant.so_far shown is)
+    (subst (λ (printed : Option (List ℕ)). Prints printed (G.printed c.put_record.new.outside) line broken) c.record_at.ensures.asks.calls.quiet.same (subst (λ (bytes : List ℕ). Prints (G.printed mid) (G.printed c.put_record.new.outside) bytes broken) text part))))
+
+pub loop-index-preserved : goal.loop-index-preserved
+loop-index-preserved g c =
+    let G = g.W.Outside in
+    let old = c.args.outside.now in
+    let loop = c.loop-index.outside in
+    let mid = c.record_at.new.outside in
+    let index = c.loop-index.index in
+    let i = index - c.args.passed in
+    let number = later c.args.durable.now.bank.base c.args.passed in
+    let le : c.args.passed ≤ index = omega (arith, c.loop-index.auto.index) in
+    record {
+      only =
+          shows_on G g.met.W.Outside.fewer_later old loop c.put_record.new.outside c.loop-index.invariant.only
+          (shows_on G g.met.W.Outside.fewer_later loop mid c.put_record.new.outside (shows_asks G loop mid c.record_at.ensures.asks) c.put_record.ensures.only);
+      disk = c.in-Ok-put_record.ensures.ends.0 ∙ c.in-Ok.ensures.cause.done ∙ c.loop-index.invariant.disk;
+      put = c.in-Ok-put_record.ensures.ends.1 ∙ c.record_at.ensures.asks.calls.put ∙ c.loop-index.invariant.put;
+      inside = ⊎_elim (λ none. omega (arith, none.1, c.requires.some)) (λ some. some.1) c.in-Ok.ensures.found.fits;
+      place = λ shown is.
+          let records = shown.shows.read.records in
+          let lt : index < length records = omega (arith, shown.shows.read.count, c.loop-index-test.true, c.records-index-end.ensures) in
+          let place = c.loop-index.invariant.place shown is in
+          let first = there_in G c.args.durable.now old loop shown index c.loop-index.place c.loop-index.invariant.only.held lt place in
+          let counted = c.in-Ok.ensures.read first.0.told first.1.0 in
+          omega (arith, next_is c.args.durable.now.header.directory.page c.args.durable.now.bank.page c.loop-index.place first.1.0.lines (get_or records index []) c.in-Ok.record first.0.shows.fits.page first.1.1 counted, place, area_more c.args.durable.now.bank.page records index lt);
+      so_far = λ shown is.
+          let records = shown.shows.read.records in
+          let behind = drop c.args.passed records in
+          let lt : index < length records = omega (arith, shown.shows.read.count, c.loop-index-test.true, c.records-index-end.ensures) in
+          let place = c.loop-index.invariant.place shown is in
+          let first = there_in G c.args.durable.now old loop shown index c.loop-index.place c.loop-index.invariant.only.held lt place in
+          let counted = c.in-Ok.ensures.read first.0.told first.1.0 in
+          let at = there_in G c.args.durable.now old mid shown index c.in-Ok.record.place (c.record_at.ensures.asks.held ∙ c.loop-index.invariant.only.held) lt (c.in-Ok.ensures.found.place_is ∙ place) in
+          let part = c.in-Ok-put_record.ensures.prints at.0 at.1.0 (counted.count ∙ ap (λ (lines : List RecordLine). length lines) (first.1.1 ∙ sym at.1.1)) in
+          let due : (c.base.result + (c.from.result + 1)) % 2 ^ 64 ≡ later number (i + 1) = number_is c.args.durable.now.bank.base c.args.passed index ((c.base.result + (c.from.result + 1)) % 2 ^ 64) le (omega (arith, c.base.ensures, c.from.ensures)) in
+          let text = ap (λ (lines : List RecordLine). record_text ((c.base.result + (c.from.result + 1)) % 2 ^ 64) (told lines)) at.1.1 ∙ ap (λ (n : ℕ). record_text n (told (get_or records index []))) due ∙ ap (λ (lines : List RecordLine). record_text (later number (i + 1)) (told lines)) (lines_at records c.args.passed index le) in
+          let within : i < length behind = omega (arith, lt, le, length-drop c.args.passed records) in
+          let line = record_text (later number (i + 1)) (told (get_or behind i [])) in
+          let on : i + 1 ≡ index + 1 - c.args.passed = omega (arith, le) in
+          prints_same (G.printed old) (G.printed c.put_record.new.outside) (records_text number (take i (map told behind)) ++ line) (records_text number (take (index + 1 - c.args.passed) (map told behind))) well
+          (records_more number behind i within ∙ ap (λ (n : ℕ). records_text number (take n (map told behind))) on)
+          (prints_on (G.printed old) (G.printed loop) (G.printed c.put_record.new.outside) (records_text number (take i (map told behind))) line tt well (c.loop-index.invariant.so_far shown is)
+          (subst (λ (printed : Option (List ℕ)). Prints printed (G.printed c.put_record.new.outside) line well) c.record_at.ensures.asks.calls.quiet.same (subst (λ (bytes : List ℕ). Prints (G.printed mid) (G.printed c.put_record.new.outside) bytes well) text part)));
+    }
+
+pub returns-clause-prints : goal.returns-clause-prints
+returns-clause-prints g c shown is =
+    let number = later c.args.durable.now.bank.base c.args.passed in
+    let behind = drop c.args.passed shown.shows.read.records in
+    prints_same (g.W.Outside.printed c.args.outside.now) (g.W.Outside.printed c.loop-index.outside) (records_text number (take (c.loop-index.index - c.args.passed) (map told behind))) (records_text number (map told behind)) well
+    (ap (records_text number) (take_all (c.loop-index.index - c.args.passed) (map told behind) (omega (arith, shown.shows.read.count, c.loop-index-test.false, c.records-index-end.ensures, length-map behind told, length-drop c.args.passed shown.shows.read.records))))
+    (c.loop-index.invariant.so_far shown is)

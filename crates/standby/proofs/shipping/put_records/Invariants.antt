@@ -1,0 +1,19 @@
+use Rattle.std.proofs.Common.{◌≡◌, ◌<◌, ◌-◌, map, take, drop}
+use Rattle.outside.specs.Bytes.{Prints}
+use Rattle.redo_journal.specs.Records.{area_bytes}
+use Rattle.restart.specs.Shows.{IsShown}
+use Rattle.standby.specs.Followed.{well}
+use Rattle.standby.specs.Puts.{AsksAndPuts}
+use Rattle.standby.specs.Text.{later, records_text, told}
+use Rattle.standby.proofs.shipping.put_records.Given as goal
+
+abbrev pub invariant-loop-index : goal.invariant-loop-index
+invariant-loop-index g l = record {
+  only : AsksAndPuts g.W.Outside l.initial.outside l.outside;
+  disk : g.W.Outside.disk_faults l.outside ≡ g.W.Outside.disk_faults l.initial.outside;
+  put : g.W.Outside.put_faults l.outside ≡ g.W.Outside.put_faults l.initial.outside;
+  inside : l.place < l.durable.header.bank_bytes;
+  place : (shown : IsShown g.W.Outside l.durable l.initial.outside) → l.initial.place ≡ area_bytes l.durable.bank.page (take l.passed shown.shows.read.records) → l.place ≡ area_bytes l.durable.bank.page (take l.index shown.shows.read.records);
+  so_far : (shown : IsShown g.W.Outside l.durable l.initial.outside) → l.initial.place ≡ area_bytes l.durable.bank.page (take l.passed shown.shows.read.records)
+      → Prints (g.W.Outside.printed l.initial.outside) (g.W.Outside.printed l.outside) (records_text (later l.durable.bank.base l.passed) (take (l.index - l.passed) (map told (drop l.passed shown.shows.read.records)))) well;
+}

@@ -1,0 +1,114 @@
+use Rattle.std.proofs.Common.{◌≡◌, ℕ, ◌+◌, ◌-◌, ◌≤◌, List, ◌++◌, length, map, take, drop, refl, sym, subst, ◌∙◌, ap, arith}
+use Rattle.std.specs.Prelude.{Option}
+use Rattle.std.proofs.lemmas.List.{length-drop, length-map}
+use Rattle.line_geometry.specs.Directory.{Layout}
+use Rattle.line_geometry.specs.Lines.{line_count}
+use Rattle.store_format.specs.Header.{Header}
+use Rattle.line_geometry.specs.Segments.{line_bytes}
+use Rattle.store_format.specs.Bank.{RecordLine}
+use Rattle.outside.specs.Bytes.{Prints}
+use Rattle.outside.proofs.Prints.{prints_on, prints_stop}
+use Rattle.redo_journal.specs.Records.{area_bytes}
+use Rattle.standby.specs.Followed.{well, broken}
+use Rattle.standby.specs.Shipped.{shipped}
+use Rattle.standby.specs.State.{behind}
+use Rattle.standby.specs.Step.{put_of}
+use Rattle.standby.specs.Text.{end_line, head_line, later, records_text, text_of, told}
+use Rattle.standby.proofs.ShipLemmas.{later_later}
+use Rattle.standby.proofs.ShowLemmas.{by_put, prints_none, shows_asks, shows_on, shows_puts, still_shown}
+use Rattle.standby.proofs.shipping.put_text.Goals as goal
+
+pub returns-in-Err-clause-prints : goal.returns-in-Err-clause-prints
+returns-in-Err-clause-prints g c shown =
+    prints_none (g.W.Outside.printed c.args.outside.now) (g.W.Outside.printed c.place_behind.new.outside) (text_of (shipped c.args.durable.now shown.shows.read.records c.args.from)) c.place_behind.ensures.asks.calls.quiet.same
+
+pub returns-in-Err-put_line-clause-only : goal.returns-in-Err-put_line-clause-only
+returns-in-Err-put_line-clause-only g c =
+    shows_on g.W.Outside g.met.W.Outside.fewer_later c.args.outside.now c.place_behind.new.outside c.put_line.new.outside (shows_asks g.W.Outside c.args.outside.now c.place_behind.new.outside c.place_behind.ensures.asks)
+    (shows_puts g.W.Outside c.as_slice.result.now c.place_behind.new.outside c.put_line.new.outside (put_of c.put_line.result) c.put_line.ensures.puts)
+
+pub returns-in-Err-put_line-clause-prints : goal.returns-in-Err-put_line-clause-prints
+returns-in-Err-put_line-clause-prints g c shown =
+    let G = g.W.Outside in
+    let content = shipped c.args.durable.now shown.shows.read.records c.args.from in
+    let head = head_line (line_bytes c.args.durable.now.header.directory.page) (line_count c.args.durable.now.header.directory) c.args.from in
+    let head_is : c.as_slice.result.now ≡ head = c.as_slice.ensures ∙ c.fill_head.ensures ∙ ap (λ (n : ℕ). head_line n c.args.lines c.args.from) (c.line_bytes.ensures.value ∙ ap (λ (layout : Layout). line_bytes layout.page) (c.directory.ensures.value ∙ ap (λ (header : Header). header.directory) c.header.ensures)) ∙ ap (λ (n : ℕ). head_line (line_bytes c.args.durable.now.header.directory.page) n c.args.from) c.requires.lines in
+    prints_stop (G.printed c.args.outside.now) (G.printed c.put_line.new.outside) (head ++ records_text content.start content.records) (end_line (later content.start (length content.records))) broken broken refl refl
+    (prints_stop (G.printed c.args.outside.now) (G.printed c.put_line.new.outside) head (records_text content.start content.records) broken broken refl refl
+    (subst (λ (printed : Option (List ℕ)). Prints printed (G.printed c.put_line.new.outside) head broken) c.place_behind.ensures.asks.calls.quiet.same
+    (subst (λ (bytes : List ℕ). Prints (G.printed c.place_behind.new.outside) (G.printed c.put_line.new.outside) bytes broken) head_is c.in-Err-put_line.ensures.puts.printed)))
+
+-- the records are those behind the number
+records_are : (base passed from : ℕ) (first second : List (List RecordLine)) → from ≡ later base passed → passed ≡ behind base from → second ≡ first → records_text (later base passed) (map told (drop passed second)) ≡ records_text from (map told (drop (behind base from) first))
+records_are base passed from first second is many same =
+    ap (λ (n : ℕ). records_text n (map told (drop passed second))) (sym is)
+    ∙ ap (λ (n : ℕ). records_text from (map told (drop n second))) many
+    ∙ ap (λ (records : List (List RecordLine)). records_text from (map told (drop (behind base from) records))) same
+
+-- the last number
+last_is : (base passed from count : ℕ) (records : List (List RecordLine)) → from ≡ later base passed → passed ≡ behind base from → length records ≡ count → passed ≤ count → later base count ≡ later from (length (map told (drop (behind base from) records)))
+last_is base passed from count records is many long le =
+    let all : count ≡ passed + (count - passed) = omega (arith, le) in
+    let left : count - passed ≡ length (map told (drop passed records)) = omega (arith, long, le, length-map (drop passed records) told, length-drop passed records) in
+    ap (later base) all
+    ∙ sym (later_later base passed (count - passed))
+    ∙ ap (λ (n : ℕ). later n (count - passed)) (sym is)
+    ∙ ap (later from) left
+    ∙ ap (λ (n : ℕ). later from (length (map told (drop n records)))) many
+
+pub returns-in-Err-put_records-clause-prints : goal.returns-in-Err-put_records-clause-prints
+returns-in-Err-put_records-clause-prints g c shown =
+    let G = g.W.Outside in
+    let old = c.args.outside.now in
+    let mid = c.put_line.new.outside in
+    let new = c.put_records.new.outside in
+    let content = shipped c.args.durable.now shown.shows.read.records c.args.from in
+    let head = head_line (line_bytes c.args.durable.now.header.directory.page) (line_count c.args.durable.now.header.directory) c.args.from in
+    let head_is : c.as_slice.result.now ≡ head = c.as_slice.ensures ∙ c.fill_head.ensures ∙ ap (λ (n : ℕ). head_line n c.args.lines c.args.from) (c.line_bytes.ensures.value ∙ ap (λ (layout : Layout). line_bytes layout.page) (c.directory.ensures.value ∙ ap (λ (header : Header). header.directory) c.header.ensures)) ∙ ap (λ (n : ℕ). head_line (line_bytes c.args.durable.now.header.directory.page) n c.args.from) c.requires.lines in
+    let first = subst (λ (printed : Option (List ℕ)). Prints printed (G.printed mid) head well) c.place_behind.ensures.asks.calls.quiet.same
+    (subst (λ (bytes : List ℕ). Prints (G.printed c.place_behind.new.outside) (G.printed mid) bytes well) head_is c.in-Ok-put_line.ensures.puts.printed) in
+    let still = still_shown G c.args.durable.now old mid shown (c.put_line.ensures.puts.only.held ∙ c.place_behind.ensures.asks.held) in
+    let place = c.in-Ok.ensures.place shown ∙ ap (λ (records : List (List RecordLine)). area_bytes c.args.durable.now.bank.page (take c.args.passed records)) (sym still.1) in
+    let part = subst (λ (bytes : List ℕ). Prints (G.printed mid) (G.printed new) bytes broken) (records_are c.args.durable.now.bank.base c.args.passed c.args.from shown.shows.read.records still.0.shows.read.records c.requires.from c.requires.behind still.1)
+    (c.in-Err-put_records.ensures.prints still.0 place) in
+    prints_stop (G.printed old) (G.printed new) (head ++ records_text content.start content.records) (end_line (later content.start (length content.records))) broken broken refl refl
+    (prints_on (G.printed old) (G.printed mid) (G.printed new) head (records_text content.start content.records) tt broken first part)
+
+pub returns-clause-prints : goal.returns-clause-prints
+returns-clause-prints g c shown =
+    let G = g.W.Outside in
+    let old = c.args.outside.now in
+    let mid = c.put_line.new.outside in
+    let then = c.put_records.new.outside in
+    let new = c.put_line-2.new.outside in
+    let content = shipped c.args.durable.now shown.shows.read.records c.args.from in
+    let head = head_line (line_bytes c.args.durable.now.header.directory.page) (line_count c.args.durable.now.header.directory) c.args.from in
+    let head_is : c.as_slice.result.now ≡ head = c.as_slice.ensures ∙ c.fill_head.ensures ∙ ap (λ (n : ℕ). head_line n c.args.lines c.args.from) (c.line_bytes.ensures.value ∙ ap (λ (layout : Layout). line_bytes layout.page) (c.directory.ensures.value ∙ ap (λ (header : Header). header.directory) c.header.ensures)) ∙ ap (λ (n : ℕ). head_line (line_bytes c.args.durable.now.header.directory.page) n c.args.from) c.requires.lines in
+    let first = subst (λ (printed : Option (List ℕ)). Prints printed (G.printed mid) head well) c.place_behind.ensures.asks.calls.quiet.same
+    (subst (λ (bytes : List ℕ). Prints (G.printed c.place_behind.new.outside) (G.printed mid) bytes well) head_is c.in-Ok-put_line.ensures.puts.printed) in
+    let still = still_shown G c.args.durable.now old mid shown (c.put_line.ensures.puts.only.held ∙ c.place_behind.ensures.asks.held) in
+    let place = c.in-Ok.ensures.place shown ∙ ap (λ (records : List (List RecordLine)). area_bytes c.args.durable.now.bank.page (take c.args.passed records)) (sym still.1) in
+    let part = subst (λ (bytes : List ℕ). Prints (G.printed mid) (G.printed then) bytes well) (records_are c.args.durable.now.bank.base c.args.passed c.args.from shown.shows.read.records still.0.shows.read.records c.requires.from c.requires.behind still.1)
+    (c.in-Ok-put_records.ensures.prints still.0 place) in
+    let last : c.as_slice-2.result.now ≡ end_line (later content.start (length content.records)) =
+    c.as_slice-2.ensures ∙ c.fill_end.ensures ∙ ap end_line (c.number.ensures ∙ last_is c.args.durable.now.bank.base c.args.passed c.args.from c.args.durable.now.bank.count shown.shows.read.records c.requires.from c.requires.behind shown.shows.read.count c.requires.passed) in
+    by_put G (text_of content) old new c.put_line-2.result
+    (prints_on (G.printed old) (G.printed then) (G.printed new) (head ++ records_text content.start content.records) (end_line (later content.start (length content.records))) tt (put_of c.put_line-2.result)
+    (prints_on (G.printed old) (G.printed mid) (G.printed then) head (records_text content.start content.records) tt well first part)
+    (subst (λ (bytes : List ℕ). Prints (G.printed then) (G.printed new) bytes (put_of c.put_line-2.result)) last c.put_line-2.ensures.puts.printed))
+
+pub returns-in-Err-put_records-clause-only : goal.returns-in-Err-put_records-clause-only
+returns-in-Err-put_records-clause-only g c =
+    shows_on g.W.Outside g.met.W.Outside.fewer_later c.args.outside.now c.put_line.new.outside c.put_records.new.outside
+    (shows_on g.W.Outside g.met.W.Outside.fewer_later c.args.outside.now c.place_behind.new.outside c.put_line.new.outside (shows_asks g.W.Outside c.args.outside.now c.place_behind.new.outside c.place_behind.ensures.asks)
+    (shows_puts g.W.Outside c.as_slice.result.now c.place_behind.new.outside c.put_line.new.outside (put_of c.put_line.result) c.put_line.ensures.puts))
+    c.put_records.ensures.only
+
+pub returns-clause-only : goal.returns-clause-only
+returns-clause-only g c =
+    shows_on g.W.Outside g.met.W.Outside.fewer_later c.args.outside.now c.put_records.new.outside c.put_line-2.new.outside
+    (shows_on g.W.Outside g.met.W.Outside.fewer_later c.args.outside.now c.put_line.new.outside c.put_records.new.outside
+    (shows_on g.W.Outside g.met.W.Outside.fewer_later c.args.outside.now c.place_behind.new.outside c.put_line.new.outside (shows_asks g.W.Outside c.args.outside.now c.place_behind.new.outside c.place_behind.ensures.asks)
+    (shows_puts g.W.Outside c.as_slice.result.now c.place_behind.new.outside c.put_line.new.outside (put_of c.put_line.result) c.put_line.ensures.puts))
+    c.put_records.ensures.only)
+    (shows_puts g.W.Outside c.as_slice-2.result.now c.put_records.new.outside c.put_line-2.new.outside (put_of c.put_line-2.result) c.put_line-2.ensures.puts)

@@ -1,0 +1,115 @@
+-- What following a text does.
+use Rattle.std.specs.Prelude.{◌≡◌, ℕ, zero, suc, ◌<◌, ◌≤◌, List, [], ◌++◌, length, take, Result, Ok, Err, IsSome}
+use Rattle.line_geometry.specs.FlatStore.{FlatStore}
+use Rattle.line_geometry.specs.Lines.{line_count}
+use Rattle.store_format.specs.Header.{Header}
+use Rattle.line_geometry.specs.Segments.{line_bytes}
+use Rattle.store_format.specs.Stands.{Stands, stands}
+use Rattle.outside.specs.declared.world.Outside.{Ghosts}
+use Rattle.outside.specs.declared.failed.Failed.{Failed}
+use Rattle.outside.specs.Bytes.{Prints}
+use Rattle.outside.specs.Causes.{Rose}
+use Rattle.outside.specs.Moments.{Elapses}
+use Rattle.outside.specs.Runs.{Leaves, held_of}
+use Rattle.redo_journal.specs.Held.{HoldsAtLeast, IsMoreBy}
+use Rattle.restart.specs.Kept.{KeptStore}
+use Rattle.restart.specs.Shows.{Tracks}
+use Rattle.standby.specs.Puts.{shown_of}
+use Rattle.standby.specs.State.{laid_by}
+use Rattle.standby.specs.Text.{Content, ShipLine, later, end_line, kept_line}
+use Rattle.standby.specs.declared.following.Followed.{Followed}
+use Rattle.standby.specs.declared.following.Followed.TheVariants.{Done, DiskFault, PutFault}
+
+-- the lines that tell of so many records behind a number
+abbrev pub kept_text : ℕ → ℕ → List ℕ
+kept_text number zero = []
+kept_text number (suc count) = kept_text number count ++ kept_line (later number (suc count))
+
+-- all that is told of so many records behind a number
+abbrev pub followed_text : ℕ → ℕ → List ℕ
+followed_text number count = kept_text number count ++ end_line (later number count)
+
+-- the text is of a store with such a header: its lines are as long and as many
+pub record IsAlike (header : Header) (content : Content) : Type 0 where
+  pub bytes : content.line_bytes ≡ line_bytes header.directory.page
+  pub lines : content.lines ≡ line_count header.directory
+
+-- A crash left an image, and what was printed before with a first part of what is told of records behind a number: the image stands for the
+-- store at that number or at one of theirs, and not before a number whose whole line was printed.
+pub record IsAtNumber (bytes number : ℕ) (store : FlatStore) (records : List (List ShipLine)) (printed image seen : List ℕ) : Type 0 where
+  pub j : ℕ
+  pub few : j ≤ length records
+  pub stood : stands image ≡ Stands (later number j) (laid_by bytes store (take j records))
+  pub count : ℕ
+  pub seen_is : seen ≡ printed ++ take count (followed_text number (length records))
+  pub told : (i : ℕ) → i ≤ length records → length (kept_text number i) ≤ count → i ≤ j
+
+-- calls of the disk, and puts: told bytes stay told and get no fewer, no count falls, and time goes on
+pub record OnlyGoesOn {W : Type 0} (G : Ghosts W) (old new : W) : Type 0 where
+  pub told : IsSome (G.held old) → IsSome (G.held new)
+  pub longer : (count : ℕ) → HoldsAtLeast G count old → HoldsAtLeast G count new
+  pub honest : G.is_honest new ≡ G.is_honest old
+  pub time : Elapses G.moment G.left_since old new
+  pub writes : IsMoreBy 0 (G.writes old) (G.writes new)
+  pub disk : G.disk_faults old ≤ G.disk_faults new
+  pub put : G.put_faults old ≤ G.put_faults new
+
+-- why it ended so: no count rose, or the disk's did, or the screen's
+abbrev pub EndsBy : {W : Type 0} → Ghosts W → W → W → Followed → Type 0
+EndsBy G old new DiskFault = Rose (G.disk_faults old) (G.disk_faults new) × (G.put_faults new ≡ G.put_faults old)
+EndsBy G old new PutFault = (G.disk_faults new ≡ G.disk_faults old) × Rose (G.put_faults old) (G.put_faults new)
+EndsBy G old new _ = (G.disk_faults new ≡ G.disk_faults old) × (G.put_faults new ≡ G.put_faults old)
+
+-- a fault stopped it
+abbrev pub IsStopped : Followed → Type 0
+IsStopped DiskFault = Unit {0}
+IsStopped PutFault = Unit {0}
+IsStopped _ = ⊥
+
+-- the store is tracked, and stands for what stood with these records laid over it
+pub record IsLater {W : Type 0} (G : Ghosts W) (bytes number : ℕ) (store : FlatStore) (records : List (List ShipLine)) (durable : KeptStore) (now : W) : Type 0 where
+  pub tracks : Tracks G durable now
+  pub stood : stands (held_of G now) ≡ Stands (later number (length records)) (laid_by bytes store records)
+
+-- how bytes were put that went well, and that didn't
+abbrev pub well : Result (Unit {0}) Failed
+well = Ok tt
+
+abbrev pub broken : Result (Unit {0}) Failed
+broken = Err (record {})
+
+-- how the records were kept and told, from a store that was tracked: all were; or a first part of what tells of them is printed; or some
+-- were kept and told, and the disk then failed; it ends in no other way
+abbrev pub KeepsBy : {W : Type 0} → Ghosts W → (bytes number : ℕ) → FlatStore → List (List ShipLine) → KeptStore → W → W → Followed → Type 0
+KeepsBy G bytes number store records durable before after Done =
+    IsLater G bytes number store records durable after × Prints (G.printed before) (G.printed after) (kept_text number (length records)) well
+KeepsBy G bytes number store records durable before after PutFault = Prints (G.printed before) (G.printed after) (kept_text number (length records)) broken
+KeepsBy G bytes number store records durable before after DiskFault =
+    (count : ℕ) × (count < length records) × Prints (G.printed before) (G.printed after) (kept_text number count) well
+KeepsBy G bytes number store records durable before after _ = ⊥
+
+-- the same with the last line; where they weren't to be kept nothing was called
+abbrev pub FollowsBy : {W : Type 0} → Ghosts W → (bytes number : ℕ) → FlatStore → List (List ShipLine) → KeptStore → W → W → Followed → Type 0
+FollowsBy G bytes number store records durable before after Done =
+    IsLater G bytes number store records durable after × Prints (G.printed before) (G.printed after) (followed_text number (length records)) well
+FollowsBy G bytes number store records durable before after PutFault = Prints (G.printed before) (G.printed after) (followed_text number (length records)) broken
+FollowsBy G bytes number store records durable before after DiskFault =
+    (count : ℕ) × (count < length records) × Prints (G.printed before) (G.printed after) (kept_text number count) well
+FollowsBy G bytes number store records durable before after _ = after ≡ before
+
+-- so many of the records are kept and told
+pub record SoFar {W : Type 0} (G : Ghosts W) (bytes number : ℕ) (store : FlatStore) (records : List (List ShipLine)) (count : ℕ) (durable : KeptStore) (before now : W) : Type 0 where
+  pub crash : IsSome (G.printed before) → Leaves G (IsAtNumber bytes number store records (shown_of G before)) before now
+  pub tracks : Tracks G durable now
+  pub stood : stands (held_of G now) ≡ Stands (later number count) (laid_by bytes store (take count records))
+  pub printed : Prints (G.printed before) (G.printed now) (kept_text number count) well
+
+-- What keeping records did, and what a crash in it left.
+pub record Keeps {W : Type 0} (G : Ghosts W) (bytes number : ℕ) (store : FlatStore) (records : List (List ShipLine)) (durable : KeptStore) (before after : W) (how : Followed) : Type 0 where
+  pub crash : IsSome (G.printed before) → Leaves G (IsAtNumber bytes number store records (shown_of G before)) before after
+  pub ends : KeepsBy G bytes number store records durable before after how
+
+-- What following did: each moment of it leaves the store at a number, and how it ended.
+pub record Follows {W : Type 0} (G : Ghosts W) (bytes number : ℕ) (store : FlatStore) (records : List (List ShipLine)) (durable : KeptStore) (before after : W) (how : Followed) : Type 0 where
+  pub crash : IsSome (G.printed before) → Leaves G (IsAtNumber bytes number store records (shown_of G before)) before after
+  pub ends : FollowsBy G bytes number store records durable before after how

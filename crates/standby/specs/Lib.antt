@@ -1,0 +1,6 @@
+pub mod Text
+pub mod State
+pub mod Puts
+pub mod Followed
+pub mod Step
+pub mod Shipped

@@ -1,0 +1,55 @@
+-- What shipping records does.
+use Rattle.std.specs.Prelude.{◌≡◌, ℕ, List, map, drop, Result, Ok, Err}
+use Rattle.line_geometry.specs.Lines.{line_count}
+use Rattle.store_format.specs.Bank.{RecordLine}
+use Rattle.line_geometry.specs.Segments.{line_bytes}
+use Rattle.outside.specs.declared.world.Outside.{Ghosts}
+use Rattle.outside.specs.Bytes.{Prints}
+use Rattle.outside.specs.Causes.{Rose}
+use Rattle.restart.specs.Kept.{KeptStore}
+use Rattle.standby.specs.Followed.{well, broken}
+use Rattle.standby.specs.State.{behind}
+use Rattle.standby.specs.Text.{Content, head_line, told}
+use Rattle.standby.specs.declared.shipping.Shipped.{Shipped}
+use Rattle.standby.specs.declared.shipping.Shipped.TheVariants.{Done, NotKept, DiskFault, PutFault}
+
+-- what a text of a store holds that ships from a number, by the records of its bank: those behind it
+abbrev pub shipped : KeptStore → List (List RecordLine) → ℕ → Content
+shipped store records from = record {
+  line_bytes = line_bytes store.header.directory.page;
+  lines = line_count store.header.directory;
+  start = from;
+  records = map told (drop (behind store.bank.base from) records);
+}
+
+-- its first line
+abbrev pub shipped_head : KeptStore → ℕ → List ℕ
+shipped_head store from = head_line (line_bytes store.header.directory.page) (line_count store.header.directory) from
+
+-- a fault stopped it
+abbrev pub IsStopped : Shipped → Type 0
+IsStopped DiskFault = Unit {0}
+IsStopped PutFault = Unit {0}
+IsStopped _ = ⊥
+
+-- how it ended
+abbrev pub shipped_of : Result (Unit {0}) Shipped → Shipped
+shipped_of (Ok done) = Done
+shipped_of (Err why) = why
+
+-- why it ended so: no count rose, or the disk's did, or the screen's
+abbrev pub EndsBy : {W : Type 0} → Ghosts W → W → W → Shipped → Type 0
+EndsBy G old new DiskFault = Rose (G.disk_faults old) (G.disk_faults new) × (G.put_faults new ≡ G.put_faults old)
+EndsBy G old new PutFault = (G.disk_faults new ≡ G.disk_faults old) × Rose (G.put_faults old) (G.put_faults new)
+EndsBy G old new _ = (G.disk_faults new ≡ G.disk_faults old) × (G.put_faults new ≡ G.put_faults old)
+
+-- how bytes were put, by a result: all of them, or a first part
+abbrev pub PrintsBy : {W T : Type 0} → Ghosts W → List ℕ → W → W → Result T Shipped → Type 0
+PrintsBy G bytes old new (Ok done) = Prints (G.printed old) (G.printed new) bytes well
+PrintsBy G bytes old new (Err why) = Prints (G.printed old) (G.printed new) bytes broken
+
+-- how a text was put, by the end; where it wasn't to be nothing was called
+abbrev pub ShipsBy : {W : Type 0} → Ghosts W → List ℕ → W → W → Shipped → Type 0
+ShipsBy G bytes old new Done = Prints (G.printed old) (G.printed new) bytes well
+ShipsBy G bytes old new NotKept = new ≡ old
+ShipsBy G bytes old new _ = Prints (G.printed old) (G.printed new) bytes broken

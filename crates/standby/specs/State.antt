@@ -1,0 +1,44 @@
+-- The store at each number of a text.
+use Rattle.std.specs.Prelude.{◌≡◌, ℕ, ◌+◌, ◌*◌, ◌-◌, ◌%◌, ◌^◌, ◌<◌, ◌≤◌, List, length, take, drop, fold, slice_get, Some, All}
+use Rattle.owned_list.specs.Overlay.{overlaid}
+use Rattle.line_geometry.specs.FlatStore.{FlatStore}
+use Rattle.standby.specs.Text.{Content, ShipLine}
+use Rattle.standby.specs.declared.text.ShipRecord.{ShipRecord}
+
+-- the bytes of a store with the lines of a record laid over them
+abbrev pub laid : ℕ → List ℕ → List ShipLine → List ℕ
+laid line_bytes bytes lines = fold (λ bytes line. overlaid bytes (line.line * line_bytes) line.bytes) bytes lines
+
+-- how many numbers lie behind one up to another, modulo 2^64
+abbrev pub behind : ℕ → ℕ → ℕ
+behind from number = (number + (2 ^ 64 - from)) % 2 ^ 64
+
+-- the number is among those of a text
+abbrev pub IsAmong : Content → ℕ → Type 0
+IsAmong content number = behind content.start number ≤ length content.records
+
+-- the text's records behind a number
+abbrev pub due : Content → ℕ → List (List ShipLine)
+due content number = drop (behind content.start number) content.records
+
+-- a store with records laid over it in order
+abbrev pub laid_by : ℕ → FlatStore → List (List ShipLine) → FlatStore
+laid_by line_bytes store records = record { directory = store.directory; bytes = fold (laid line_bytes) store.bytes records }
+
+-- The store at the number that lies so many behind another, for which a store stands: that with the text's records between the two laid over it.
+abbrev pub state : Content → ℕ → FlatStore → ℕ → FlatStore
+state content number store count = laid_by content.line_bytes store (take count (due content number))
+
+-- the first of these records that has more than so many lines is this one
+pub record IsFirstLong (most : ℕ) (records : List (List ShipLine)) (place : ℕ) : Type 0 where
+  pub lines : List ShipLine
+  pub there : slice_get records place ≡ Some lines
+  pub long : most < length lines
+  pub before : All (λ these. length these ≤ most) (take place records)
+
+-- the same as the code keeps them
+pub record IsLongAt (most : ℕ) (records : List ShipRecord) (place : ℕ) : Type 0 where
+  pub kept : ShipRecord
+  pub there : slice_get records place ≡ Some kept
+  pub long : most < length kept.lines.items
+  pub before : All (λ these. length these.lines.items ≤ most) (take place records)

@@ -1,0 +1,195 @@
+// The records of a ship text, committed to a store one after another.
+ghost use Rattle.std.specs.Prelude.{◌≡◌, ◌≢◌, ◌↔◌, ◌+◌, ◌≤◌, ◌<◌, ◌^◌, ◌⊎◌, ℕ, List, [], All, length, map, drop, true, IsTrue, IsSome, IfSome, IfNone, Err, IfErr, OnOk, OnErr};
+ghost use Rattle.line_geometry.specs.FlatStore.{FlatStore};
+ghost use Rattle.store_format.specs.Header.{total, most_lines};
+ghost use Rattle.line_geometry.specs.Segments.{line_bytes};
+ghost use Rattle.store_format.specs.Stands.{Stands, stands};
+ghost use Rattle.outside.specs.Runs.{held_of};
+ghost use Rattle.redo_journal.specs.Held.{HoldsAtLeast};
+ghost use Rattle.restart.specs.Kept.{number_of};
+ghost use Rattle.restart.specs.Shows.{Tracks};
+ghost use Rattle.standby.specs.Followed.{IsAlike, OnlyGoesOn, EndsBy, IsStopped, Keeps, Follows};
+ghost use Rattle.standby.specs.Puts.{Puts};
+ghost use Rattle.standby.specs.State.{IsAmong, IsFirstLong, IsLongAt, due};
+ghost use Rattle.standby.specs.Step.{IsFitting, IsBegun, Steps, followed_of, put_of};
+ghost use Rattle.standby.specs.Text.{IsShip, content_of, record_of, later, next};
+
+use super::line::{fill_end, fill_kept};
+use super::put::put;
+use super::text::{Ship, ShipRecord};
+use outside::{Failed, Outside};
+use redo_journal::Kept;
+use restart::Durable;
+use text_line::TextLine;
+
+/// How the records of a text were followed.
+#[derive(Debug, Clone, Copy, PartialEq, Eq)]
+pub enum Followed {
+    /// To the last.
+    Done,
+    /// Not at all: the text is of a store with lines of another size, or with more or fewer of them.
+    Geometry,
+    /// Not at all: the store's number isn't among the text's.
+    NotKept,
+    /// Not at all: the record with this number, the first such, has more lines than a record of the store may have.
+    Long(u64),
+    /// To one that the disk didn't keep.
+    DiskFault,
+    /// To one whose line wasn't put.
+    PutFault,
+}
+
+/// Commits the records of a text behind the store's number, each with a line that tells of it once it is sure, and tells
+/// the number at the end (docs/FORMATS.md, "Ship text"). It takes no memory.
+pub fn follow<W: Outside>(durable: &mut Durable, ship: &Ship, outside: &mut W) -> Followed
+    requires ship { IsShip ship.now }
+    requires room { HoldsAtLeast W.Outside (total durable.old.header) outside.old }
+    ensures geometry { result ≡ Followed.Geometry ↔ (IsAlike durable.old.header (content_of ship.now) → ⊥) }
+    ensures not_kept { result ≡ Followed.NotKept ↔ (IsAlike durable.old.header (content_of ship.now) × (IsAmong (content_of ship.now) (number_of durable.old) → ⊥)) }
+    ensures long { (number : ℕ) → result ≡ Followed.Long number → IsAlike durable.old.header (content_of ship.now) × IsAmong (content_of ship.now) (number_of durable.old) × ((place : ℕ) × (number ≡ later (number_of durable.old) (place + 1)) × IsFirstLong (most_lines durable.old.header) (due (content_of ship.now) (number_of durable.old)) place) }
+    ensures fits { (result ≡ Followed.Done) ⊎ (result ≡ Followed.DiskFault) ⊎ (result ≡ Followed.PutFault) → IsAlike durable.old.header (content_of ship.now) × IsAmong (content_of ship.now) (number_of durable.old) × All (λ lines. length lines ≤ most_lines durable.old.header) (due (content_of ship.now) (number_of durable.old)) }
+    ensures refused { (result ≡ Followed.Geometry) ⊎ (result ≡ Followed.NotKept) ⊎ ((number : ℕ) × (result ≡ Followed.Long number)) → (durable.new ≡ durable.old) × (outside.new ≡ outside.old) }
+    ensures only { OnlyGoesOn W.Outside outside.old outside.new }
+    ensures ends { EndsBy W.Outside outside.old outside.new result }
+    ensures header { durable.new.header ≡ durable.old.header }
+
+    // Of a store that is tracked: whenever a crash comes, it leaves the store at a number of the text from there on, and not
+    // one before a number that was told; and how it ended, with what was printed.
+    ensures follows { (store : FlatStore) → Tracks W.Outside durable.old outside.old → stands (held_of W.Outside outside.old) ≡ Stands (number_of durable.old) store → Follows W.Outside (content_of ship.now).line_bytes (number_of durable.old) store (due (content_of ship.now) (number_of durable.old)) durable.new outside.old outside.new result }
+{
+    if !is_alike(durable, ship) {
+        return Followed::Geometry;
+    }
+    let passed = durable.number().wrapping_sub(ship.start);
+    if passed > ship.records.len() as u64 {
+        return Followed::NotKept;
+    }
+    let due = &ship.records[passed as usize..];
+    match long_among(due, durable.header().most_lines()) {
+        Some(place) => Followed::Long(durable.number().wrapping_add(place as u64 + 1)),
+        None => match keep_all(durable, due, outside) {
+            Ok(()) => Followed::Done,
+            Err(why) => why,
+        },
+    }
+}
+
+/// Whether a text is of a store with as many lines, of the same size.
+fn is_alike(durable: &Durable, ship: &Ship) -> bool
+    ensures { IsTrue result ↔ IsAlike durable.now.header (content_of ship.now) }
+{
+    let header = durable.header();
+    usize::from(ship.line_bytes) == header.line_bytes()
+        && ship.lines == header.directory().line_count()
+}
+
+/// The place of the first of these records with more than so many lines.
+fn long_among(records: &[ShipRecord], most: u32) -> Option<usize>
+    ensures none { IfNone result (All (λ kept. length kept.lines.items ≤ most) records.now) }
+    ensures first { IfSome result (IsLongAt most records.now) }
+    ensures within { IfSome result (λ place. place < length records.now) }
+{
+    for (place, record) in records.iter().enumerate() {
+        if record.lines.len() > most as usize {
+            return Some(place);
+        }
+    }
+    None
+}
+
+/// Commits these records, and puts a line for each and the last.
+fn keep_all<W: Outside>(
+    durable: &mut Durable,
+    records: &[ShipRecord],
+    outside: &mut W,
+) -> Result<(), Followed>
+    requires fitting { All (IsFitting durable.old.header) records.now }
+    requires room { HoldsAtLeast W.Outside (total durable.old.header) outside.old }
+    ensures only { OnlyGoesOn W.Outside outside.old outside.new }
+    ensures ends { EndsBy W.Outside outside.old outside.new (followed_of result) }
+    ensures stopped { IfErr result IsStopped }
+    ensures header { durable.new.header ≡ durable.old.header }
+    ensures follows { (store : FlatStore) → Tracks W.Outside durable.old outside.old → stands (held_of W.Outside outside.old) ≡ Stands (number_of durable.old) store → Follows W.Outside (line_bytes durable.old.header.directory.page) (number_of durable.old) store (map (record_of (line_bytes durable.old.header.directory.page)) records.now) durable.new outside.old outside.new (followed_of result) }
+{
+    let mut text = TextLine::new();
+    match keep_each(durable, records, &mut text, outside) {
+        Ok(()) => {}
+        Err(why) => return Err(why),
+    }
+    fill_end(&mut text, durable.number());
+    put_line(text.as_slice(), outside)
+}
+
+/// Commits these records, and puts a line for each.
+fn keep_each<W: Outside>(
+    durable: &mut Durable,
+    records: &[ShipRecord],
+    text: &mut TextLine,
+    outside: &mut W,
+) -> Result<(), Followed>
+    requires fitting { All (IsFitting durable.old.header) records.now }
+    requires room { HoldsAtLeast W.Outside (total durable.old.header) outside.old }
+    ensures only { OnlyGoesOn W.Outside outside.old outside.new }
+    ensures ends { EndsBy W.Outside outside.old outside.new (followed_of result) }
+    ensures stopped { IfErr result IsStopped }
+    ensures header { durable.new.header ≡ durable.old.header }
+    ensures number { OnOk result (number_of durable.new ≡ later (number_of durable.old) (length records.now)) }
+    ensures keeps { (store : FlatStore) → Tracks W.Outside durable.old outside.old → stands (held_of W.Outside outside.old) ≡ Stands (number_of durable.old) store → Keeps W.Outside (line_bytes durable.old.header.directory.page) (number_of durable.old) store (map (record_of (line_bytes durable.old.header.directory.page)) records.now) durable.new outside.old outside.new (followed_of result) }
+{
+    for record in records {
+        match keep(durable, record, text, outside) {
+            Ok(()) => {}
+            Err(why) => return Err(why),
+        }
+    }
+    Ok(())
+}
+
+/// Commits a record, and then puts its line.
+fn keep<W: Outside>(
+    durable: &mut Durable,
+    record: &ShipRecord,
+    text: &mut TextLine,
+    outside: &mut W,
+) -> Result<(), Followed>
+    requires fitting { IsFitting durable.old.header record.now }
+    requires room { HoldsAtLeast W.Outside (total durable.old.header) outside.old }
+    ensures only { OnlyGoesOn W.Outside outside.old outside.new }
+    ensures ends { EndsBy W.Outside outside.old outside.new (followed_of result) }
+    ensures stopped { IfErr result IsStopped }
+    ensures header { durable.new.header ≡ durable.old.header }
+    ensures number { OnOk result (number_of durable.new ≡ next (number_of durable.old)) }
+    ensures steps { (store : FlatStore) → Tracks W.Outside durable.old outside.old → stands (held_of W.Outside outside.old) ≡ Stands (number_of durable.old) store → Steps W.Outside (line_bytes durable.old.header.directory.page) (number_of durable.old) store (record_of (line_bytes durable.old.header.directory.page) record.now) durable.new outside.old outside.new result }
+{
+    begin(durable, record);
+    match durable.commit(outside) {
+        Kept::Done => {}
+        Kept::Unwritten | Kept::Doubt => return Err(Followed::DiskFault),
+    }
+    fill_kept(text, durable.number());
+    put_line(text.as_slice(), outside)
+}
+
+/// Begins a record with the lines of one of a text.
+fn begin(durable: &mut Durable, record: &ShipRecord)
+    requires { IsFitting durable.old.header record.now }
+    ensures { IsBegun durable.old durable.new (record_of (line_bytes durable.old.header.directory.page) record.now) }
+{
+    let bytes = durable.header().line_bytes();
+    durable.record_start();
+    for (index, line) in record.lines.iter().enumerate() {
+        let at = bytes * index;
+        durable.record_line(*line, &record.bytes[at..at + bytes]);
+    }
+}
+
+/// Puts a line.
+fn put_line<W: Outside>(line: &[u8], outside: &mut W) -> Result<(), Followed>
+    ensures only { OnErr result (result ≡ Err Followed.PutFault) }
+    ensures puts { Puts W.Outside line.now outside.old outside.new (put_of result) }
+{
+    match put(line, outside) {
+        Ok(()) => Ok(()),
+        Err(Failed) => Err(Followed::PutFault),
+    }
+}
