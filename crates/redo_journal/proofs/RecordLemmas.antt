@@ -1,32 +1,33 @@
 -- The records of a bank, each at its place.
-use Rattle.std.proofs.Common.{◌≡◌, ℕ, zero, suc, ◌+◌, ◌*◌, ◌<◌, List, [], ◌∷◌, ◌++◌, length, take, drop, refl, sym, subst, ◌∙◌, ap, arith, slice_index}
+use Rattle.std.proofs.Common.{None, ◌≡◌, ℕ, zero, suc, ◌+◌, ◌*◌, ◌<◌, List, [], ◌∷◌, ◌++◌, length, take, drop, refl, sym, subst, ◌∙◌, ap, arith, slice_index}
 use Rattle.std.specs.Prelude.{◌%◌, ◌^◌, ◌==◌, Some, slice_get, Result, Ok, Err, IfOk}
 use Rattle.std.proofs.lemmas.List.{drop-drop}
 use Rattle.byteorder.specs.Endian.{big_number}
 use Rattle.line_geometry.specs.Segments.{line_bytes}
 use Rattle.line_geometry.specs.declared.directory.PageSize.{PageSize}
 use Rattle.store_format.specs.Header.{entry_bytes, number_at}
-use Rattle.store_format.specs.Bank.{RecordLine, lines_from, lines_of, count_of, record_bytes, Area, Gate, Closed, Wrong, Sound, Holds, gate_at, holds_from}
+use Rattle.store_format.specs.Bank.{RecordLine, lines_from, lines_of, count_of, record_bytes, wrong_line, Area, Gate, Closed, Wrong, Sound, Holds, gate_at, holds_from}
 use Rattle.store_format.proofs.Walk.{IsSound, sound_is, preceded_is}
 use Rattle.redo_journal.proofs.AppendLemmas.{length-lines_from}
 use Rattle.redo_journal.specs.Kept.{KeptBank, place_of}
 use Rattle.redo_journal.specs.Records.{area_bytes, IsRecordAt, IsCounted, IsLine, IsLineOf}
 use Rattle.redo_journal.specs.declared.find.Record.{Record}
 
--- where a record with these lines stands, in an area with this end
-pub record StandsAt (page : PageSize) (image : List ℕ) (end at : ℕ) (lines : List RecordLine) : Type 0 where
+-- where a record with these lines stands, in an area with this end, of a store with so many lines
+pub record StandsAt (page : PageSize) (image : List ℕ) (bound end at : ℕ) (lines : List RecordLine) : Type 0 where
   pub lines_are : lines ≡ lines_of page at (drop at image)
   pub count : count_of (drop at image) ≡ length lines
   pub fits : at + record_bytes page (length lines) < end
+  pub in_order : wrong_line bound 0 lines ≡ None
 
-of_sound : (page : PageSize) (image : List ℕ) (bound end at : ℕ) (lines : List RecordLine) (next : ℕ) → IsSound page bound end at (drop at image) lines next → StandsAt page image end at lines
+of_sound : (page : PageSize) (image : List ℕ) (bound end at : ℕ) (lines : List RecordLine) (next : ℕ) → IsSound page bound end at (drop at image) lines next → StandsAt page image bound end at lines
 of_sound page image bound end at lines next is =
     let many : length lines ≡ count_of (drop at image) = ap length is.lines_are ∙ length-lines_from page (count_of (drop at image)) (at + 11) (drop 11 (drop at image)) in
-    record { lines_are = is.lines_are; count = sym many; fits = omega (arith, is.fits, is.is_next, ap (λ (n : ℕ). entry_bytes page * n) many) }
+    record { lines_are = is.lines_are; count = sym many; fits = omega (arith, is.fits, is.is_next, ap (λ (n : ℕ). entry_bytes page * n) many); in_order = ap (wrong_line bound 0) is.lines_are ∙ is.in_order }
 
 -- a walk finds each record behind those before it
 pub found_at : (image : List ℕ) (area : Area) (most number from gate : ℕ) (before : List (List RecordLine)) (lines : List RecordLine) (after : List (List RecordLine)) (at : Gate)
-    → gate_at image area number from ≡ at → holds_from image area most number at ≡ Holds gate (before ++ lines ∷ after) → StandsAt area.page image area.end (from + area_bytes area.page before) lines
+    → gate_at image area number from ≡ at → holds_from image area most number at ≡ Holds gate (before ++ lines ∷ after) → StandsAt area.page image area.bound area.end (from + area_bytes area.page before) lines
 unfolding holds_from
 found_at image area most number from gate [] lines after (Closed closed) is holds = cc
 found_at image area most number from gate (first ∷ before) lines after (Closed closed) is holds = cc
@@ -38,7 +39,7 @@ found_at image area (suc most) number from gate [] lines after (Sound those next
     let same : those ≡ lines = cc in
     let place : from ≡ from + area_bytes area.page [] = omega arith in
     let here = of_sound area.page image area.bound area.end from those next sound in
-    subst (λ (n : ℕ). StandsAt area.page image area.end n lines) place (subst (λ (these : List RecordLine). StandsAt area.page image area.end from these) same here)
+    subst (λ (n : ℕ). StandsAt area.page image area.bound area.end n lines) place (subst (λ (these : List RecordLine). StandsAt area.page image area.bound area.end from these) same here)
 found_at image area (suc most) number from gate (first ∷ before) lines after (Sound those next) is holds =
     let sound = sound_is area.page (slice_index image from == 0xA5) area.bound area.end ((number + 1) % 2 ^ 64) from (drop from image) those next is in
     let parts = preceded_is those (holds_from image area most (number + 1) (gate_at image area (number + 1) next)) gate (first ∷ (before ++ lines ∷ after)) holds in
@@ -47,17 +48,17 @@ found_at image area (suc most) number from gate (first ∷ before) lines after (
     let here = of_sound area.page image area.bound area.end from those next sound in
     let place : next + area_bytes area.page before ≡ from + area_bytes area.page (first ∷ before) = omega (arith, sound.is_next, ap (λ (n : ℕ). entry_bytes area.page * n) here.count, ap (λ (these : List RecordLine). entry_bytes area.page * length these) same) in
     let later = found_at image area most (number + 1) next gate before lines after (gate_at image area (number + 1) next) refl (parts.1 ∙ ap (Holds gate) rest) in
-    subst (λ (n : ℕ). StandsAt area.page image area.end n lines) place later
+    subst (λ (n : ℕ). StandsAt area.page image area.bound area.end n lines) place later
 
 -- a record of a bank that was read
-pub stands_there : (held : List ℕ) (bank : KeptBank) (place : ℕ) (at : IsRecordAt held bank place) → StandsAt bank.page held (place_of bank.which bank.bank_bytes + 8 + bank.bank_bytes) (place_of bank.which bank.bank_bytes + 8 + place) at.lines
+pub stands_there : (held : List ℕ) (bank : KeptBank) (place : ℕ) (at : IsRecordAt held bank place) → StandsAt bank.page held (length bank.newest) (place_of bank.which bank.bank_bytes + 8 + bank.bank_bytes) (place_of bank.which bank.bank_bytes + 8 + place) at.lines
 stands_there held bank place at =
     let start = place_of bank.which bank.bank_bytes in
     let number = number_at held start 8 in
     let area : Area = record { page = bank.page; bound = length bank.newest; end = start + 8 + bank.bank_bytes } in
     let found = found_at held area bank.bank_bytes number (start + 8) bank.gate at.before at.lines at.after (gate_at held area number (start + 8)) refl (at.read.holds ∙ ap (Holds bank.gate) at.are) in
     let place_is : start + 8 + area_bytes bank.page at.before ≡ start + 8 + place = omega (arith, at.place_is) in
-    subst (λ (n : ℕ). StandsAt bank.page held (start + 8 + bank.bank_bytes) n at.lines) place_is found
+    subst (λ (n : ℕ). StandsAt bank.page held (length bank.newest) (start + 8 + bank.bank_bytes) n at.lines) place_is found
 
 -- one of the lines that bytes begin with
 pub line_there : (page : PageSize) (count at : ℕ) (bytes : List ℕ) (index : ℕ) → index < count
@@ -82,8 +83,8 @@ if_ok P Q (Ok value) goes is = goes value is
 if_ok P Q (Err fault) goes is = tt
 
 module _ (held : List ℕ) (bank : KeptBank) (place area : ℕ) (at : IsRecordAt held bank place) (area_is : area ≡ place_of bank.which bank.bank_bytes + 8) where
-  there : StandsAt bank.page held (area + bank.bank_bytes) (area + place) at.lines
-  there = subst (λ (n : ℕ). StandsAt bank.page held (n + bank.bank_bytes) (n + place) at.lines) (sym area_is) (stands_there held bank place at)
+  there : StandsAt bank.page held (length bank.newest) (area + bank.bank_bytes) (area + place) at.lines
+  there = subst (λ (n : ℕ). StandsAt bank.page held (length bank.newest) (n + bank.bank_bytes) (n + place) at.lines) (sym area_is) (stands_there held bank place at)
 
   -- the number of lines that stands there
   number-there : number_at held (area + place + 1) 2 ≡ length at.lines

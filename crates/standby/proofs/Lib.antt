@@ -7,3 +7,4 @@ pub mod FollowLemmas
 pub mod DueLemmas
 pub mod ShowLemmas
 pub mod ShipLemmas
+pub mod ContentLemmas

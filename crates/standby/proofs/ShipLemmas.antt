@@ -1,7 +1,8 @@
 -- The records of a bank, as they are shipped.
-use Rattle.std.proofs.Common.{◌≡◌, ℕ, zero, suc, ◌+◌, ◌<◌, List, [], ◌∷◌, ◌++◌, length, map, take, drop, get_or, refl, sym, ◌∙◌, ap, subst, arith, append_assoc, append-nil}
+use Rattle.std.proofs.Common.{All, ◌≡◌, ℕ, zero, suc, ◌+◌, ◌<◌, List, [], ◌∷◌, ◌++◌, length, map, take, drop, get_or, refl, sym, ◌∙◌, ap, subst, arith, append_assoc, append-nil}
 use Rattle.std.specs.Prelude.{Some, slice_get}
 use Rattle.std.proofs.lemmas.Grind.{flat_map-append}
+use Rattle.std.proofs.lemmas.List.Elements.{All-push}
 use Rattle.std.proofs.lemmas.Option.{get_or_from_slice_get}
 use Rattle.std.proofs.lemmas.List.{take_more, get_or-map, length-map, length-take-le, take-append-drop}
 use Rattle.line_geometry.specs.declared.directory.PageSize.{PageSize}
@@ -30,7 +31,11 @@ pub next_is : (page paged : PageSize) (place : ℕ) (lines those : List RecordLi
 next_is page paged place lines those found same is counted =
     counted.next ∙ ap (λ (size : PageSize). place + record_bytes size (length lines)) same ∙ ap (λ (these : List RecordLine). place + record_bytes paged (length these)) is
 
-split_at : {A : Type 0} (xs : List A) (i : ℕ) (d : A) → i < length xs → xs ≡ take i xs ++ get_or xs i d ∷ drop (i + 1) xs
+-- one more of which it holds
+pub all_more : {A : Type 0} (P : A → Type 0) (xs : List A) (i : ℕ) (d : A) → i < length xs → All P (take i xs) → P (get_or xs i d) → All P (take (i + 1) xs)
+all_more {A} P xs i d lt all one = subst (λ (these : List A). All P these) (sym (take_more xs i d lt)) (All-push P (take i xs) (get_or xs i d) all one)
+
+pub split_at : {A : Type 0} (xs : List A) (i : ℕ) (d : A) → i < length xs → xs ≡ take i xs ++ get_or xs i d ∷ drop (i + 1) xs
 split_at [] i d lt = absurd (omega (arith, lt))
 split_at (x ∷ xs) zero d lt = refl
 split_at (x ∷ xs) (suc i) d lt =

@@ -1,5 +1,5 @@
 -- What shipping records does.
-use Rattle.std.specs.Prelude.{◌≡◌, ℕ, List, map, drop, Result, Ok, Err}
+use Rattle.std.specs.Prelude.{◌≡◌, ◌<◌, ℕ, List, All, length, map, drop, Result, Ok, Err}
 use Rattle.line_geometry.specs.Lines.{line_count}
 use Rattle.store_format.specs.Bank.{RecordLine}
 use Rattle.line_geometry.specs.Segments.{line_bytes}
@@ -12,6 +12,10 @@ use Rattle.standby.specs.State.{behind}
 use Rattle.standby.specs.Text.{Content, head_line, told}
 use Rattle.standby.specs.declared.shipping.Shipped.{Shipped}
 use Rattle.standby.specs.declared.shipping.Shipped.TheVariants.{Done, NotKept, DiskFault, PutFault}
+
+-- a line of a record has so many bytes
+abbrev pub HasBytes : ℕ → RecordLine → Type 0
+HasBytes bytes one = (length one.bytes ≡ bytes) × All (λ byte. byte < 256) one.bytes
 
 -- what a text of a store holds that ships from a number, by the records of its bank: those behind it
 abbrev pub shipped : KeptStore → List (List RecordLine) → ℕ → Content

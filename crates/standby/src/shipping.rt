@@ -1,6 +1,7 @@
 // The records of a bank behind a number, put as a text.
-ghost use Rattle.std.specs.Prelude.{◌≡◌, ◌≢◌, ◌↔◌, ◌+◌, ◌≤◌, ◌<◌, ◌⊎◌, ℕ, length, map, drop, take, slice_get, Some, Err, IsSome, IfOk, IfErr, OnOk, OnErr};
+ghost use Rattle.std.specs.Prelude.{◌≡◌, ◌≢◌, ◌↔◌, ◌+◌, ◌≤◌, ◌<◌, ◌⊎◌, ℕ, All, length, map, drop, take, slice_get, Some, Err, IsSome, IfOk, IfErr, OnOk, OnErr};
 ghost use Rattle.line_geometry.specs.Lines.{line_count};
+ghost use Rattle.line_geometry.specs.Segments.{line_bytes};
 ghost use Rattle.store_format.specs.Header.{total};
 ghost use Rattle.store_format.specs.Bank.{RecordLine, record_bytes};
 ghost use Rattle.outside.specs.Causes.{HasCause};
@@ -9,10 +10,10 @@ ghost use Rattle.redo_journal.specs.Held.{HoldsAtLeast};
 ghost use Rattle.redo_journal.specs.Records.{IsRecordAt, area_bytes};
 ghost use Rattle.restart.specs.Shows.{IsShown};
 ghost use Rattle.standby.specs.Puts.{Puts, AsksAndPuts};
-ghost use Rattle.standby.specs.Shipped.{EndsBy, IsStopped, PrintsBy, ShipsBy, shipped, shipped_of};
+ghost use Rattle.standby.specs.Shipped.{EndsBy, HasBytes, IsStopped, PrintsBy, ShipsBy, shipped, shipped_of};
 ghost use Rattle.standby.specs.State.{behind};
 ghost use Rattle.standby.specs.Step.{put_of};
-ghost use Rattle.standby.specs.Text.{later, line_line, record_text, records_text, told, text_of};
+ghost use Rattle.standby.specs.Text.{IsContent, later, line_line, record_text, records_text, told, text_of};
 
 use super::line::{fill_end, fill_head, fill_line, fill_record};
 use super::put::put;
@@ -44,6 +45,7 @@ pub fn ship<W: Outside>(durable: &Durable, outside: &mut W, from: u64) -> Shippe
 
     // Of a store that the bytes show: at the end the text of the records behind the number is printed, or a first part of it.
     ensures ships { (shown : IsShown W.Outside durable.now outside.old) → ShipsBy W.Outside (text_of (shipped durable.now shown.shows.read.records from)) outside.old outside.new result }
+    ensures content { result ≡ Shipped.Done → (shown : IsShown W.Outside durable.now outside.old) → IsContent (shipped durable.now shown.shows.read.records from) }
 {
     let passed = from.wrapping_sub(durable.base());
     if passed > u64::from(durable.records()) {
@@ -74,6 +76,7 @@ fn put_text<W: Outside>(
     ensures stopped { IfErr result IsStopped }
     ensures ends { EndsBy W.Outside outside.old outside.new (shipped_of result) }
     ensures prints { (shown : IsShown W.Outside durable.now outside.old) → PrintsBy W.Outside (text_of (shipped durable.now shown.shows.read.records from)) outside.old outside.new result }
+    ensures content { OnOk result ((shown : IsShown W.Outside durable.now outside.old) → IsContent (shipped durable.now shown.shows.read.records from)) }
 {
     let place = match place_behind(durable, passed, outside) {
         Ok(place) => place,
@@ -135,6 +138,7 @@ fn put_records<W: Outside>(
     ensures stopped { IfErr result IsStopped }
     ensures ends { EndsBy W.Outside outside.old outside.new (shipped_of result) }
     ensures prints { (shown : IsShown W.Outside durable.now outside.old) → place ≡ area_bytes durable.now.bank.page (take passed shown.shows.read.records) → PrintsBy W.Outside (records_text (later durable.now.bank.base passed) (map told (drop passed shown.shows.read.records))) outside.old outside.new result }
+    ensures bytes { OnOk result ((shown : IsShown W.Outside durable.now outside.old) → place ≡ area_bytes durable.now.bank.page (take passed shown.shows.read.records) → All (λ lines. All (HasBytes (line_bytes durable.now.header.directory.page)) lines) (drop passed shown.shows.read.records)) }
 {
     let mut place = place;
     for index in passed..durable.records() {
@@ -165,6 +169,7 @@ fn put_record<W: Outside>(
     ensures stopped { IfErr result IsStopped }
     ensures ends { EndsBy W.Outside outside.old outside.new (shipped_of result) }
     ensures prints { (shown : IsShown W.Outside durable.now outside.old) → (at : IsRecordAt (held_of W.Outside outside.old) durable.now.bank record.now.place) → record.now.count ≡ length at.lines → PrintsBy W.Outside (record_text number (told at.lines)) outside.old outside.new result }
+    ensures bytes { OnOk result ((shown : IsShown W.Outside durable.now outside.old) → (at : IsRecordAt (held_of W.Outside outside.old) durable.now.bank record.now.place) → record.now.count ≡ length at.lines → All (HasBytes (line_bytes durable.now.header.directory.page)) at.lines) }
 {
     fill_record(text, number, u32::from(record.count));
     match put_line(text.as_slice(), outside) {
@@ -195,6 +200,7 @@ fn put_one<W: Outside>(
     ensures stopped { IfErr result IsStopped }
     ensures ends { EndsBy W.Outside outside.old outside.new (shipped_of result) }
     ensures prints { (shown : IsShown W.Outside durable.now outside.old) → (at : IsRecordAt (held_of W.Outside outside.old) durable.now.bank record.now.place) → record.now.count ≡ length at.lines → (one : RecordLine) → slice_get at.lines index ≡ Some one → PrintsBy W.Outside (line_line one.line one.bytes) outside.old outside.new result }
+    ensures bytes { OnOk result ((shown : IsShown W.Outside durable.now outside.old) → (at : IsRecordAt (held_of W.Outside outside.old) durable.now.bank record.now.place) → record.now.count ≡ length at.lines → (one : RecordLine) → slice_get at.lines index ≡ Some one → HasBytes (line_bytes durable.now.header.directory.page) one) }
 {
     let mut room = [0; 256];
     let bytes = &mut room[..durable.header().line_bytes()];

@@ -1,14 +1,16 @@
 use Rattle.std.proofs.Common.{◌≡◌, ℕ, ◌+◌, ◌<◌, List, [], ◌++◌, length, take, drop, get_or, refl, sym, subst, ◌∙◌, ap, arith}
-use Rattle.std.specs.Prelude.{Option, slice_get, unwrap_or}
+use Rattle.std.specs.Prelude.{All, Option, slice_get, unwrap_or}
 use Rattle.std.proofs.lemmas.List.{length-map, take_all}
 use Rattle.std.proofs.lemmas.Option.{slice_get-get_or}
+use Rattle.line_geometry.specs.Segments.{line_bytes}
 use Rattle.store_format.specs.Bank.{RecordLine}
 use Rattle.outside.specs.Bytes.{Prints}
 use Rattle.outside.specs.Runs.{held_of}
 use Rattle.outside.proofs.Prints.{prints_on, prints_same, prints_stop}
 use Rattle.standby.specs.Followed.{well, broken}
+use Rattle.standby.specs.Shipped.{HasBytes}
 use Rattle.standby.specs.Text.{ShipLine, line_line, lines_text, record_line, told}
-use Rattle.standby.proofs.ShipLemmas.{text_more, text_rest, there_still}
+use Rattle.standby.proofs.ShipLemmas.{all_more, text_more, text_rest, there_still}
 use Rattle.standby.proofs.ShowLemmas.{shows_on, still_shown}
 use Rattle.standby.proofs.shipping.put_record.Goals as goal
 
@@ -65,7 +67,21 @@ loop-index-preserved g c = record {
       let head = record_line c.args.number c.args.record.now.count in
       prints_same (g.W.Outside.printed old) (g.W.Outside.printed c.put_one.new.outside) ((head ++ lines_text (take i (told at.lines))) ++ line_line one.line one.bytes) (head ++ lines_text (take (i + 1) (told at.lines))) well (text_more head at.lines i one lt there)
       (prints_on (g.W.Outside.printed old) (g.W.Outside.printed mid) (g.W.Outside.printed c.put_one.new.outside) (head ++ lines_text (take i (told at.lines))) (line_line one.line one.bytes) tt well (c.loop-index.invariant.so_far shown at many) part);
+  bytes = λ shown at many.
+      let i = c.loop-index.index in
+      let old = c.args.outside.now in
+      let mid = c.loop-index.outside in
+      let still = still_shown g.W.Outside c.args.durable.now old mid shown c.loop-index.invariant.only.held in
+      let that = there_still (held_of g.W.Outside old) (held_of g.W.Outside mid) c.args.durable.now.bank c.args.record.now.place (ap (λ (those : Option (List ℕ)). unwrap_or those []) c.loop-index.invariant.only.held) at in
+      let lt : i < length at.lines = omega (arith, many, c.loop-index-test.true) in
+      all_more (HasBytes (line_bytes c.args.durable.now.header.directory.page)) at.lines i no_record lt (c.loop-index.invariant.bytes shown at many)
+      (c.in-Ok-put_one.ensures.bytes still.0 that.0 (many ∙ ap (λ (these : List RecordLine). length these) (sym that.1)) (get_or at.lines i no_record) (ap (λ (these : List RecordLine). slice_get these i) that.1 ∙ slice_get-get_or at.lines i no_record lt));
 }
+
+pub returns-clause-bytes : goal.returns-clause-bytes
+returns-clause-bytes g c shown at many =
+    subst (λ (these : List RecordLine). All (HasBytes (line_bytes c.args.durable.now.header.directory.page)) these)
+    (take_all c.loop-index.index at.lines (omega (arith, many, c.loop-index-test.false))) (c.loop-index.invariant.bytes shown at many)
 
 pub returns-clause-prints : goal.returns-clause-prints
 returns-clause-prints g c shown at many =

@@ -1,10 +1,13 @@
 use Rattle.std.proofs.Common.{◌≡◌, ◌++◌, length, take}
+use Rattle.std.specs.Prelude.{All}
+use Rattle.line_geometry.specs.Segments.{line_bytes}
 use Rattle.outside.specs.Bytes.{Prints}
 use Rattle.outside.specs.Runs.{held_of}
 use Rattle.redo_journal.specs.Records.{IsRecordAt}
 use Rattle.restart.specs.Shows.{IsShown}
 use Rattle.standby.specs.Followed.{well}
 use Rattle.standby.specs.Puts.{AsksAndPuts}
+use Rattle.standby.specs.Shipped.{HasBytes}
 use Rattle.standby.specs.Text.{lines_text, record_line, told}
 use Rattle.standby.proofs.shipping.put_record.Given as goal
 
@@ -15,4 +18,6 @@ invariant-loop-index g l = record {
   put : g.W.Outside.put_faults l.outside ≡ g.W.Outside.put_faults l.fn.outside;
   so_far : (shown : IsShown g.W.Outside l.durable l.fn.outside) → (at : IsRecordAt (held_of g.W.Outside l.fn.outside) l.durable.bank l.record.place) → l.record.count ≡ length at.lines
       → Prints (g.W.Outside.printed l.fn.outside) (g.W.Outside.printed l.outside) (record_line l.number l.record.count ++ lines_text (take l.index (told at.lines))) well;
+  bytes : (shown : IsShown g.W.Outside l.durable l.fn.outside) → (at : IsRecordAt (held_of g.W.Outside l.fn.outside) l.durable.bank l.record.place) → l.record.count ≡ length at.lines
+      → All (HasBytes (line_bytes l.durable.header.directory.page)) (take l.index at.lines);
 }

@@ -1,12 +1,14 @@
 use Rattle.std.proofs.Common.{◌≡◌, ⊎_elim, ℕ, ◌+◌, ◌-◌, ◌<◌, List, [], ◌++◌, length, map, take, drop, get_or, refl, sym, subst, ◌∙◌, ap, arith}
-use Rattle.std.specs.Prelude.{◌%◌, ◌^◌, ◌≤◌, Option}
+use Rattle.std.specs.Prelude.{All, ◌%◌, ◌^◌, ◌≤◌, Option}
 use Rattle.std.proofs.lemmas.List.{get_or-drop, length-drop, length-map, take-append-drop, take_all}
+use Rattle.line_geometry.specs.Segments.{line_bytes}
 use Rattle.store_format.specs.Bank.{RecordLine}
 use Rattle.outside.specs.Bytes.{Prints}
 use Rattle.outside.proofs.Prints.{prints_on, prints_same, prints_stop}
+use Rattle.standby.specs.Shipped.{HasBytes}
 use Rattle.standby.specs.Followed.{well, broken}
 use Rattle.standby.specs.Text.{later, record_text, records_text, told}
-use Rattle.standby.proofs.ShipLemmas.{area_more, later_later, next_is, records_more, records_rest, records_split, there_in}
+use Rattle.standby.proofs.ShipLemmas.{all_more, area_more, later_later, next_is, records_more, records_rest, records_split, there_in}
 use Rattle.standby.proofs.ShowLemmas.{prints_none, prints_nothing, shows_asks, shows_none, shows_on}
 use Rattle.standby.proofs.shipping.put_records.Goals as goal
 
@@ -22,6 +24,7 @@ loop-index-init g c =
       so_far = λ shown is.
           prints_same (g.W.Outside.printed c.args.outside.now) (g.W.Outside.printed c.args.outside.now) [] (records_text (later c.args.durable.now.bank.base c.args.passed) (take (c.args.passed - c.args.passed) (map told (drop c.args.passed shown.shows.read.records)))) well
           (ap (λ (n : ℕ). records_text (later c.args.durable.now.bank.base c.args.passed) (take n (map told (drop c.args.passed shown.shows.read.records)))) (sym none)) (prints_nothing (g.W.Outside.printed c.args.outside.now));
+      bytes = λ shown is. subst (λ (n : ℕ). All (λ lines. All (HasBytes (line_bytes c.args.durable.now.header.directory.page)) lines) (take n (drop c.args.passed shown.shows.read.records))) (sym none) (λ k d lt. absurd (omega (arith, lt)));
     }
 
 -- the number of the record at hand
@@ -127,7 +130,28 @@ loop-index-preserved g c =
           (records_more number behind i within ∙ ap (λ (n : ℕ). records_text number (take n (map told behind))) on)
           (prints_on (G.printed old) (G.printed loop) (G.printed c.put_record.new.outside) (records_text number (take i (map told behind))) line tt well (c.loop-index.invariant.so_far shown is)
           (subst (λ (printed : Option (List ℕ)). Prints printed (G.printed c.put_record.new.outside) line well) c.record_at.ensures.asks.calls.quiet.same (subst (λ (bytes : List ℕ). Prints (G.printed mid) (G.printed c.put_record.new.outside) bytes well) text part)));
+      bytes = λ shown is.
+          let records = shown.shows.read.records in
+          let behind = drop c.args.passed records in
+          let lt : index < length records = omega (arith, shown.shows.read.count, c.loop-index-test.true, c.records-index-end.ensures) in
+          let place = c.loop-index.invariant.place shown is in
+          let first = there_in G c.args.durable.now old loop shown index c.loop-index.place c.loop-index.invariant.only.held lt place in
+          let counted = c.in-Ok.ensures.read first.0.told first.1.0 in
+          let at = there_in G c.args.durable.now old mid shown index c.in-Ok.record.place (c.record_at.ensures.asks.held ∙ c.loop-index.invariant.only.held) lt (c.in-Ok.ensures.found.place_is ∙ place) in
+          let part = c.in-Ok-put_record.ensures.bytes at.0 at.1.0 (counted.count ∙ ap (λ (lines : List RecordLine). length lines) (first.1.1 ∙ sym at.1.1)) in
+          let within : i < length behind = omega (arith, lt, le, length-drop c.args.passed records) in
+          let on : i + 1 ≡ index + 1 - c.args.passed = omega (arith, le) in
+          let Each = λ (lines : List RecordLine). All (HasBytes (line_bytes c.args.durable.now.header.directory.page)) lines in
+          subst (λ (n : ℕ). All Each (take n behind)) on
+          (all_more Each behind i [] within (c.loop-index.invariant.bytes shown is) (subst Each (at.1.1 ∙ lines_at records c.args.passed index le) part));
     }
+
+pub returns-clause-bytes : goal.returns-clause-bytes
+returns-clause-bytes g c shown is =
+    let behind = drop c.args.passed shown.shows.read.records in
+    subst (λ (these : List (List RecordLine)). All (λ lines. All (HasBytes (line_bytes c.args.durable.now.header.directory.page)) lines) these)
+    (take_all (c.loop-index.index - c.args.passed) behind (omega (arith, shown.shows.read.count, c.loop-index-test.false, c.records-index-end.ensures, length-drop c.args.passed shown.shows.read.records)))
+    (c.loop-index.invariant.bytes shown is)
 
 pub returns-clause-prints : goal.returns-clause-prints
 returns-clause-prints g c shown is =

@@ -1,9 +1,12 @@
 use Rattle.std.proofs.Common.{◌≡◌, ◌<◌, ◌-◌, map, take, drop}
+use Rattle.std.specs.Prelude.{All}
+use Rattle.line_geometry.specs.Segments.{line_bytes}
 use Rattle.outside.specs.Bytes.{Prints}
 use Rattle.redo_journal.specs.Records.{area_bytes}
 use Rattle.restart.specs.Shows.{IsShown}
 use Rattle.standby.specs.Followed.{well}
 use Rattle.standby.specs.Puts.{AsksAndPuts}
+use Rattle.standby.specs.Shipped.{HasBytes}
 use Rattle.standby.specs.Text.{later, records_text, told}
 use Rattle.standby.proofs.shipping.put_records.Given as goal
 
@@ -16,4 +19,6 @@ invariant-loop-index g l = record {
   place : (shown : IsShown g.W.Outside l.durable l.initial.outside) → l.initial.place ≡ area_bytes l.durable.bank.page (take l.passed shown.shows.read.records) → l.place ≡ area_bytes l.durable.bank.page (take l.index shown.shows.read.records);
   so_far : (shown : IsShown g.W.Outside l.durable l.initial.outside) → l.initial.place ≡ area_bytes l.durable.bank.page (take l.passed shown.shows.read.records)
       → Prints (g.W.Outside.printed l.initial.outside) (g.W.Outside.printed l.outside) (records_text (later l.durable.bank.base l.passed) (take (l.index - l.passed) (map told (drop l.passed shown.shows.read.records)))) well;
+  bytes : (shown : IsShown g.W.Outside l.durable l.initial.outside) → l.initial.place ≡ area_bytes l.durable.bank.page (take l.passed shown.shows.read.records)
+      → All (λ lines. All (HasBytes (line_bytes l.durable.header.directory.page)) lines) (take (l.index - l.passed) (drop l.passed shown.shows.read.records));
 }

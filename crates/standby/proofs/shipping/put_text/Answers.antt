@@ -1,5 +1,5 @@
 use Rattle.std.proofs.Common.{◌≡◌, ℕ, ◌+◌, ◌-◌, ◌≤◌, List, ◌++◌, length, map, take, drop, refl, sym, subst, ◌∙◌, ap, arith}
-use Rattle.std.specs.Prelude.{Option}
+use Rattle.std.specs.Prelude.{Result, Ok, Err, All, OnOk, Option}
 use Rattle.std.proofs.lemmas.List.{length-drop, length-map}
 use Rattle.line_geometry.specs.Directory.{Layout}
 use Rattle.line_geometry.specs.Lines.{line_count}
@@ -10,11 +10,13 @@ use Rattle.outside.specs.Bytes.{Prints}
 use Rattle.outside.proofs.Prints.{prints_on, prints_stop}
 use Rattle.redo_journal.specs.Records.{area_bytes}
 use Rattle.standby.specs.Followed.{well, broken}
-use Rattle.standby.specs.Shipped.{shipped}
+use Rattle.standby.specs.Shipped.{HasBytes, shipped}
 use Rattle.standby.specs.State.{behind}
 use Rattle.standby.specs.Step.{put_of}
 use Rattle.standby.specs.Text.{end_line, head_line, later, records_text, text_of, told}
 use Rattle.standby.proofs.ShipLemmas.{later_later}
+use Rattle.outside.specs.Runs.{held_of}
+use Rattle.standby.proofs.ContentLemmas.{content_is}
 use Rattle.standby.proofs.ShowLemmas.{by_put, prints_none, shows_asks, shows_on, shows_puts, still_shown}
 use Rattle.standby.proofs.shipping.put_text.Goals as goal
 
@@ -112,3 +114,18 @@ returns-clause-only g c =
     (shows_puts g.W.Outside c.as_slice.result.now c.place_behind.new.outside c.put_line.new.outside (put_of c.put_line.result) c.put_line.ensures.puts))
     c.put_records.ensures.only)
     (shows_puts g.W.Outside c.as_slice-2.result.now c.put_records.new.outside c.put_line-2.new.outside (put_of c.put_line-2.result) c.put_line-2.ensures.puts)
+
+pub returns-clause-content : goal.returns-clause-content
+returns-clause-content g c =
+    on_ok c.put_line-2.result (λ shown.
+    let G = g.W.Outside in
+    let still = still_shown G c.args.durable.now c.args.outside.now c.put_line.new.outside shown (c.put_line.ensures.puts.only.held ∙ c.place_behind.ensures.asks.held) in
+    let place = c.in-Ok.ensures.place shown ∙ ap (λ (records : List (List RecordLine)). area_bytes c.args.durable.now.bank.page (take c.args.passed records)) (sym still.1) in
+    let bytes = c.in-Ok-put_records.ensures.bytes still.0 place in
+    content_is (held_of G c.args.outside.now) c.args.durable.now shown.shows c.args.from c.ranges.from.fits (omega (arith, c.requires.lines, c.ranges.lines.fits))
+    (subst (λ (n : ℕ). All (λ lines. All (HasBytes (line_bytes c.args.durable.now.header.directory.page)) lines) (drop n shown.shows.read.records)) c.requires.behind
+    (subst (λ (records : List (List RecordLine)). All (λ lines. All (HasBytes (line_bytes c.args.durable.now.header.directory.page)) lines) (drop c.args.passed records)) still.1 bytes)))
+  where
+    on_ok : {T E P : Type 0} (result : Result T E) → P → OnOk result P
+    on_ok (Ok value) is = is
+    on_ok (Err why) is = tt

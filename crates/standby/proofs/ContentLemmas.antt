@@ -1,0 +1,59 @@
+-- What is shipped is in the ranges of a ship text.
+use Rattle.std.proofs.Common.{All, ◌≡◌, ℕ, ◌+◌, ◌^◌, ◌<◌, ◌≤◌, ◌&&◌, nat_le, nat_lt, Bool, true, false, List, [], ◌∷◌, length, take, drop, get_or, refl, ◌∙◌, ap, arith}
+use Rattle.std.specs.Prelude.{if◌then◌else◌, Option, None, Some}
+use Rattle.std.proofs.lemmas.Bool.Decides.{nat_tests}
+use Rattle.std.proofs.lemmas.List.Elements.{All-drop, All-map, recursion_from_All}
+use Rattle.std.specs.List.{AllByRecursion}
+use Rattle.line_geometry.specs.Lines.{line_count}
+use Rattle.line_geometry.specs.Segments.{line_bytes}
+use Rattle.store_format.specs.Bank.{RecordLine, wrong_line}
+use Rattle.store_format.proofs.Widths.{line-few, line-some}
+use Rattle.redo_journal.specs.Kept.{KeptBank}
+use Rattle.redo_journal.specs.Opened.{IsRead}
+use Rattle.redo_journal.specs.Records.{area_bytes}
+use Rattle.redo_journal.proofs.RecordLemmas.{stands_there}
+use Rattle.restart.specs.Kept.{KeptStore}
+use Rattle.restart.specs.Shows.{Shows}
+use Rattle.standby.specs.Shipped.{HasBytes, shipped}
+use Rattle.standby.specs.State.{behind}
+use Rattle.standby.specs.Text.{AreLines, IsContent, ShipLine, told}
+use Rattle.standby.proofs.ShipLemmas.{split_at}
+
+by_test : (test : Bool) (rest : Option ℕ) (at : ℕ) → (if test then rest else Some at) ≡ None → (test ≡ true) × (rest ≡ None)
+by_test true rest at is = (refl, is)
+by_test false rest at is = cc
+
+within : (least line bound : ℕ) → (nat_le least line && nat_lt line bound) ≡ true → (least ≤ line) × (line < bound)
+within least line bound is = grind (arith, nat_tests)
+
+-- lines in order are those of a text
+ordered : (bytes bound least : ℕ) (lines : List RecordLine) → wrong_line bound least lines ≡ None → AllByRecursion (HasBytes bytes) lines → AreLines bytes bound least (told lines)
+ordered bytes bound least [] none all = tt
+ordered bytes bound least (line ∷ lines) none all =
+    let test = by_test (nat_le least line.line && nat_lt line.line bound) (wrong_line bound (line.line + 1) lines) line.at none in
+    let inside = within least line.line bound test.0 in
+    (inside.0, inside.1, all.0.0, all.0.1, ordered bytes bound (line.line + 1) lines test.1 all.1)
+
+-- each record of a bank that was read is in order
+all_ordered : (held : List ℕ) (bank : KeptBank) (read : IsRead held bank) → All (λ lines. wrong_line (length bank.newest) 0 lines ≡ None) read.records
+all_ordered held bank read k d lt =
+    let records = read.records in
+    (stands_there held bank (area_bytes bank.page (take k records)) (record { read = read; before = take k records; lines = get_or records k d; after = drop (k + 1) records; are = split_at records k d lt; place_is = refl })).in_order
+
+pub content_is : (held : List ℕ) (store : KeptStore) (shows : Shows held store) (from : ℕ) → from < 2 ^ 64 → line_count store.header.directory < 2 ^ 32
+    → All (λ lines. All (HasBytes (line_bytes store.header.directory.page)) lines) (drop (behind store.bank.base from) shows.read.records) → IsContent (shipped store shows.read.records from)
+content_is held store shows from small few bytes =
+    let size = line_bytes store.header.directory.page in
+    let lines = line_count store.header.directory in
+    let passed = behind store.bank.base from in
+    let due = drop passed shows.read.records in
+    let orders = All-drop (λ (these : List RecordLine). wrong_line (length store.bank.newest) 0 these ≡ None) passed shows.read.records (all_ordered held store.bank shows.read) in
+    record {
+      some_bytes = omega (arith, line-some store.header.directory.page);
+      few_bytes = omega (arith, line-few store.header.directory.page);
+      few_lines = few;
+      number = small;
+      records =
+          All-map (λ (these : List ShipLine). AreLines size lines 0 these) told due
+          (λ k d lt. ordered size lines 0 (get_or due k d) (ap (λ (n : ℕ). wrong_line n 0 (get_or due k d)) shows.fits.lines ∙ orders k d lt) (recursion_from_All (HasBytes size) (get_or due k d) (bytes k d lt)));
+    }
