@@ -1,16 +1,17 @@
-ghost use Rattle.std.specs.Prelude.{ℕ, List, Option, ◌≡◌, ◌<◌, ◌≤◌, ◌+◌, IfOk, OnOk, IfSome, OnSome, IsTrue, length};
+ghost use Rattle.std.specs.Prelude.{ℕ, List, Option, Some, ◌≡◌, ◌<◌, ◌≤◌, ◌+◌, IfOk, OnOk, IfSome, OnSome, IsTrue, length};
 ghost use Rattle.std.specs.Option.{ForSome};
 ghost use Rattle.std.specs.Result.{ForOk};
+ghost use Rattle.romp_table.specs.Decode.{decoded, row_numbered};
 ghost use Rattle.romp_table.specs.Legal.{HasWidths};
 ghost use Rattle.flat_machine.specs.Access.{IsAccess};
 ghost use Rattle.flat_machine.specs.Pending.{planned, IsSoundPending, StaysIfPending, StaysIfWanting};
 ghost use Rattle.flat_machine.specs.declared.machine.Cs.{Cs};
-ghost use Rattle.flat_machine.specs.Row.{plan, plan_of, plan_of_pair, goes_by, fetched};
+ghost use Rattle.flat_machine.specs.Row.{plan, plan_of, plan_of_pair, plan_by, goes_by, fetched, fetched_by, fetched_with};
 
 use super::branches::{branch, branches, is_subject};
 use super::effects::effect;
 use super::machine::{Act, Branch, Cs, Pending};
-use romp_table::{Inst, decode, length_of};
+use romp_table::{Format, Inst, Row, decode, decode_as, length_of, row_by};
 
 /// What instructions are fetched from: 16,384 bytes.
 pub trait Fetch {
@@ -37,9 +38,73 @@ pub fn start_row<F: Fetch>(code: &F, regs: &mut [u32; 16], cs: &mut Cs, iar: u32
     ensures sound { IsSoundPending result }
     ensures long { length regs.new ≡ 16 }
 {
-    match fetch_instruction(code, iar) {
-        Err(code) => Pending::Fails(code),
-        Ok((inst, bytes)) => start_instruction(code, &inst, bytes, regs, cs, iar),
+    let Some(first) = code.fetch(iar) else {
+        return Pending::Fails(2);
+    };
+    let Some(row) = row_by(first) else {
+        return Pending::Fails(1);
+    };
+    match row.format {
+        Format::J => start_short(code, &row, Format::J, first, regs, cs, iar),
+        Format::S => start_short(code, &row, Format::S, first, regs, cs, iar),
+        Format::X => start_short(code, &row, Format::X, first, regs, cs, iar),
+        Format::R => start_short(code, &row, Format::R, first, regs, cs, iar),
+        Format::D => start_long(code, &row, Format::D, first, regs, cs, iar),
+        Format::BI => start_long(code, &row, Format::BI, first, regs, cs, iar),
+        Format::BA => start_long(code, &row, Format::BA, first, regs, cs, iar),
+    }
+}
+
+/// The same of a row of two bytes, whose format each call names, so that it is compiled for that format alone.
+#[inline(always)]
+fn start_short<F: Fetch>(
+    code: &F,
+    row: &Row,
+    format: Format,
+    first: u16,
+    regs: &mut [u32; 16],
+    cs: &mut Cs,
+    iar: u32,
+) -> Pending
+    requires whole { F.is_whole code.now }
+    requires row { row_numbered first ≡ Some row.now }
+    requires format { format ≡ row.now.format }
+    requires within { iar < 16384 }
+    ensures value { plan_by (F.halfword_at code.now) (fetched_by 2 (decoded first 0)) regs.old cs.old iar ≡ planned regs.new cs.new result }
+    ensures stays { StaysIfPending result regs.old regs.new cs.old cs.new }
+    ensures sound { IsSoundPending result }
+{
+    match decode_as(row, format, first, 0) {
+        None => Pending::Fails(1),
+        Some(inst) => start_instruction(code, &inst, 2, regs, cs, iar),
+    }
+}
+
+/// The same of a row of four bytes.
+#[inline(always)]
+fn start_long<F: Fetch>(
+    code: &F,
+    row: &Row,
+    format: Format,
+    first: u16,
+    regs: &mut [u32; 16],
+    cs: &mut Cs,
+    iar: u32,
+) -> Pending
+    requires whole { F.is_whole code.now }
+    requires row { row_numbered first ≡ Some row.now }
+    requires format { format ≡ row.now.format }
+    requires within { iar < 16384 }
+    ensures value { plan_by (F.halfword_at code.now) (fetched_with first (F.halfword_at code.now (iar + 2))) regs.old cs.old iar ≡ planned regs.new cs.new result }
+    ensures stays { StaysIfPending result regs.old regs.new cs.old cs.new }
+    ensures sound { IsSoundPending result }
+{
+    let Some(second) = code.fetch(iar + 2) else {
+        return Pending::Fails(2);
+    };
+    match decode_as(row, format, first, second) {
+        None => Pending::Fails(1),
+        Some(inst) => start_instruction(code, &inst, 4, regs, cs, iar),
     }
 }
 
