@@ -41,6 +41,21 @@ answered registers is_in_frame refuses access =
 abbrev pub answer_in : {S : Type 0} → (S → Registers) → (S → Virtual → Bool) → (S → Virtual → Bool → Bool) → S → Access → Probe
 answer_in registers is_in_frame refuses state = answered (registers state) (is_in_frame state) (refuses state)
 
+-- the answer that a result tells of
+abbrev pub answer_of : {A : Type 0} → Result A Probe → Probe
+answer_of (Ok value) = Probe.Permitted
+answer_of (Err probe) = probe
+
+-- an answer that doesn't permit
+abbrev pub IsRefusal : Probe → Type 0
+IsRefusal Probe.Permitted = ⊥
+IsRefusal _ = Unit {0}
+
+-- what is after an access: this where it is permitted, and else what was before
+abbrev pub if_permitted : {A : Type 0} → Probe → (after before : A) → A
+if_permitted Probe.Permitted after before = after
+if_permitted _ after before = before
+
 -- an address names no byte of a range: no byte of it is at the same place as the address's byte
 abbrev pub IsOutside : Registers → (address count other : ℕ) → Type 0
 IsOutside registers address count other =

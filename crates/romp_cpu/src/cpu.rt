@@ -1,17 +1,16 @@
 ghost use Rattle.std.specs.Prelude.{◌≡◌, ◌<◌, false, true, length};
-ghost use Rattle.romp_cpu.specs.declared.storage.Probe.{Probe};
 ghost use Rattle.std.specs.Option.{ForSome};
 ghost use Rattle.flat_machine.specs.Access.{IsAccess, FitsFrom};
 ghost use Rattle.flat_machine.specs.Pending.{planned, IsSoundPending, StaysIfPending};
 ghost use Rattle.flat_machine.specs.Effect.{filled};
 ghost use Rattle.flat_machine.specs.Row.{plan, stored_bytes};
-ghost use Rattle.romp_cpu.specs.Shown.{bytes_from, halfword_of, access_to};
-ghost use Rattle.romp_cpu.specs.Answers.{answer_in};
+ghost use Rattle.romp_cpu.specs.Shown.{bytes_from, halfword_of};
+ghost use Rattle.romp_cpu.specs.Answers.{answer_in, if_permitted};
 ghost use Rattle.romp_cpu.specs.Tried.{linked, seen_in, tried, tried_act};
 ghost use Rattle.romp_cpu.specs.Attempts.{GivesEveryRow, UndoesUnlessWent, IsOfFewBytes, StoresAll};
 
 use super::storage::{Access, Fault, Probe, Storage};
-use flat_machine::{Act, Cs, Fetch, Pending, fill, gather, start_row};
+use flat_machine::{Act, Cs, Fetch, Pending, fill, fill_number, gather, start_row};
 
 /// A processor: sixteen registers, the condition status, the address of the next instruction, and how many bytes were
 /// printed.
@@ -122,11 +121,8 @@ impl Cpu {
                     bytes,
                     store: false,
                 };
-                match storage.probe(&access) {
-                    Probe::Permitted => {
-                        load(storage, address, bytes, to, sign, &mut self.regs);
-                        self.go_on(next, link)
-                    }
+                match load(storage, &access, to, sign, &mut self.regs) {
+                    Probe::Permitted => self.go_on(next, link),
                     Probe::Check(code) => Attempt::Check(code),
                     Probe::Fault(fault) => Attempt::Fault(fault, access),
                 }
@@ -141,11 +137,8 @@ impl Cpu {
                     bytes,
                     store: true,
                 };
-                match storage.probe(&access) {
-                    Probe::Permitted => {
-                        store(storage, address, bytes, from, &self.regs);
-                        self.go_on(next, link)
-                    }
+                match store(storage, &access, from, &self.regs) {
+                    Probe::Permitted => self.go_on(next, link),
                     Probe::Check(number) => Attempt::Check(number),
                     Probe::Fault(why) => Attempt::Fault(why, access),
                 }
@@ -178,67 +171,84 @@ impl Cpu {
     }
 }
 
-/// Fills registers with the bytes of a load that is permitted.
-fn load<S: Storage>(storage: &S, address: u32, bytes: u8, to: u8, sign: bool, regs: &mut [u32; 16])
-    requires fits { FitsFrom bytes to }
-    requires permitted { answer_in S.registers S.is_in_frame S.refuses (S.state storage.now) (access_to address bytes false) ≡ Probe.Permitted }
-    ensures { regs.new ≡ filled to sign (bytes_from (S.byte_at (S.state storage.now)) address bytes) regs.old }
-{
-    match bytes {
-        1 => fill_by(storage, address, &mut [0; 1], to, sign, regs),
-        2 => fill_by(storage, address, &mut [0; 2], to, sign, regs),
-        4 => fill_by(storage, address, &mut [0; 4], to, sign, regs),
-        _ => {
-            let mut room = [0; 64];
-            let part = &mut room[..usize::from(bytes)];
-            fill_by(storage, address, part, to, sign, regs);
-        }
-    }
-}
-
-/// The same, by a room for as many bytes.
+/// An access that loads: its bytes fill registers if it is permitted.
 #[inline(always)]
-fn fill_by<S: Storage>(
-    storage: &S,
-    address: u32,
-    room: &mut [u8],
+fn load<S: Storage>(
+    storage: &mut S,
+    access: &Access,
     to: u8,
     sign: bool,
     regs: &mut [u32; 16],
-)
-    requires fits { FitsFrom (length room.old) to }
-    requires permitted { answer_in S.registers S.is_in_frame S.refuses (S.state storage.now) (access_to address (length room.old) false) ≡ Probe.Permitted }
-    ensures { regs.new ≡ filled to sign (bytes_from (S.byte_at (S.state storage.now)) address (length room.old)) regs.old }
+) -> Probe
+    requires loads { access.now.store ≡ false }
+    requires fits { FitsFrom access.now.bytes to }
+    ensures answer { result ≡ answer_in S.registers S.is_in_frame S.refuses (S.state storage.old) access.now }
+    ensures state { S.state storage.new ≡ S.state storage.old }
+    ensures registers { regs.new ≡ if_permitted result (filled to sign (bytes_from (S.byte_at (S.state storage.old)) access.now.address access.now.bytes) regs.old) regs.old }
 {
-    storage.load(address, room);
-    fill(to, sign, room, regs);
-}
-
-/// Stores the bytes of registers at a range that is permitted.
-fn store<S: Storage>(storage: &mut S, address: u32, bytes: u8, from: u8, regs: &[u32; 16])
-    requires fits { FitsFrom bytes from }
-    requires permitted { answer_in S.registers S.is_in_frame S.refuses (S.state storage.old) (access_to address bytes true) ≡ Probe.Permitted }
-    ensures { S.state storage.new ≡ S.stored (S.state storage.old) address (stored_bytes regs.now bytes from) }
-{
-    match bytes {
-        1 => store_by(storage, address, &mut [0; 1], from, regs),
-        2 => store_by(storage, address, &mut [0; 2], from, regs),
-        4 => store_by(storage, address, &mut [0; 4], from, regs),
-        _ => {
-            let mut room = [0; 64];
-            let part = &mut room[..usize::from(bytes)];
-            store_by(storage, address, part, from, regs);
+    if access.bytes > 4 {
+        return load_words(storage, access, to, sign, regs);
+    }
+    match storage.read(access.address, access.bytes) {
+        Ok(number) => {
+            fill_number(to, sign, access.bytes, number, regs);
+            Probe::Permitted
         }
+        Err(probe) => probe,
     }
 }
 
-/// The same, by a room for as many bytes.
-#[inline(always)]
-fn store_by<S: Storage>(storage: &mut S, address: u32, room: &mut [u8], from: u8, regs: &[u32; 16])
-    requires fits { FitsFrom (length room.old) from }
-    requires permitted { answer_in S.registers S.is_in_frame S.refuses (S.state storage.old) (access_to address (length room.old) true) ≡ Probe.Permitted }
-    ensures { S.state storage.new ≡ S.stored (S.state storage.old) address (stored_bytes regs.now (length room.old) from) }
+/// The same of some bytes for several registers.
+fn load_words<S: Storage>(
+    storage: &mut S,
+    access: &Access,
+    to: u8,
+    sign: bool,
+    regs: &mut [u32; 16],
+) -> Probe
+    requires loads { access.now.store ≡ false }
+    requires fits { FitsFrom access.now.bytes to }
+    ensures answer { result ≡ answer_in S.registers S.is_in_frame S.refuses (S.state storage.old) access.now }
+    ensures state { S.state storage.new ≡ S.state storage.old }
+    ensures registers { regs.new ≡ if_permitted result (filled to sign (bytes_from (S.byte_at (S.state storage.old)) access.now.address access.now.bytes) regs.old) regs.old }
 {
-    gather(from, regs, room);
-    storage.store(address, room);
+    let probe = storage.probe(access);
+    if let Probe::Permitted = probe {
+        let mut room = [0; 64];
+        let part = &mut room[..usize::from(access.bytes)];
+        storage.load(access.address, part);
+        fill(to, sign, part, regs);
+    }
+    probe
+}
+
+/// An access that stores the bytes of registers, if it is permitted.
+#[inline(always)]
+fn store<S: Storage>(storage: &mut S, access: &Access, from: u8, regs: &[u32; 16]) -> Probe
+    requires stores { access.now.store ≡ true }
+    requires fits { FitsFrom access.now.bytes from }
+    ensures answer { result ≡ answer_in S.registers S.is_in_frame S.refuses (S.state storage.old) access.now }
+    ensures state { S.state storage.new ≡ if_permitted result (S.stored (S.state storage.old) access.now.address (stored_bytes regs.now access.now.bytes from)) (S.state storage.old) }
+{
+    if access.bytes > 4 {
+        return store_words(storage, access, from, regs);
+    }
+    storage.write(access.address, access.bytes, regs[usize::from(from)])
+}
+
+/// The same of the bytes of several registers.
+fn store_words<S: Storage>(storage: &mut S, access: &Access, from: u8, regs: &[u32; 16]) -> Probe
+    requires stores { access.now.store ≡ true }
+    requires fits { FitsFrom access.now.bytes from }
+    ensures answer { result ≡ answer_in S.registers S.is_in_frame S.refuses (S.state storage.old) access.now }
+    ensures state { S.state storage.new ≡ if_permitted result (S.stored (S.state storage.old) access.now.address (stored_bytes regs.now access.now.bytes from)) (S.state storage.old) }
+{
+    let probe = storage.probe(access);
+    if let Probe::Permitted = probe {
+        let mut room = [0; 64];
+        let part = &mut room[..usize::from(access.bytes)];
+        gather(from, regs, part);
+        storage.store(access.address, part);
+    }
+    probe
 }

@@ -1,11 +1,14 @@
-ghost use Rattle.std.specs.Prelude.{◌≡◌, ℕ, Bool, true, false, List, Option, length};
+ghost use Rattle.std.specs.Prelude.{◌≡◌, ℕ, Bool, true, false, List, Option, length, IfOk, IfErr};
+ghost use Rattle.byteorder.specs.Endian.{big_number, big_bytes};
 ghost use Rattle.segment_regs.specs.Registers.{Registers};
 ghost use Rattle.segment_regs.specs.declared.registers.Virtual.{Virtual};
 ghost use Rattle.romp_cpu.specs.declared.storage.Access.{Access};
 ghost use Rattle.romp_cpu.specs.declared.storage.Probe.{Probe};
 ghost use Rattle.romp_cpu.specs.Shown.{bytes_from, halfword_of, access_to};
-ghost use Rattle.romp_cpu.specs.Answers.{answer_in, IsOutside};
+ghost use Rattle.romp_cpu.specs.Answers.{answer_in, answer_of, if_permitted, IsRefusal, IsOutside};
+ghost use Rattle.romp_cpu.specs.Numbers.{IsOfNumber, FitsBytes};
 
+use super::numbers::{lay_number, number_in};
 use segment_regs::Virtual;
 
 /// What an instruction or its subject accesses: so many bytes from an effective address on, to load or to store.
@@ -80,4 +83,52 @@ pub trait Storage {
         ensures shows { bytes_from (byte_at (state self.new)) address (length from.now) ≡ from.now }
         ensures others { (other : ℕ) → IsOutside (registers (state self.old)) address (length from.now) other → byte_at (state self.new) other ≡ byte_at (state self.old) other }
         ensures answers { (access : Access) → answer_in registers is_in_frame refuses (state self.new) access ≡ answer_in registers is_in_frame refuses (state self.old) access };
+
+    /// The number in one, two or four bytes from an address on, as `probe` and `load` tell it, or else why they can't be
+    /// loaded now.
+    fn read(&mut self, address: u32, bytes: u8) -> Result<u32, Probe>
+        requires bytes { IsOfNumber bytes }
+        ensures answer { answer_of result ≡ answer_in registers is_in_frame refuses (state self.old) (access_to address bytes false) }
+        ensures number { IfOk result (λ number. number ≡ big_number bytes (bytes_from (byte_at (state self.old)) address bytes)) }
+        ensures fits { IfOk result (FitsBytes bytes) }
+        ensures refused { IfErr result IsRefusal }
+        ensures state { state self.new ≡ state self.old }
+    {
+        let wants = Access {
+            address,
+            bytes,
+            store: false,
+        };
+        match self.probe(&wants) {
+            Probe::Permitted => {
+                let mut room = [0; 4];
+                let part = &mut room[..usize::from(bytes)];
+                self.load(address, part);
+                Ok(number_in(part))
+            }
+            probe => Err(probe),
+        }
+    }
+
+    /// Stores the lowest one, two or four bytes of a number from an address on, as `probe` and `store` do, if that is
+    /// permitted.
+    fn write(&mut self, address: u32, bytes: u8, number: u32) -> Probe
+        requires bytes { IsOfNumber bytes }
+        ensures answer { result ≡ answer_in registers is_in_frame refuses (state self.old) (access_to address bytes true) }
+        ensures state { state self.new ≡ if_permitted result (stored (state self.old) address (big_bytes bytes number)) (state self.old) }
+    {
+        let wants = Access {
+            address,
+            bytes,
+            store: true,
+        };
+        let probe = self.probe(&wants);
+        if let Probe::Permitted = probe {
+            let mut room = [0; 4];
+            let part = &mut room[..usize::from(bytes)];
+            lay_number(number, part);
+            self.store(address, part);
+        }
+        probe
+    }
 }
