@@ -101,6 +101,14 @@ impl FramePool {
         self.places.frame_of(page)
     }
 
+    /// The page of the store in a frame, if there is one.
+    #[inline(always)]
+    pub fn page_in(&self, frame: u16) -> Option<u16>
+        ensures { result ≡ page_at (pool_of self.now) frame }
+    {
+        self.places.page_in(frame)
+    }
+
     /// The page that goes out for another: none while a frame is free, else the first that isn't to stay.
     #[inline(always)]
     pub fn page_out(&self, keep: Option<u16>) -> Option<u16>
@@ -270,6 +278,7 @@ impl FramePool {
     }
 
     /// A part of a frame, from an offset on.
+    #[inline(always)]
     pub fn part(&self, frame: u16, at: usize, count: usize) -> &[u8]
         requires frame { frame < frame_count (pool_of self.now).page (pool_of self.now).frames }
         requires within { at + count ≤ page_bytes (pool_of self.now).page }
@@ -296,6 +305,7 @@ impl FramePool {
 
     /// Lends a part of a frame, from an offset on, to be written. If the frame is a page's of the store, the lines of the
     /// part are marked.
+    #[inline(always)]
     pub fn part_mut(&mut self, frame: u16, at: usize, count: usize) -> &mut [u8]
         requires frame { frame < frame_count (pool_of self.old).page (pool_of self.old).frames }
         requires within { at + count ≤ page_bytes (pool_of self.old).page }

@@ -1,5 +1,5 @@
 -- Where an access that is permitted begins.
-use Rattle.std.proofs.Common.{◌≡◌, ℕ, Bool, false, refl, sym, ◌∙◌, subst, Ok}
+use Rattle.std.proofs.Common.{◌≡◌, ℕ, Bool, false, sym, ◌∙◌, subst, Ok}
 use Rattle.segment_regs.specs.declared.registers.Virtual.{Virtual}
 use Rattle.segment_regs.specs.Registers.{located_by}
 use Rattle.romp_cpu.specs.declared.storage.Probe.{Probe}

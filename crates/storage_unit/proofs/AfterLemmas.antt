@@ -17,10 +17,10 @@ use Rattle.flat_machine.specs.declared.machine.Located.TheVariants.{Private, Sha
 use Rattle.segment_regs.specs.declared.registers.Check.{Check}
 use Rattle.segment_regs.specs.declared.registers.SegmentRegister.{SegmentRegister}
 use Rattle.segment_regs.specs.declared.registers.Virtual.{Virtual}
-use Rattle.segment_regs.specs.Registers.{private_register, virtual_at, bytes_on, located_under, located_by}
+use Rattle.segment_regs.specs.Registers.{virtual_at, bytes_on, located_under, located_by}
 use Rattle.inverted_table.specs.declared.key.Key.{Key}
 use Rattle.inverted_table.specs.Keys.{key_to}
-use Rattle.frame_pool.specs.Pool.{frame_at, page_at}
+use Rattle.frame_pool.specs.Pool.{frame_at}
 use Rattle.romp_cpu.specs.declared.storage.Access.{Access}
 use Rattle.romp_cpu.specs.Answers.{IsOutside, answer_in}
 use Rattle.romp_cpu.specs.Shown.{bytes_from}

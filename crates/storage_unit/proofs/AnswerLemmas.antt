@@ -1,5 +1,5 @@
 -- The answer to an access, by the lines of its bytes.
-use Rattle.std.proofs.Common.{◌≡◌, ℕ, ◌+◌, ◌<◌, Bool, true, false, List, refl, sym, ◌∙◌, ap, arith, Option, Some, None, Result, Ok, Err}
+use Rattle.std.proofs.Common.{◌≡◌, ℕ, ◌+◌, ◌<◌, Bool, true, false, refl, sym, ◌∙◌, ap, arith, Option, Some, None, Result, Ok, Err}
 use Rattle.std.specs.Prelude.{not, find, option_map}
 use Rattle.std.specs.List.{range_with_len}
 use Rattle.line_geometry.specs.Lines.{line_of}

@@ -16,7 +16,7 @@ use Rattle.flat_machine.specs.declared.machine.Located.TheVariants.{Private, Sha
 use Rattle.flat_machine.specs.Touched.{lines_at}
 use Rattle.segment_regs.specs.declared.registers.Virtual.{Virtual}
 use Rattle.frame_pool.specs.declared.model.Pool.{Pool}
-use Rattle.frame_pool.specs.Pool.{frame_at, page_at}
+use Rattle.frame_pool.specs.Pool.{frame_at}
 use Rattle.storage_unit.specs.declared.model.Reach.{Reach}
 use Rattle.storage_unit.specs.Places.{place_of}
 use Rattle.storage_unit.specs.Bytes.{byte_in_frame, byte_over, bytes_over, private_bytes, is_line_marked, is_marked, IsClean}

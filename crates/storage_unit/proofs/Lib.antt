@@ -15,6 +15,8 @@ pub mod UnitLemmas
 pub mod ProbeLemmas
 pub mod PutLemmas
 pub mod StoreLemmas
+pub mod PartLemmas
+pub mod LineLemmas
 pub mod AfterLemmas
 pub mod AccessLemmas
 pub mod LocatedLemmas

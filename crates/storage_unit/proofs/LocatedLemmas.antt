@@ -1,5 +1,5 @@
 -- An access under the segment registers of a program lies where the plain machine has it.
-use Rattle.std.specs.Prelude.{◌≡◌, refl, ℕ, zero, suc, ◌+◌, ◌*◌, ◌/◌, ◌%◌, ◌^◌, ◌<◌, nat_le, ◌&&◌, not, cond, Bool, true, false, slice_index_or, if◌then◌else◌, Option, Some, None, option_map, Result, Ok, Err}
+use Rattle.std.specs.Prelude.{◌≡◌, refl, ℕ, zero, suc, ◌+◌, ◌/◌, ◌%◌, ◌^◌, ◌<◌, nat_le, ◌&&◌, not, cond, Bool, true, false, slice_index_or, if◌then◌else◌, Option, Some, None, option_map, Result, Ok, Err}
 use Rattle.std.proofs.Common.{◌∙◌, ap, arith}
 use Rattle.std.proofs.Math.ListN.{get_or-map}
 use Rattle.std.proofs.lemmas.Bool.Decides.{nat_tests}

@@ -6,7 +6,7 @@ use Rattle.std.proofs.lemmas.Bool.{cases_lt}
 use Rattle.std.proofs.lemmas.Bool.Decides.{nat_tests}
 use Rattle.line_geometry.specs.declared.directory.PageSize.{PageSize}
 use Rattle.line_geometry.specs.declared.directory.PageSize.TheVariants.{Two, Four}
-use Rattle.line_geometry.specs.Segments.{page_bytes, line_bytes}
+use Rattle.line_geometry.specs.Segments.{line_bytes}
 use Rattle.line_geometry.specs.Directory.{Layout}
 use Rattle.line_geometry.specs.Lines.{line_of}
 use Rattle.lock_rules.specs.Sets.{has}

@@ -1,5 +1,5 @@
 -- Where the bytes of an access lie, one by one, and the frames that have them.
-use Rattle.std.proofs.Common.{◌≡◌, ℕ, ◌+◌, ◌-◌, ◌*◌, ◌/◌, ◌%◌, ◌<◌, ◌≤◌, ◌^◌, Bool, true, false, List, refl, sym, ◌∙◌, ap, subst, arith, replicate, Option, Some, None, Result, Ok, Err, ◌⊎◌, inl, inr}
+use Rattle.std.proofs.Common.{◌≡◌, ℕ, ◌+◌, ◌-◌, ◌*◌, ◌/◌, ◌%◌, ◌<◌, ◌≤◌, ◌^◌, Bool, true, false, refl, sym, ◌∙◌, ap, subst, arith, replicate, Option, Some, None, Result, Ok, Err, ◌⊎◌, inl, inr}
 use Rattle.std.specs.Prelude.{◌&&◌, not, nat_le, nat_lt, cond, slice_index_or, if◌then◌else◌, is_some}
 use Rattle.std.proofs.lemmas.Bool.{leb-true, cases_lt}
 use Rattle.std.proofs.lemmas.Bool.Decides.{nat_tests}
@@ -21,7 +21,7 @@ use Rattle.inverted_table.specs.Placed.{look_up}
 use Rattle.frame_pool.specs.Pool.{frame_at}
 use Rattle.romp_cpu.proofs.WindowLemmas.{bytes-low}
 use Rattle.storage_unit.specs.declared.model.Reach.{Reach}
-use Rattle.storage_unit.specs.Places.{is_private, offset_of, place_of, place_at, on, key_of_page}
+use Rattle.storage_unit.specs.Places.{is_private, offset_of, place_of, place_at, on}
 use Rattle.storage_unit.specs.Held.{IsUnder, AreReached, seat_pages, pages_begun, table_of}
 use Rattle.storage_unit.specs.Reach.{byte_of, byte_at, is_there}
 use Rattle.storage_unit.specs.Reached.{IsSound, Lies, AreThere}
@@ -242,7 +242,7 @@ module _ (state : Reach) (sound : IsSound state) (at : Virtual) (n : ℕ) (some 
       ∙ ap (λ (b : Bool). if b then Some (other * seat_pages state.directory.page + at.page) else None) inside
       ∙ ap (λ s. Some (s * seat_pages state.directory.page + at.page)) same
 
-  place-below : is_private at.segment ≡ false → start_of state.directory at.segment + offset_of state.directory.page at < byte_count state.directory
+  pub place-below : is_private at.segment ≡ false → start_of state.directory at.segment + offset_of state.directory.page at < byte_count state.directory
   place-below own = let (bytes, found, fits, within) = lies.shared own in omega (arith, fits, within, some)
 
   pub finds-shared : is_private at.segment ≡ false → look_up (table_of state).keys (key_of at) ≡ frame_at state.pool (page_of state.directory (start_of state.directory at.segment + offset_of state.directory.page at))

@@ -1,13 +1,11 @@
 -- The private pages of a seat: what comes into the table, and what its frames are filled with.
-use Rattle.std.proofs.Common.{◌≡◌, ◌≢◌, ℕ, ◌+◌, ◌-◌, ◌*◌, ◌/◌, ◌%◌, ◌<◌, ◌≤◌, Bool, true, false, List, [], ◌∷◌, ◌++◌, length, take, drop, replicate, refl, sym, ◌∙◌, ap, arith, get_or, Option, Some, None, inl, inr}
-use Rattle.std.specs.Prelude.{nat_lt, if◌then◌else◌, map, slice_index, slice_index_or, slice_set, option_map}
+use Rattle.std.proofs.Common.{◌≡◌, ◌≢◌, ℕ, ◌+◌, ◌-◌, ◌*◌, ◌/◌, ◌%◌, ◌<◌, ◌≤◌, Bool, true, false, List, [], ◌∷◌, ◌++◌, length, replicate, refl, sym, ◌∙◌, ap, arith, get_or, Option, Some, None, inl, inr}
+use Rattle.std.specs.Prelude.{nat_lt, if◌then◌else◌, map, slice_index_or, slice_set, option_map}
 use Rattle.std.specs.List.{range_with_len}
 use Rattle.std.proofs.lemmas.Bool.{cases_lt}
 use Rattle.std.proofs.lemmas.Bool.Decides.{nat_tests}
-use Rattle.std.proofs.lemmas.List.{same_lists, map-append, length-append, length-take, length-drop, length-replicate, get_or-replicate, get_or-take, get_or-drop, get_or_append_left, get_or-append_right, get_or-set_same, get_or-set_other, get_or_past}
+use Rattle.std.proofs.lemmas.List.{same_lists, map-append, length-append, length-replicate, get_or-replicate, get_or_append_left, get_or-append_right, get_or-set_same, get_or-set_other, get_or_past}
 use Rattle.std.proofs.lemmas.List.FromFn.{get_or-map-range_with_len, length-map-range_with_len}
-use Rattle.std.proofs.lemmas.Grind.{same_number_lists}
-use Rattle.std.proofs.Math.Seq.{take-add}
 use Rattle.owned_list.specs.Overlay.{overlaid}
 use Rattle.owned_list.proofs.Overlay.{overlaid_before, overlaid_within, overlaid_behind, length-overlaid}
 use Rattle.inverted_table.specs.declared.key.Key.{Key}

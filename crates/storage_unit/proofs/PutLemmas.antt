@@ -21,7 +21,6 @@ use Rattle.flat_machine.specs.declared.machine.Located.TheVariants.{Shared}
 use Rattle.flat_machine.specs.Touched.{lines_at}
 use Rattle.frame_pool.specs.declared.model.Pool.{Pool}
 use Rattle.frame_pool.specs.Seen.{IsSeen}
-use Rattle.frame_pool.specs.Sizes.{line_size}
 use Rattle.frame_pool.specs.Pool.{frame_at, page_at, marks_at, lines_of_part}
 use Rattle.storage_unit.specs.Held.{AreOfPages}
 use Rattle.storage_unit.specs.Bytes.{is_line_marked, byte_in_frame}

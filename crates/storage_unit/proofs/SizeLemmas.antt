@@ -171,6 +171,20 @@ pub same-line-on : (size : PageSize) (place k : ℕ) → place % line_bytes size
 same-line-on Two place k within = omega (arith, within)
 same-line-on Four place k within = omega (arith, within)
 
+-- some bytes of one line are of one page
+pub line-page : (size : PageSize) (byte n : ℕ) → byte < page_bytes size → byte % line_bytes size + n ≤ line_bytes size → byte + n ≤ page_bytes size
+line-page Two byte n below within = omega (arith, below, within)
+line-page Four byte n below within = omega (arith, below, within)
+
+-- the line of a place, and its byte in it, by its byte in its page
+pub line-in : (size : PageSize) (place byte : ℕ) → place % page_bytes size ≡ byte → place / line_bytes size % 16 ≡ byte / line_bytes size
+line-in Two place byte is = omega (arith, is)
+line-in Four place byte is = omega (arith, is)
+
+pub line-rest : (size : PageSize) (place byte : ℕ) → place % page_bytes size ≡ byte → place % line_bytes size ≡ byte % line_bytes size
+line-rest Two place byte is = omega (arith, is)
+line-rest Four place byte is = omega (arith, is)
+
 -- a byte of a frame is at one place
 pub spot-same :
     (size : PageSize) (f g o p : ℕ) → o < page_bytes size → p < page_bytes size → f * page_bytes size + o ≡ g * page_bytes size + p → (f ≡ g) × (o ≡ p)

@@ -21,7 +21,7 @@ use Rattle.inverted_table.specs.Keys.{key_of}
 use Rattle.inverted_table.specs.Placed.{look_up}
 use Rattle.frame_pool.specs.declared.model.Pool.{Pool}
 use Rattle.frame_pool.specs.Sizes.{private_frames, frame_count}
-use Rattle.frame_pool.specs.Pool.{frame_at, page_at, marks_at, marked_in, with_marks, with_bytes, lines_of_part}
+use Rattle.frame_pool.specs.Pool.{page_at, marks_at, marked_in, with_marks, with_bytes, lines_of_part}
 use Rattle.frame_pool.proofs.SoundLemmas.{page_part}
 use Rattle.storage_unit.specs.declared.model.Reach.{Reach}
 use Rattle.storage_unit.specs.Places.{is_private, offset_of, place_of, on}

@@ -1,5 +1,5 @@
 // Places, by the size of a page.
-ghost use Rattle.std.specs.Prelude.{◌≡◌, ◌+◌, ◌-◌, ◌*◌, ◌/◌, ◌%◌, ◌<◌, ◌≤◌, ◌^◌};
+ghost use Rattle.std.specs.Prelude.{◌≡◌, ◌+◌, ◌-◌, ◌*◌, ◌/◌, ◌%◌, ◌<◌, ◌≤◌, ◌^◌, nat_le};
 ghost use Rattle.line_geometry.specs.Segments.{page_bytes, line_bytes};
 ghost use Rattle.segment_regs.specs.Registers.{bytes_on};
 ghost use Rattle.frame_pool.specs.Sizes.{private_frames};
@@ -80,5 +80,29 @@ pub fn rest_of_line(page: PageSize, place: u32) -> u16
     match page {
         PageSize::Two => 128 - (place % 128) as u16,
         PageSize::Four => 256 - (place % 256) as u16,
+    }
+}
+
+/// The line of a byte in its page.
+#[inline(always)]
+pub fn line_in_page(page: PageSize, byte: u16) -> u8
+    requires { byte < page_bytes page }
+    ensures value { result ≡ byte / line_bytes page }
+    ensures few { result < 16 }
+{
+    match page {
+        PageSize::Two => (byte / 128) as u8,
+        PageSize::Four => (byte / 256) as u8,
+    }
+}
+
+/// Whether so many bytes from one on lie in one line.
+#[inline(always)]
+pub fn is_in_line(page: PageSize, byte: u16, count: u8) -> bool
+    ensures { result ≡ nat_le (byte % line_bytes page + count) (line_bytes page) }
+{
+    match page {
+        PageSize::Two => byte % 128 + u16::from(count) <= 128,
+        PageSize::Four => byte % 256 + u16::from(count) <= 256,
     }
 }

@@ -1,14 +1,16 @@
 // The unit as a storage.
-ghost use Rattle.std.specs.Prelude.{◌≡◌, ◌+◌, ◌*◌, ◌-◌, ◌<◌, ◌≤◌, ◌^◌, ℕ, length, find, not, Ok};
+ghost use Rattle.std.specs.Prelude.{◌≡◌, ◌+◌, ◌*◌, ◌-◌, ◌%◌, ◌<◌, ◌≤◌, ◌^◌, ℕ, length, find, not, Ok, Some, true, false, IfOk, IfErr};
 ghost use Rattle.std.specs.List.{range_with_len};
 ghost use Rattle.segment_regs.specs.Registers.{bytes_on};
-ghost use Rattle.line_geometry.specs.Segments.{page_bytes};
+ghost use Rattle.line_geometry.specs.Segments.{page_bytes, line_bytes};
+ghost use Rattle.byteorder.specs.Endian.{big_number, big_bytes};
 ghost use Rattle.line_geometry.specs.Directory.{byte_count, start_of};
 ghost use Rattle.line_geometry.specs.Lines.{line_of};
-ghost use Rattle.romp_cpu.specs.Answers.{answered_at};
+ghost use Rattle.romp_cpu.specs.Answers.{answered_at, answer_of, if_permitted, IsRefusal};
+ghost use Rattle.romp_cpu.specs.Numbers.{IsOfNumber, FitsBytes};
 ghost use Rattle.romp_cpu.specs.Attempts.{IsOfFewBytes};
 ghost use Rattle.romp_cpu.specs.declared.storage.Access.{Access};
-ghost use Rattle.storage_unit.specs.Places.{offset_of, place_of, on};
+ghost use Rattle.storage_unit.specs.Places.{is_private, offset_of, place_of, on};
 ghost use Rattle.storage_unit.specs.Reach.{is_there, is_kept_from, is_in_frame, refuses, is_refused, put_at};
 ghost use Rattle.storage_unit.specs.Rows.{tried_over, GivesRows, ChangesBytes, StaysClean, LeavesSeats};
 ghost use Rattle.storage_unit.specs.Reached.{Lies, AreThere, bytes_shown, is_absent};
@@ -18,10 +20,10 @@ ghost use Rattle.inverted_table.specs.Placed.{look_up};
 
 use super::model::Reach;
 use super::private::PRIVATE;
-use super::sizes::{byte_past, first_frame, offset_of, rest_of_line};
+use super::sizes::{byte_past, first_frame, is_in_line, line_in_page, offset_of, rest_of_line};
 use super::unit::Unit;
 use byteorder::{BigEndian, ByteOrder};
-use romp_cpu::{Access, Attempt, Cpu, Fault, Probe, Storage};
+use romp_cpu::{Access, Attempt, Cpu, Fault, Probe, Storage, lay_number, number_in};
 use segment_regs::{Check, Virtual};
 
 impl Unit {
@@ -115,6 +117,7 @@ impl Unit {
     }
 
     /// The same of bytes of the store from a place on.
+    #[inline(always)]
     fn first_refused_from(&self, place: u32, bytes: u8, store: bool) -> Option<u16>
         requires { place + bytes ≤ byte_count (reach_of self.now).directory }
         ensures { result ≡ find (λ past. is_refused (reach_of self.now) (line_of (reach_of self.now).directory (place + past)) store) (range_with_len 0 bytes) }
@@ -147,10 +150,167 @@ impl Unit {
         ensures { result ≡ look_up (table_of (reach_of self.now)).keys (key_of first) }
     {
         if first.segment >= PRIVATE {
-            return Some(first_frame(self.directory.page(), self.runner - 1) + first.page as u16);
+            return Some(self.private_frame(first));
         }
         let page = self.directory.page_of(self.place_of(first));
         self.pool.frame_of(page)
+    }
+
+    /// The frame of a private page of the seat that is selected.
+    #[inline(always)]
+    fn private_frame(&self, first: Virtual) -> u16
+        requires own { is_private first.segment ≡ true }
+        requires lies { Lies (reach_of self.now) first 1 }
+        ensures { look_up (table_of (reach_of self.now)).keys (key_of first) ≡ Some result }
+    {
+        first_frame(self.directory.page(), self.runner - 1) + first.page as u16
+    }
+
+    /// The frame of an access whose bytes lie in one line, or why it can't be made now. The page of a frame is the pool's,
+    /// so no segment is looked for in the directory.
+    #[inline(always)]
+    fn frame_for(&mut self, first: Virtual, bytes: u8, store: bool) -> Result<u16, Probe>
+        requires some { 0 < bytes }
+        requires lies { Lies (reach_of self.old) first bytes }
+        requires line { first.byte % line_bytes (reach_of self.old).directory.page + bytes ≤ line_bytes (reach_of self.old).directory.page }
+        ensures answer { (access : Access) → access.bytes ≡ bytes → access.store ≡ store → answer_of result ≡ answered_at (reach_of self.old).directory.page (is_in_frame (reach_of self.old)) (refuses (reach_of self.old)) access (Ok first) }
+        ensures frame { IfOk result (λ frame. look_up (table_of (reach_of self.old)).keys (key_of first) ≡ Some frame) }
+        ensures refused { IfErr result IsRefusal }
+        ensures state { reach_of self.new ≡ reach_of self.old }
+    {
+        if first.segment >= PRIVATE {
+            return Ok(self.private_frame(first));
+        }
+        let Some(frame) = self.translate(first) else {
+            return Err(Probe::Fault(Fault::Page(first)));
+        };
+        if self.is_kept_in(frame, first, store) {
+            return Err(Probe::Fault(Fault::Lock(first)));
+        }
+        Ok(frame)
+    }
+
+    /// Whether the entry of the page in a frame refuses the seat that is selected a byte of it.
+    #[inline(always)]
+    fn is_kept_in(&self, frame: u16, first: Virtual, store: bool) -> bool
+        requires shared { is_private first.segment ≡ false }
+        requires lies { Lies (reach_of self.now) first 1 }
+        requires frame { look_up (table_of (reach_of self.now)).keys (key_of first) ≡ Some frame }
+        ensures { result ≡ is_kept_from (reach_of self.now) (place_of (reach_of self.now).directory first) store }
+    {
+        let line = line_in_page(self.directory.page(), first.byte);
+        match self.pool.page_in(frame) {
+            Some(page) => !self.table.authority(page).permits(self.runner, line, store),
+            None => true,
+        }
+    }
+
+    /// Some bytes of one page, as a frame has them.
+    #[inline(always)]
+    fn part_in(&self, frame: u16, first: Virtual, count: usize) -> &[u8]
+        requires some { 0 < count }
+        requires within { first.byte + count ≤ page_bytes (reach_of self.now).directory.page }
+        requires lies { Lies (reach_of self.now) first count }
+        requires frame { look_up (table_of (reach_of self.now)).keys (key_of first) ≡ Some frame }
+        ensures { result.now ≡ bytes_shown (reach_of self.now) (place_of (reach_of self.now).directory first) count }
+    {
+        self.pool.part(frame, usize::from(first.byte), count)
+    }
+
+    /// Writes a number over bytes of one page, which a frame has.
+    #[inline(always)]
+    fn lay_in(&mut self, frame: u16, first: Virtual, bytes: u8, number: u32)
+        requires bytes { IsOfNumber bytes }
+        requires within { first.byte + bytes ≤ page_bytes (reach_of self.old).directory.page }
+        requires lies { Lies (reach_of self.old) first bytes }
+        requires frame { look_up (table_of (reach_of self.old)).keys (key_of first) ≡ Some frame }
+        ensures { reach_of self.new ≡ put_at (reach_of self.old) (place_of (reach_of self.old).directory first) (big_bytes bytes number) }
+    {
+        lay_number(
+            number,
+            self.pool
+                .part_mut(frame, usize::from(first.byte), usize::from(bytes)),
+        );
+    }
+
+    /// The number in bytes from one on, or why they can't be loaded now.
+    #[inline(always)]
+    fn read_at(&mut self, first: Virtual, bytes: u8) -> Result<u32, Probe>
+        requires bytes { IsOfNumber bytes }
+        requires lies { Lies (reach_of self.old) first bytes }
+        ensures answer { (access : Access) → access.bytes ≡ bytes → access.store ≡ false → answer_of result ≡ answered_at (reach_of self.old).directory.page (is_in_frame (reach_of self.old)) (refuses (reach_of self.old)) access (Ok first) }
+        ensures number { IfOk result (λ number. number ≡ big_number bytes (bytes_shown (reach_of self.old) (place_of (reach_of self.old).directory first) bytes)) }
+        ensures fits { IfOk result (FitsBytes bytes) }
+        ensures refused { IfErr result IsRefusal }
+        ensures state { reach_of self.new ≡ reach_of self.old }
+    {
+        if !is_in_line(self.directory.page(), first.byte, bytes) {
+            return self.read_apart(first, bytes);
+        }
+        match self.frame_for(first, bytes, false) {
+            Ok(frame) => Ok(number_in(self.part_in(frame, first, usize::from(bytes)))),
+            Err(probe) => Err(probe),
+        }
+    }
+
+    /// The same of bytes that lie in two lines.
+    #[inline(never)]
+    fn read_apart(&mut self, first: Virtual, bytes: u8) -> Result<u32, Probe>
+        requires bytes { IsOfNumber bytes }
+        requires lies { Lies (reach_of self.old) first bytes }
+        ensures answer { (access : Access) → access.bytes ≡ bytes → access.store ≡ false → answer_of result ≡ answered_at (reach_of self.old).directory.page (is_in_frame (reach_of self.old)) (refuses (reach_of self.old)) access (Ok first) }
+        ensures number { IfOk result (λ number. number ≡ big_number bytes (bytes_shown (reach_of self.old) (place_of (reach_of self.old).directory first) bytes)) }
+        ensures fits { IfOk result (FitsBytes bytes) }
+        ensures refused { IfErr result IsRefusal }
+        ensures state { reach_of self.new ≡ reach_of self.old }
+    {
+        match self.answer(first, bytes, false) {
+            Probe::Permitted => {
+                let mut room = [0; 4];
+                let part = &mut room[..usize::from(bytes)];
+                self.copy(first, part);
+                Ok(number_in(part))
+            }
+            probe => Err(probe),
+        }
+    }
+
+    /// Writes a number over bytes from one on, if that is permitted.
+    #[inline(always)]
+    fn write_at(&mut self, first: Virtual, bytes: u8, number: u32) -> Probe
+        requires bytes { IsOfNumber bytes }
+        requires lies { Lies (reach_of self.old) first bytes }
+        ensures answer { (access : Access) → access.bytes ≡ bytes → access.store ≡ true → result ≡ answered_at (reach_of self.old).directory.page (is_in_frame (reach_of self.old)) (refuses (reach_of self.old)) access (Ok first) }
+        ensures state { reach_of self.new ≡ if_permitted result (put_at (reach_of self.old) (place_of (reach_of self.old).directory first) (big_bytes bytes number)) (reach_of self.old) }
+    {
+        if !is_in_line(self.directory.page(), first.byte, bytes) {
+            return self.write_apart(first, bytes, number);
+        }
+        match self.frame_for(first, bytes, true) {
+            Ok(frame) => {
+                self.lay_in(frame, first, bytes, number);
+                Probe::Permitted
+            }
+            Err(probe) => probe,
+        }
+    }
+
+    /// The same of bytes that lie in two lines.
+    #[inline(never)]
+    fn write_apart(&mut self, first: Virtual, bytes: u8, number: u32) -> Probe
+        requires bytes { IsOfNumber bytes }
+        requires lies { Lies (reach_of self.old) first bytes }
+        ensures answer { (access : Access) → access.bytes ≡ bytes → access.store ≡ true → result ≡ answered_at (reach_of self.old).directory.page (is_in_frame (reach_of self.old)) (refuses (reach_of self.old)) access (Ok first) }
+        ensures state { reach_of self.new ≡ if_permitted result (put_at (reach_of self.old) (place_of (reach_of self.old).directory first) (big_bytes bytes number)) (reach_of self.old) }
+    {
+        let probe = self.answer(first, bytes, true);
+        if let Probe::Permitted = probe {
+            let mut room = [0; 4];
+            let part = &mut room[..usize::from(bytes)];
+            lay_number(number, part);
+            self.put(first, part);
+        }
+        probe
     }
 
     /// Copies some bytes that lie in frames; those of one page at once.
@@ -195,7 +355,7 @@ impl Unit {
         ensures { into.new ≡ bytes_shown (reach_of self.now) (place_of (reach_of self.now).directory first) (length into.old) }
     {
         if let Some(frame) = self.frame_at(first) {
-            into.copy_from_slice(self.pool.part(frame, usize::from(first.byte), into.len()));
+            into.copy_from_slice(self.part_in(frame, first, into.len()));
         }
     }
 
@@ -284,6 +444,22 @@ impl Storage for Unit {
         match self.registers.locate(wants.address, bytes, wants.store) {
             Err(Check(code)) => Probe::Check(code),
             Ok(first) => self.answer(first, wants.bytes, wants.store),
+        }
+    }
+
+    #[inline(always)]
+    fn read(&mut self, address: u32, bytes: u8) -> Result<u32, Probe> {
+        match self.registers.locate(address, u32::from(bytes), false) {
+            Err(Check(code)) => Err(Probe::Check(code)),
+            Ok(first) => self.read_at(first, bytes),
+        }
+    }
+
+    #[inline(always)]
+    fn write(&mut self, address: u32, bytes: u8, number: u32) -> Probe {
+        match self.registers.locate(address, u32::from(bytes), true) {
+            Err(Check(code)) => Probe::Check(code),
+            Ok(first) => self.write_at(first, bytes, number),
         }
     }
 

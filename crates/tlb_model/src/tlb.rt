@@ -52,6 +52,7 @@ impl Ways {
     };
 
     /// The pair of the page of an address.
+    #[inline(always)]
     fn find(&self, at: Virtual) -> Option<Pair>
         ensures { result ≡ find (is_pair_of (key_of at)) (pairs_of self.now) }
     {
@@ -121,6 +122,7 @@ impl Tlb {
 
     /// The frame of the page of an address: by the buffer, which then stays, else by the table, whose answer comes into the
     /// buffer.
+    #[inline(always)]
     pub fn find(&mut self, table: &Table, at: Virtual) -> Option<u16>
         ensures answer { result ≡ found self.old (look_up table.now.keys (key_of at)) (key_of at) }
         ensures after { self.new ≡ after_found self.old (look_up table.now.keys (key_of at)) (key_of at) }

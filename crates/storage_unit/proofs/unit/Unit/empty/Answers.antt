@@ -1,4 +1,4 @@
-use Rattle.std.proofs.Common.{◌≡◌, sym, ◌∙◌, ap, subst, List, ℕ, ◌+◌, length, Option, arith}
+use Rattle.std.proofs.Common.{◌≡◌, sym, ◌∙◌, ap, subst, List, ℕ, length, Option, arith}
 use Rattle.std.specs.Prelude.{fold}
 use Rattle.inverted_table.specs.declared.key.Key.{Key}
 use Rattle.inverted_table.specs.Placed.{Placed}

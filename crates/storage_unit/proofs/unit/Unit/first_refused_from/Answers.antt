@@ -1,6 +1,6 @@
-use Rattle.std.proofs.Common.{◌+◌, ◌/◌, ◌%◌, sym, ◌∙◌, ap, arith, inl, inr}
+use Rattle.std.proofs.Common.{◌+◌, ◌%◌, sym, ◌∙◌, ap, arith, inl, inr}
 use Rattle.std.proofs.lemmas.Bool.{cases_lt}
-use Rattle.line_geometry.specs.Segments.{page_bytes, line_bytes}
+use Rattle.line_geometry.specs.Segments.{line_bytes}
 use Rattle.line_geometry.specs.Lines.{line_of}
 use Rattle.line_geometry.proofs.Legal.{legal-bytes}
 use Rattle.storage_unit.specs.Reach.{is_refused}

@@ -1,7 +1,6 @@
-use Rattle.std.proofs.Common.{◌≡◌, ℕ, ◌+◌, List, length, replicate, sym, ◌∙◌, ap, subst, arith, Option, None, refl}
+use Rattle.std.proofs.Common.{ℕ, ◌+◌, List, length, replicate, sym, ◌∙◌, ap, subst, arith, Option, None, refl}
 use Rattle.std.specs.Prelude.{false}
 use Rattle.std.proofs.lemmas.List.{length-replicate}
-use Rattle.line_geometry.specs.Directory.{Layout}
 use Rattle.inverted_table.specs.Placed.{Placed, unowned}
 use Rattle.tlb_model.specs.declared.tlb.Pair.{Pair}
 use Rattle.tlb_model.specs.Buffer.{IsOfTable}

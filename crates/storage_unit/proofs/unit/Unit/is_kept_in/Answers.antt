@@ -1,0 +1,55 @@
+use Rattle.std.proofs.Common.{◌≡◌, ℕ, ◌+◌, ◌/◌, ◌%◌, sym, ◌∙◌, ap, arith, Some, None}
+use Rattle.std.specs.Prelude.{not}
+use Rattle.line_geometry.specs.Directory.{start_of}
+use Rattle.line_geometry.specs.Lines.{line_of, page_of}
+use Rattle.line_geometry.specs.Segments.{line_bytes}
+use Rattle.lockbit_rules.specs.Entries.{entry_of, lets}
+use Rattle.lockbit_rules.specs.declared.Authority.{Authority}
+use Rattle.inverted_table.specs.Placed.{entry_at}
+use Rattle.segment_regs.specs.declared.registers.Virtual.{Virtual}
+use Rattle.storage_unit.specs.declared.unit.Unit.{Unit}
+use Rattle.storage_unit.specs.Places.{offset_of}
+use Rattle.storage_unit.specs.Reach.{is_kept_from}
+use Rattle.storage_unit.specs.View.{reach_of}
+use Rattle.storage_unit.proofs.LineLemmas.{page-found}
+use Rattle.storage_unit.proofs.PlaceLemmas.{place-below, place-byte, shared-is}
+use Rattle.storage_unit.proofs.SizeLemmas.{line-in, page-of-line, page-below}
+use Rattle.storage_unit.proofs.UnitLemmas.{unit-sound}
+use Rattle.storage_unit.proofs.unit.Unit.is_kept_in.Goals as goal
+
+abbrev place : Unit → Virtual → ℕ
+place unit at = start_of unit.directory at.segment + offset_of unit.directory.page at
+
+same : {A : Type 0} (a b : A) → Some a ≡ Some b → a ≡ b
+same a b is = cc
+
+pub authority-requires : goal.authority-requires
+authority-requires c =
+    let unit = c.args.self.now in
+    let found = page-found (reach_of unit) (unit-sound unit) c.args.first c.args.frame c.requires.lies c.requires.shared c.requires.frame in
+    let page : c.in-Some.page ≡ page_of unit.directory (place unit c.args.first) = same _ _ (sym c.in-Some.is ∙ c.page_in.ensures ∙ found) in
+    omega (arith, unit.entries, page, page-below unit.directory (place unit c.args.first) (place-below (reach_of unit) (unit-sound unit) c.args.first 1 (omega arith) c.requires.lies c.requires.shared))
+
+pub returns-in-Some : goal.returns-in-Some
+returns-in-Some c =
+    let unit = c.args.self.now in
+    let at = place unit c.args.first in
+    let found = page-found (reach_of unit) (unit-sound unit) c.args.first c.args.frame c.requires.lies c.requires.shared c.requires.frame in
+    let page : c.in-Some.page ≡ page_of unit.directory at = same _ _ (sym c.in-Some.is ∙ c.page_in.ensures ∙ found) in
+    let line : c.line_in_page-line.result ≡ line_of unit.directory at % 16 =
+    c.line_in_page-line.ensures.value ∙ ap (λ s. c.args.first.byte / line_bytes s) c.page.ensures
+    ∙ sym (line-in unit.directory.page at c.args.first.byte (place-byte (reach_of unit) (unit-sound unit) c.args.first 1 (omega arith) c.requires.lies)) in
+    ap not
+    (c.permits.ensures
+    ∙ ap (λ (entry : Authority). lets (entry_of entry) unit.runner c.line_in_page-line.result c.args.store) c.authority.ensures
+    ∙ ap (λ p. lets (entry_of (entry_at unit.table p)) unit.runner c.line_in_page-line.result c.args.store) (page ∙ sym (page-of-line unit.directory.page at))
+    ∙ ap (λ l. lets (entry_of (entry_at unit.table (line_of unit.directory at / 16))) unit.runner l c.args.store) line)
+    ∙ sym (ap (λ p. is_kept_from (reach_of unit) p c.args.store) (shared-is unit.directory c.args.first c.requires.shared))
+
+pub returns-in-None : goal.returns-in-None
+returns-in-None c =
+    let unit = c.args.self.now in
+    absurd (none-some _ (sym c.in-None.is ∙ c.page_in.ensures ∙ page-found (reach_of unit) (unit-sound unit) c.args.first c.args.frame c.requires.lies c.requires.shared c.requires.frame))
+  where
+    none-some : (n : ℕ) → None ≡ Some n → ⊥
+    none-some n is = cc

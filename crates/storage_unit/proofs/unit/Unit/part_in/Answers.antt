@@ -1,0 +1,19 @@
+use Rattle.std.proofs.Common.{◌∙◌, ap}
+use Rattle.frame_pool.specs.Pool.{part_of}
+use Rattle.frame_pool.specs.View.{pool_of}
+use Rattle.storage_unit.specs.View.{reach_of}
+use Rattle.storage_unit.proofs.CopyLemmas.{found-below, part-shown}
+use Rattle.storage_unit.proofs.UnitLemmas.{unit-sound}
+use Rattle.storage_unit.proofs.unit.Unit.part_in.Goals as goal
+
+pub part-requires-clause-frame : goal.part-requires-clause-frame
+part-requires-clause-frame c =
+    let unit = c.args.self.now in
+    found-below (reach_of unit) c.args.first c.args.frame (unit-sound unit) c.requires.frame
+
+pub returns : goal.returns
+returns c =
+    let unit = c.args.self.now in
+    c.part.ensures
+    ∙ ap (λ byte. part_of (pool_of unit.pool) c.args.frame byte c.args.count) c.from.ensures
+    ∙ part-shown (reach_of unit) (unit-sound unit) c.args.first c.args.count c.requires.some c.requires.lies c.args.frame c.requires.frame c.requires.within

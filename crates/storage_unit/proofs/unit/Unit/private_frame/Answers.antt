@@ -1,0 +1,14 @@
+use Rattle.std.proofs.Common.{◌≡◌, ℕ, ◌+◌, ◌-◌, ◌*◌, Some, sym, ◌∙◌, ap, arith}
+use Rattle.storage_unit.specs.Held.{seat_pages}
+use Rattle.storage_unit.specs.View.{reach_of}
+use Rattle.storage_unit.proofs.PlaceLemmas.{finds-own}
+use Rattle.storage_unit.proofs.UnitLemmas.{unit-sound}
+use Rattle.storage_unit.proofs.unit.Unit.private_frame.Goals as goal
+
+pub returns : goal.returns
+returns c =
+    let unit = c.args.self.now in
+    let (seat, runner, few, segment, begun, fits) = c.requires.lies.private c.requires.own in
+    let frame : c.first_frame.result + c.args.first.page ≡ seat * seat_pages unit.directory.page + c.args.first.page =
+    ap (λ n. n + c.args.first.page) (c.first_frame.ensures.value ∙ ap (λ s. (unit.runner - 1) * seat_pages s) c.page.ensures ∙ ap (λ n. n * seat_pages unit.directory.page) (omega (arith, runner))) in
+    finds-own (reach_of unit) (unit-sound unit) c.args.first 1 (omega arith) c.requires.lies seat runner c.requires.own ∙ sym (ap (λ (n : ℕ). Some n) frame)
