@@ -1,5 +1,5 @@
 mod UndoneLemmas
-mod WholeLemmas
+pub mod WholeLemmas
 pub mod AttemptLemmas
 pub mod MemoryLemmas
 pub mod SegmentLemmas

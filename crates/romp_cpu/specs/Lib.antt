@@ -4,4 +4,3 @@ pub mod Tried
 pub mod Attempts
 pub mod Segments
 pub mod Memory
-pub mod Numbers

@@ -1,16 +1,15 @@
-ghost use Rattle.std.specs.Prelude.{◌≡◌, ◌<◌, false, true, length};
+ghost use Rattle.std.specs.Prelude.{◌≡◌, ◌<◌, length};
 ghost use Rattle.std.specs.Option.{ForSome};
-ghost use Rattle.flat_machine.specs.Access.{IsAccess, FitsFrom};
+ghost use Rattle.flat_machine.specs.Access.{IsAccess};
 ghost use Rattle.flat_machine.specs.Pending.{planned, IsSoundPending, StaysIfPending};
-ghost use Rattle.flat_machine.specs.Effect.{filled};
-ghost use Rattle.flat_machine.specs.Row.{plan, stored_bytes};
-ghost use Rattle.romp_cpu.specs.Shown.{bytes_from, halfword_of};
-ghost use Rattle.romp_cpu.specs.Answers.{answer_in, if_permitted};
+ghost use Rattle.flat_machine.specs.Row.{plan};
+ghost use Rattle.romp_cpu.specs.Shown.{halfword_of};
+ghost use Rattle.romp_cpu.specs.Answers.{answer_in};
 ghost use Rattle.romp_cpu.specs.Tried.{linked, seen_in, tried, tried_act};
 ghost use Rattle.romp_cpu.specs.Attempts.{GivesEveryRow, UndoesUnlessWent, IsOfFewBytes, StoresAll};
 
 use super::storage::{Access, Fault, Probe, Storage};
-use flat_machine::{Act, Cs, Fetch, Pending, fill, fill_number, gather, start_row};
+use flat_machine::{Act, Cs, Fetch, Pending, start_row};
 
 /// A processor: sixteen registers, the condition status, the address of the next instruction, and how many bytes were
 /// printed.
@@ -121,7 +120,7 @@ impl Cpu {
                     bytes,
                     store: false,
                 };
-                match load(storage, &access, to, sign, &mut self.regs) {
+                match storage.read(&access, to, sign, &mut self.regs) {
                     Probe::Permitted => self.go_on(next, link),
                     Probe::Check(code) => Attempt::Check(code),
                     Probe::Fault(fault) => Attempt::Fault(fault, access),
@@ -137,7 +136,7 @@ impl Cpu {
                     bytes,
                     store: true,
                 };
-                match store(storage, &access, from, &self.regs) {
+                match storage.write(&access, from, &self.regs) {
                     Probe::Permitted => self.go_on(next, link),
                     Probe::Check(number) => Attempt::Check(number),
                     Probe::Fault(why) => Attempt::Fault(why, access),
@@ -169,86 +168,4 @@ impl Cpu {
         }
         Attempt::Went
     }
-}
-
-/// An access that loads: its bytes fill registers if it is permitted.
-#[inline(always)]
-fn load<S: Storage>(
-    storage: &mut S,
-    access: &Access,
-    to: u8,
-    sign: bool,
-    regs: &mut [u32; 16],
-) -> Probe
-    requires loads { access.now.store ≡ false }
-    requires fits { FitsFrom access.now.bytes to }
-    ensures answer { result ≡ answer_in S.registers S.is_in_frame S.refuses (S.state storage.old) access.now }
-    ensures state { S.state storage.new ≡ S.state storage.old }
-    ensures registers { regs.new ≡ if_permitted result (filled to sign (bytes_from (S.byte_at (S.state storage.old)) access.now.address access.now.bytes) regs.old) regs.old }
-{
-    if access.bytes > 4 {
-        return load_words(storage, access, to, sign, regs);
-    }
-    match storage.read(access.address, access.bytes) {
-        Ok(number) => {
-            fill_number(to, sign, access.bytes, number, regs);
-            Probe::Permitted
-        }
-        Err(probe) => probe,
-    }
-}
-
-/// The same of some bytes for several registers.
-fn load_words<S: Storage>(
-    storage: &mut S,
-    access: &Access,
-    to: u8,
-    sign: bool,
-    regs: &mut [u32; 16],
-) -> Probe
-    requires loads { access.now.store ≡ false }
-    requires fits { FitsFrom access.now.bytes to }
-    ensures answer { result ≡ answer_in S.registers S.is_in_frame S.refuses (S.state storage.old) access.now }
-    ensures state { S.state storage.new ≡ S.state storage.old }
-    ensures registers { regs.new ≡ if_permitted result (filled to sign (bytes_from (S.byte_at (S.state storage.old)) access.now.address access.now.bytes) regs.old) regs.old }
-{
-    let probe = storage.probe(access);
-    if let Probe::Permitted = probe {
-        let mut room = [0; 64];
-        let part = &mut room[..usize::from(access.bytes)];
-        storage.load(access.address, part);
-        fill(to, sign, part, regs);
-    }
-    probe
-}
-
-/// An access that stores the bytes of registers, if it is permitted.
-#[inline(always)]
-fn store<S: Storage>(storage: &mut S, access: &Access, from: u8, regs: &[u32; 16]) -> Probe
-    requires stores { access.now.store ≡ true }
-    requires fits { FitsFrom access.now.bytes from }
-    ensures answer { result ≡ answer_in S.registers S.is_in_frame S.refuses (S.state storage.old) access.now }
-    ensures state { S.state storage.new ≡ if_permitted result (S.stored (S.state storage.old) access.now.address (stored_bytes regs.now access.now.bytes from)) (S.state storage.old) }
-{
-    if access.bytes > 4 {
-        return store_words(storage, access, from, regs);
-    }
-    storage.write(access.address, access.bytes, regs[usize::from(from)])
-}
-
-/// The same of the bytes of several registers.
-fn store_words<S: Storage>(storage: &mut S, access: &Access, from: u8, regs: &[u32; 16]) -> Probe
-    requires stores { access.now.store ≡ true }
-    requires fits { FitsFrom access.now.bytes from }
-    ensures answer { result ≡ answer_in S.registers S.is_in_frame S.refuses (S.state storage.old) access.now }
-    ensures state { S.state storage.new ≡ if_permitted result (S.stored (S.state storage.old) access.now.address (stored_bytes regs.now access.now.bytes from)) (S.state storage.old) }
-{
-    let probe = storage.probe(access);
-    if let Probe::Permitted = probe {
-        let mut room = [0; 64];
-        let part = &mut room[..usize::from(access.bytes)];
-        gather(from, regs, part);
-        storage.store(access.address, part);
-    }
-    probe
 }

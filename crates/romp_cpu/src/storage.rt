@@ -1,14 +1,15 @@
-ghost use Rattle.std.specs.Prelude.{◌≡◌, ℕ, Bool, true, false, List, Option, length, IfOk, IfErr};
-ghost use Rattle.byteorder.specs.Endian.{big_number, big_bytes};
+ghost use Rattle.std.specs.Prelude.{◌≡◌, ℕ, Bool, true, false, List, Option, length};
+ghost use Rattle.flat_machine.specs.Access.{FitsFrom};
+ghost use Rattle.flat_machine.specs.Effect.{filled};
+ghost use Rattle.flat_machine.specs.Row.{stored_bytes};
 ghost use Rattle.segment_regs.specs.Registers.{Registers};
 ghost use Rattle.segment_regs.specs.declared.registers.Virtual.{Virtual};
 ghost use Rattle.romp_cpu.specs.declared.storage.Access.{Access};
 ghost use Rattle.romp_cpu.specs.declared.storage.Probe.{Probe};
 ghost use Rattle.romp_cpu.specs.Shown.{bytes_from, halfword_of, access_to};
-ghost use Rattle.romp_cpu.specs.Answers.{answer_in, answer_of, if_permitted, IsRefusal, IsOutside};
-ghost use Rattle.romp_cpu.specs.Numbers.{IsOfNumber, FitsBytes};
+ghost use Rattle.romp_cpu.specs.Answers.{answer_in, if_permitted, IsOutside};
 
-use super::numbers::{lay_number, number_in};
+use flat_machine::{fill, gather};
 use segment_regs::Virtual;
 
 /// What an instruction or its subject accesses: so many bytes from an effective address on, to load or to store.
@@ -84,50 +85,37 @@ pub trait Storage {
         ensures others { (other : ℕ) → IsOutside (registers (state self.old)) address (length from.now) other → byte_at (state self.new) other ≡ byte_at (state self.old) other }
         ensures answers { (access : Access) → answer_in registers is_in_frame refuses (state self.new) access ≡ answer_in registers is_in_frame refuses (state self.old) access };
 
-    /// The number in one, two or four bytes from an address on, as `probe` and `load` tell it, or else why they can't be
-    /// loaded now.
-    fn read(&mut self, address: u32, bytes: u8) -> Result<u32, Probe>
-        requires bytes { IsOfNumber bytes }
-        ensures answer { answer_of result ≡ answer_in registers is_in_frame refuses (state self.old) (access_to address bytes false) }
-        ensures number { IfOk result (λ number. number ≡ big_number bytes (bytes_from (byte_at (state self.old)) address bytes)) }
-        ensures fits { IfOk result (FitsBytes bytes) }
-        ensures refused { IfErr result IsRefusal }
+    /// Fills registers from one upwards with the bytes of an access, as `load` tells them, if `probe` permits it.
+    fn read(&mut self, wants: &Access, to: u8, sign: bool, regs: &mut [u32; 16]) -> Probe
+        requires loads { wants.now.store ≡ false }
+        requires fits { FitsFrom wants.now.bytes to }
+        ensures answer { result ≡ answer_in registers is_in_frame refuses (state self.old) wants.now }
         ensures state { state self.new ≡ state self.old }
+        ensures registers { regs.new ≡ if_permitted result (filled to sign (bytes_from (byte_at (state self.old)) wants.now.address wants.now.bytes) regs.old) regs.old }
     {
-        let wants = Access {
-            address,
-            bytes,
-            store: false,
-        };
-        match self.probe(&wants) {
-            Probe::Permitted => {
-                let mut room = [0; 4];
-                let part = &mut room[..usize::from(bytes)];
-                self.load(address, part);
-                Ok(number_in(part))
-            }
-            probe => Err(probe),
+        let probe = self.probe(wants);
+        if let Probe::Permitted = probe {
+            let mut room = [0; 64];
+            let part = &mut room[..usize::from(wants.bytes)];
+            self.load(wants.address, part);
+            fill(to, sign, part, regs);
         }
+        probe
     }
 
-    /// Stores the lowest one, two or four bytes of a number from an address on, as `probe` and `store` do, if that is
-    /// permitted.
-    fn write(&mut self, address: u32, bytes: u8, number: u32) -> Probe
-        requires bytes { IsOfNumber bytes }
-        ensures answer { result ≡ answer_in registers is_in_frame refuses (state self.old) (access_to address bytes true) }
-        ensures state { state self.new ≡ if_permitted result (stored (state self.old) address (big_bytes bytes number)) (state self.old) }
+    /// Stores the bytes of registers from one upwards, as `store` does, if `probe` permits the access.
+    fn write(&mut self, wants: &Access, from: u8, regs: &[u32; 16]) -> Probe
+        requires stores { wants.now.store ≡ true }
+        requires fits { FitsFrom wants.now.bytes from }
+        ensures answer { result ≡ answer_in registers is_in_frame refuses (state self.old) wants.now }
+        ensures state { state self.new ≡ if_permitted result (stored (state self.old) wants.now.address (stored_bytes regs.now wants.now.bytes from)) (state self.old) }
     {
-        let wants = Access {
-            address,
-            bytes,
-            store: true,
-        };
-        let probe = self.probe(&wants);
+        let probe = self.probe(wants);
         if let Probe::Permitted = probe {
-            let mut room = [0; 4];
-            let part = &mut room[..usize::from(bytes)];
-            lay_number(number, part);
-            self.store(address, part);
+            let mut room = [0; 64];
+            let part = &mut room[..usize::from(wants.bytes)];
+            gather(from, regs, part);
+            self.store(wants.address, part);
         }
         probe
     }

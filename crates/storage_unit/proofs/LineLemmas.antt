@@ -1,10 +1,11 @@
--- The answer to an access whose bytes lie in one line, by the first of them.
-use Rattle.std.proofs.Common.{◌≡◌, ℕ, ◌+◌, ◌%◌, ◌<◌, ◌≤◌, Bool, true, false, refl, sym, ◌∙◌, ap, arith, Option, Some, None, Ok}
+-- The answer to an access whose bytes lie in one page and two lines at most, by the first byte of each.
+use Rattle.std.proofs.Common.{◌≡◌, ℕ, ◌+◌, ◌%◌, ◌<◌, ◌≤◌, Bool, true, false, refl, sym, ◌∙◌, ap, arith, Option, Some, None, Ok, inl, inr}
 use Rattle.std.specs.Prelude.{not, find, option_map, is_some}
+use Rattle.std.proofs.lemmas.Bool.{cases_lt}
 use Rattle.std.specs.List.{range_with_len}
 use Rattle.line_geometry.specs.Segments.{page_bytes, line_bytes}
 use Rattle.line_geometry.specs.Directory.{start_of}
-use Rattle.line_geometry.specs.Lines.{page_of}
+use Rattle.line_geometry.specs.Lines.{page_of, line_of}
 use Rattle.segment_regs.specs.declared.registers.Virtual.{Virtual}
 use Rattle.segment_regs.specs.Registers.{bytes_on, virtual_at}
 use Rattle.inverted_table.specs.Keys.{key_of}
@@ -19,9 +20,9 @@ use Rattle.storage_unit.specs.Places.{is_private, offset_of, place_of, on}
 use Rattle.storage_unit.specs.Held.{table_of}
 use Rattle.storage_unit.specs.Reach.{is_there, is_kept_from, is_refused, is_in_frame, refuses}
 use Rattle.storage_unit.specs.Reached.{IsSound, Lies}
-use Rattle.storage_unit.proofs.SizeLemmas.{byte-at, page-at, same-line-on, line-page, line-rest}
+use Rattle.storage_unit.proofs.SizeLemmas.{byte-at, page-at, same-line-on, next-line, line-rest}
 use Rattle.storage_unit.proofs.FindLemmas.{none-found, first-found}
-use Rattle.storage_unit.proofs.PlaceLemmas.{shared-is, place-byte, finds-shared}
+use Rattle.storage_unit.proofs.PlaceLemmas.{shared-is, place-byte, finds-shared, private-is}
 use Rattle.storage_unit.proofs.ProbeLemmas.{absent-first, none-absent}
 use Rattle.storage_unit.proofs.AnswerLemmas.{answered-by}
 
@@ -66,41 +67,74 @@ module _ (state : Reach) (sound : IsSound state) (first : Virtual) (n : ℕ) (so
         ∙ ap (λ (o : Option ℕ). there o refused) (absent-first state sound first n some few lies (ap (λ (o : Option ℕ). not (is_some o)) none))
         ∙ answered
 
-    module _ (frame : ℕ) (is : look_up (table_of state).keys (key_of first) ≡ Some frame) (line : first.byte % line_bytes state.directory.page + n ≤ line_bytes state.directory.page) where
-      none : None ≡ absent
-      none =
-          none-absent state sound first n some few lies (ap (λ (o : Option ℕ). not (is_some o)) is)
-          (line-page state.directory.page first.byte n lies.within line)
+    abbrev kept : ℕ → Bool
+    kept k = is_kept_from state (on (place_of state.directory first) k) store
 
-      -- each byte is refused as the first is
-      alike : (k : ℕ) → k < n → is_kept_from state (on (place_of state.directory first) k) store ≡ is_kept_from state (place_of state.directory first) store
-      alike k below = by_test (is_private first.segment) refl
-        where
-          by_test : (own : Bool) → is_private first.segment ≡ own → is_kept_from state (on (place_of state.directory first) k) store ≡ is_kept_from state (place_of state.directory first) store
-          by_test true own = rw (own) refl
-          by_test false own =
-              let place = start_of state.directory first.segment + offset_of state.directory.page first in
-              let rest = line-rest state.directory.page place first.byte (place-byte state sound first n some lies) in
-              ap (λ p. is_kept_from state (on p k) store) (shared-is state.directory first own)
-              ∙ ap (λ l. is_refused state l store) (same-line-on state.directory.page place k (omega (arith, rest, line, below)))
-              ∙ sym (ap (λ p. is_kept_from state p store) (shared-is state.directory first own))
+    abbrev place : ℕ
+    place = start_of state.directory first.segment + offset_of state.directory.page first
 
-      -- its entry refuses
-      pub lock-fault : is_kept_from state (place_of state.directory first) store ≡ true → Probe.Fault (Fault.Lock first) ≡ answered_at state.directory.page (is_in_frame state) (refuses state) access (Ok first)
-      lock-fault kept =
+    own-kept : is_private first.segment ≡ true → (k : ℕ) → kept k ≡ false
+    own-kept own k = ap (λ p. is_kept_from state (on p k) store) (private-is state.directory first own)
+
+    shared-kept : is_private first.segment ≡ false → (k : ℕ) → kept k ≡ is_refused state (line_of state.directory (place + k)) store
+    shared-kept own k = ap (λ p. is_kept_from state (on p k) store) (shared-is state.directory first own)
+
+    in-line : place % line_bytes state.directory.page ≡ first.byte % line_bytes state.directory.page
+    in-line = line-rest state.directory.page place first.byte (place-byte state sound first n some lies)
+
+    -- bytes of the first line are refused alike, and those of the second
+    near : (k : ℕ) → first.byte % line_bytes state.directory.page + k < line_bytes state.directory.page → kept k ≡ kept 0
+    near k inside = by_test (is_private first.segment) refl
+      where
+        by_test : (own : Bool) → is_private first.segment ≡ own → kept k ≡ kept 0
+        by_test true own = own-kept own k ∙ sym (own-kept own 0)
+        by_test false own =
+            shared-kept own k
+            ∙ ap (λ l. is_refused state l store) (same-line-on state.directory.page place k (omega (arith, in-line, inside)) ∙ sym (same-line-on state.directory.page place 0 (omega (arith, in-line, inside))))
+            ∙ sym (shared-kept own 0)
+
+    far : (rest k : ℕ) → rest + first.byte % line_bytes state.directory.page ≡ line_bytes state.directory.page → rest ≤ k → k < 64 → kept k ≡ kept rest
+    far rest k are past short = by_test (is_private first.segment) refl
+      where
+        by_test : (own : Bool) → is_private first.segment ≡ own → kept k ≡ kept rest
+        by_test true own = own-kept own k ∙ sym (own-kept own rest)
+        by_test false own =
+            shared-kept own k
+            ∙ ap (λ l. is_refused state l store) (sym (next-line state.directory.page place rest k (omega (arith, in-line, are)) past short))
+            ∙ sym (shared-kept own rest)
+
+    module _ (frame : ℕ) (is : look_up (table_of state).keys (key_of first) ≡ Some frame) (within : first.byte + n ≤ page_bytes state.directory.page) where
+      -- a byte is refused, and none before it
+      kept-fault : (k : ℕ) → k < n → kept k ≡ true → ((j : ℕ) → j < k → kept j ≡ false) → Probe.Fault (Fault.Lock (bytes_on state.directory.page first k)) ≡ answered_at state.directory.page (is_in_frame state) (refuses state) access (Ok first)
+      kept-fault k below refused-here free =
+          ap (λ (o : Option ℕ). there None o) (sym (first-found kept 0 n k (omega arith) (omega (arith, below)) (λ j above less. free j less) refused-here))
+          ∙ ap (λ (o : Option ℕ). there o refused) (none-absent state sound first n some few lies (ap (λ (o : Option ℕ). not (is_some o)) is) within)
+          ∙ answered
+
+      pub lock-fault : kept 0 ≡ true → Probe.Fault (Fault.Lock first) ≡ answered_at state.directory.page (is_in_frame state) (refuses state) access (Ok first)
+      lock-fault one =
           ap (λ (v : Virtual). Probe.Fault (Fault.Lock v)) (sym (here-is state first lies.within))
-          ∙ ap (λ (o : Option ℕ). there None o)
-          (sym (first-found (λ past. is_kept_from state (on (place_of state.directory first) past) store) 0 n 0 (omega arith) (omega (arith, some)) (λ k above below. absurd (omega (arith, below))) (alike 0 some ∙ kept)))
-          ∙ ap (λ (o : Option ℕ). there o refused) none
+          ∙ kept-fault 0 some one (λ j less. absurd (omega (arith, less)))
+
+      -- no byte is
+      permitted : ((k : ℕ) → k < n → kept k ≡ false) → Probe.Permitted ≡ answered_at state.directory.page (is_in_frame state) (refuses state) access (Ok first)
+      permitted free =
+          ap (λ (o : Option ℕ). there None o) (sym (none-found kept 0 n (λ k above below. free k (omega (arith, below)))))
+          ∙ ap (λ (o : Option ℕ). there o refused) (none-absent state sound first n some few lies (ap (λ (o : Option ℕ). not (is_some o)) is) within)
           ∙ answered
 
-      -- it permits
-      pub no-fault : is_kept_from state (place_of state.directory first) store ≡ false → Probe.Permitted ≡ answered_at state.directory.page (is_in_frame state) (refuses state) access (Ok first)
-      no-fault kept =
-          ap (λ (o : Option ℕ). there None o)
-          (sym (none-found (λ past. is_kept_from state (on (place_of state.directory first) past) store) 0 n (λ k above below. alike k (omega (arith, below)) ∙ kept)))
-          ∙ ap (λ (o : Option ℕ). there o refused) none
-          ∙ answered
+      pub line-permitted : first.byte % line_bytes state.directory.page + n ≤ line_bytes state.directory.page → kept 0 ≡ false → Probe.Permitted ≡ answered_at state.directory.page (is_in_frame state) (refuses state) access (Ok first)
+      line-permitted line one = permitted (λ k below. near k (omega (arith, line, below)) ∙ one)
+
+      module _ (rest : ℕ) (are : rest + first.byte % line_bytes state.directory.page ≡ line_bytes state.directory.page) (short : n ≤ 64) (one : kept 0 ≡ false) where
+        pub second-fault : rest < n → kept rest ≡ true → Probe.Fault (Fault.Lock (bytes_on state.directory.page first rest)) ≡ answered_at state.directory.page (is_in_frame state) (refuses state) access (Ok first)
+        second-fault below two = kept-fault rest below two (λ j less. near j (omega (arith, are, less)) ∙ one)
+
+        pub lines-permitted : kept rest ≡ false → Probe.Permitted ≡ answered_at state.directory.page (is_in_frame state) (refuses state) access (Ok first)
+        lines-permitted two = permitted (λ k below. elim (cases_lt k rest) [
+          | inl before ↦ near k (omega (arith, are, before)) ∙ one
+          | inr past ↦ far rest k are past (omega (arith, below, short)) ∙ two
+        ])
 
 -- the page of the frame that the table found for a byte of the store
 pub page-found : (state : Reach) (sound : IsSound state) (at : Virtual) (frame : ℕ) → Lies state at 1 → is_private at.segment ≡ false → look_up (table_of state).keys (key_of at) ≡ Some frame

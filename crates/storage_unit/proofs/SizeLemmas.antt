@@ -171,6 +171,11 @@ pub same-line-on : (size : PageSize) (place k : ℕ) → place % line_bytes size
 same-line-on Two place k within = omega (arith, within)
 same-line-on Four place k within = omega (arith, within)
 
+-- some bytes behind a line are in the next
+pub next-line : (size : PageSize) (place k last : ℕ) → line_bytes size ≤ place % line_bytes size + k → k ≤ last → last < 64 → (place + k) / line_bytes size ≡ (place + last) / line_bytes size
+next-line Two place k last past less few = omega (arith, past, less, few)
+next-line Four place k last past less few = omega (arith, past, less, few)
+
 -- some bytes of one line are of one page
 pub line-page : (size : PageSize) (byte n : ℕ) → byte < page_bytes size → byte % line_bytes size + n ≤ line_bytes size → byte + n ≤ page_bytes size
 line-page Two byte n below within = omega (arith, below, within)

@@ -3,12 +3,14 @@ ghost use Rattle.std.specs.Prelude.{◌≡◌, ◌+◌, ◌*◌, ◌-◌, ◌%�
 ghost use Rattle.std.specs.List.{range_with_len};
 ghost use Rattle.segment_regs.specs.Registers.{bytes_on};
 ghost use Rattle.line_geometry.specs.Segments.{page_bytes, line_bytes};
-ghost use Rattle.byteorder.specs.Endian.{big_number, big_bytes};
 ghost use Rattle.line_geometry.specs.Directory.{byte_count, start_of};
 ghost use Rattle.line_geometry.specs.Lines.{line_of};
 ghost use Rattle.romp_cpu.specs.Answers.{answered_at, answer_of, if_permitted, IsRefusal};
-ghost use Rattle.romp_cpu.specs.Numbers.{IsOfNumber, FitsBytes};
+ghost use Rattle.flat_machine.specs.Access.{FitsFrom};
+ghost use Rattle.flat_machine.specs.Effect.{filled};
+ghost use Rattle.flat_machine.specs.Row.{stored_bytes};
 ghost use Rattle.romp_cpu.specs.Attempts.{IsOfFewBytes};
+ghost use Rattle.romp_cpu.specs.declared.storage.Probe.{Probe};
 ghost use Rattle.romp_cpu.specs.declared.storage.Access.{Access};
 ghost use Rattle.storage_unit.specs.Places.{is_private, offset_of, place_of, on};
 ghost use Rattle.storage_unit.specs.Reach.{is_there, is_kept_from, is_in_frame, refuses, is_refused, put_at};
@@ -23,7 +25,8 @@ use super::private::PRIVATE;
 use super::sizes::{byte_past, first_frame, is_in_line, line_in_page, offset_of, rest_of_line};
 use super::unit::Unit;
 use byteorder::{BigEndian, ByteOrder};
-use romp_cpu::{Access, Attempt, Cpu, Fault, Probe, Storage, lay_number, number_in};
+use flat_machine::{fill, gather};
+use romp_cpu::{Access, Attempt, Cpu, Fault, Probe, Storage};
 use segment_regs::{Check, Virtual};
 
 impl Unit {
@@ -166,13 +169,23 @@ impl Unit {
         first_frame(self.directory.page(), self.runner - 1) + first.page as u16
     }
 
-    /// The frame of an access whose bytes lie in one line, or why it can't be made now. The page of a frame is the pool's,
-    /// so no segment is looked for in the directory.
+    /// Whether some bytes lie in one page, as those of one line do.
+    #[inline(always)]
+    fn is_in_page(&self, first: Virtual, bytes: u8) -> bool
+        requires { first.byte < page_bytes (reach_of self.now).directory.page }
+        ensures { result ≡ true → first.byte + bytes ≤ page_bytes (reach_of self.now).directory.page }
+    {
+        is_in_line(self.directory.page(), first.byte, bytes) || u16::from(bytes) <= self.rest(first)
+    }
+
+    /// The frame of an access whose bytes lie in one page and two lines at most, or why it can't be made now. The page of a
+    /// frame is the pool's, so no segment is looked for in the directory.
     #[inline(always)]
     fn frame_for(&mut self, first: Virtual, bytes: u8, store: bool) -> Result<u16, Probe>
         requires some { 0 < bytes }
+        requires few { bytes ≤ 64 }
         requires lies { Lies (reach_of self.old) first bytes }
-        requires line { first.byte % line_bytes (reach_of self.old).directory.page + bytes ≤ line_bytes (reach_of self.old).directory.page }
+        requires within { first.byte + bytes ≤ page_bytes (reach_of self.old).directory.page }
         ensures answer { (access : Access) → access.bytes ≡ bytes → access.store ≡ store → answer_of result ≡ answered_at (reach_of self.old).directory.page (is_in_frame (reach_of self.old)) (refuses (reach_of self.old)) access (Ok first) }
         ensures frame { IfOk result (λ frame. look_up (table_of (reach_of self.old)).keys (key_of first) ≡ Some frame) }
         ensures refused { IfErr result IsRefusal }
@@ -184,21 +197,30 @@ impl Unit {
         let Some(frame) = self.translate(first) else {
             return Err(Probe::Fault(Fault::Page(first)));
         };
-        if self.is_kept_in(frame, first, store) {
+        if self.is_kept_in(frame, first, 0, store) {
             return Err(Probe::Fault(Fault::Lock(first)));
+        }
+        let page = self.directory.page();
+        if is_in_line(page, first.byte, bytes) {
+            return Ok(frame);
+        }
+        let rest = rest_of_line(page, u32::from(first.byte));
+        if self.is_kept_in(frame, first, rest, store) {
+            return Err(Probe::Fault(Fault::Lock(self.past(first, rest))));
         }
         Ok(frame)
     }
 
-    /// Whether the entry of the page in a frame refuses the seat that is selected a byte of it.
+    /// Whether the entry of the page in a frame refuses the seat that is selected a byte so many past one of that page.
     #[inline(always)]
-    fn is_kept_in(&self, frame: u16, first: Virtual, store: bool) -> bool
+    fn is_kept_in(&self, frame: u16, first: Virtual, past: u16, store: bool) -> bool
         requires shared { is_private first.segment ≡ false }
         requires lies { Lies (reach_of self.now) first 1 }
+        requires within { first.byte + past < page_bytes (reach_of self.now).directory.page }
         requires frame { look_up (table_of (reach_of self.now)).keys (key_of first) ≡ Some frame }
-        ensures { result ≡ is_kept_from (reach_of self.now) (place_of (reach_of self.now).directory first) store }
+        ensures { result ≡ is_kept_from (reach_of self.now) (on (place_of (reach_of self.now).directory first) past) store }
     {
-        let line = line_in_page(self.directory.page(), first.byte);
+        let line = line_in_page(self.directory.page(), first.byte + past);
         match self.pool.page_in(frame) {
             Some(page) => !self.table.authority(page).permits(self.runner, line, store),
             None => true,
@@ -215,102 +237,6 @@ impl Unit {
         ensures { result.now ≡ bytes_shown (reach_of self.now) (place_of (reach_of self.now).directory first) count }
     {
         self.pool.part(frame, usize::from(first.byte), count)
-    }
-
-    /// Writes a number over bytes of one page, which a frame has.
-    #[inline(always)]
-    fn lay_in(&mut self, frame: u16, first: Virtual, bytes: u8, number: u32)
-        requires bytes { IsOfNumber bytes }
-        requires within { first.byte + bytes ≤ page_bytes (reach_of self.old).directory.page }
-        requires lies { Lies (reach_of self.old) first bytes }
-        requires frame { look_up (table_of (reach_of self.old)).keys (key_of first) ≡ Some frame }
-        ensures { reach_of self.new ≡ put_at (reach_of self.old) (place_of (reach_of self.old).directory first) (big_bytes bytes number) }
-    {
-        lay_number(
-            number,
-            self.pool
-                .part_mut(frame, usize::from(first.byte), usize::from(bytes)),
-        );
-    }
-
-    /// The number in bytes from one on, or why they can't be loaded now.
-    #[inline(always)]
-    fn read_at(&mut self, first: Virtual, bytes: u8) -> Result<u32, Probe>
-        requires bytes { IsOfNumber bytes }
-        requires lies { Lies (reach_of self.old) first bytes }
-        ensures answer { (access : Access) → access.bytes ≡ bytes → access.store ≡ false → answer_of result ≡ answered_at (reach_of self.old).directory.page (is_in_frame (reach_of self.old)) (refuses (reach_of self.old)) access (Ok first) }
-        ensures number { IfOk result (λ number. number ≡ big_number bytes (bytes_shown (reach_of self.old) (place_of (reach_of self.old).directory first) bytes)) }
-        ensures fits { IfOk result (FitsBytes bytes) }
-        ensures refused { IfErr result IsRefusal }
-        ensures state { reach_of self.new ≡ reach_of self.old }
-    {
-        if !is_in_line(self.directory.page(), first.byte, bytes) {
-            return self.read_apart(first, bytes);
-        }
-        match self.frame_for(first, bytes, false) {
-            Ok(frame) => Ok(number_in(self.part_in(frame, first, usize::from(bytes)))),
-            Err(probe) => Err(probe),
-        }
-    }
-
-    /// The same of bytes that lie in two lines.
-    #[inline(never)]
-    fn read_apart(&mut self, first: Virtual, bytes: u8) -> Result<u32, Probe>
-        requires bytes { IsOfNumber bytes }
-        requires lies { Lies (reach_of self.old) first bytes }
-        ensures answer { (access : Access) → access.bytes ≡ bytes → access.store ≡ false → answer_of result ≡ answered_at (reach_of self.old).directory.page (is_in_frame (reach_of self.old)) (refuses (reach_of self.old)) access (Ok first) }
-        ensures number { IfOk result (λ number. number ≡ big_number bytes (bytes_shown (reach_of self.old) (place_of (reach_of self.old).directory first) bytes)) }
-        ensures fits { IfOk result (FitsBytes bytes) }
-        ensures refused { IfErr result IsRefusal }
-        ensures state { reach_of self.new ≡ reach_of self.old }
-    {
-        match self.answer(first, bytes, false) {
-            Probe::Permitted => {
-                let mut room = [0; 4];
-                let part = &mut room[..usize::from(bytes)];
-                self.copy(first, part);
-                Ok(number_in(part))
-            }
-            probe => Err(probe),
-        }
-    }
-
-    /// Writes a number over bytes from one on, if that is permitted.
-    #[inline(always)]
-    fn write_at(&mut self, first: Virtual, bytes: u8, number: u32) -> Probe
-        requires bytes { IsOfNumber bytes }
-        requires lies { Lies (reach_of self.old) first bytes }
-        ensures answer { (access : Access) → access.bytes ≡ bytes → access.store ≡ true → result ≡ answered_at (reach_of self.old).directory.page (is_in_frame (reach_of self.old)) (refuses (reach_of self.old)) access (Ok first) }
-        ensures state { reach_of self.new ≡ if_permitted result (put_at (reach_of self.old) (place_of (reach_of self.old).directory first) (big_bytes bytes number)) (reach_of self.old) }
-    {
-        if !is_in_line(self.directory.page(), first.byte, bytes) {
-            return self.write_apart(first, bytes, number);
-        }
-        match self.frame_for(first, bytes, true) {
-            Ok(frame) => {
-                self.lay_in(frame, first, bytes, number);
-                Probe::Permitted
-            }
-            Err(probe) => probe,
-        }
-    }
-
-    /// The same of bytes that lie in two lines.
-    #[inline(never)]
-    fn write_apart(&mut self, first: Virtual, bytes: u8, number: u32) -> Probe
-        requires bytes { IsOfNumber bytes }
-        requires lies { Lies (reach_of self.old) first bytes }
-        ensures answer { (access : Access) → access.bytes ≡ bytes → access.store ≡ true → result ≡ answered_at (reach_of self.old).directory.page (is_in_frame (reach_of self.old)) (refuses (reach_of self.old)) access (Ok first) }
-        ensures state { reach_of self.new ≡ if_permitted result (put_at (reach_of self.old) (place_of (reach_of self.old).directory first) (big_bytes bytes number)) (reach_of self.old) }
-    {
-        let probe = self.answer(first, bytes, true);
-        if let Probe::Permitted = probe {
-            let mut room = [0; 4];
-            let part = &mut room[..usize::from(bytes)];
-            lay_number(number, part);
-            self.put(first, part);
-        }
-        probe
     }
 
     /// Copies some bytes that lie in frames; those of one page at once.
@@ -406,6 +332,116 @@ impl Unit {
                 .copy_from_slice(from);
         }
     }
+
+    /// Writes the bytes of registers over those of one page, which a frame has.
+    #[inline(always)]
+    fn gather_in(&mut self, frame: u16, first: Virtual, bytes: u8, from: u8, regs: &[u32; 16])
+        requires fits { FitsFrom bytes from }
+        requires within { first.byte + bytes ≤ page_bytes (reach_of self.old).directory.page }
+        requires lies { Lies (reach_of self.old) first bytes }
+        requires frame { look_up (table_of (reach_of self.old)).keys (key_of first) ≡ Some frame }
+        ensures { reach_of self.new ≡ put_at (reach_of self.old) (place_of (reach_of self.old).directory first) (stored_bytes regs.now bytes from) }
+    {
+        gather(
+            from,
+            regs,
+            self.pool
+                .part_mut(frame, usize::from(first.byte), usize::from(bytes)),
+        );
+    }
+
+    /// Fills registers with the bytes from one on, if that is permitted.
+    #[inline(always)]
+    fn fill_at(
+        &mut self,
+        first: Virtual,
+        bytes: u8,
+        to: u8,
+        sign: bool,
+        regs: &mut [u32; 16],
+    ) -> Probe
+        requires fits { FitsFrom bytes to }
+        requires lies { Lies (reach_of self.old) first bytes }
+        ensures answer { (access : Access) → access.bytes ≡ bytes → access.store ≡ false → result ≡ answered_at (reach_of self.old).directory.page (is_in_frame (reach_of self.old)) (refuses (reach_of self.old)) access (Ok first) }
+        ensures state { reach_of self.new ≡ reach_of self.old }
+        ensures registers { regs.new ≡ if_permitted result (filled to sign (bytes_shown (reach_of self.old) (place_of (reach_of self.old).directory first) bytes) regs.old) regs.old }
+    {
+        if !self.is_in_page(first, bytes) {
+            return self.fill_apart(first, bytes, to, sign, regs);
+        }
+        match self.frame_for(first, bytes, false) {
+            Ok(frame) => {
+                let part = self.part_in(frame, first, usize::from(bytes));
+                fill(to, sign, part, regs);
+                Probe::Permitted
+            }
+            Err(probe) => probe,
+        }
+    }
+
+    /// The same of any bytes.
+    #[inline(never)]
+    fn fill_apart(
+        &mut self,
+        first: Virtual,
+        bytes: u8,
+        to: u8,
+        sign: bool,
+        regs: &mut [u32; 16],
+    ) -> Probe
+        requires fits { FitsFrom bytes to }
+        requires lies { Lies (reach_of self.old) first bytes }
+        ensures answer { (access : Access) → access.bytes ≡ bytes → access.store ≡ false → result ≡ answered_at (reach_of self.old).directory.page (is_in_frame (reach_of self.old)) (refuses (reach_of self.old)) access (Ok first) }
+        ensures state { reach_of self.new ≡ reach_of self.old }
+        ensures registers { regs.new ≡ if_permitted result (filled to sign (bytes_shown (reach_of self.old) (place_of (reach_of self.old).directory first) bytes) regs.old) regs.old }
+    {
+        let probe = self.answer(first, bytes, false);
+        if let Probe::Permitted = probe {
+            let mut room = [0; 64];
+            let part = &mut room[..usize::from(bytes)];
+            self.copy(first, part);
+            fill(to, sign, part, regs);
+        }
+        probe
+    }
+
+    /// Writes the bytes of registers over those from one on, if that is permitted.
+    #[inline(always)]
+    fn gather_at(&mut self, first: Virtual, bytes: u8, from: u8, regs: &[u32; 16]) -> Probe
+        requires fits { FitsFrom bytes from }
+        requires lies { Lies (reach_of self.old) first bytes }
+        ensures answer { (access : Access) → access.bytes ≡ bytes → access.store ≡ true → result ≡ answered_at (reach_of self.old).directory.page (is_in_frame (reach_of self.old)) (refuses (reach_of self.old)) access (Ok first) }
+        ensures state { reach_of self.new ≡ if_permitted result (put_at (reach_of self.old) (place_of (reach_of self.old).directory first) (stored_bytes regs.now bytes from)) (reach_of self.old) }
+    {
+        if !self.is_in_page(first, bytes) {
+            return self.gather_apart(first, bytes, from, regs);
+        }
+        match self.frame_for(first, bytes, true) {
+            Ok(frame) => {
+                self.gather_in(frame, first, bytes, from, regs);
+                Probe::Permitted
+            }
+            Err(probe) => probe,
+        }
+    }
+
+    /// The same of any bytes.
+    #[inline(never)]
+    fn gather_apart(&mut self, first: Virtual, bytes: u8, from: u8, regs: &[u32; 16]) -> Probe
+        requires fits { FitsFrom bytes from }
+        requires lies { Lies (reach_of self.old) first bytes }
+        ensures answer { (access : Access) → access.bytes ≡ bytes → access.store ≡ true → result ≡ answered_at (reach_of self.old).directory.page (is_in_frame (reach_of self.old)) (refuses (reach_of self.old)) access (Ok first) }
+        ensures state { reach_of self.new ≡ if_permitted result (put_at (reach_of self.old) (place_of (reach_of self.old).directory first) (stored_bytes regs.now bytes from)) (reach_of self.old) }
+    {
+        let probe = self.answer(first, bytes, true);
+        if let Probe::Permitted = probe {
+            let mut room = [0; 64];
+            let part = &mut room[..usize::from(bytes)];
+            gather(from, regs, part);
+            self.put(first, part);
+        }
+        probe
+    }
 }
 
 impl Storage for Unit {
@@ -448,18 +484,20 @@ impl Storage for Unit {
     }
 
     #[inline(always)]
-    fn read(&mut self, address: u32, bytes: u8) -> Result<u32, Probe> {
-        match self.registers.locate(address, u32::from(bytes), false) {
-            Err(Check(code)) => Err(Probe::Check(code)),
-            Ok(first) => self.read_at(first, bytes),
+    fn read(&mut self, wants: &Access, to: u8, sign: bool, regs: &mut [u32; 16]) -> Probe {
+        let bytes = u32::from(wants.bytes);
+        match self.registers.locate(wants.address, bytes, wants.store) {
+            Err(Check(code)) => Probe::Check(code),
+            Ok(first) => self.fill_at(first, wants.bytes, to, sign, regs),
         }
     }
 
     #[inline(always)]
-    fn write(&mut self, address: u32, bytes: u8, number: u32) -> Probe {
-        match self.registers.locate(address, u32::from(bytes), true) {
+    fn write(&mut self, wants: &Access, from: u8, regs: &[u32; 16]) -> Probe {
+        let bytes = u32::from(wants.bytes);
+        match self.registers.locate(wants.address, bytes, wants.store) {
             Err(Check(code)) => Probe::Check(code),
-            Ok(first) => self.write_at(first, bytes, number),
+            Ok(first) => self.gather_at(first, wants.bytes, from, regs),
         }
     }
 

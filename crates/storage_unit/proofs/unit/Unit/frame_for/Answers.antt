@@ -1,12 +1,20 @@
-use Rattle.std.proofs.Common.{◌≡◌, ℕ, true, refl, sym, ◌∙◌, ap, subst, arith, Option, Some, None}
+use Rattle.std.proofs.Common.{◌≡◌, ℕ, true, refl, sym, ◌∙◌, ap, subst, arith, Option, Some, None, Bool, false}
 use Rattle.std.proofs.lemmas.Bool.Decides.{nat_tests}
 use Rattle.storage_unit.specs.declared.model.Reach.{Reach}
-use Rattle.storage_unit.specs.Places.{is_private, offset_of, place_of}
+use Rattle.storage_unit.specs.Places.{is_private, offset_of, place_of, on}
 use Rattle.storage_unit.specs.Reach.{is_kept_from}
+use Rattle.line_geometry.specs.Segments.{line_bytes}
+use Rattle.line_geometry.specs.declared.directory.PageSize.{PageSize}
+use Rattle.segment_regs.specs.Registers.{bytes_on}
+use Rattle.segment_regs.specs.declared.registers.Virtual.{Virtual}
+use Rattle.romp_cpu.specs.declared.storage.Fault.{Fault}
+use Rattle.romp_cpu.specs.declared.storage.Probe.{Probe}
+use Rattle.std.proofs.lemmas.Bool.{leb-true}
+use Rattle.std.specs.Prelude.{nat_le, ◌+◌, ◌%◌, ◌≤◌, ◌<◌}
 use Rattle.storage_unit.specs.Reached.{Lies}
 use Rattle.storage_unit.specs.View.{reach_of}
 use Rattle.storage_unit.proofs.AnswerLemmas.{answered-private}
-use Rattle.storage_unit.proofs.LineLemmas.{lies-one, page-fault, lock-fault, no-fault}
+use Rattle.storage_unit.proofs.LineLemmas.{lies-one, page-fault, lock-fault, line-permitted, second-fault, lines-permitted}
 use Rattle.storage_unit.proofs.PlaceLemmas.{private-is}
 use Rattle.storage_unit.proofs.UnitLemmas.{unit-sound}
 use Rattle.storage_unit.proofs.unit.Unit.frame_for.Goals as goal
@@ -35,16 +43,64 @@ is_kept_in-requires-clause-lies c =
     subst (λ (s : Reach). Lies s c.args.first 1) (sym c.translate.ensures.state)
     (lies-one (reach_of c.args.self.now) c.args.first c.args.bytes c.requires.some c.requires.lies)
 
+pub is_kept_in-requires-2-clause-lies : goal.is_kept_in-requires-2-clause-lies
+is_kept_in-requires-2-clause-lies c =
+    subst (λ (s : Reach). Lies s c.args.first 1) (sym c.translate.ensures.state)
+    (lies-one (reach_of c.args.self.now) c.args.first c.args.bytes c.requires.some c.requires.lies)
+
+-- what a line's entry answers, in the state before
+kept-then : (old new : Reach) (first : Virtual) (k : ℕ) (store answer b : Bool) → new ≡ old → answer ≡ is_kept_from new (on (place_of new.directory first) k) store → answer ≡ b
+    → is_kept_from old (on (place_of old.directory first) k) store ≡ b
+kept-then old new first k store answer b stays is was = ap (λ (s : Reach). is_kept_from s (on (place_of s.directory first) k) store) (sym stays) ∙ sym is ∙ was
+
 pub returns-then-is_kept_in-clause-answer : goal.returns-then-is_kept_in-clause-answer
 returns-then-is_kept_in-clause-answer c = λ access bytes same.
     let unit = c.args.self.now in
     lock-fault (reach_of unit) (unit-sound unit) c.args.first c.args.bytes c.requires.some (omega (arith, c.ranges.bytes.fits)) c.requires.lies c.args.store access bytes same
-    c.in-Some.frame (sym c.translate.ensures.value ∙ c.in-Some.is) c.requires.line
-    (ap (λ (s : Reach). is_kept_from s (place_of s.directory c.args.first) c.args.store) (sym c.translate.ensures.state) ∙ sym c.is_kept_in.ensures ∙ c.if-is_kept_in.true)
+    c.in-Some.frame (sym c.translate.ensures.value ∙ c.in-Some.is) c.requires.within
+    (kept-then (reach_of unit) (reach_of c.translate.new.self) c.args.first 0 c.args.store c.is_kept_in.result true c.translate.ensures.state c.is_kept_in.ensures c.if-is_kept_in.true)
+
+-- the size of a page, as it is asked for
+size-is : (old new : Reach) (page : PageSize) → new ≡ old → page ≡ new.directory.page → page ≡ old.directory.page
+size-is old new page stays is = is ∙ ap (λ (s : Reach). s.directory.page) stays
+
+pub returns-then-is_in_line-clause-answer : goal.returns-then-is_in_line-clause-answer
+returns-then-is_in_line-clause-answer c = λ access bytes same.
+    let unit = c.args.self.now in
+    let size = size-is (reach_of unit) (reach_of c.translate.new.self) c.page-page.result c.translate.ensures.state c.page-page.ensures in
+    let line : c.args.first.byte % line_bytes unit.directory.page + c.args.bytes ≤ line_bytes unit.directory.page =
+    leb-true _ _ (ap (λ s. nat_le (c.args.first.byte % line_bytes s + c.args.bytes) (line_bytes s)) (sym size) ∙ sym c.is_in_line.ensures ∙ c.if-is_in_line.true) in
+    line-permitted (reach_of unit) (unit-sound unit) c.args.first c.args.bytes c.requires.some (omega (arith, c.ranges.bytes.fits)) c.requires.lies c.args.store access bytes same
+    c.in-Some.frame (sym c.translate.ensures.value ∙ c.in-Some.is) c.requires.within line
+    (kept-then (reach_of unit) (reach_of c.translate.new.self) c.args.first 0 c.args.store c.is_kept_in.result false c.translate.ensures.state c.is_kept_in.ensures c.if-is_kept_in.false)
+
+-- how many bytes of the first line there are
+rest-is : (old new : Reach) (page : PageSize) (byte at rest : ℕ) → new ≡ old → page ≡ new.directory.page → at ≡ byte → rest + at % line_bytes page ≡ line_bytes page
+    → rest + byte % line_bytes old.directory.page ≡ line_bytes old.directory.page
+rest-is old new page byte at rest stays is same are =
+    let size = size-is old new page stays is in
+    ap (λ s. rest + byte % line_bytes s) (sym size) ∙ ap (λ n. rest + n % line_bytes page) (sym same) ∙ are ∙ ap (λ s. line_bytes s) size
+
+more : (size : PageSize) (byte bytes rest : ℕ) (test : Bool) → test ≡ nat_le (byte % line_bytes size + bytes) (line_bytes size) → test ≡ false → rest + byte % line_bytes size ≡ line_bytes size → rest < bytes
+more size byte bytes rest test is none are = grind (arith, nat_tests, is, none, are)
+
+pub returns-then-is_kept_in-2-clause-answer : goal.returns-then-is_kept_in-2-clause-answer
+returns-then-is_kept_in-2-clause-answer c = λ access bytes same.
+    let unit = c.args.self.now in
+    let size = size-is (reach_of unit) (reach_of c.translate.new.self) c.page-page.result c.translate.ensures.state c.page-page.ensures in
+    let are = rest-is (reach_of unit) (reach_of c.translate.new.self) c.page-page.result c.args.first.byte c.from.result c.rest_of_line-rest.result c.translate.ensures.state c.page-page.ensures c.from.ensures c.rest_of_line-rest.ensures.value in
+    ap (λ (v : Virtual). Probe.Fault (Fault.Lock v)) (c.past.ensures ∙ ap (λ (s : Reach). bytes_on s.directory.page c.args.first c.rest_of_line-rest.result) c.translate.ensures.state)
+    ∙ second-fault (reach_of unit) (unit-sound unit) c.args.first c.args.bytes c.requires.some (omega (arith, c.ranges.bytes.fits)) c.requires.lies c.args.store access bytes same
+    c.in-Some.frame (sym c.translate.ensures.value ∙ c.in-Some.is) c.requires.within c.rest_of_line-rest.result are c.requires.few
+    (kept-then (reach_of unit) (reach_of c.translate.new.self) c.args.first 0 c.args.store c.is_kept_in.result false c.translate.ensures.state c.is_kept_in.ensures c.if-is_kept_in.false)
+    (more unit.directory.page c.args.first.byte c.args.bytes c.rest_of_line-rest.result c.is_in_line.result (c.is_in_line.ensures ∙ ap (λ s. nat_le (c.args.first.byte % line_bytes s + c.args.bytes) (line_bytes s)) size) c.if-is_in_line.false are)
+    (kept-then (reach_of unit) (reach_of c.translate.new.self) c.args.first c.rest_of_line-rest.result c.args.store c.is_kept_in-2.result true c.translate.ensures.state c.is_kept_in-2.ensures c.if-is_kept_in-2.true)
 
 pub returns-clause-answer : goal.returns-clause-answer
 returns-clause-answer c = λ access bytes same.
     let unit = c.args.self.now in
-    no-fault (reach_of unit) (unit-sound unit) c.args.first c.args.bytes c.requires.some (omega (arith, c.ranges.bytes.fits)) c.requires.lies c.args.store access bytes same
-    c.in-Some.frame (sym c.translate.ensures.value ∙ c.in-Some.is) c.requires.line
-    (ap (λ (s : Reach). is_kept_from s (place_of s.directory c.args.first) c.args.store) (sym c.translate.ensures.state) ∙ sym c.is_kept_in.ensures ∙ c.if-is_kept_in.false)
+    let are = rest-is (reach_of unit) (reach_of c.translate.new.self) c.page-page.result c.args.first.byte c.from.result c.rest_of_line-rest.result c.translate.ensures.state c.page-page.ensures c.from.ensures c.rest_of_line-rest.ensures.value in
+    lines-permitted (reach_of unit) (unit-sound unit) c.args.first c.args.bytes c.requires.some (omega (arith, c.ranges.bytes.fits)) c.requires.lies c.args.store access bytes same
+    c.in-Some.frame (sym c.translate.ensures.value ∙ c.in-Some.is) c.requires.within c.rest_of_line-rest.result are c.requires.few
+    (kept-then (reach_of unit) (reach_of c.translate.new.self) c.args.first 0 c.args.store c.is_kept_in.result false c.translate.ensures.state c.is_kept_in.ensures c.if-is_kept_in.false)
+    (kept-then (reach_of unit) (reach_of c.translate.new.self) c.args.first c.rest_of_line-rest.result c.args.store c.is_kept_in-2.result false c.translate.ensures.state c.is_kept_in-2.ensures c.if-is_kept_in-2.false)

@@ -1,19 +1,19 @@
-use Rattle.std.proofs.Common.{◌≡◌, ℕ, ◌+◌, ◌/◌, ◌%◌, sym, ◌∙◌, ap, arith, Some, None}
+use Rattle.std.proofs.Common.{◌≡◌, ℕ, ◌+◌, ◌/◌, ◌%◌, sym, ◌∙◌, ap, arith, Some, None, ◌<◌}
 use Rattle.std.specs.Prelude.{not}
 use Rattle.line_geometry.specs.Directory.{start_of}
 use Rattle.line_geometry.specs.Lines.{line_of, page_of}
-use Rattle.line_geometry.specs.Segments.{line_bytes}
+use Rattle.line_geometry.specs.Segments.{page_bytes, line_bytes}
 use Rattle.lockbit_rules.specs.Entries.{entry_of, lets}
 use Rattle.lockbit_rules.specs.declared.Authority.{Authority}
 use Rattle.inverted_table.specs.Placed.{entry_at}
 use Rattle.segment_regs.specs.declared.registers.Virtual.{Virtual}
 use Rattle.storage_unit.specs.declared.unit.Unit.{Unit}
-use Rattle.storage_unit.specs.Places.{offset_of}
+use Rattle.storage_unit.specs.Places.{offset_of, on}
 use Rattle.storage_unit.specs.Reach.{is_kept_from}
 use Rattle.storage_unit.specs.View.{reach_of}
 use Rattle.storage_unit.proofs.LineLemmas.{page-found}
 use Rattle.storage_unit.proofs.PlaceLemmas.{place-below, place-byte, shared-is}
-use Rattle.storage_unit.proofs.SizeLemmas.{line-in, page-of-line, page-below}
+use Rattle.storage_unit.proofs.SizeLemmas.{line-in, rest-on, same-page-on, page-of-line, page-below}
 use Rattle.storage_unit.proofs.UnitLemmas.{unit-sound}
 use Rattle.storage_unit.proofs.unit.Unit.is_kept_in.Goals as goal
 
@@ -34,17 +34,20 @@ pub returns-in-Some : goal.returns-in-Some
 returns-in-Some c =
     let unit = c.args.self.now in
     let at = place unit c.args.first in
+    let size = unit.directory.page in
+    let byte : at % page_bytes size ≡ c.args.first.byte = place-byte (reach_of unit) (unit-sound unit) c.args.first 1 (omega arith) c.requires.lies in
     let found = page-found (reach_of unit) (unit-sound unit) c.args.first c.args.frame c.requires.lies c.requires.shared c.requires.frame in
-    let page : c.in-Some.page ≡ page_of unit.directory at = same _ _ (sym c.in-Some.is ∙ c.page_in.ensures ∙ found) in
-    let line : c.line_in_page-line.result ≡ line_of unit.directory at % 16 =
-    c.line_in_page-line.ensures.value ∙ ap (λ s. c.args.first.byte / line_bytes s) c.page.ensures
-    ∙ sym (line-in unit.directory.page at c.args.first.byte (place-byte (reach_of unit) (unit-sound unit) c.args.first 1 (omega arith) c.requires.lies)) in
+    let inside : at % page_bytes size + c.args.past < page_bytes size = omega (arith, byte, c.requires.within) in
+    let page : c.in-Some.page ≡ page_of unit.directory (at + c.args.past) = same _ _ (sym c.in-Some.is ∙ c.page_in.ensures ∙ found) ∙ sym (same-page-on size at c.args.past inside) in
+    let line : c.line_in_page-line.result ≡ line_of unit.directory (at + c.args.past) % 16 =
+    c.line_in_page-line.ensures.value ∙ ap (λ s. (c.args.first.byte + c.args.past) / line_bytes s) c.page.ensures
+    ∙ sym (line-in size (at + c.args.past) (c.args.first.byte + c.args.past) (rest-on size at c.args.past inside ∙ ap (λ n. n + c.args.past) byte)) in
     ap not
     (c.permits.ensures
     ∙ ap (λ (entry : Authority). lets (entry_of entry) unit.runner c.line_in_page-line.result c.args.store) c.authority.ensures
-    ∙ ap (λ p. lets (entry_of (entry_at unit.table p)) unit.runner c.line_in_page-line.result c.args.store) (page ∙ sym (page-of-line unit.directory.page at))
-    ∙ ap (λ l. lets (entry_of (entry_at unit.table (line_of unit.directory at / 16))) unit.runner l c.args.store) line)
-    ∙ sym (ap (λ p. is_kept_from (reach_of unit) p c.args.store) (shared-is unit.directory c.args.first c.requires.shared))
+    ∙ ap (λ p. lets (entry_of (entry_at unit.table p)) unit.runner c.line_in_page-line.result c.args.store) (page ∙ sym (page-of-line size (at + c.args.past)))
+    ∙ ap (λ l. lets (entry_of (entry_at unit.table (line_of unit.directory (at + c.args.past) / 16))) unit.runner l c.args.store) line)
+    ∙ sym (ap (λ p. is_kept_from (reach_of unit) (on p c.args.past) c.args.store) (shared-is unit.directory c.args.first c.requires.shared))
 
 pub returns-in-None : goal.returns-in-None
 returns-in-None c =

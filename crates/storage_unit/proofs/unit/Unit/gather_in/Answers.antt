@@ -1,8 +1,8 @@
 use Rattle.std.proofs.Common.{◌≡◌, ℕ, ◌+◌, ◌*◌, ◌≤◌, List, length, sym, ◌∙◌, ap, subst, arith}
 use Rattle.line_geometry.specs.Segments.{page_bytes}
-use Rattle.byteorder.specs.Endian.{big_bytes}
-use Rattle.byteorder.specs.Numbers.{length-bytes_high_first}
-use Rattle.romp_cpu.specs.Numbers.{IsOfNumber}
+use Rattle.flat_machine.specs.Access.{FitsFrom}
+use Rattle.flat_machine.specs.Row.{stored_bytes}
+use Rattle.romp_cpu.proofs.WholeLemmas.{stored_bytes-long}
 use Rattle.frame_pool.specs.declared.model.Pool.{Pool}
 use Rattle.frame_pool.specs.Pool.{marked_in, with_bytes, lines_of_part}
 use Rattle.frame_pool.specs.View.{pool_of}
@@ -14,20 +14,20 @@ use Rattle.storage_unit.proofs.CopyLemmas.{found-below}
 use Rattle.storage_unit.proofs.PartLemmas.{part-long, pool-after, marked-same, marked-keys}
 use Rattle.storage_unit.proofs.StoreLemmas.{marked-of_pages, put-found}
 use Rattle.storage_unit.proofs.UnitLemmas.{unit-sound}
-use Rattle.storage_unit.proofs.unit.Unit.lay_in.Goals as goal
+use Rattle.storage_unit.proofs.unit.Unit.gather_in.Goals as goal
 
 pub part_mut-requires-clause-frame : goal.part_mut-requires-clause-frame
 part_mut-requires-clause-frame c =
     let unit = c.args.self.now in
     found-below (reach_of unit) c.args.first c.args.frame (unit-sound unit) c.requires.frame
 
-pub lay_number-requires : goal.lay_number-requires
-lay_number-requires c =
+pub gather-requires : goal.gather-requires
+gather-requires c =
     let unit = c.args.self.now in
     let fits : c.args.first.byte + c.from-2.result ≤ page_bytes unit.directory.page = omega (arith, c.requires.within, c.from-2.ensures) in
-    subst (λ n. IsOfNumber n)
+    subst (λ n. FitsFrom n c.args.from)
     (sym (ap length c.part_mut.ensures.value ∙ part-long unit c.args.first c.args.frame c.from.result c.from-2.result c.requires.frame c.from.ensures fits ∙ c.from-2.ensures))
-    c.requires.bytes
+    c.requires.fits
 
 pub invariant_of-self : goal.invariant_of-self
 invariant_of-self c =
@@ -36,10 +36,10 @@ invariant_of-self c =
     let n = c.from-2.result in
     let fits : c.args.first.byte + n ≤ page_bytes unit.directory.page = omega (arith, c.requires.within, c.from-2.ensures) in
     let lines : List ℕ = lines_of_part unit.pool.places.page c.from.result n in
-    let long : length c.lay_number.new.into ≡ n =
-    ap length c.lay_number.ensures ∙ length-bytes_high_first (length c.part_mut.result.now) c.args.number
-    ∙ ap length c.part_mut.ensures.value ∙ part-long unit c.args.first frame c.from.result n c.requires.frame c.from.ensures fits in
-    let new = pool-after unit c.args.first frame c.from.result n c.requires.frame c.from.ensures fits lines c.lay_number.new.into long in
+    let part : length c.part_mut.result.now ≡ n = ap length c.part_mut.ensures.value ∙ part-long unit c.args.first frame c.from.result n c.requires.frame c.from.ensures fits in
+    let long : length c.gather.new.into ≡ n =
+    ap length (c.gather.ensures ∙ ap (λ m. stored_bytes c.args.regs.now m c.args.from) (part ∙ c.from-2.ensures)) ∙ stored_bytes-long c.args.regs.now c.args.bytes c.args.from c.told-regs c.requires.fits ∙ sym c.from-2.ensures in
+    let new = pool-after unit c.args.first frame c.from.result n c.requires.frame c.from.ensures fits lines c.gather.new.into long in
     let same = marked-same (pool_of unit.pool) frame lines in
     record {
       sixteen = unit.sixteen;
@@ -59,16 +59,15 @@ returns c =
     let unit = c.args.self.now in
     let frame = c.args.frame in
     let n = c.from-2.result in
-    let list : List ℕ = big_bytes c.args.bytes c.args.number in
+    let list : List ℕ = stored_bytes c.args.regs.now c.args.bytes c.args.from in
     let fits : c.args.first.byte + n ≤ page_bytes unit.directory.page = omega (arith, c.requires.within, c.from-2.ensures) in
     let lines : List ℕ = lines_of_part unit.pool.places.page c.from.result n in
     let part : length c.part_mut.result.now ≡ n = ap length c.part_mut.ensures.value ∙ part-long unit c.args.first frame c.from.result n c.requires.frame c.from.ensures fits in
-    let long : length c.lay_number.new.into ≡ n = ap length c.lay_number.ensures ∙ length-bytes_high_first (length c.part_mut.result.now) c.args.number ∙ part in
-    let whole : length list ≡ c.args.bytes = length-bytes_high_first c.args.bytes c.args.number in
-    let new = pool-after unit c.args.first frame c.from.result n c.requires.frame c.from.ensures fits lines c.lay_number.new.into long in
+    let whole : length list ≡ c.args.bytes = stored_bytes-long c.args.regs.now c.args.bytes c.args.from c.told-regs c.requires.fits in
+    let is : c.gather.new.into ≡ list = c.gather.ensures ∙ ap (λ m. stored_bytes c.args.regs.now m c.args.from) (part ∙ c.from-2.ensures) in
+    let new = pool-after unit c.args.first frame c.from.result n c.requires.frame c.from.ensures fits lines c.gather.new.into (ap length is ∙ whole ∙ sym c.from-2.ensures) in
     ap (λ (p : Pool). (let now : Reach = record (reach_of unit) { pool = p } in now)) new
-    ∙ ap (λ (part : List ℕ). (let now : Reach = record (reach_of unit) { pool = with_bytes (marked_in (pool_of unit.pool) frame lines) (frame * page_bytes unit.pool.places.page + c.from.result) part } in now))
-    (c.lay_number.ensures ∙ ap (λ m. big_bytes m c.args.number) (part ∙ c.from-2.ensures))
+    ∙ ap (λ (part : List ℕ). (let now : Reach = record (reach_of unit) { pool = with_bytes (marked_in (pool_of unit.pool) frame lines) (frame * page_bytes unit.pool.places.page + c.from.result) part } in now)) is
     ∙ ap (λ b. (let now : Reach = record (reach_of unit) { pool = with_bytes (marked_in (pool_of unit.pool) frame (lines_of_part unit.pool.places.page b n)) (frame * page_bytes unit.pool.places.page + b) list } in now)) c.from.ensures
     ∙ ap (λ m. (let now : Reach = record (reach_of unit) { pool = with_bytes (marked_in (pool_of unit.pool) frame (lines_of_part unit.pool.places.page c.args.first.byte m)) (frame * page_bytes unit.pool.places.page + c.args.first.byte) list } in now)) (c.from-2.ensures ∙ sym whole)
-    ∙ put-found (reach_of unit) (unit-sound unit) c.args.first list (omega (arith, whole, c.requires.bytes.some)) (subst (Lies (reach_of unit) c.args.first) (sym whole) c.requires.lies) (omega (arith, whole, c.requires.within)) frame c.requires.frame
+    ∙ put-found (reach_of unit) (unit-sound unit) c.args.first list (omega (arith, whole, c.requires.fits.some)) (subst (Lies (reach_of unit) c.args.first) (sym whole) c.requires.lies) (omega (arith, whole, c.requires.within)) frame c.requires.frame
