@@ -1,22 +1,23 @@
 -- The words of a command line.
-use Rattle.std.proofs.Common.{◌≡◌, ◌≢◌, ℕ, zero, suc, ◌-◌, ◌*◌, ◌^◌, ◌<◌, ◌≤◌, Bool, false, List, [], ◌∷◌, length, get_or, map, take, drop, refl, sym, ◌∙◌, ap, subst, arith, Option, Some, None}
-use Rattle.std.specs.Prelude.{Result, Ok, Err, MatchResult, MatchOption, String, string_bytes, All, slice_index, ◌==◌}
+use Rattle.std.proofs.Common.{◌≡◌, ◌≢◌, ℕ, zero, suc, ◌+◌, ◌-◌, ◌*◌, ◌/◌, ◌%◌, ◌^◌, ◌<◌, ◌≤◌, Bool, true, false, List, [], ◌∷◌, length, get_or, map, take, take-suc, drop, refl, sym, ◌∙◌, ap, subst, arith, Option, Some, None}
+use Rattle.std.specs.Prelude.{Result, Ok, Err, MatchResult, MatchOption, String, string_bytes, All, slice_index, ◌==◌, ◌++◌, option_map, codes}
 use Rattle.std.specs.declared.alloc.Global.{Global}
 use Rattle.std.specs.Str.Parse.{ParsesUnsigned, IsNumeral, digits_value, without_leading_plus}
 use Rattle.std.specs.Result.{OkIff}
 use Rattle.std.proofs.lemmas.Bool.{le-leb}
 use Rattle.std.proofs.lemmas.Bool.Decides.{nat_tests}
-use Rattle.std.proofs.lemmas.List.{take_all}
+use Rattle.std.proofs.lemmas.List.{take_all, take_at, get_or-append_right, length-append, length-map, length-take, map-append}
+use Rattle.std.proofs.lemmas.Nat.{pow_pos}
 use Rattle.asm_parse.specs.Number.{number_in}
 use Rattle.asm_parse.proofs.NumberLemmas.{as_number}
 use Rattle.line_geometry.specs.declared.directory.PageSize.{PageSize}
 use Rattle.line_geometry.specs.declared.directory.PageSize.TheVariants.{Two, Four}
-use Rattle.line_geometry.specs.Legal.{IsInRange}
+use Rattle.line_geometry.specs.Legal.{IsInRange, AreFlags}
 use Rattle.store_format.specs.Header.{Header}
 use Rattle.store_calls.specs.declared.show.Range.{Range}
 use Rattle.console.specs.declared.words.Command.{Command}
 use Rattle.console.specs.declared.words.Command.TheVariants as command
-use Rattle.console.specs.Words.{AreNumbers, AreWithin, IsAlone, IsForm, IsNoForm, IsNumbered, IsOnStore, NamesStore, SaysNumber, new_word, number_of, number_said, numbers_of, spread, word_of}
+use Rattle.console.specs.Words.{AreNumbers, AreWithin, IsAlone, IsForm, IsNoForm, IsNumbered, IsOnStore, NamesStore, SaysNumber, ends_marked, marked_of, new_word, number_of, number_said, numbers_of, plain, spread, word_of}
 
 -- a word of at most ten bytes
 short : (word : List ℕ) → length word ≤ 10 → number_of word ≡ number_in 10 word
@@ -36,9 +37,37 @@ parsed {E} word result some few plain gives =
     answered (Ok number) is = as_number 10 word (Some number) some ((is.0.0.1, is.0.1), is.1) ∙ sym (short word few)
     answered (Err fault) is = as_number 10 word None some (λ told. is ((some, told.0), told.1)) ∙ sym (short word few)
 
+-- a word with the mark behind it, and one without
+last_byte : (front : List ℕ) (byte : ℕ) → slice_index (front ++ byte ∷ []) (length (front ++ byte ∷ []) - 1) ≡ byte
+last_byte front byte =
+    let long : length (front ++ byte ∷ []) - 1 ≡ length front = omega (arith, length-append front (byte ∷ [])) in
+    ap (slice_index (front ++ byte ∷ [])) long ∙ get_or-append_right front (byte ∷ []) (length front) (length front) 0 refl (omega arith) ∙ ap (slice_index (byte ∷ [])) (let none : length front - length front ≡ 0 = omega arith in none)
+
+pub with_mark : (word front : List ℕ) → word ≡ front ++ 102 ∷ [] → marked_of word ≡ option_map (λ number. (number, true)) (number_of front)
+with_mark word front is =
+    let ends : ends_marked word ≡ true = ap ends_marked is ∙ ap (λ (n : ℕ). n == 102) (last_byte front 102) in
+    let rest : take (length word - 1) word ≡ front =
+    ap (λ (these : List ℕ). take (length these - 1) these) is ∙ take_at front (102 ∷ []) (length (front ++ 102 ∷ []) - 1) (omega (arith, length-append front (102 ∷ []))) in
+    rw (ends, rest) refl
+
+pub without_mark : (word : List ℕ) → ((front : List ℕ) → word ≢ front ++ 102 ∷ []) → marked_of word ≡ option_map (λ number. (number, false)) (number_of word)
+without_mark word other = by_end (ends_marked word) refl
+  where
+    ended : (word : List ℕ) → ends_marked word ≡ true → word ≡ take (length word - 1) word ++ 102 ∷ []
+    ended [] ends = cc
+    ended (byte ∷ word) ends =
+        let last : slice_index (byte ∷ word) (length word) ≡ 102 = grind (arith, nat_tests, ends) in
+        let same : length word ≡ length (byte ∷ word) - 1 = omega arith in
+        sym (take_all (suc (length word)) (byte ∷ word) (omega arith)) ∙ take-suc (byte ∷ word) (length word) 0 (omega arith) ∙ ap (λ (n : ℕ). take (length word) (byte ∷ word) ++ n ∷ []) last
+        ∙ ap (λ (n : ℕ). take n (byte ∷ word) ++ 102 ∷ []) same
+
+    by_end : (ends : Bool) → ends_marked word ≡ ends → marked_of word ≡ option_map (λ number. (number, false)) (number_of word)
+    by_end true is = absurd (other (take (length word - 1) word) (ended word is))
+    by_end false is = rw is refl
+
 -- a word that is no number
-pub no_number : (words : List (String Global)) (i : ℕ) (word : String Global) → i < length words → word ≡ get_or words i word → None ≡ number_of (string_bytes word)
-    → (numbers : List ℕ) → AreNumbers (map string_bytes words) numbers → ⊥
+pub no_number : (words : List (String Global)) (i : ℕ) (word : String Global) → i < length words → word ≡ get_or words i word → None ≡ marked_of (string_bytes word)
+    → (numbers : List (ℕ × Bool)) → AreNumbers (map string_bytes words) numbers → ⊥
 no_number [] i word here is none numbers are = omega arith
 no_number (first ∷ words) zero word here is none [] are = cc
 no_number (first ∷ words) zero word here is none (number ∷ numbers) are = cc
@@ -46,7 +75,7 @@ no_number (first ∷ words) (suc i) word here is none [] are = cc
 no_number (first ∷ words) (suc i) word here is none (number ∷ numbers) are = no_number words i word (omega arith) is none numbers (cc)
 
 -- words are one list of numbers
-same_numbers : (one two : List ℕ) → map (λ number. Some number) one ≡ map (λ number. Some number) two → one ≡ two
+same_numbers : (one two : List (ℕ × Bool)) → map (λ number. Some number) one ≡ map (λ number. Some number) two → one ≡ two
 same_numbers [] [] same = refl
 same_numbers [] (second ∷ two) same = cc
 same_numbers (first ∷ one) [] same = cc
@@ -55,33 +84,59 @@ same_numbers (first ∷ one) (second ∷ two) same =
     let tail = same_numbers one two (cc) in
     cc
 
-pub one_list : (words : List (List ℕ)) (one two : List ℕ) → AreNumbers words one → AreNumbers words two → one ≡ two
+pub one_list : (words : List (List ℕ)) (one two : List (ℕ × Bool)) → AreNumbers words one → AreNumbers words two → one ≡ two
 one_list words one two first second = same_numbers one two (sym first ∙ second)
 
--- numbers are those of one list of segments
-pub one_spread : (one two : List (ℕ × ℕ)) → spread one ≡ spread two → one ≡ two
-one_spread [] [] same = refl
-one_spread [] (second ∷ two) same = cc
-one_spread (first ∷ one) [] same = cc
-one_spread ((a, b) ∷ one) ((c, d) ∷ two) same =
-    let tail = one_spread one two (cc) in
-    cc
+-- flags are the lowest and the others
+same_flags : (fine other : ℕ) → fine / 2 ≡ other / 2 → (fine % 2 == 1) ≡ (other % 2 == 1) → fine ≡ other
+same_flags fine other halves lowest = grind (arith, nat_tests)
 
-pub length-spread : (segments : List (ℕ × ℕ)) → length (spread segments) ≡ 2 * length segments
-length-spread [] = refl
-length-spread (segment ∷ segments) = let rest = length-spread segments in omega (arith, rest)
+half_below : (fine count : ℕ) → fine < 2 ^ suc count → fine / 2 < 2 ^ count
+half_below fine count less = omega (arith, less)
+
+-- one word more
+pub numbers_more : (words : List (String Global)) (i : ℕ) (word : String Global) (items : List (ℕ × Bool)) (number : ℕ × Bool) → i < length words → word ≡ get_or words i word → AreNumbers (map string_bytes (take i words)) items
+    → marked_of (string_bytes word) ≡ Some number → AreNumbers (map string_bytes (take (i + 1) words)) (items ++ number ∷ [])
+numbers_more words i word items number below is are said =
+    let next : i + 1 ≡ suc i = omega arith in
+    let front = take i words in
+    ap (λ (n : ℕ). map marked_of (map string_bytes (take n words))) next
+    ∙ ap (λ (those : List (String Global)). map marked_of (map string_bytes those)) (take-suc words i word below)
+    ∙ ap (λ (last : String Global). map marked_of (map string_bytes (front ++ last ∷ []))) (sym is)
+    ∙ ap (map marked_of) (map-append string_bytes front (word ∷ []))
+    ∙ map-append marked_of (map string_bytes front) (string_bytes word ∷ [])
+    ∙ ap (λ (those : List (Option (ℕ × Bool))). those ++ marked_of (string_bytes word) ∷ []) are
+    ∙ ap (λ (last : Option (ℕ × Bool)). map (λ (number : ℕ × Bool). Some number) items ++ last ∷ []) said
+    ∙ sym (map-append (λ (number : ℕ × Bool). Some number) items (number ∷ []))
+
+-- as many numbers as words
+pub as_many : (words : List (List ℕ)) (numbers : List (ℕ × Bool)) → AreNumbers words numbers → length words ≡ length numbers
+as_many words numbers are = sym (length-map words marked_of) ∙ ap length are ∙ length-map numbers (λ (number : ℕ × Bool). Some number)
+
+-- numbers are those of one list of segments with one list of flags
+pub one_spread : (one two : List (ℕ × ℕ)) (fine other : ℕ) → fine < 2 ^ length one → other < 2 ^ length two → spread one fine ≡ spread two other → (one ≡ two) × (fine ≡ other)
+one_spread [] [] fine other few less same = (refl, omega (arith, few, less))
+one_spread [] (second ∷ two) fine other few less same = cc
+one_spread (first ∷ one) [] fine other few less same = cc
+one_spread (first ∷ one) (second ∷ two) fine other few less same =
+    let behind : spread one (fine / 2) ≡ spread two (other / 2) = ap (drop 2) same in
+    let tail = one_spread one two (fine / 2) (other / 2) (half_below fine (length one) few) (half_below other (length two) less) behind in
+    let identifier : first.0 ≡ second.0 = ap (λ (those : List (ℕ × Bool)). (get_or those 0 (0, false)).0) same in
+    let pages : first.1 ≡ second.1 = ap (λ (those : List (ℕ × Bool)). (get_or those 1 (0, false)).0) same in
+    let low : (fine % 2 == 1) ≡ (other % 2 == 1) = ap (λ (those : List (ℕ × Bool)). (get_or those 1 (0, false)).1) same in
+    ((λ i. (identifier i, pages i) ∷ tail.0 i), same_flags fine other tail.1 low)
+
+pub length-spread : (segments : List (ℕ × ℕ)) (fine : ℕ) → length (spread segments fine) ≡ 2 * length segments
+length-spread [] fine = refl
+length-spread (segment ∷ segments) fine = let rest = length-spread segments (fine / 2) in omega (arith, rest)
 
 -- what follows the first two
 behind_two : {A : Type 0} (first second : A) (rest : List A) → take (length (first ∷ second ∷ rest) - 2) (drop 2 (first ∷ second ∷ rest)) ≡ rest
 behind_two first second rest = take_all (length (first ∷ second ∷ rest) - 2) rest (omega arith)
 
 -- numbers of segments begin with those of one
-pub first_in_range : (numbers : List ℕ) (more : List (ℕ × ℕ)) → 2 ≤ length numbers → numbers ≡ spread more → All IsInRange more → IsInRange (get_or numbers 0 0, get_or numbers 1 0)
-first_in_range numbers [] two is range = absurd (let none : length numbers ≡ 0 = ap length is in omega arith)
-first_in_range numbers ((a, b) ∷ more) two is range = rw is (range 0 (a, b) (omega arith))
-
-pub behind_first : (numbers : List ℕ) (segment : ℕ × ℕ) (more : List (ℕ × ℕ)) → numbers ≡ spread (segment ∷ more) → take (length numbers - 2) (drop 2 numbers) ≡ spread more
-behind_first numbers segment more is = rw is (behind_two segment.0 segment.1 (spread more))
+pub behind_first : (numbers : List (ℕ × Bool)) (segment : ℕ × ℕ) (more : List (ℕ × ℕ)) (fine : ℕ) → numbers ≡ spread (segment ∷ more) fine → take (length numbers - 2) (drop 2 numbers) ≡ spread more (fine / 2)
+behind_first numbers segment more fine is = rw is (behind_two (segment.0, false) (segment.1, fine % 2 == 1) (spread more (fine / 2)))
 
 -- one word alone
 pub alone : (words : List (String Global)) (word : String Global) (bytes : List ℕ) (result : Option Command) → 1 ≤ length words → length words < 2 → word ≡ get_or words 0 word → bytes ≡ string_bytes word
@@ -99,6 +154,7 @@ alone (first ∷ []) word bytes None some one is same given = no
     no command.Run form = let are = form.says.are in cc
     no (command.Show range) form = let are = form.says.are in cc
     no (command.New header) form = let are = form.says.are in cc
+    no (command.Renew bank) form = let are = form.says.are in cc
     no (command.Big transfers) form = let are = form.says.are in cc
     no (command.Trace activation) form = let are = form.says.are in cc
 alone (first ∷ []) word bytes (Some command.Try) some one is same given = let said = given.1 in record { says = cc; within = tt }
@@ -108,6 +164,7 @@ alone (first ∷ []) word bytes (Some command.Audit) some one is same given = le
 alone (first ∷ []) word bytes (Some command.Run) some one is same given = absurd given.0
 alone (first ∷ []) word bytes (Some (command.Show range)) some one is same given = absurd given.0
 alone (first ∷ []) word bytes (Some (command.New header)) some one is same given = absurd given.0
+alone (first ∷ []) word bytes (Some (command.Renew bank)) some one is same given = absurd given.0
 alone (first ∷ []) word bytes (Some (command.Big transfers)) some one is same given = absurd given.0
 alone (first ∷ []) word bytes (Some (command.Trace activation)) some one is same given = absurd given.0
 
@@ -117,7 +174,7 @@ not_empty [] empty is not none = cc
 not_empty (byte ∷ bytes) empty is not none = cc
 
 -- a word, a store and numbers
-pub with_store : (words : List (String Global)) (word store : String Global) (bytes : List ℕ) (numbers : List ℕ) (result : Option Command) → 2 ≤ length words
+pub with_store : (words : List (String Global)) (word store : String Global) (bytes : List ℕ) (numbers : List (ℕ × Bool)) (result : Option Command) → 2 ≤ length words
     → word ≡ get_or words 0 word → store ≡ get_or words 1 store → bytes ≡ string_bytes word → string_bytes store ≢ []
     → AreNumbers (map string_bytes (take (length words - 2) (drop 2 words))) numbers
     → ((form : Command) → IsNumbered form → IsForm form words → ⊥)
@@ -137,7 +194,7 @@ with_store (first ∷ second ∷ rest) word store bytes numbers result two is th
       some = some;
       numbers = map string_bytes rest;
       are = cc;
-      say = subst (λ (those : List ℕ). AreNumbers (map string_bytes rest) those) said_numbers these;
+      say = subst (λ (those : List (ℕ × Bool)). AreNumbers (map string_bytes rest) those) said_numbers these;
     }
 
     unnamed : (form : Command) → ((form : Command) → IsOnStore form → bytes ≡ word_of form → numbers ≡ numbers_of form → AreWithin form → ⊥) → IsOnStore form → AreWithin form → NamesStore form (map string_bytes (first ∷ second ∷ rest)) → ⊥
@@ -154,6 +211,7 @@ with_store (first ∷ second ∷ rest) word store bytes numbers result two is th
     no none command.Run form = unnamed command.Run none tt form.within form.says
     no none (command.Show range) form = unnamed (command.Show range) none tt form.within form.says
     no none (command.New header) form = unnamed (command.New header) none tt form.within form.says
+    no none (command.Renew bank) form = unnamed (command.Renew bank) none tt form.within form.says
     no none (command.Big transfers) form = no_number_said (command.Big transfers) tt form
     no none (command.Trace activation) form = no_number_said (command.Trace activation) tt form
 
@@ -171,9 +229,10 @@ with_store (first ∷ second ∷ rest) word store bytes numbers result two is th
     answered (Some command.Run) given = record { says = named command.Run given.1 given.2; within = given.3 }
     answered (Some (command.Show range)) given = record { says = named (command.Show range) given.1 given.2; within = given.3 }
     answered (Some (command.New header)) given = record { says = named (command.New header) given.1 given.2; within = given.3 }
+    answered (Some (command.Renew bank)) given = record { says = named (command.Renew bank) given.1 given.2; within = given.3 }
 
 -- behind a store there are words that aren't numbers, or too many
-pub without_numbers : (words : List (String Global)) → 2 ≤ length words → ((numbers : List ℕ) → length numbers ≤ 31 → AreNumbers (map string_bytes (take (length words - 2) (drop 2 words))) numbers → ⊥) → ((form : Command) → IsNumbered form → IsForm form words → ⊥) → IsNoForm words
+pub without_numbers : (words : List (String Global)) → 2 ≤ length words → ((numbers : List (ℕ × Bool)) → length numbers ≤ 31 → AreNumbers (map string_bytes (take (length words - 2) (drop 2 words))) numbers → ⊥) → ((form : Command) → IsNumbered form → IsForm form words → ⊥) → IsNoForm words
 without_numbers [] two none no_number_said form is = omega arith
 without_numbers (first ∷ []) two none no_number_said form is = omega arith
 without_numbers (first ∷ second ∷ rest) two none no_number_said form is = no form is
@@ -190,7 +249,8 @@ without_numbers (first ∷ second ∷ rest) two none no_number_said form is = no
     no command.Audit form = let says = form.says in cc
     no command.Run form = unnamed command.Run (omega arith) form.says
     no (command.Show range) form = unnamed (command.Show range) (omega arith) form.says
-    no (command.New header) form = unnamed (command.New header) (let few = form.within.1.few in omega (arith, few, length-spread header.directory.segments)) form.says
+    no (command.Renew bank) form = unnamed (command.Renew bank) (omega arith) form.says
+    no (command.New header) form = unnamed (command.New header) (let few = form.within.1.few in omega (arith, few, length-spread header.directory.segments header.directory.fine)) form.says
     no (command.Big transfers) form = no_number_said (command.Big transfers) tt form
     no (command.Trace activation) form = no_number_said (command.Trace activation) tt form
 
@@ -221,11 +281,20 @@ one_trace words one two first second = same_number (command.Trace one) (command.
 -- and so one range, or one header
 pub one_range : (words : List (String Global)) (one two : Range) → IsForm (command.Show one) words → IsForm (command.Show two) words → one ≡ two
 one_range words one two first second =
-    let same : one.segment ∷ one.from ∷ one.count ∷ [] ≡ two.segment ∷ two.from ∷ two.count ∷ [] = same_words (command.Show one) (command.Show two) (map string_bytes words) first.says second.says in
-    let segment : one.segment ≡ two.segment = cc in
-    let from : one.from ≡ two.from = cc in
-    let count : one.count ≡ two.count = cc in
+    let same : plain (one.segment ∷ one.from ∷ one.count ∷ []) ≡ plain (two.segment ∷ two.from ∷ two.count ∷ []) = same_words (command.Show one) (command.Show two) (map string_bytes words) first.says second.says in
+    let segment : one.segment ≡ two.segment = number 0 same in
+    let from : one.from ≡ two.from = number 1 same in
+    let count : one.count ≡ two.count = number 2 same in
     λ i. record { segment = segment i; from = from i; count = count i }
+  where
+    number : {first second : List (ℕ × Bool)} (at : ℕ) → first ≡ second → (get_or first at (0, false)).0 ≡ (get_or second at (0, false)).0
+    number at same = ap (λ (those : List (ℕ × Bool)). (get_or those at (0, false)).0) same
+
+-- and one bank
+pub one_bank : (words : List (String Global)) (one two : ℕ) → IsForm (command.Renew one) words → IsForm (command.Renew two) words → one ≡ two
+one_bank words one two first second =
+    let same : plain (one ∷ []) ≡ plain (two ∷ []) = same_words (command.Renew one) (command.Renew two) (map string_bytes words) first.says second.says in
+    ap (λ (those : List (ℕ × Bool)). (get_or those 0 (0, false)).0) same
 
 -- a word that makes a store is of one size of pages
 one_page : (one two : PageSize) → new_word one ≡ new_word two → one ≡ two
@@ -234,12 +303,17 @@ one_page Four Four same = refl
 one_page Two Four same = absurd (cc)
 one_page Four Two same = absurd (cc)
 
+pub flags_few : (page : PageSize) (segments : List (ℕ × ℕ)) (fine : ℕ) → AreFlags page segments fine → fine < 2 ^ length segments
+flags_few Two segments fine flags = omega (arith, flags, pow_pos (length segments))
+flags_few Four segments fine flags = flags
+
 pub one_header : (words : List (String Global)) (one two : Header) → IsForm (command.New one) words → IsForm (command.New two) words → one ≡ two
 one_header words one two first second =
-    let same : one.bank_bytes ∷ spread one.directory.segments ≡ two.bank_bytes ∷ spread two.directory.segments = same_words (command.New one) (command.New two) (map string_bytes words) first.says second.says in
-    let bank : one.bank_bytes ≡ two.bank_bytes = cc in
-    let segments : one.directory.segments ≡ two.directory.segments = one_spread one.directory.segments two.directory.segments (cc) in
+    let same : (one.bank_bytes, false) ∷ spread one.directory.segments one.directory.fine ≡ (two.bank_bytes, false) ∷ spread two.directory.segments two.directory.fine =
+    same_words (command.New one) (command.New two) (map string_bytes words) first.says second.says in
+    let bank : one.bank_bytes ≡ two.bank_bytes = ap (λ (those : List (ℕ × Bool)). (get_or those 0 (0, false)).0) same in
+    let spreads = one_spread one.directory.segments two.directory.segments one.directory.fine two.directory.fine
+    (flags_few one.directory.page one.directory.segments one.directory.fine first.within.2) (flags_few two.directory.page two.directory.segments two.directory.fine second.within.2) (ap (drop 1) same) in
     let said : new_word one.directory.page ≡ new_word two.directory.page = let here = first.says.are in let there = second.says.are in cc in
     let page = one_page one.directory.page two.directory.page said in
-    let fine : one.directory.fine ≡ two.directory.fine = first.within.2 ∙ sym second.within.2 in
-    λ i. record { directory = record { page = page i; segments = segments i; fine = fine i }; bank_bytes = bank i }
+    λ i. record { directory = record { page = page i; segments = spreads.0 i; fine = spreads.1 i }; bank_bytes = bank i }

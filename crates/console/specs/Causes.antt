@@ -1,6 +1,8 @@
 -- What a command may end with, and what it needs to end well.
 use Rattle.std.specs.Prelude.{◌≡◌, ◌≤◌, ℕ, List, [], length, Option, Some, String, IsSome, IsTrue}
 use Rattle.std.specs.declared.alloc.Global.{Global}
+use Rattle.line_geometry.specs.FlatStore.{FlatStore}
+use Rattle.store_format.specs.Stands.{Stands}
 use Rattle.outside.specs.declared.world.Outside.{Ghosts}
 use Rattle.outside.specs.Runs.{held_of}
 use Rattle.call_status.specs.declared.status.Status.{Status}
@@ -11,6 +13,7 @@ use Rattle.call_status.specs.Reading.{IsSomeJob}
 use Rattle.call_status.specs.Statuses.{IsOfLines}
 use Rattle.store_calls.specs.Show.{HasRange, IsOfShow}
 use Rattle.store_calls.specs.New.{IsOfNew}
+use Rattle.store_calls.specs.Renewed.{IsOfRenew, standing_as_one}
 use Rattle.job_calls.specs.Causes.{IsOfEvents, IsOfRun}
 use Rattle.bundle_calls.specs.Audited.{IsOfAudit}
 use Rattle.bundle_calls.specs.Traced.{IsOfTrace}
@@ -27,7 +30,16 @@ pub record HasJob (left : Option (List ℕ)) : Type 0 where
 abbrev pub HasStore : {W : Type 0} → Ghosts W → W → Type 0
 HasStore G outside = IsTrue (G.is_honest outside) × IsSome (G.held outside) × IsStanding (held_of G outside)
 
--- what a command needs: the text of a job and a store to run it on, to list it or to drill it; bytes that stand for a store with a range; an empty disk; a store to
+-- the source has a store of version 1, whole
+pub record HasOldStore (left : Option (List ℕ)) : Type 0 where
+  pub text : List ℕ
+  pub has_text : left ≡ Some text
+  pub few : length text ≤ 4194304
+  pub number : ℕ
+  pub store : FlatStore
+  pub stood : standing_as_one text ≡ Stands number store
+
+-- what a command needs: the text of a job and a store to run it on, to list it or to drill it; bytes that stand for a store with a range; an empty disk, and a store of version 1 to renew; a store to
 -- run a load on. Of a bundle's two commands nothing is promised: their statuses name the part that is wrong.
 abbrev pub HasAll : {W : Type 0} → Ghosts W → Command → Option (List ℕ) → W → Type 0
 HasAll G command.Try left outside = HasJob left × HasStore G outside
@@ -36,6 +48,7 @@ HasAll G command.List left outside = HasJob left
 HasAll G command.Drill left outside = HasJob left
 HasAll G (command.Show range) left outside = IsSome (G.held outside) × HasRange G range outside
 HasAll G (command.New header) left outside = G.held outside ≡ Some []
+HasAll G (command.Renew bank) left outside = HasOldStore left × (G.held outside ≡ Some [])
 HasAll G (command.Big transfers) left outside = HasStore G outside
 HasAll G command.Audit left outside = ⊥
 HasAll G (command.Trace activation) left outside = ⊥
@@ -54,6 +67,7 @@ IsOf command.List = IsOfLines
 IsOf command.Drill = IsOfLines
 IsOf (command.Show range) = IsOfShow
 IsOf (command.New header) = IsOfNew
+IsOf (command.Renew bank) = IsOfRenew
 IsOf (command.Big transfers) = IsOfEvents
 IsOf command.Audit = IsOfAudit
 IsOf (command.Trace activation) = IsOfTrace

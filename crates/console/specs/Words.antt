@@ -1,11 +1,10 @@
 -- The words of the command line.
-use Rattle.std.specs.Prelude.{◌≡◌, ◌≢◌, ◌⊎◌, ℕ, ◌≤◌, nat_le, if◌then◌else◌, List, [], ◌∷◌, map, length, codes, Option, Some, None, String, string_bytes}
-use Rattle.std.specs.List.{flat_map}
+use Rattle.std.specs.Prelude.{◌≡◌, ◌≢◌, ◌⊎◌, ℕ, ◌-◌, ◌/◌, ◌%◌, ◌≤◌, ◌==◌, nat_le, if◌then◌else◌, Bool, true, false, List, [], ◌∷◌, map, length, take, slice_index, codes, Option, Some, None, option_map, String, string_bytes}
 use Rattle.std.specs.declared.alloc.Global.{Global}
 use Rattle.asm_parse.specs.Number.{number_in}
 use Rattle.line_geometry.specs.declared.directory.PageSize.{PageSize}
 use Rattle.line_geometry.specs.declared.directory.PageSize.TheVariants.{Two, Four}
-use Rattle.line_geometry.specs.Legal.{IsLegal}
+use Rattle.line_geometry.specs.Legal.{IsLegal, AreFlags}
 use Rattle.store_format.specs.Header.{HasRanges}
 use Rattle.console.specs.declared.words.Command.{Command}
 use Rattle.console.specs.declared.words.Command.TheVariants as command
@@ -23,6 +22,7 @@ word_of command.List = codes "list"
 word_of command.Drill = codes "drill"
 word_of (command.Show range) = codes "show"
 word_of (command.New header) = new_word header.directory.page
+word_of (command.Renew bank) = codes "renew"
 word_of (command.Big transfers) = codes "big"
 word_of command.Audit = codes "audit"
 word_of (command.Trace activation) = codes "trace"
@@ -31,24 +31,41 @@ word_of (command.Trace activation) = codes "trace"
 abbrev pub number_of : List ℕ → Option ℕ
 number_of word = if nat_le (length word) 10 then number_in 10 word else None
 
--- these words are these numbers
-abbrev pub AreNumbers : List (List ℕ) → List ℕ → Type 0
-AreNumbers words numbers = map number_of words ≡ map (λ number. Some number) numbers
+-- whether the last byte of a word is the letter `f`
+abbrev pub ends_marked : List ℕ → Bool
+ends_marked word = slice_index word (length word - 1) == 102
 
--- the numbers of segments: the identifier of each, and its pages
-abbrev pub spread : List (ℕ × ℕ) → List ℕ
-spread segments = flat_map (λ segment. segment.0 ∷ segment.1 ∷ []) segments
+-- the number that a word says, and whether the mark `f` stands behind its digits
+abbrev pub marked_of : List ℕ → Option (ℕ × Bool)
+marked_of word =
+    if ends_marked word then option_map (λ number. (number, true)) (number_of (take (length word - 1) word))
+    else option_map (λ number. (number, false)) (number_of word)
 
--- the numbers of a command: a range's segment, first offset and number of bytes, or a bank's bytes and the segments of a new store
-abbrev pub numbers_of : Command → List ℕ
-numbers_of (command.Show range) = range.segment ∷ range.from ∷ range.count ∷ []
-numbers_of (command.New header) = header.bank_bytes ∷ spread header.directory.segments
+-- these words are these numbers, each with its mark or without
+abbrev pub AreNumbers : List (List ℕ) → List (ℕ × Bool) → Type 0
+AreNumbers words numbers = map marked_of words ≡ map (λ number. Some number) numbers
+
+-- numbers without a mark
+abbrev pub plain : List ℕ → List (ℕ × Bool)
+plain numbers = map (λ number. (number, false)) numbers
+
+-- the numbers of segments: the identifier of each, and its pages, which are marked where the segment is fine: the lowest flag is the first's
+abbrev pub spread : List (ℕ × ℕ) → ℕ → List (ℕ × Bool)
+spread [] fine = []
+spread (segment ∷ rest) fine = (segment.0, false) ∷ (segment.1, fine % 2 == 1) ∷ spread rest (fine / 2)
+
+-- the numbers of a command: a range's segment, first offset and number of bytes, or a bank's bytes, and the segments of a new store
+abbrev pub numbers_of : Command → List (ℕ × Bool)
+numbers_of (command.Show range) = plain (range.segment ∷ range.from ∷ range.count ∷ [])
+numbers_of (command.New header) = (header.bank_bytes, false) ∷ spread header.directory.segments header.directory.fine
+numbers_of (command.Renew bank) = plain (bank ∷ [])
 numbers_of _ = []
 
--- they are within their bounds: at most 65,536 bytes are shown, a new store has a header with no fine segment, and a load has 1 to 512 transfers
+-- they are within their bounds: at most 65,536 bytes are shown, a new store has a header, in which only pages of 4,096 bytes are fine, a renewed one has a bank of a header, and a load has 1 to 512 transfers
 abbrev pub AreWithin : Command → Type 0
 AreWithin (command.Show range) = range.count ≤ 65536
-AreWithin (command.New header) = HasRanges header × IsLegal header.directory.segments × (header.directory.fine ≡ 0)
+AreWithin (command.New header) = HasRanges header × IsLegal header.directory.segments × AreFlags header.directory.page header.directory.segments header.directory.fine
+AreWithin (command.Renew bank) = (4096 ≤ bank) × (bank ≤ 131072)
 AreWithin (command.Big transfers) = (1 ≤ transfers) × (transfers ≤ 512)
 AreWithin _ = Unit {0}
 
@@ -77,6 +94,7 @@ abbrev pub IsOnStore : Command → Type 0
 IsOnStore command.Run = Unit {0}
 IsOnStore (command.Show range) = Unit {0}
 IsOnStore (command.New header) = Unit {0}
+IsOnStore (command.Renew bank) = Unit {0}
 IsOnStore _ = ⊥
 
 -- the words are a command's word, a store, which is any word that isn't empty, and the command's numbers
@@ -127,3 +145,7 @@ OpensSession words = RunsJob words ⊎ ((transfers : ℕ) × IsForm (command.Big
 -- the words ask for a bundle to be read: `audit`, or `trace` with an activation
 abbrev pub ReadsBundle : List (String Global) → Type 0
 ReadsBundle words = IsForm command.Audit words ⊎ ((activation : ℕ) × IsForm (command.Trace activation) words)
+
+-- the words ask for a store to be read from the source: `renew` with a bank
+abbrev pub ReadsStore : List (String Global) → Type 0
+ReadsStore words = (bank : ℕ) × IsForm (command.Renew bank) words

@@ -4,6 +4,7 @@ ghost use Rattle.desk.specs.Answers.{order_told};
 ghost use Rattle.store_format.specs.Header.{Header};
 ghost use Rattle.call_status.specs.Reading.{ReadsBy};
 ghost use Rattle.store_calls.specs.New.{Made};
+ghost use Rattle.store_calls.specs.Renewed.{Renewed};
 ghost use Rattle.store_calls.specs.Show.{Shown};
 ghost use Rattle.job_calls.specs.Big.{Loaded};
 ghost use Rattle.job_calls.specs.Causes.{OpensBy};
@@ -14,7 +15,7 @@ ghost use Rattle.bundle_calls.specs.Audited.{Audited};
 ghost use Rattle.bundle_calls.specs.Traced.{TracedFrom};
 ghost use Rattle.console.specs.Causes.{IsComplete, IsOf};
 ghost use Rattle.console.specs.Listed.{Listed};
-ghost use Rattle.console.specs.Words.{IsForm, IsNoForm, OpensSession, ReadsBundle, ReadsJob, RunsJob};
+ghost use Rattle.console.specs.Words.{IsForm, IsNoForm, OpensSession, ReadsBundle, ReadsJob, ReadsStore, RunsJob};
 
 use super::list::list_source;
 use super::words::{Command, command_of};
@@ -24,7 +25,7 @@ use drills::drill_source;
 use job_calls::{Ended, run_load, run_source};
 use outside::{Outside, Source};
 use std::alloc::Global;
-use store_calls::{Range, make_store, show_range};
+use store_calls::{Range, make_store, renew_store, show_range};
 
 /// All that the program does: it takes the words of the command line, without the program's name, and the source, disk
 /// and screen that are handed in, and answers how it ended (docs/FORMATS.md, "Words" and "Statuses").
@@ -33,7 +34,9 @@ use store_calls::{Range, make_store, show_range};
 /// time. The words `list`: the programs of the job are listed, a line at a time, and the disk is left alone. The word
 /// `drill`: the job is stopped at each of its writes in turn, in memory, and a line is put for each stop. The words
 /// `show STORE S FROM COUNT`: bytes of the disk's store are put, a row at a time. The words `new STORE BANK S P ..`: an
-/// empty disk becomes a store with nothing in it. The words `big N`: a load of N transfers, with waits and victims, runs on
+/// empty disk becomes a store with nothing in it, and `new2` in place of `new` one with pages of 4,096 bytes, of which a segment is
+/// fine whose pages have an `f` behind them. The words `renew STORE BANK`: an empty disk becomes a store of version 2 with what
+/// the source's store of version 1 has. The words `big N`: a load of N transfers, with waits and victims, runs on
 /// the disk's store, and one line tells what came of it. The word `audit`: the bundle of the source is checked, and one line
 /// tells its verdict. The words `trace A`: the lines that activation A of a bundle touched are put. A file that the word STORE
 /// names is opened by whoever makes the disk.
@@ -47,7 +50,7 @@ pub fn console<S: Source, W: Outside>(
     ensures unasked { result.status ≡ Status.Usage → (job.new ≡ job.old) × (outside.new ≡ outside.old) × (order_told result.order.items ≡ []) }
     ensures only { (form : Command) → IsForm form words.now → IsOf form result.status }
     ensures read { ReadsJob words.now → ReadsBy (S.left job.old) (S.left job.new) (S.faults job.old) (S.faults job.new) result.status }
-    ensures unread { (ReadsJob words.now ⊎ ReadsBundle words.now → ⊥) → job.new ≡ job.old }
+    ensures unread { (ReadsJob words.now ⊎ ReadsBundle words.now ⊎ ReadsStore words.now → ⊥) → job.new ≡ job.old }
     ensures unfailed { result.status ≡ Status.Done → (S.faults job.new ≡ S.faults job.old) × (W.put_faults outside.new ≡ W.put_faults outside.old) }
     ensures opened { RunsJob words.now → OpensBy W.Outside outside.old outside.new result.status }
     ensures put { result.status ≡ Status.PutFault → Rose (W.put_faults outside.old) (W.put_faults outside.new) }
@@ -59,6 +62,7 @@ pub fn console<S: Source, W: Outside>(
     ensures drilled { IsForm Command.Drill words.now → Drilled W.Outside (S.left job.old) (S.left job.new) outside.old outside.new (order_told result.order.items) result.status }
     ensures shown { (range : Range) → IsForm (Command.Show range) words.now → Shown W.Outside range outside.old outside.new (order_told result.order.items) result.status }
     ensures made { (header : Header) → IsForm (Command.New header) words.now → Made W.Outside header outside.old outside.new (order_told result.order.items) result.status }
+    ensures renewed { (bank : ℕ) → IsForm (Command.Renew bank) words.now → Renewed W.Outside bank (S.left job.old) (S.left job.new) (S.faults job.old) (S.faults job.new) outside.old outside.new (order_told result.order.items) result.status }
     ensures loaded { (transfers : ℕ) → IsForm (Command.Big transfers) words.now → Loaded W.Outside transfers outside.old outside.new (order_told result.order.items) result.session result.status }
     ensures audited { IsForm Command.Audit words.now → Audited W.Outside (S.left job.old) (S.left job.new) (S.faults job.old) (S.faults job.new) outside.old outside.new (order_told result.order.items) result.status }
     ensures traced { (activation : ℕ) → IsForm (Command.Trace activation) words.now → TracedFrom W.Outside activation (S.left job.old) (S.left job.new) (S.faults job.old) (S.faults job.new) outside.old outside.new (order_told result.order.items) result.status }
@@ -73,6 +77,9 @@ pub fn console<S: Source, W: Outside>(
         Command::Drill => Ended::without_events(alloc, drill_source(alloc, job, outside)),
         Command::Show(range) => Ended::without_events(alloc, show_range(alloc, range, outside)),
         Command::New(header) => Ended::without_events(alloc, make_store(alloc, &header, outside)),
+        Command::Renew(bank_bytes) => {
+            Ended::without_events(alloc, renew_store(alloc, bank_bytes, job, outside))
+        }
         Command::Big(transfers) => run_load(alloc, transfers, outside),
         Command::Audit => Ended::without_events(alloc, audit_source(alloc, job, outside)),
         Command::Trace(activation) => {

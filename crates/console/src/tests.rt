@@ -385,9 +385,14 @@ const STEPS: [Step; 22] = [
 ];
 
 /// The same on a store with pages of 4,096 bytes: a record of fifteen lines fits its bank, and one of sixteen doesn't.
-const LARGER: [Step; 7] = [
+const LARGER: [Step; 8] = [
     Step {
         words: &["new2", "s", "4096", "1", "2", "f"],
+        status: Status::Usage,
+        ..STEP
+    },
+    Step {
+        words: &["new2", "s", "4096f", "1", "2"],
         status: Status::Usage,
         ..STEP
     },
@@ -424,6 +429,145 @@ const LARGER: [Step; 7] = [
         ..STEP
     },
 ];
+
+/// The same on a store whose segment is fine: only the last store of a program finds all sixteen lines of its page held.
+const FINE: [Step; 4] = [
+    Step {
+        words: &["new", "s", "8192", "1", "2f"],
+        status: Status::Usage,
+        ..STEP
+    },
+    Step {
+        words: &["new2", "s", "8192", "1", "2ff"],
+        status: Status::Usage,
+        ..STEP
+    },
+    Step {
+        words: &["new2", "s", "8192", "1", "2f"],
+        printed: "new 24848\n",
+        ..STEP
+    },
+    Step {
+        words: &["run", "s"],
+        events: "begin fill 32\nturn 1 999\n",
+        printed: "open 0\nbegin 1 fill\nturn 1 ran 130 page 1 lock 31\ncommit 1 number 1 steps 130 out -\nend 1\n",
+        ..STEP
+    },
+];
+
+/// A store of version 1 with an odd number of pages.
+const ODD: [Step; 1] = [Step {
+    words: &["new", "s", "4096", "1", "1", "2", "4"],
+    printed: "new 18704\n",
+    ..STEP
+}];
+
+/// A renewal of a store, or of all of it but its last byte, on an empty disk or one that isn't, and what it comes to.
+#[derive(Clone, Copy)]
+struct Renewal {
+    cut: bool,
+    empty: bool,
+    refusal: Option<Call>,
+    status: Status,
+    printed: &'static str,
+}
+
+/// Of an old store with four pages.
+const RENEWALS: [Renewal; 4] = [
+    Renewal {
+        cut: true,
+        empty: true,
+        refusal: None,
+        status: Status::Store(16_671),
+        printed: "",
+    },
+    Renewal {
+        cut: false,
+        empty: false,
+        refusal: None,
+        status: Status::Exists,
+        printed: "",
+    },
+    Renewal {
+        cut: false,
+        empty: true,
+        refusal: Some(Call::Sync),
+        status: Status::DiskFault,
+        printed: "",
+    },
+    Renewal {
+        cut: false,
+        empty: true,
+        refusal: None,
+        status: Status::Done,
+        printed: "renew 16656 at 3\n",
+    },
+];
+
+/// Of a store with one page in its first segment and four in its second.
+const RENEWED_ODD: [Renewal; 1] = [Renewal {
+    cut: false,
+    empty: true,
+    refusal: None,
+    status: Status::Done,
+    printed: "renew 20752 at 0\n",
+}];
+
+/// Of one that is of version 2 already.
+const RENEWED_AGAIN: [Renewal; 1] = [Renewal {
+    cut: false,
+    empty: true,
+    refusal: None,
+    status: Status::Store(8),
+    printed: "",
+}];
+
+/// Renews a store by each of these cases, and leaves the last one's bytes.
+fn renew(
+    rt: &impl Abort,
+    alloc: Global,
+    old: &Vec<u8>,
+    cases: &[Renewal],
+) -> Result<Vec<u8>, Fail> {
+    let mut held = Vec::new(alloc);
+    for case in cases {
+        let mut bytes = old.clone()?;
+        if case.cut {
+            bytes.pop();
+        }
+        let source = MemorySource::new(bytes, Vec::new(alloc));
+        let mut refusals = Vec::new(alloc);
+        if let Some(call) = case.refusal {
+            refusals.push(Refusal {
+                call,
+                from: 0,
+                to: 0,
+                skip: 0,
+            })?;
+        }
+        let there = if case.empty {
+            Vec::new(alloc)
+        } else {
+            old.clone()?
+        };
+        let disk = MemoryDisk::new(alloc, there, refusals);
+        let left = call(
+            alloc,
+            &["renew", "t", "4096"],
+            source,
+            disk,
+            Vec::new(alloc),
+        )?;
+        assert_eq!(rt; left.status, case.status);
+        assert!(rt;
+            left.printed.as_slice() == case.printed.as_bytes(),
+            "{}",
+            case.printed
+        );
+        held = left.held;
+    }
+    Ok(held)
+}
 
 /// Takes the steps one after another, and leaves the kept disk's bytes.
 fn walk(rt: &impl Abort, alloc: Global, steps: &[Step]) -> Result<Vec<u8>, Fail> {
@@ -470,5 +614,13 @@ fn a_store_is_made_run_on_and_shown(rt: HostRuntime) -> Result<(), Fail> {
     assert_eq!(rt; held.len(), 16_672);
     let larger = walk(&rt, rt.alloc(), &LARGER)?;
     assert_eq!(rt; larger.len(), 16_656);
+    let fine = walk(&rt, rt.alloc(), &FINE)?;
+    assert_eq!(rt; fine.len(), 24_848);
+    let renewed = renew(&rt, rt.alloc(), &held, &RENEWALS)?;
+    assert_eq!(rt; renewed.len(), 16_656);
+    renew(&rt, rt.alloc(), &renewed, &RENEWED_AGAIN)?;
+    let odd = walk(&rt, rt.alloc(), &ODD)?;
+    let even = renew(&rt, rt.alloc(), &odd, &RENEWED_ODD)?;
+    assert_eq!(rt; even.len(), 20_752);
     Ok(())
 }

@@ -1,8 +1,8 @@
 // The words of the command line.
-ghost use Rattle.std.specs.Prelude.{◌≡◌, ◌≢◌, ◌≤◌, ◌+◌, [], ◌∷◌, ◌++◌, List, ℕ, All, map, length, true, false, MatchOption, Some, string_bytes};
-ghost use Rattle.line_geometry.specs.Legal.{IsLegal, IsInRange};
+ghost use Rattle.std.specs.Prelude.{◌≡◌, ◌≢◌, ◌≤◌, ◌<◌, ◌+◌, ◌^◌, [], ◌∷◌, ◌++◌, Bool, List, ℕ, All, map, length, false, MatchOption, Some, string_bytes};
+ghost use Rattle.line_geometry.specs.Legal.{IsLegal, IsInRange, AreFlags};
 ghost use Rattle.store_format.specs.Header.{Header as Layout, HasRanges};
-ghost use Rattle.console.specs.Words.{IsForm, IsNoForm, AreWithin, AreNumbers, IsAlone, IsNumbered, IsOnStore, number_said, word_of, numbers_of, number_of, spread};
+ghost use Rattle.console.specs.Words.{IsForm, IsNoForm, AreWithin, AreNumbers, IsAlone, IsNumbered, IsOnStore, number_said, word_of, numbers_of, number_of, marked_of, plain, spread};
 
 use arrayvec::ArrayVec;
 use line_geometry::{Directory, PageSize};
@@ -11,6 +11,9 @@ use store_format::Header;
 
 /// The most numbers that a form has: the bytes of a bank, and fifteen segments with their pages.
 const MOST_NUMBERS: usize = 31;
+
+/// The letter behind the pages of a fine segment.
+const FINE: char = 'f';
 
 /// What the words ask for (docs/FORMATS.md, "Words").
 #[derive(Debug, Drop)]
@@ -27,6 +30,8 @@ pub enum Command {
     Show(Range),
     /// A store with this header is made in a file: of version 1 where its pages have 2,048 bytes, else of version 2.
     New(Header),
+    /// A store of version 1 that the source has is made one of version 2 in a file, with a bank of so many bytes.
+    Renew(u32),
     /// The load of so many transfers is run, on the disk that is handed in.
     Big(u32),
     /// A bundle is audited.
@@ -100,8 +105,8 @@ fn command_alone(word: &str) -> Option<Command>
     }
 }
 
-/// The command that a word is with a store and these numbers.
-fn command_on(word: &str, numbers: &[u32]) -> Option<Command>
+/// The command that a word is with a store and these numbers, each with its mark or without.
+fn command_on(word: &str, numbers: &[(u32, bool)]) -> Option<Command>
     ensures { MatchOption result
         ((form : Command) → IsOnStore form → word.now ≡ word_of form → numbers.now ≡ numbers_of form → AreWithin form → ⊥)
         (λ command. IsOnStore command × (word.now ≡ word_of command) × (numbers.now ≡ numbers_of command) × AreWithin command) }
@@ -114,13 +119,15 @@ fn command_on(word: &str, numbers: &[u32]) -> Option<Command>
         header_of(PageSize::Two, numbers).map(Command::New)
     } else if word == "new2" {
         header_of(PageSize::Four, numbers).map(Command::New)
+    } else if word == "renew" {
+        bank_of(numbers).map(Command::Renew)
     } else {
         None
     }
 }
 
 /// The command to run a job on a store: it has no numbers.
-fn run_of(numbers: &[u32]) -> Option<Command>
+fn run_of(numbers: &[(u32, bool)]) -> Option<Command>
     ensures { MatchOption result (numbers.now ≢ []) (λ command. (command ≡ Command.Run) × (numbers.now ≡ [])) }
 {
     if numbers.is_empty() {
@@ -131,13 +138,13 @@ fn run_of(numbers: &[u32]) -> Option<Command>
 }
 
 /// The range that these numbers are: its segment, its first offset and its number of bytes.
-fn range_of(numbers: &[u32]) -> Option<Range>
+fn range_of(numbers: &[(u32, bool)]) -> Option<Range>
     ensures { MatchOption result
-        ((range : Range) → numbers.now ≡ range.segment ∷ range.from ∷ range.count ∷ [] → range.count ≤ 65536 → ⊥)
-        (λ range. (numbers.now ≡ range.segment ∷ range.from ∷ range.count ∷ []) × (range.count ≤ 65536)) }
+        ((range : Range) → numbers.now ≡ plain (range.segment ∷ range.from ∷ range.count ∷ []) → range.count ≤ 65536 → ⊥)
+        (λ range. (numbers.now ≡ plain (range.segment ∷ range.from ∷ range.count ∷ [])) × (range.count ≤ 65536)) }
 {
     match numbers {
-        [segment, from, count] if *count <= 65_536 => Some(Range {
+        [(segment, false), (from, false), (count, false)] if *count <= 65_536 => Some(Range {
             segment: *segment,
             from: *from,
             count: *count,
@@ -146,14 +153,29 @@ fn range_of(numbers: &[u32]) -> Option<Range>
     }
 }
 
-/// The header that these numbers are, with pages of this size: the bytes of a bank, and the segments with their pages.
-fn header_of(page: PageSize, numbers: &[u32]) -> Option<Header>
+/// The bytes of a bank that these numbers are.
+fn bank_of(numbers: &[(u32, bool)]) -> Option<u32>
     ensures { MatchOption result
-        ((header : Layout) → header.directory.page ≡ page → header.directory.fine ≡ 0 → numbers.now ≡ header.bank_bytes ∷ spread header.directory.segments → HasRanges header → IsLegal header.directory.segments → ⊥)
-        (λ header. (header.directory.page ≡ page) × (header.directory.fine ≡ 0) × (numbers.now ≡ header.bank_bytes ∷ spread header.directory.segments) × HasRanges header × IsLegal header.directory.segments) }
+        ((bank : ℕ) → numbers.now ≡ plain (bank ∷ []) → 4096 ≤ bank → bank ≤ 131072 → ⊥)
+        (λ bank. (numbers.now ≡ plain (bank ∷ [])) × (4096 ≤ bank) × (bank ≤ 131072)) }
 {
     match numbers {
-        [bank_bytes, rest @ ..] if (4_096..=131_072).contains(bank_bytes) => {
+        [(bank, false)] if (4_096..=131_072).contains(bank) => Some(*bank),
+        _ => None,
+    }
+}
+
+/// The header that these numbers are, with pages of this size: the bytes of a bank, and the segments with their pages, which
+/// are marked where the segment is fine.
+fn header_of(page: PageSize, numbers: &[(u32, bool)]) -> Option<Header>
+    ensures { MatchOption result
+        ((header : Layout) → header.directory.page ≡ page → numbers.now ≡ (header.bank_bytes, false) ∷ spread header.directory.segments header.directory.fine
+        → HasRanges header → IsLegal header.directory.segments → AreFlags page header.directory.segments header.directory.fine → ⊥)
+        (λ header. (header.directory.page ≡ page) × (numbers.now ≡ (header.bank_bytes, false) ∷ spread header.directory.segments header.directory.fine)
+        × HasRanges header × IsLegal header.directory.segments × AreFlags page header.directory.segments header.directory.fine) }
+{
+    match numbers {
+        [(bank_bytes, false), rest @ ..] if (4_096..=131_072).contains(bank_bytes) => {
             match directory_of(page, rest) {
                 Some(directory) => Some(Header::new(directory, *bank_bytes)),
                 None => None,
@@ -164,33 +186,39 @@ fn header_of(page: PageSize, numbers: &[u32]) -> Option<Header>
 }
 
 /// The directory of the segments that these numbers are, each an identifier and its pages, with pages of this size.
-fn directory_of(page: PageSize, numbers: &[u32]) -> Option<Directory>
+fn directory_of(page: PageSize, numbers: &[(u32, bool)]) -> Option<Directory>
     ensures { MatchOption result
-        ((segments : List (ℕ × ℕ)) → numbers.now ≡ spread segments → IsLegal segments → ⊥)
-        (λ directory. (directory.page ≡ page) × (directory.fine ≡ 0) × (numbers.now ≡ spread directory.segments) × IsLegal directory.segments) }
+        ((segments : List (ℕ × ℕ)) (fine : ℕ) → numbers.now ≡ spread segments fine → IsLegal segments → AreFlags page segments fine → ⊥)
+        (λ directory. (directory.page ≡ page) × (numbers.now ≡ spread directory.segments directory.fine) × IsLegal directory.segments × AreFlags page directory.segments directory.fine) }
 {
     let mut segments = ArrayVec::<(u16, u16), 15>::new();
-    if !add_segments(numbers, &mut segments) {
-        return None;
-    }
-    match Directory::new(page, segments.as_slice()) {
+    let fine = add_segments(numbers, &mut segments)?;
+    match Directory::with_fine(page, segments.as_slice(), fine) {
         Ok(directory) => Some(directory),
         Err(_) => None,
     }
 }
 
-/// Adds the segments that these numbers are, each an identifier and its pages; whether they are such, and there is room.
-fn add_segments(numbers: &[u32], segments: &mut ArrayVec<(u16, u16), 15>) -> bool
-    ensures added { result ≡ true → (more : List (ℕ × ℕ)) × (numbers.now ≡ spread more) × (segments.new.items ≡ segments.old.items ++ more) }
-    ensures none { result ≡ false → (more : List (ℕ × ℕ)) → numbers.now ≡ spread more → length segments.old.items + length more ≤ 15 → All IsInRange more → ⊥ }
+/// Adds the segments that these numbers are, each an identifier and its pages, and gives their flags, the first one's lowest;
+/// none where they aren't such, or there is no room.
+fn add_segments(numbers: &[(u32, bool)], segments: &mut ArrayVec<(u16, u16), 15>) -> Option<u16>
+    requires { length segments.old.items ≤ 15 }
+    ensures few { length segments.new.items ≤ 15 }
+    ensures flags { MatchOption result
+        ((more : List (ℕ × ℕ)) (fine : ℕ) → numbers.now ≡ spread more fine → length segments.old.items + length more ≤ 15 → All IsInRange more → ⊥)
+        (λ fine. (more : List (ℕ × ℕ)) × (numbers.now ≡ spread more fine) × (segments.new.items ≡ segments.old.items ++ more) × (fine < 2 ^ length more)) }
 {
     match numbers {
-        [] => true,
-        [_] => false,
-        [identifier, pages, rest @ ..] => match segment_of(*identifier, *pages) {
-            Some(segment) => segments.try_push(segment).is_ok() && add_segments(rest, segments),
-            None => false,
-        },
+        [] => Some(0),
+        [(identifier, false), (pages, is_fine), rest @ ..] => {
+            let segment = segment_of(*identifier, *pages)?;
+            if segments.try_push(segment).is_err() {
+                return None;
+            }
+            let others = add_segments(rest, segments)?;
+            Some(2 * others + u16::from(*is_fine))
+        }
+        _ => None,
     }
 }
 
@@ -205,14 +233,14 @@ fn segment_of(identifier: u32, pages: u32) -> Option<(u16, u16)>
 }
 
 /// The numbers that these words are, where all are and a form has as many.
-fn numbers_of(words: &[String]) -> Option<ArrayVec<u32, MOST_NUMBERS>>
+fn numbers_of(words: &[String]) -> Option<ArrayVec<(u32, bool), MOST_NUMBERS>>
     ensures { MatchOption result
-        ((numbers : List ℕ) → length numbers ≤ 31 → AreNumbers (map string_bytes words.now) numbers → ⊥)
+        ((numbers : List (ℕ × Bool)) → length numbers ≤ 31 → AreNumbers (map string_bytes words.now) numbers → ⊥)
         (λ numbers. AreNumbers (map string_bytes words.now) numbers.items) }
 {
     let mut numbers = ArrayVec::new();
     for word in words {
-        match number_of(word.as_str()) {
+        match marked_of(word.as_str()) {
             None => return None,
             Some(number) => {
                 if numbers.try_push(number).is_err() {
@@ -222,6 +250,16 @@ fn numbers_of(words: &[String]) -> Option<ArrayVec<u32, MOST_NUMBERS>>
         }
     }
     Some(numbers)
+}
+
+/// The number that a word says, if it does, and whether the mark of a fine segment stands behind its digits.
+fn marked_of(word: &str) -> Option<(u32, bool)>
+    ensures { result ≡ marked_of word.now }
+{
+    match word.strip_suffix(FINE) {
+        Some(digits) => Some((number_of(digits)?, true)),
+        None => Some((number_of(word)?, false)),
+    }
 }
 
 /// The number that a word is, if it is one.

@@ -1,4 +1,4 @@
-use Rattle.std.proofs.Common.{◌≡◌, ℕ, List, [], inl, inr, subst, sym}
+use Rattle.std.proofs.Common.{◌≡◌, ◌⊎◌, ℕ, List, [], inl, inr, subst, sym}
 use Rattle.desk.specs.Answers.{order_told}
 use Rattle.desk.specs.declared.answers.Committed.{Committed}
 use Rattle.store_format.specs.Header.{Header}
@@ -10,7 +10,7 @@ use Rattle.job_calls.specs.Big.{Loaded}
 use Rattle.bundle_calls.specs.Traced.{TracedFrom}
 use Rattle.console.specs.declared.words.Command.{Command}
 use Rattle.console.specs.Words.{IsForm}
-use Rattle.console.proofs.PromiseLemmas.{no_promise}
+use Rattle.console.proofs.PromiseLemmas.{no_promise, renewal_promise}
 use Rattle.console.proofs.WordLemmas.{one_header, one_load, one_range, one_trace}
 use Rattle.console.proofs.commands.console.Goals as goal
 
@@ -25,6 +25,21 @@ returns-in_default-clause-shown g c = λ range shows. absurd (c.in_default.ensur
 
 pub returns-in_default-clause-made : goal.returns-in_default-clause-made
 returns-in_default-clause-made g c = λ header makes. absurd (c.in_default.ensures (Command.New header) makes)
+
+pub returns-in_default-clause-renewed : goal.returns-in_default-clause-renewed
+returns-in_default-clause-renewed g c = λ bank renews. absurd (c.in_default.ensures (Command.Renew bank) renews)
+
+pub returns-in-Renew-clause-unread : goal.returns-in-Renew-clause-unread
+returns-in-Renew-clause-unread g c = λ none. absurd (none (inr (inr (c.in-Renew.bank_bytes, subst (λ (form : Command). IsForm form c.args.words.now) c.in-Renew.is c.in-Some.ensures))))
+
+pub returns-in-Renew-clause-complete : goal.returns-in-Renew-clause-complete
+returns-in-Renew-clause-complete g c = λ complete calm disk put.
+    let asked : IsForm (Command.Renew c.in-Renew.bank_bytes) c.args.words.now = subst (λ (form : Command). IsForm form c.args.words.now) c.in-Renew.is c.in-Some.ensures in
+    let ended = c.without_events-in-Renew.ensures in
+    let did = c.renew_store.ensures in
+    subst (λ (status : Status). (status ≡ Status.Done) ⊎ (status ≡ Status.NoMemory)) (sym ended.status)
+    (renewal_promise g.W.Outside c.args.words.now c.in-Renew.bank_bytes asked (g.S.Source.left c.args.job.now) (g.S.Source.left c.renew_store.new.source) (g.S.Source.faults c.args.job.now) (g.S.Source.faults c.renew_store.new.source) c.args.outside.now c.renew_store.new.outside []
+    c.renew_store.result did.renewed did.only complete calm (λ is. disk (did.disk is)) (λ is. put (did.put is)))
 
 pub returns-in_default-clause-loaded : goal.returns-in_default-clause-loaded
 returns-in_default-clause-loaded g c = λ transfers loads. absurd (c.in_default.ensures (Command.Big transfers) loads)

@@ -1,4 +1,4 @@
-use Rattle.std.proofs.Common.{◌≢◌, [], ℕ, ◌-◌, List, length, map, take, drop, sym, subst}
+use Rattle.std.proofs.Common.{◌≢◌, [], ℕ, Bool, ◌-◌, List, length, map, take, drop, sym, subst}
 use Rattle.std.specs.Prelude.{string_bytes}
 use Rattle.console.specs.Words.{AreNumbers}
 use Rattle.console.proofs.WordLemmas.{alone, not_empty, with_store, without_numbers}
@@ -11,7 +11,7 @@ pub returns-in-Some-numbers_of : goal.returns-in-Some-numbers_of
 returns-in-Some-numbers_of c =
     with_store c.args.words.now c.word-item-2.result c.store-item.result c.as_str-in-Some-numbers_of.result.now c.as_slice.result.now c.command_on.result c.in-len2-up.len_at_least c.word-item-2.is c.store-item.is c.as_str-in-Some-numbers_of.ensures.value
     (subst (λ (bytes : List ℕ). bytes ≢ []) c.as_str-in-len2-up.ensures.value (not_empty c.as_str-in-len2-up.result.now c.is_empty.result c.is_empty.ensures c.if-is_empty.false))
-    (subst (λ (numbers : List ℕ). AreNumbers (map string_bytes (take (length c.args.words.now - 2) (drop 2 c.args.words.now))) numbers) (sym c.as_slice.ensures.value) c.in-Some-numbers_of.ensures)
+    (subst (λ (numbers : List (ℕ × Bool)). AreNumbers (map string_bytes (take (length c.args.words.now - 2) (drop 2 c.args.words.now))) numbers) (sym c.as_slice.ensures.value) c.in-Some-numbers_of.ensures)
     c.in_default.ensures c.command_on.ensures
 
 pub returns-in-None : goal.returns-in-None

@@ -1,10 +1,13 @@
 use Rattle.std.proofs.Common.{◌≡◌, ℕ, List, ◌++◌, ap, ◌∙◌, sym, subst}
-use Rattle.line_geometry.specs.Legal.{IsLegal}
-use Rattle.console.proofs.WordLemmas.{one_spread}
+use Rattle.line_geometry.specs.Legal.{IsLegal, AreFlags}
+use Rattle.console.proofs.WordLemmas.{flags_few, one_spread}
 use Rattle.console.proofs.words.directory_of.Goals as goal
 
 pub returns-in-Err : goal.returns-in-Err
-returns-in-Err c = λ segments is legal.
-    let added = c.add_segments.ensures.added c.if-not-add_segments.false in
-    let same : added.0 ≡ segments = one_spread added.0 segments (sym added.1 ∙ is) in
-    let no = c.in-Err.ensures.legal.1 (subst (λ (these : List (ℕ × ℕ)). IsLegal these) (sym (c.as_slice.ensures.value ∙ added.2 ∙ ap (λ (these : List (ℕ × ℕ)). these ++ added.0) c.new-segments.ensures ∙ same)) legal) in cc
+returns-in-Err c = λ segments fine is legal flags.
+    let (more, same, added, low) = c.in_ok-fine.ensures.flags in
+    let spreads = one_spread more segments c.in_ok-fine.fine fine low (flags_few c.args.page segments fine flags) (sym same ∙ is) in
+    let items : c.as_slice.result.now ≡ segments = c.as_slice.ensures.value ∙ added ∙ ap (λ (these : List (ℕ × ℕ)). these ++ more) c.new-segments.ensures ∙ spreads.0 in
+    let no = c.in-Err.ensures.legal.1
+    (subst (λ (these : List (ℕ × ℕ)). IsLegal these) (sym items) legal, subst (λ (these : List (ℕ × ℕ)). AreFlags c.args.page these c.in_ok-fine.fine) (sym items) (subst (λ (n : ℕ). AreFlags c.args.page segments n) (sym spreads.1) flags)) in
+    cc
