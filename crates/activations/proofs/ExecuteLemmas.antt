@@ -25,7 +25,7 @@ module _ (a : Activity) (seat : ℕ) (sound : IsSound a) (taken : has a.seating.
   below : seat < 16
   below = taken-below a.seating sound.seating seat taken
 
-  within : seat < length a.live
+  pub within : seat < length a.live
   within = omega (arith, sound.live, below)
 
   -- what is read there runs there

@@ -37,6 +37,7 @@ pub mod SizeLemmas
 pub mod SoundLemmas
 pub mod StartLemmas
 pub mod StrideLemmas
+pub mod StridingLemmas
 pub mod TableLemmas
 pub mod TakenLemmas
 pub mod TouchLemmas

@@ -15,3 +15,4 @@ pub mod Instructed
 pub mod Turns
 pub mod Recorded
 pub mod Causes
+pub mod Striding

@@ -1,14 +1,20 @@
 // Rows that need nobody else: an attempt, and a run of them.
-ghost use Rattle.std.specs.Prelude.{◌≡◌, ◌≤◌, ◌<◌, true, Some, None};
+ghost use Rattle.std.specs.Prelude.{◌≡◌, ◌≤◌, ◌<◌, ℕ, true, Some, None};
+ghost use Rattle.activations.specs.Activity.{Activity};
+ghost use Rattle.activations.specs.Attempted.{WasAttempted, IsShut, IsStopped};
+ghost use Rattle.activations.specs.Striding.{RunsAt, StrodeTo, with_live};
+ghost use Rattle.activations.specs.Follows.{IsSound};
+ghost use Rattle.storage_unit.specs.View.{reach_of};
 ghost use Rattle.lock_rules.specs.Sets.{has};
 
 use super::activations::Activations;
+use super::live::Live;
 use romp_cpu::{Access, Attempt};
+use storage_unit::Unit;
 
 impl Activations {
-    ghost use Rattle.activations.specs.Follows.{IsSound};
     ghost use Rattle.activations.specs.Kept.{KeepsParts};
-    ghost use Rattle.activations.specs.Attempted.{IsSelected, WasAttempted, Strode, IsShut, IsStopped};
+    ghost use Rattle.activations.specs.Attempted.{IsSelected, Strode};
     ghost use Rattle.activations.specs.View.{activity_of};
 
     /// The processor in a seat, which is selected, attempts its next instruction; a byte that it prints is kept.
@@ -20,12 +26,7 @@ impl Activations {
         ensures sound { IsSound (activity_of self.new) }
         ensures went { WasAttempted result (activity_of self.old) seat (activity_of self.new) }
     {
-        let live = &mut self.live[usize::from(seat)];
-        let went = self.unit.attempt(&mut live.cpu);
-        if let Attempt::Print(byte) = went {
-            live.out.push(byte);
-        }
-        went
+        attempt_on(&mut self.unit, &mut self.live[usize::from(seat)])
     }
 
     /// The next rows in a seat, at most so many, up to one that doesn't go on by itself, and the access of that one where it
@@ -43,14 +44,42 @@ impl Activations {
         ensures stopped { result.1 ≡ None → result.0 < limit → IsStopped (activity_of self.new) seat }
         ensures shut { (access : Access) → result.1 ≡ Some access → IsShut (activity_of self.new) seat access }
     {
-        let mut ran = 0;
-        while ran < limit {
-            match self.execute(seat) {
-                Attempt::Went | Attempt::Print(_) => ran += 1,
-                Attempt::Fault(_, access) => return (ran, Some(access)),
-                Attempt::Commit | Attempt::Check(_) => return (ran, None),
-            }
-        }
-        (ran, None)
+        stride_on(&mut self.unit, &mut self.live[usize::from(seat)], limit)
     }
+}
+
+/// The processor of what runs in a seat, which is selected, attempts its next instruction; a byte that it prints is kept.
+#[inline(always)]
+fn attempt_on(unit: &mut Unit, live: &mut Live) -> Attempt
+    requires runs { (a : Activity) × (seat : ℕ) × RunsAt a seat (reach_of unit.old) live.old }
+    ensures sound { (a : Activity) (seat : ℕ) → RunsAt a seat (reach_of unit.old) live.old → IsSound (with_live a seat live.new (reach_of unit.new)) }
+    ensures went { (a : Activity) (seat : ℕ) → RunsAt a seat (reach_of unit.old) live.old → WasAttempted result a seat (with_live a seat live.new (reach_of unit.new)) }
+    ensures directory { (reach_of unit.new).directory ≡ (reach_of unit.old).directory }
+{
+    let went = unit.attempt(&mut live.cpu);
+    if let Attempt::Print(byte) = went {
+        live.out.push(byte);
+    }
+    went
+}
+
+/// The next rows of what runs in a seat, which is selected, at most so many.
+#[inline(always)]
+fn stride_on(unit: &mut Unit, live: &mut Live, limit: u32) -> (u32, Option<Access>)
+    requires runs { (a : Activity) × (seat : ℕ) × RunsAt a seat (reach_of unit.old) live.old }
+    ensures few { result.0 ≤ limit }
+    ensures strode { (a : Activity) (seat : ℕ) → RunsAt a seat (reach_of unit.old) live.old → StrodeTo a seat result.0 live.new (reach_of unit.new) }
+    ensures stopped { result.1 ≡ None → result.0 < limit → (a : Activity) (seat : ℕ) → RunsAt a seat (reach_of unit.old) live.old → IsStopped (with_live a seat live.new (reach_of unit.new)) seat }
+    ensures shut { (access : Access) → result.1 ≡ Some access → (a : Activity) (seat : ℕ) → RunsAt a seat (reach_of unit.old) live.old → IsShut (with_live a seat live.new (reach_of unit.new)) seat access }
+    ensures directory { (reach_of unit.new).directory ≡ (reach_of unit.old).directory }
+{
+    let mut ran = 0;
+    while ran < limit {
+        match attempt_on(unit, live) {
+            Attempt::Went | Attempt::Print(_) => ran += 1,
+            Attempt::Fault(_, access) => return (ran, Some(access)),
+            Attempt::Commit | Attempt::Check(_) => return (ran, None),
+        }
+    }
+    (ran, None)
 }

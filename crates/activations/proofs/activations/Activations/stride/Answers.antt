@@ -1,35 +1,51 @@
-use Rattle.std.proofs.Common.{arith, subst, inl, inr}
-use Rattle.flat_machine.specs.Row.{Commit, Check}
-use Rattle.romp_cpu.specs.declared.cpu.Attempt.{Attempt}
-use Rattle.activations.specs.Attempted.{WasAttempted}
+use Rattle.std.proofs.Common.{subst}
+use Rattle.storage_unit.specs.View.{reach_of}
+use Rattle.activations.specs.Activity.{Activity}
+use Rattle.activations.specs.Attempted.{IsSelected, Strode, IsShut, IsStopped}
+use Rattle.activations.specs.Follows.{IsSound}
+use Rattle.activations.specs.Kept.{KeepsParts}
 use Rattle.activations.specs.View.{activity_of}
-use Rattle.activations.proofs.GoOnLemmas.{took-either}
-use Rattle.activations.proofs.KeptLemmas.{keeps-itself, keeps-two, keeps-took}
-use Rattle.activations.proofs.StrideLemmas.{strode-none, strode-more, came-still}
+use Rattle.activations.proofs.StridingLemmas.{runs-at, in-place}
 use Rattle.activations.proofs.activations.Activations.stride.Goals as goal
 
-pub loop-ran-init : goal.loop-ran-init
-loop-ran-init c =
+pub returns-clause-sound : goal.returns-clause-sound
+returns-clause-sound c =
     let a = activity_of c.args.self.now in
-    (c.requires.sound, c.requires.taken, c.requires.selected, omega arith, strode-none a c.args.seat, keeps-itself a)
+    let at = runs-at a c.args.seat c.from.result c.index_mut.result.now c.requires.sound c.requires.taken c.requires.selected c.from.ensures c.index_mut.ensures.value in
+    let path = in-place a c.args.seat c.from.result c.stride_on.new.live (reach_of c.stride_on.new.unit) c.from.ensures in
+    subst IsSound path (c.stride_on.ensures.strode a c.args.seat at).runs.sound
 
-pub loop-ran-preserved : goal.loop-ran-preserved
-loop-ran-preserved c =
-    let took = took-either c.execute.result (activity_of c.loop-ran.self) (activity_of c.execute.new.self) c.args.seat c.in-Went.is c.execute.ensures.went in
-    let more = strode-more (activity_of c.args.self.now) (activity_of c.loop-ran.self) (activity_of c.execute.new.self) c.args.seat c.loop-ran.ran
-    c.loop-ran.invariant.0 c.loop-ran.invariant.1 c.loop-ran.invariant.2 c.loop-ran.invariant.4 c.execute.ensures.sound took in
-    (c.execute.ensures.sound, more.0, more.1, omega (arith, c.loop-ran-test.true), more.2, keeps-two (activity_of c.args.self.now) (activity_of c.loop-ran.self) (activity_of c.execute.new.self) c.loop-ran.invariant.5 (keeps-took (activity_of c.loop-ran.self) (activity_of c.execute.new.self) c.args.seat took))
+pub returns-clause-selected : goal.returns-clause-selected
+returns-clause-selected c =
+    let a = activity_of c.args.self.now in
+    let at = runs-at a c.args.seat c.from.result c.index_mut.result.now c.requires.sound c.requires.taken c.requires.selected c.from.ensures c.index_mut.ensures.value in
+    let path = in-place a c.args.seat c.from.result c.stride_on.new.live (reach_of c.stride_on.new.unit) c.from.ensures in
+    subst (λ (x : Activity). IsSelected x c.args.seat) path (c.stride_on.ensures.strode a c.args.seat at).runs.selected
 
-pub returns-in-Commit-clause-stopped : goal.returns-in-Commit-clause-stopped
-returns-in-Commit-clause-stopped c none short committed long = elim c.in-Commit.is [
-  | inl is ↦
-      inl
-      (came-still Commit (activity_of c.loop-ran.self) (activity_of c.execute.new.self) c.args.seat
-      (subst (λ (attempt : Attempt). WasAttempted attempt (activity_of c.loop-ran.self) c.args.seat (activity_of c.execute.new.self)) is c.execute.ensures.went) committed long)
-  | inr (code, is) ↦
-      inr (
-        code,
-        came-still (Check code) (activity_of c.loop-ran.self) (activity_of c.execute.new.self) c.args.seat
-            (subst (λ (attempt : Attempt). WasAttempted attempt (activity_of c.loop-ran.self) c.args.seat (activity_of c.execute.new.self)) is c.execute.ensures.went) committed long,
-      )
-]
+pub returns-clause-parts : goal.returns-clause-parts
+returns-clause-parts c =
+    let a = activity_of c.args.self.now in
+    let at = runs-at a c.args.seat c.from.result c.index_mut.result.now c.requires.sound c.requires.taken c.requires.selected c.from.ensures c.index_mut.ensures.value in
+    let path = in-place a c.args.seat c.from.result c.stride_on.new.live (reach_of c.stride_on.new.unit) c.from.ensures in
+    subst (λ (x : Activity). KeepsParts a x 0) path (c.stride_on.ensures.strode a c.args.seat at).parts
+
+pub returns-clause-strode : goal.returns-clause-strode
+returns-clause-strode c =
+    let a = activity_of c.args.self.now in
+    let at = runs-at a c.args.seat c.from.result c.index_mut.result.now c.requires.sound c.requires.taken c.requires.selected c.from.ensures c.index_mut.ensures.value in
+    let path = in-place a c.args.seat c.from.result c.stride_on.new.live (reach_of c.stride_on.new.unit) c.from.ensures in
+    subst (Strode a c.args.seat c.stride_on.result.0) path (c.stride_on.ensures.strode a c.args.seat at).strode
+
+pub returns-clause-stopped : goal.returns-clause-stopped
+returns-clause-stopped c none short =
+    let a = activity_of c.args.self.now in
+    let at = runs-at a c.args.seat c.from.result c.index_mut.result.now c.requires.sound c.requires.taken c.requires.selected c.from.ensures c.index_mut.ensures.value in
+    let path = in-place a c.args.seat c.from.result c.stride_on.new.live (reach_of c.stride_on.new.unit) c.from.ensures in
+    subst (λ (x : Activity). IsStopped x c.args.seat) path (c.stride_on.ensures.stopped none short a c.args.seat at)
+
+pub returns-clause-shut : goal.returns-clause-shut
+returns-clause-shut c access is =
+    let a = activity_of c.args.self.now in
+    let at = runs-at a c.args.seat c.from.result c.index_mut.result.now c.requires.sound c.requires.taken c.requires.selected c.from.ensures c.index_mut.ensures.value in
+    let path = in-place a c.args.seat c.from.result c.stride_on.new.live (reach_of c.stride_on.new.unit) c.from.ensures in
+    subst (λ (x : Activity). IsShut x c.args.seat access) path (c.stride_on.ensures.shut access is a c.args.seat at)
