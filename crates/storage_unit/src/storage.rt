@@ -5,7 +5,8 @@ ghost use Rattle.segment_regs.specs.Registers.{bytes_on};
 ghost use Rattle.line_geometry.specs.Segments.{page_bytes, line_bytes};
 ghost use Rattle.line_geometry.specs.Directory.{byte_count, start_of};
 ghost use Rattle.line_geometry.specs.Lines.{line_of};
-ghost use Rattle.romp_cpu.specs.Answers.{answered_at, answer_of, if_permitted, IsRefusal};
+ghost use Rattle.romp_cpu.specs.Answers.{answer_in, answered_at, answer_of, if_permitted, IsRefusal};
+ghost use Rattle.romp_cpu.specs.Shown.{bytes_from};
 ghost use Rattle.flat_machine.specs.Access.{FitsFrom};
 ghost use Rattle.flat_machine.specs.Effect.{filled};
 ghost use Rattle.flat_machine.specs.Row.{stored_bytes};
@@ -350,7 +351,7 @@ impl Unit {
         );
     }
 
-    /// Fills registers with the bytes from one on, if that is permitted.
+    /// Fills registers with bytes of one page, if that is permitted.
     #[inline(always)]
     fn fill_at(
         &mut self,
@@ -361,14 +362,12 @@ impl Unit {
         regs: &mut [u32; 16],
     ) -> Probe
         requires fits { FitsFrom bytes to }
+        requires within { first.byte + bytes ≤ page_bytes (reach_of self.old).directory.page }
         requires lies { Lies (reach_of self.old) first bytes }
         ensures answer { (access : Access) → access.bytes ≡ bytes → access.store ≡ false → result ≡ answered_at (reach_of self.old).directory.page (is_in_frame (reach_of self.old)) (refuses (reach_of self.old)) access (Ok first) }
         ensures state { reach_of self.new ≡ reach_of self.old }
         ensures registers { regs.new ≡ if_permitted result (filled to sign (bytes_shown (reach_of self.old) (place_of (reach_of self.old).directory first) bytes) regs.old) regs.old }
     {
-        if !self.is_in_page(first, bytes) {
-            return self.fill_apart(first, bytes, to, sign, regs);
-        }
         match self.frame_for(first, bytes, false) {
             Ok(frame) => {
                 let part = self.part_in(frame, first, usize::from(bytes));
@@ -379,43 +378,15 @@ impl Unit {
         }
     }
 
-    /// The same of any bytes.
-    #[inline(never)]
-    fn fill_apart(
-        &mut self,
-        first: Virtual,
-        bytes: u8,
-        to: u8,
-        sign: bool,
-        regs: &mut [u32; 16],
-    ) -> Probe
-        requires fits { FitsFrom bytes to }
-        requires lies { Lies (reach_of self.old) first bytes }
-        ensures answer { (access : Access) → access.bytes ≡ bytes → access.store ≡ false → result ≡ answered_at (reach_of self.old).directory.page (is_in_frame (reach_of self.old)) (refuses (reach_of self.old)) access (Ok first) }
-        ensures state { reach_of self.new ≡ reach_of self.old }
-        ensures registers { regs.new ≡ if_permitted result (filled to sign (bytes_shown (reach_of self.old) (place_of (reach_of self.old).directory first) bytes) regs.old) regs.old }
-    {
-        let probe = self.answer(first, bytes, false);
-        if let Probe::Permitted = probe {
-            let mut room = [0; 64];
-            let part = &mut room[..usize::from(bytes)];
-            self.copy(first, part);
-            fill(to, sign, part, regs);
-        }
-        probe
-    }
-
-    /// Writes the bytes of registers over those from one on, if that is permitted.
+    /// Writes the bytes of registers over those of one page, if that is permitted.
     #[inline(always)]
     fn gather_at(&mut self, first: Virtual, bytes: u8, from: u8, regs: &[u32; 16]) -> Probe
         requires fits { FitsFrom bytes from }
+        requires within { first.byte + bytes ≤ page_bytes (reach_of self.old).directory.page }
         requires lies { Lies (reach_of self.old) first bytes }
         ensures answer { (access : Access) → access.bytes ≡ bytes → access.store ≡ true → result ≡ answered_at (reach_of self.old).directory.page (is_in_frame (reach_of self.old)) (refuses (reach_of self.old)) access (Ok first) }
         ensures state { reach_of self.new ≡ if_permitted result (put_at (reach_of self.old) (place_of (reach_of self.old).directory first) (stored_bytes regs.now bytes from)) (reach_of self.old) }
     {
-        if !self.is_in_page(first, bytes) {
-            return self.gather_apart(first, bytes, from, regs);
-        }
         match self.frame_for(first, bytes, true) {
             Ok(frame) => {
                 self.gather_in(frame, first, bytes, from, regs);
@@ -423,24 +394,6 @@ impl Unit {
             }
             Err(probe) => probe,
         }
-    }
-
-    /// The same of any bytes.
-    #[inline(never)]
-    fn gather_apart(&mut self, first: Virtual, bytes: u8, from: u8, regs: &[u32; 16]) -> Probe
-        requires fits { FitsFrom bytes from }
-        requires lies { Lies (reach_of self.old) first bytes }
-        ensures answer { (access : Access) → access.bytes ≡ bytes → access.store ≡ true → result ≡ answered_at (reach_of self.old).directory.page (is_in_frame (reach_of self.old)) (refuses (reach_of self.old)) access (Ok first) }
-        ensures state { reach_of self.new ≡ if_permitted result (put_at (reach_of self.old) (place_of (reach_of self.old).directory first) (stored_bytes regs.now bytes from)) (reach_of self.old) }
-    {
-        let probe = self.answer(first, bytes, true);
-        if let Probe::Permitted = probe {
-            let mut room = [0; 64];
-            let part = &mut room[..usize::from(bytes)];
-            gather(from, regs, part);
-            self.put(first, part);
-        }
-        probe
     }
 }
 
@@ -488,7 +441,12 @@ impl Storage for Unit {
         let bytes = u32::from(wants.bytes);
         match self.registers.locate(wants.address, bytes, wants.store) {
             Err(Check(code)) => Probe::Check(code),
-            Ok(first) => self.fill_at(first, wants.bytes, to, sign, regs),
+            Ok(first) => {
+                if !self.is_in_page(first, wants.bytes) {
+                    return self.read_apart(wants, to, sign, regs);
+                }
+                self.fill_at(first, wants.bytes, to, sign, regs)
+            }
         }
     }
 
@@ -497,7 +455,12 @@ impl Storage for Unit {
         let bytes = u32::from(wants.bytes);
         match self.registers.locate(wants.address, bytes, wants.store) {
             Err(Check(code)) => Probe::Check(code),
-            Ok(first) => self.gather_at(first, wants.bytes, from, regs),
+            Ok(first) => {
+                if !self.is_in_page(first, wants.bytes) {
+                    return self.write_apart(wants, from, regs);
+                }
+                self.gather_at(first, wants.bytes, from, regs)
+            }
         }
     }
 
@@ -523,7 +486,45 @@ impl Storage for Unit {
 }
 
 impl Unit {
+    ghost use Rattle.storage_unit.specs.Reach.{byte_at, stored};
     ghost use Rattle.storage_unit.specs.View.{reach_of};
+
+    /// Fills registers with bytes of two pages, as they are probed and loaded.
+    #[inline(never)]
+    fn read_apart(&mut self, wants: &Access, to: u8, sign: bool, regs: &mut [u32; 16]) -> Probe
+        requires loads { wants.now.store ≡ false }
+        requires fits { FitsFrom wants.now.bytes to }
+        ensures answer { result ≡ answer_in (λ state. state.registers) is_in_frame refuses (reach_of self.old) wants.now }
+        ensures state { reach_of self.new ≡ reach_of self.old }
+        ensures registers { regs.new ≡ if_permitted result (filled to sign (bytes_from (byte_at (reach_of self.old)) wants.now.address wants.now.bytes) regs.old) regs.old }
+    {
+        let probe = self.probe(wants);
+        if let Probe::Permitted = probe {
+            let mut room = [0; 64];
+            let part = &mut room[..usize::from(wants.bytes)];
+            self.load(wants.address, part);
+            fill(to, sign, part, regs);
+        }
+        probe
+    }
+
+    /// Writes the bytes of registers over those of two pages, as they are probed and stored.
+    #[inline(never)]
+    fn write_apart(&mut self, wants: &Access, from: u8, regs: &[u32; 16]) -> Probe
+        requires stores { wants.now.store ≡ true }
+        requires fits { FitsFrom wants.now.bytes from }
+        ensures answer { result ≡ answer_in (λ state. state.registers) is_in_frame refuses (reach_of self.old) wants.now }
+        ensures state { reach_of self.new ≡ if_permitted result (stored (reach_of self.old) wants.now.address (stored_bytes regs.now wants.now.bytes from)) (reach_of self.old) }
+    {
+        let probe = self.probe(wants);
+        if let Probe::Permitted = probe {
+            let mut room = [0; 64];
+            let part = &mut room[..usize::from(wants.bytes)];
+            gather(from, regs, part);
+            self.store(wants.address, part);
+        }
+        probe
+    }
 
     /// One attempt of the next instruction of a processor over this unit. What comes follows from the instruction's plan and
     /// the unit's answer to its access alone. Whatever bytes are committed, it is the program's

@@ -1,6 +1,6 @@
 ghost use Rattle.std.specs.Prelude.{◌≡◌, ◌<◌, [], None, filter, find, not, ◌==◌, replicate, map};
 ghost use Rattle.inverted_table.specs.Placed.{look_up};
-ghost use Rattle.inverted_table.specs.Keys.{key_of};
+ghost use Rattle.inverted_table.specs.Keys.{key_of, key_to};
 ghost use Rattle.tlb_model.specs.Buffer.{class_of, is_pair_of, pairs_in, found, after_found, forgotten, with_newest, AreApart, IsOfTable};
 ghost use Rattle.tlb_model.specs.Ways.{ways_without, unless_of};
 
@@ -134,19 +134,24 @@ impl Tlb {
         let place = (at.page % 16) as usize;
         match self.classes[place].find(at) {
             Some(pair) => Some(pair.frame),
-            None => self.find_anew(table, at),
+            None => self.find_anew(table, at.segment, at.page),
         }
     }
 
     /// The same where the buffer has no pair of the page.
     #[inline(never)]
-    fn find_anew(&mut self, table: &Table, at: Virtual) -> Option<u16>
-        requires { find (is_pair_of (key_of at)) (pairs_in self.old (class_of (key_of at))) ≡ None }
-        ensures answer { result ≡ found self.old (look_up table.now.keys (key_of at)) (key_of at) }
-        ensures after { self.new ≡ after_found self.old (look_up table.now.keys (key_of at)) (key_of at) }
-        ensures same { IsOfTable self.old table.now.keys → result ≡ look_up table.now.keys (key_of at) }
+    fn find_anew(&mut self, table: &Table, segment: u16, page: u32) -> Option<u16>
+        requires { find (is_pair_of (key_to segment page)) (pairs_in self.old (class_of (key_to segment page))) ≡ None }
+        ensures answer { result ≡ found self.old (look_up table.now.keys (key_to segment page)) (key_to segment page) }
+        ensures after { self.new ≡ after_found self.old (look_up table.now.keys (key_to segment page)) (key_to segment page) }
+        ensures same { IsOfTable self.old table.now.keys → result ≡ look_up table.now.keys (key_to segment page) }
         ensures kept { IsOfTable self.old table.now.keys → IsOfTable self.new table.now.keys }
     {
+        let at = Virtual {
+            segment,
+            page,
+            byte: 0,
+        };
         let frame = table.find(at)?;
         let class = (at.page % 16) as usize;
         let mut ways = self.classes[class];

@@ -9,6 +9,13 @@ use Rattle.storage_unit.proofs.PlaceLemmas.{under, lies, registers-page}
 use Rattle.storage_unit.proofs.UnitLemmas.{unit-sound}
 use Rattle.storage_unit.proofs.storage.UnitStorage.read.Goals as goal
 
+pub is_in_page-requires : goal.is_in_page-requires
+is_in_page-requires c =
+    let unit = c.args.self.now in
+    let wants = c.args.wants.now in
+    let found = ap (λ n. located_by unit.registers wants.address n wants.store) (sym c.from-bytes.ensures) ∙ sym c.locate.ensures ∙ c.in-Ok.is in
+    (lies (reach_of unit) (unit-sound unit) wants.address wants.bytes c.in-Ok.first (under unit.registers wants.address wants.bytes wants.store c.in-Ok.first found)).within
+
 pub fill_at-requires-clause-lies : goal.fill_at-requires-clause-lies
 fill_at-requires-clause-lies c =
     let unit = c.args.self.now in
@@ -16,8 +23,8 @@ fill_at-requires-clause-lies c =
     let found = ap (λ n. located_by unit.registers wants.address n wants.store) (sym c.from-bytes.ensures) ∙ sym c.locate.ensures ∙ c.in-Ok.is in
     lies (reach_of unit) (unit-sound unit) wants.address wants.bytes c.in-Ok.first (under unit.registers wants.address wants.bytes wants.store c.in-Ok.first found)
 
-pub returns-in-Ok-clause-answer : goal.returns-in-Ok-clause-answer
-returns-in-Ok-clause-answer c =
+pub returns-else-not-is_in_page-clause-answer : goal.returns-else-not-is_in_page-clause-answer
+returns-else-not-is_in_page-clause-answer c =
     let unit = c.args.self.now in
     let state = reach_of unit in
     let wants = c.args.wants.now in
@@ -26,8 +33,8 @@ returns-in-Ok-clause-answer c =
     ∙ ap (λ page. answered_at page (is_in_frame state) (refuses state) wants (Ok c.in-Ok.first)) (sym (registers-page state (unit-sound unit)))
     ∙ ap (answered_at unit.registers.page (is_in_frame state) (refuses state) wants) (sym found)
 
-pub returns-in-Ok-clause-registers : goal.returns-in-Ok-clause-registers
-returns-in-Ok-clause-registers c =
+pub returns-else-not-is_in_page-clause-registers : goal.returns-else-not-is_in_page-clause-registers
+returns-else-not-is_in_page-clause-registers c =
     let unit = c.args.self.now in
     let wants = c.args.wants.now in
     let found = ap (λ n. located_by unit.registers wants.address n wants.store) (sym c.from-bytes.ensures) ∙ sym c.locate.ensures ∙ c.in-Ok.is in

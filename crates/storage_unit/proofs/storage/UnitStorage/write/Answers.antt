@@ -13,6 +13,13 @@ use Rattle.storage_unit.proofs.PlaceLemmas.{under, lies, registers-page, first-b
 use Rattle.storage_unit.proofs.UnitLemmas.{unit-sound}
 use Rattle.storage_unit.proofs.storage.UnitStorage.write.Goals as goal
 
+pub is_in_page-requires : goal.is_in_page-requires
+is_in_page-requires c =
+    let unit = c.args.self.now in
+    let wants = c.args.wants.now in
+    let found = ap (λ n. located_by unit.registers wants.address n wants.store) (sym c.from-bytes.ensures) ∙ sym c.locate.ensures ∙ c.in-Ok.is in
+    (lies (reach_of unit) (unit-sound unit) wants.address wants.bytes c.in-Ok.first (under unit.registers wants.address wants.bytes wants.store c.in-Ok.first found)).within
+
 pub gather_at-requires-clause-lies : goal.gather_at-requires-clause-lies
 gather_at-requires-clause-lies c =
     let unit = c.args.self.now in
@@ -20,8 +27,8 @@ gather_at-requires-clause-lies c =
     let found = ap (λ n. located_by unit.registers wants.address n wants.store) (sym c.from-bytes.ensures) ∙ sym c.locate.ensures ∙ c.in-Ok.is in
     lies (reach_of unit) (unit-sound unit) wants.address wants.bytes c.in-Ok.first (under unit.registers wants.address wants.bytes wants.store c.in-Ok.first found)
 
-pub returns-in-Ok-clause-answer : goal.returns-in-Ok-clause-answer
-returns-in-Ok-clause-answer c =
+pub returns-else-not-is_in_page-clause-answer : goal.returns-else-not-is_in_page-clause-answer
+returns-else-not-is_in_page-clause-answer c =
     let unit = c.args.self.now in
     let state = reach_of unit in
     let wants = c.args.wants.now in
@@ -33,8 +40,8 @@ returns-in-Ok-clause-answer c =
 some-of : (n m : ℕ) → n ≡ m → 0 < m → (n == 0) ≡ false
 some-of n m same some = grind (arith, nat_tests, same, some)
 
-pub returns-in-Ok-clause-state : goal.returns-in-Ok-clause-state
-returns-in-Ok-clause-state c =
+pub returns-else-not-is_in_page-clause-state : goal.returns-else-not-is_in_page-clause-state
+returns-else-not-is_in_page-clause-state c =
     let unit = c.args.self.now in
     let state = reach_of unit in
     let wants = c.args.wants.now in

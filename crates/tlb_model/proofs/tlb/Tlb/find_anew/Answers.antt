@@ -1,7 +1,7 @@
 use Rattle.std.proofs.Common.{◌≡◌, ℕ, ◌<◌, length, List, Some, None, sym, ◌∙◌, ap, arith, subst}
 use Rattle.std.specs.Prelude.{find, Option, slice_index_or}
 use Rattle.inverted_table.specs.declared.key.Key.{Key}
-use Rattle.inverted_table.specs.Keys.{key_of}
+use Rattle.inverted_table.specs.Keys.{key_to}
 use Rattle.tlb_model.specs.declared.tlb.Pair.{Pair}
 use Rattle.tlb_model.specs.declared.tlb.Ways.{Ways}
 use Rattle.tlb_model.specs.Buffer.{after_found, is_pair_of, pairs_in, class_of, IsOfTable}
@@ -20,20 +20,20 @@ none-in classes seen wanted other there view none =
 
 pub invariant_of-self : goal.invariant_of-self
 invariant_of-self c =
-    added-apart c.self.inside.classes (key_of c.args.at) c.in_ok-frame.frame _ c.add.new.self (omega arith) c.self.invariant
-    (none-in c.self.inside.classes c.args.self.now (key_of c.args.at) _ (omega arith) c.self.view_is c.requires) c.add.ensures
+    added-apart c.self.inside.classes (key_to c.args.segment c.args.page) c.in_ok-frame.frame _ c.add.new.self (omega arith) c.self.invariant
+    (none-in c.self.inside.classes c.args.self.now (key_to c.args.segment c.args.page) _ (omega arith) c.self.view_is c.requires) c.add.ensures
 
 pub returns-clause-after : goal.returns-clause-after
 returns-clause-after c =
-    after-added c.self.inside.classes (key_of c.args.at) c.in_ok-frame.frame _ c.add.new.self (omega arith) (none-in c.self.inside.classes c.args.self.now (key_of c.args.at) _ (omega arith) c.self.view_is c.requires) c.add.ensures
-    ∙ ap (λ (list : List (List Pair)). after_found list (Some c.in_ok-frame.frame) (key_of c.args.at)) c.self.view_is
-    ∙ ap (λ (o : Option ℕ). after_found c.args.self.now o (key_of c.args.at)) (sym c.in_ok-frame.was ∙ c.find.ensures)
+    after-added c.self.inside.classes (key_to c.args.segment c.args.page) c.in_ok-frame.frame _ c.add.new.self (omega arith) (none-in c.self.inside.classes c.args.self.now (key_to c.args.segment c.args.page) _ (omega arith) c.self.view_is c.requires) c.add.ensures
+    ∙ ap (λ (list : List (List Pair)). after_found list (Some c.in_ok-frame.frame) (key_to c.args.segment c.args.page)) c.self.view_is
+    ∙ ap (λ (o : Option ℕ). after_found c.args.self.now o (key_to c.args.segment c.args.page)) (sym c.in_ok-frame.was ∙ c.find.ensures)
 
 pub returns-clause-kept : goal.returns-clause-kept
 returns-clause-kept c =
     λ all.
-    let after = after-added c.self.inside.classes (key_of c.args.at) c.in_ok-frame.frame _ c.add.new.self (omega arith) (none-in c.self.inside.classes c.args.self.now (key_of c.args.at) _ (omega arith) c.self.view_is c.requires) c.add.ensures
-    ∙ ap (λ (list : List (List Pair)). after_found list (Some c.in_ok-frame.frame) (key_of c.args.at)) c.self.view_is
-    ∙ ap (λ (o : Option ℕ). after_found c.args.self.now o (key_of c.args.at)) (sym c.in_ok-frame.was ∙ c.find.ensures) in
+    let after = after-added c.self.inside.classes (key_to c.args.segment c.args.page) c.in_ok-frame.frame _ c.add.new.self (omega arith) (none-in c.self.inside.classes c.args.self.now (key_to c.args.segment c.args.page) _ (omega arith) c.self.view_is c.requires) c.add.ensures
+    ∙ ap (λ (list : List (List Pair)). after_found list (Some c.in_ok-frame.frame) (key_to c.args.segment c.args.page)) c.self.view_is
+    ∙ ap (λ (o : Option ℕ). after_found c.args.self.now o (key_to c.args.segment c.args.page)) (sym c.in_ok-frame.was ∙ c.find.ensures) in
     subst (λ (list : List (List Pair)). IsOfTable list c.args.table.now.keys) (sym after)
-    (after-of c.args.self.now c.args.table.now.keys (key_of c.args.at) all)
+    (after-of c.args.self.now c.args.table.now.keys (key_to c.args.segment c.args.page) all)
