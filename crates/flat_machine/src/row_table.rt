@@ -3,7 +3,7 @@ ghost use Rattle.std.specs.Prelude.{◌≡◌, ◌<◌, ◌≤◌, ◌+◌, ◌*
 ghost use Rattle.romp_table.specs.Legal.{HasWidths};
 ghost use Rattle.flat_machine.specs.Access.{FitsFrom, IsAccess, IsSound};
 ghost use Rattle.flat_machine.specs.Words.{bit};
-ghost use Rattle.flat_machine.specs.Work.{base, half_address, word_address, loads_byte, loads_half, loads_words, stores_byte, stores_half, stores_words, traps, is_masked, called, work_with_count, work_of_r, access_of_d, logic_of_d, work_of_d, work_of_s, work_of_x, work_of};
+ghost use Rattle.flat_machine.specs.Work.{base, half_address, word_address, loads_byte, loads_half, loads_words, stores_byte, stores_half, stores_words, traps, is_masked, called, work_with_count, work_of_r, work_of_d, work_of_s, work_of_x, work_of};
 
 use super::machine::{Act, Cs};
 use super::words::{
@@ -134,6 +134,9 @@ fn work_d(op: Op, regs: &[u32; 16], cs: Cs, b: u8, y: u32, z: u32, i: u16) -> Wo
     ensures value { result ≡ work_of_d op regs.now cs b y z i }
     ensures sound { IsSound result }
 {
+    let low = u32::from(i);
+    let high = low * 0x1_0000;
+    let address = add(z, extend(i), 0);
     match op {
         Op::Svc => Work::Want(call(i, regs)),
         Op::Ai => Work::Sum(b, y, extend(i), 0),
@@ -142,22 +145,8 @@ fn work_d(op: Op, regs: &[u32; 16], cs: Cs, b: u8, y: u32, z: u32, i: u16) -> Wo
         Op::Cli => Work::Compare(y, extend(i)),
         Op::Ci => Work::Compare(bias(y), bias(extend(i))),
         Op::Ti => trap(masks(b, bias(y), bias(extend(i)))),
-        Op::Cal => Work::Put(b, add(z, extend(i), 0)),
-        Op::Cau => Work::Put(b, add(z, u32::from(i) * 0x1_0000, 0)),
-        _ => logic_d(op, b, y, z, i),
-    }
-}
-
-/// The logical rows of format D, and those that load and store.
-#[inline(always)]
-fn logic_d(op: Op, b: u8, y: u32, z: u32, i: u16) -> Work
-    requires b { b < 16 }
-    ensures value { result ≡ logic_of_d op b y z i }
-    ensures sound { IsSound result }
-{
-    let low = u32::from(i);
-    let high = low * 0x1_0000;
-    match op {
+        Op::Cal => Work::Put(b, address),
+        Op::Cau => Work::Put(b, add(z, high, 0)),
         Op::Oiu => Work::Signed(b, y | high),
         Op::Oil => Work::Signed(b, y | low),
         Op::Xiu => Work::Signed(b, y ^ high),
@@ -166,18 +155,6 @@ fn logic_d(op: Op, b: u8, y: u32, z: u32, i: u16) -> Work
         Op::Nilo => Work::Signed(b, y & (0xFFFF_0000 + low)),
         Op::Niuz => Work::Signed(b, y & high),
         Op::Niuo => Work::Signed(b, y & (high + 0xFFFF)),
-        _ => access_d(op, b, add(z, extend(i), 0)),
-    }
-}
-
-/// The rows of format D that load and store, at an effective address.
-#[inline(always)]
-fn access_d(op: Op, b: u8, address: u32) -> Work
-    requires b { b < 16 }
-    ensures value { result ≡ access_of_d op b address }
-    ensures sound { IsSound result }
-{
-    match op {
         Op::Lm => load_words(address, 4 * (16 - b), b),
         Op::Stm => store_words(address, 4 * (16 - b), b),
         Op::Lc => load_byte(address, b),

@@ -1,7 +1,6 @@
 -- An instruction of each of the 85 rows, and its bytes and halfwords in literal numbers.
 use Rattle.std.specs.Prelude.{◌≡◌, ℕ, refl, List, [], ◌∷◌, map, Some, negsuc, pos}
 use Rattle.romp_table.specs.declared.inst.Inst.{Inst}
-use Rattle.romp_table.specs.declared.inst.Inst.TheVariants as Inst
 use Rattle.romp_table.specs.declared.inst.Op.TheVariants as Op
 use Rattle.romp_table.specs.Decode.{decoded, row_numbered}
 use Rattle.romp_table.specs.Encode.{encoded}
