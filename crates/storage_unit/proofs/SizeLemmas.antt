@@ -176,11 +176,6 @@ pub next-line : (size : PageSize) (place k last : ℕ) → line_bytes size ≤ p
 next-line Two place k last past less few = omega (arith, past, less, few)
 next-line Four place k last past less few = omega (arith, past, less, few)
 
--- some bytes of one line are of one page
-pub line-page : (size : PageSize) (byte n : ℕ) → byte < page_bytes size → byte % line_bytes size + n ≤ line_bytes size → byte + n ≤ page_bytes size
-line-page Two byte n below within = omega (arith, below, within)
-line-page Four byte n below within = omega (arith, below, within)
-
 -- the line of a place, and its byte in it, by its byte in its page
 pub line-in : (size : PageSize) (place byte : ℕ) → place % page_bytes size ≡ byte → place / line_bytes size % 16 ≡ byte / line_bytes size
 line-in Two place byte is = omega (arith, is)
