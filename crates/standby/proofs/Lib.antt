@@ -8,3 +8,6 @@ pub mod DueLemmas
 pub mod ShowLemmas
 pub mod ShipLemmas
 pub mod ContentLemmas
+pub mod PartLemmas
+pub mod TailLemmas
+pub mod ReadLemmas

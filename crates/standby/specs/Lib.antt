@@ -4,3 +4,4 @@ pub mod Puts
 pub mod Followed
 pub mod Step
 pub mod Shipped
+pub mod Read

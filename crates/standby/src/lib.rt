@@ -4,9 +4,12 @@
 mod following;
 mod line;
 mod put;
+mod read;
 mod shipping;
 mod text;
+mod word;
 
 pub use following::{Followed, follow};
+pub use read::read_ship;
 pub use shipping::{Shipped, ship};
 pub use text::{Ship, ShipFault, ShipRecord};

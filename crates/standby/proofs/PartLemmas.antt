@@ -1,0 +1,175 @@
+-- The parts of a line of a ship text: where each ends, and that none holds a line feed.
+use Rattle.std.proofs.Common.{◌≡◌, ℕ, zero, suc, ◌+◌, ◌/◌, ◌%◌, ◌^◌, ◌<◌, ◌≤◌, ◌==◌, nat_lt, not, true, false, cond, List, [], ◌∷◌, ◌++◌, length, codes, decimal, get_or, position, Some, None, Ok, take, drop, refl, sym, ◌∙◌, ap, append_assoc, length-append, arith}
+use Rattle.std.specs.Prelude.{All, slice_index}
+use Rattle.std.specs.Char.{digit_value}
+use Rattle.std.specs.List.{AllByRecursion, prefix_len}
+use Rattle.std.specs.Str.Parse.{AllDigits}
+use Rattle.std.proofs.lemmas.Bool.{lt-ltb}
+use Rattle.std.proofs.lemmas.Bool.Decides.{nat_tests}
+use Rattle.std.proofs.lemmas.Fmt.{decimal_injective, decimal_is_IsNumeral}
+use Rattle.std.proofs.lemmas.List.{drop_at, take_at}
+use Rattle.std.proofs.lemmas.List.Quantifiers.{position-Some}
+use Rattle.std.proofs.lemmas.List.Elements.{All-get_or, recursion_from_All}
+use Rattle.std.proofs.lemmas.List.Sums.{AllPass-from_list_all, sum_by-append}
+use Rattle.hex.specs.Hex.{encode_lower, encode_with, lower_digits, decode_of}
+use Rattle.hex.proofs.HexLemmas.{decode_of-encode_lower}
+use Rattle.standby.proofs.ShipLemmas.{split_at}
+use Rattle.standby.specs.Read.{feeds}
+use Rattle.standby.specs.Text.{end_line, head_line, line_line, record_line}
+
+-- the bytes of a word all come behind the space
+abbrev pub IsWord : List ℕ → Type 0
+IsWord word = AllByRecursion (λ byte. 32 < byte) word
+
+digit_inside : (digit : ℕ) → digit_value digit < 10 → 32 < digit
+digit_inside digit small = grind (arith, nat_tests)
+
+digits_word : (digits : List ℕ) → AllDigits 10 digits → IsWord digits
+digits_word [] are = tt
+digits_word (digit ∷ digits) are = (digit_inside digit are.0, digits_word digits are.1)
+
+pub number_word : (n : ℕ) → n < 2 ^ 64 → IsWord (decimal n)
+number_word n small = digits_word (decimal n) (decimal_is_IsNumeral n small).0.1
+
+behind_space : (byte : ℕ) → nat_lt 32 byte ≡ true → 32 < byte
+behind_space byte is = grind (arith, nat_tests)
+
+hex_digit : (k : ℕ) → k < 16 → 32 < slice_index lower_digits k
+hex_digit k small = behind_space (slice_index lower_digits k) (All-get_or (λ byte. nat_lt 32 byte ≡ true) lower_digits k 0 small (AllPass-from_list_all (nat_lt 32) lower_digits refl))
+
+hex_word_by : (bytes : List ℕ) → AllByRecursion (λ byte. byte < 256) bytes → IsWord (encode_lower bytes)
+unfolding encode_with
+hex_word_by [] all = tt
+hex_word_by (byte ∷ bytes) all = (hex_digit (byte / 16) (omega (arith, all.0)), (hex_digit (byte % 16) (omega arith), hex_word_by bytes all.1))
+
+pub hex_word : (bytes : List ℕ) → All (λ byte. byte < 256) bytes → IsWord (encode_lower bytes)
+hex_word bytes all = hex_word_by bytes (recursion_from_All (λ byte. byte < 256) bytes all)
+
+-- two words in front of a byte before them are the same
+pub word_cut : (stop : ℕ) (a b x y : List ℕ) → stop ≤ 32 → IsWord a → IsWord b → a ++ stop ∷ x ≡ b ++ stop ∷ y → (a ≡ b) × (x ≡ y)
+word_cut stop [] [] x y small one two is = (refl, cc)
+word_cut stop [] (d ∷ b) x y small one two is = let same : stop ≡ d = cc in absurd (omega (arith, same, small, two.0))
+word_cut stop (c ∷ a) [] x y small one two is = let same : c ≡ stop = cc in absurd (omega (arith, same, small, one.0))
+word_cut stop (c ∷ a) (d ∷ b) x y small one two is =
+    let same : c ≡ d = cc in
+    let left : a ++ stop ∷ x ≡ b ++ stop ∷ y = cc in
+    let rest = word_cut stop a b x y small one.1 two.1 left in
+    (cc, rest.1)
+
+-- and so are two numbers
+pub same_number : (stop m n : ℕ) (x y : List ℕ) → stop ≤ 32 → m < 2 ^ 64 → n < 2 ^ 64 → decimal m ++ stop ∷ x ≡ decimal n ++ stop ∷ y → (m ≡ n) × (x ≡ y)
+same_number stop m n x y small one two is =
+    let cut = word_cut stop (decimal m) (decimal n) x y small (number_word m one) (number_word n two) is in
+    (decimal_injective m n one two cut.0, cut.1)
+
+each_byte : (bytes : List ℕ) → AllByRecursion (λ byte. byte < 256) bytes → (i : ℕ) → get_or bytes i 0 < 256
+each_byte [] all i = omega arith
+each_byte (byte ∷ bytes) all zero = all.0
+each_byte (byte ∷ bytes) all (suc i) = each_byte bytes all.1 i
+
+pub decodes : (bytes : List ℕ) → All (λ byte. byte < 256) bytes → decode_of (encode_lower bytes) ≡ Ok bytes
+decodes bytes all = decode_of-encode_lower bytes (each_byte bytes (recursion_from_All (λ byte. byte < 256) bytes all))
+
+pub same_hex : (a b x y : List ℕ) → All (λ byte. byte < 256) a → All (λ byte. byte < 256) b → encode_lower a ++ 10 ∷ x ≡ encode_lower b ++ 10 ∷ y → (a ≡ b) × (x ≡ y)
+same_hex a b x y one two is =
+    let cut = word_cut 10 (encode_lower a) (encode_lower b) x y (omega arith) (hex_word a one) (hex_word b two) is in
+    let both = sym (decodes a one) ∙ ap decode_of cut.0 ∙ decodes b two in
+    (cc, cut.1)
+
+-- the place of the byte behind a word
+is_not : (stop : ℕ) → not (stop == stop) ≡ false
+is_not stop = grind (arith, nat_tests)
+
+is_other : (stop byte : ℕ) → stop ≤ 32 → 32 < byte → not (byte == stop) ≡ true
+is_other stop byte small inside = grind (arith, nat_tests)
+
+run : (stop : ℕ) (word tail : List ℕ) → stop ≤ 32 → IsWord word → prefix_len (λ byte. not (byte == stop)) (word ++ stop ∷ tail) ≡ length word
+run stop [] tail small is = rw (is_not stop) refl
+run stop (byte ∷ word) tail small is = rw (is_other stop byte small is.0, run stop word tail small is.1) (omega arith)
+
+pub place_is : (stop : ℕ) (word tail : List ℕ) → stop ≤ 32 → IsWord word → position (λ byte. byte == stop) (word ++ stop ∷ tail) ≡ Some (length word)
+place_is stop word tail small is =
+    rw (run stop word tail small is, lt-ltb (length word) (length (word ++ stop ∷ tail)) (simp length-append (omega arith))) refl
+
+-- no line ends in a word
+no_feed : (byte : ℕ) → 32 < byte → (byte == 10) ≡ false
+no_feed byte inside = grind (arith, nat_tests)
+
+pub word_plain : (word : List ℕ) → IsWord word → feeds word ≡ 0
+word_plain [] is = refl
+word_plain (byte ∷ word) is = rw (no_feed byte is.0) (word_plain word is.1)
+
+pub feeds_append : (a b : List ℕ) → feeds (a ++ b) ≡ feeds a + feeds b
+feeds_append a b = sum_by-append (λ byte. cond (byte == 10) 1 0) a b
+
+-- a line: bytes without a line feed, and one
+pub record IsLine (line : List ℕ) : Type 0 where
+  pub body : List ℕ
+  pub is : line ≡ body ++ 10 ∷ []
+  pub plain : feeds body ≡ 0
+
+both : (a b : List ℕ) → feeds a ≡ 0 → feeds b ≡ 0 → feeds (a ++ b) ≡ 0
+both a b one two = omega (arith, feeds_append a b, one, two)
+
+three : (a b c : List ℕ) → feeds a ≡ 0 → feeds b ≡ 0 → feeds c ≡ 0 → feeds ((a ++ b) ++ c) ≡ 0
+three a b c one two more = omega (arith, feeds_append (a ++ b) c, feeds_append a b, one, two, more)
+
+pub end_is_line : (n : ℕ) → n < 2 ^ 64 → IsLine (end_line n)
+end_is_line n small = record { body = codes "end " ++ decimal n; is = refl; plain = both (codes "end ") (decimal n) refl (word_plain (decimal n) (number_word n small)) }
+
+pub record_is_line : (n count : ℕ) → n < 2 ^ 64 → count < 2 ^ 64 → IsLine (record_line n count)
+record_is_line n count small few = record {
+  body = ((codes "record " ++ decimal n) ++ codes " ") ++ decimal count;
+  is = refl;
+  plain = three (codes "record " ++ decimal n) (codes " ") (decimal count) (both (codes "record ") (decimal n) refl (word_plain (decimal n) (number_word n small))) refl (word_plain (decimal count) (number_word count few));
+}
+
+pub line_is_line : (n : ℕ) (bytes : List ℕ) → n < 2 ^ 64 → All (λ byte. byte < 256) bytes → IsLine (line_line n bytes)
+line_is_line n bytes small all = record {
+  body = ((codes "line " ++ decimal n) ++ codes " ") ++ encode_lower bytes;
+  is = refl;
+  plain = three (codes "line " ++ decimal n) (codes " ") (encode_lower bytes) (both (codes "line ") (decimal n) refl (word_plain (decimal n) (number_word n small))) refl (word_plain (encode_lower bytes) (hex_word bytes all));
+}
+
+pub head_is_line : (w l n : ℕ) → w < 2 ^ 64 → l < 2 ^ 64 → n < 2 ^ 64 → IsLine (head_line w l n)
+head_is_line w l n one two small =
+    let front = ((codes "ship " ++ decimal w) ++ codes " ") ++ decimal l in
+    let first = three (codes "ship " ++ decimal w) (codes " ") (decimal l) (both (codes "ship ") (decimal w) refl (word_plain (decimal w) (number_word w one))) refl (word_plain (decimal l) (number_word l two)) in
+    record { body = (front ++ codes " ") ++ decimal n; is = refl; plain = three front (codes " ") (decimal n) first refl (word_plain (decimal n) (number_word n small)) }
+
+-- the parts of each, with what stands behind it
+pub head_parts : (w l n : ℕ) (rest : List ℕ) → head_line w l n ++ rest ≡ codes "ship " ++ (decimal w ++ 32 ∷ (decimal l ++ 32 ∷ (decimal n ++ 10 ∷ rest)))
+head_parts w l n rest = simp append_assoc refl
+
+pub record_parts : (n count : ℕ) (rest : List ℕ) → record_line n count ++ rest ≡ codes "record " ++ (decimal n ++ 32 ∷ (decimal count ++ 10 ∷ rest))
+record_parts n count rest = simp append_assoc refl
+
+pub line_parts : (n : ℕ) (bytes rest : List ℕ) → line_line n bytes ++ rest ≡ codes "line " ++ (decimal n ++ 32 ∷ (encode_lower bytes ++ 10 ∷ rest))
+line_parts n bytes rest = simp append_assoc refl
+
+pub end_parts : (n : ℕ) (rest : List ℕ) → end_line n ++ rest ≡ codes "end " ++ (decimal n ++ 10 ∷ rest)
+end_parts n rest = simp append_assoc refl
+
+pub line_front : (n : ℕ) (rest : List ℕ) → ((codes "line" ++ 32 ∷ decimal n) ++ 32 ∷ []) ++ rest ≡ codes "line " ++ (decimal n ++ 32 ∷ rest)
+line_front n rest = simp append_assoc refl
+
+-- where the byte stands, a word stands before it
+pub cut_at : (stop at : ℕ) (text word rest : List ℕ) → stop ≤ 32 → IsWord word → position (λ byte. byte == stop) text ≡ Some at → text ≡ word ++ stop ∷ rest → (at ≡ length word) × (take at text ≡ word) × (drop (at + 1) text ≡ rest)
+cut_at stop at text word rest small one place is =
+    let here : at ≡ length word = cc (place_is stop word rest small one, ap (λ (t : List ℕ). position (λ byte. byte == stop) t) is, place) in (
+      here,
+      rw (is, here) (take_at word (stop ∷ rest) (length word) refl),
+      rw (is, here) (let longer = drop_at (word ++ stop ∷ []) rest (length word + 1) (simp length-append (omega arith)) in simp append_assoc at longer),
+    )
+
+pub uncut : (stop : ℕ) (text word rest : List ℕ) → stop ≤ 32 → IsWord word → position (λ byte. byte == stop) text ≡ None → text ≡ word ++ stop ∷ rest → ⊥
+uncut stop text word rest small one place is = cc (place_is stop word rest small one, ap (λ (t : List ℕ). position (λ byte. byte == stop) t) is, place)
+
+same_byte : (byte stop : ℕ) → (byte == stop) ≡ true → byte ≡ stop
+same_byte byte stop is = grind (arith, nat_tests)
+
+-- a text by the place of a byte in it
+pub parts_at : (stop at : ℕ) (text : List ℕ) → position (λ byte. byte == stop) text ≡ Some at → text ≡ take at text ++ stop ∷ drop (at + 1) text
+parts_at stop at text place =
+    let found = position-Some (λ (byte : ℕ). byte == stop) text at 0 place in
+    split_at text at 0 found.0 ∙ ap (λ (byte : ℕ). take at text ++ byte ∷ drop (at + 1) text) (same_byte (get_or text at 0) stop found.1)

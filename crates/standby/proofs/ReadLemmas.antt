@@ -1,0 +1,145 @@
+-- The lines of a record that are read, one after another, and the records.
+use Rattle.std.proofs.Common.{◌≡◌, ◌≢◌, ℕ, suc, ◌+◌, ◌-◌, ◌*◌, ◌^◌, ◌<◌, ◌≤◌, ◌==◌, true, false, List, [], ◌∷◌, ◌++◌, length, take, drop, refl, sym, ◌∙◌, ap, subst, append_assoc, append-nil, arith}
+use Rattle.std.specs.Prelude.{All}
+use Rattle.std.proofs.lemmas.List.{length-drop, drop-append-le, take-append-le, take_all}
+use Rattle.std.proofs.lemmas.Bool.Decides.{nat_tests}
+use Rattle.std.proofs.lemmas.Grind.{flat_map-append}
+use Rattle.std.proofs.lemmas.Grind.{common_steps}
+use Rattle.standby.specs.Read.{IsFirstBad, IsRead, Tail}
+use Rattle.standby.specs.Text.{AreLines, ShipLine, end_line, later, line_line, lines_text, next, parted, record_line, record_text, records_text}
+use Rattle.standby.proofs.PartLemmas.{line_parts, record_parts}
+use Rattle.standby.proofs.ShipLemmas.{records_append}
+use Rattle.standby.proofs.TailLemmas.{bad_here, read_count, read_one}
+
+-- a line more
+pub parted_more : (bytes : ℕ) (lines all : List ℕ) (k : ℕ) (held : List ℕ) → length all ≡ bytes * length lines → length held ≡ bytes → parted bytes (lines ++ k ∷ []) (all ++ held) ≡ parted bytes lines all ++ record { line = k; bytes = held } ∷ []
+parted_more bytes [] [] k held sized one = ap (λ (these : List ℕ). let it : List ShipLine = record { line = k; bytes = these } ∷ [] in it) (take_all bytes held (omega (arith, one)))
+parted_more bytes [] (byte ∷ all) k held sized one = let none : bytes * 0 ≡ 0 = omega arith in absurd (omega (arith, sized, none))
+parted_more bytes (line ∷ lines) all k held sized one =
+    let step : bytes * suc (length lines) ≡ bytes + bytes * length lines = omega arith in
+    let long : bytes ≤ length all = omega (arith, sized, step) in
+    let front : take bytes (all ++ held) ≡ take bytes all = take-append-le bytes all held long in
+    let behind : drop bytes (all ++ held) ≡ drop bytes all ++ held = drop-append-le bytes all held long in
+    let left : length (drop bytes all) ≡ bytes * length lines = omega (arith, sized, step, length-drop bytes all) in
+    ap (λ (these : List ℕ). let it : List ShipLine = record { line = line; bytes = these } ∷ parted bytes (lines ++ k ∷ []) (drop bytes (all ++ held)) in it) front
+    ∙ ap (λ (these : List ℕ). let it : List ShipLine = record { line = line; bytes = take bytes all } ∷ parted bytes (lines ++ k ∷ []) these in it) behind
+    ∙ ap (λ (these : List ShipLine). let it : List ShipLine = record { line = line; bytes = take bytes all } ∷ these in it) (parted_more bytes lines (drop bytes all) k held left one)
+
+pub lines_more : (bytes bound least k : ℕ) (lines : List ShipLine) (held : List ℕ) → AreLines bytes bound least lines → least ≤ k → bound ≤ k → length held ≡ bytes → All (λ byte. byte < 256) held → AreLines bytes (k + 1) least (lines ++ record { line = k; bytes = held } ∷ [])
+lines_more bytes bound least k [] held are le most sized all = (le, omega arith, sized, all, tt)
+lines_more bytes bound least k (line ∷ lines) held are le most sized all =
+    (are.0, omega (arith, are.1, most), are.2, are.3, lines_more bytes bound (line.line + 1) k lines held are.4 (omega (arith, are.1, most)) most sized all)
+
+pub wider : (bytes bound wide least : ℕ) (lines : List ShipLine) → AreLines bytes bound least lines → bound ≤ wide → AreLines bytes wide least lines
+wider bytes bound wide least [] are le = tt
+wider bytes bound wide least (line ∷ lines) are le = (are.0, omega (arith, are.1, le), are.2, are.3, wider bytes bound wide (line.line + 1) lines are.4 le)
+
+one_text : (lines : List ShipLine) (one : ShipLine) → lines_text (lines ++ one ∷ []) ≡ lines_text lines ++ line_line one.line one.bytes
+one_text lines one =
+    flat_map-append (λ (line : ShipLine). line_line line.line line.bytes) lines (one ∷ []) ∙ ap (λ (these : List ℕ). lines_text lines ++ these) (append-nil (line_line one.line one.bytes))
+
+pub text_on : (text left rest : List ℕ) (lines : List ShipLine) (k : ℕ) (held : List ℕ) → text ≡ lines_text lines ++ left → left ≡ line_line k held ++ rest → text ≡ lines_text (lines ++ record { line = k; bytes = held } ∷ []) ++ rest
+text_on text left rest lines k held is next_is =
+    is
+    ∙ ap (λ (these : List ℕ). lines_text lines ++ these) next_is
+    ∙ sym (append_assoc (lines_text lines) (line_line k held) rest)
+    ∙ ap (λ (these : List ℕ). these ++ rest) (sym (one_text lines (record { line = k; bytes = held })))
+
+-- a text whose length is 0 is empty
+pub empty_is : (text : List ℕ) → true ≡ (length text == 0) → text ≡ []
+empty_is [] is = refl
+empty_is (byte ∷ text) is = absurd (grind (arith, nat_tests))
+
+pub some_is : (text : List ℕ) → false ≡ (length text == 0) → text ≢ []
+some_is [] is none = cc is
+some_is (byte ∷ text) is none = cc none
+
+-- a line has bytes
+pub line_long : (k : ℕ) (held rest left : List ℕ) → left ≡ line_line k held ++ rest → length rest < length left
+line_long k held rest left is = let long = ap length (is ∙ line_parts k held rest) in grind (arith, common_steps)
+
+pub record_long : (n count : ℕ) (rest left : List ℕ) → left ≡ record_line n count ++ rest → length rest < length left
+record_long n count rest left is = let long = ap length (is ∙ record_parts n count rest) in grind (arith, common_steps)
+
+-- where no line of a record is owed none has a least number
+none_by : (bytes bound number least : ℕ) (text : List ℕ) → Tail bytes bound number 0 0 text → Tail bytes bound number 0 least text
+none_by bytes bound number least text tail = by_lines tail.lines tail.many tail.text_is
+  where
+    by_lines : (lines : List ShipLine) → length lines ≡ 0 → text ≡ lines_text lines ++ (records_text number tail.records ++ end_line (later number (length tail.records))) → Tail bytes bound number 0 least text
+    by_lines [] many is = record { lines = []; records = tail.records; many = refl; are = tt; each = tail.each; text_is = is }
+    by_lines (line ∷ lines) many is = absurd (omega (arith, many))
+
+none_at : (bytes bound number least : ℕ) (text : List ℕ) → Tail bytes bound number 0 least text → Tail bytes bound number 0 0 text
+none_at bytes bound number least text tail = by_lines tail.lines tail.many tail.text_is
+  where
+    by_lines : (lines : List ShipLine) → length lines ≡ 0 → text ≡ lines_text lines ++ (records_text number tail.records ++ end_line (later number (length tail.records))) → Tail bytes bound number 0 0 text
+    by_lines [] many is = record { lines = []; records = tail.records; many = refl; are = tt; each = tail.each; text_is = is }
+    by_lines (line ∷ lines) many is = absurd (omega (arith, many))
+
+pub at_none : (bytes bound : ℕ) (front : List ℕ) (read number least : ℕ) → IsRead bytes bound front read number 0 least → IsRead bytes bound front read number 0 0
+at_none bytes bound front read number least is = record {
+  whole = is.whole;
+  lines = is.lines;
+  goes = λ behind tail. is.goes behind (none_by bytes bound number least behind tail);
+  came = λ behind goes. none_at bytes bound number least behind (is.came behind goes);
+}
+
+-- a record behind others
+records_one : (start number count : ℕ) (records : List (List ShipLine)) (lines : List ShipLine) → number ≡ later start (length records) → length lines ≡ count
+    → records_text start records ++ (record_line (next number) count ++ lines_text lines) ≡ records_text start (records ++ lines ∷ [])
+records_one start number count records lines number_is many =
+    let due : next number ≡ later start (length records + 1) = omega (arith, number_is) in
+    ap (λ (n : ℕ). records_text start records ++ (record_line (next number) n ++ lines_text lines)) (sym many)
+    ∙ ap (λ (n : ℕ). records_text start records ++ record_text n lines) due
+    ∙ sym (records_append start records lines)
+
+pub text_more : (start number count : ℕ) (text left rest behind : List ℕ) (records : List (List ShipLine)) (lines : List ShipLine) → number ≡ later start (length records) → length lines ≡ count
+    → text ≡ records_text start records ++ left → left ≡ record_line (next number) count ++ rest → rest ≡ lines_text lines ++ behind → text ≡ records_text start (records ++ lines ∷ []) ++ behind
+text_more start number count text left rest behind records lines number_is many one two three =
+    one
+    ∙ ap (λ (these : List ℕ). records_text start records ++ these) (two ∙ ap (λ (these : List ℕ). record_line (next number) count ++ these) three ∙ sym (append_assoc (record_line (next number) count) (lines_text lines) behind))
+    ∙ sym (append_assoc (records_text start records) (record_line (next number) count ++ lines_text lines) behind)
+    ∙ ap (λ (these : List ℕ). these ++ behind) (records_one start number count records lines number_is many)
+
+-- the whole text by what is left of it
+pub whole_text : (head text left : List ℕ) (start : ℕ) (records : List (List ShipLine)) → text ≡ records_text start records ++ left → head ++ text ≡ (head ++ records_text start records) ++ left
+whole_text head text left start records is = ap (λ (these : List ℕ). head ++ these) is ∙ sym (append_assoc head (records_text start records) left)
+
+module _ (bytes bound : ℕ) (few : bound < 2 ^ 32) where
+  pub record_step : (front : List ℕ) (read index count number least k : ℕ) (lines : List ShipLine) (held : List ℕ) → index < count → least ≤ k → k < bound → length held ≡ bytes → All (λ byte. byte < 256) held
+      → IsRead bytes bound (front ++ lines_text lines) (read + index) number (count - index) least
+      → IsRead bytes bound (front ++ lines_text (lines ++ record { line = k; bytes = held } ∷ [])) (read + (index + 1)) number (count - (index + 1)) (k + 1)
+  record_step front read index count number least k lines held inside le lt sized all is =
+      let owed : count - index ≡ suc (count - (index + 1)) = omega (arith, inside) in
+      let was = subst (λ (n : ℕ). IsRead bytes bound (front ++ lines_text lines) (read + index) number n least) owed is in
+      let now = read_one bytes bound few (front ++ lines_text lines) (read + index) number (count - (index + 1)) least k held le lt sized all was in
+      let place : read + index + 1 ≡ read + (index + 1) = omega arith in
+      let text : (front ++ lines_text lines) ++ line_line k held ≡ front ++ lines_text (lines ++ record { line = k; bytes = held } ∷ []) =
+      append_assoc front (lines_text lines) (line_line k held) ∙ ap (λ (these : List ℕ). front ++ these) (sym (one_text lines (record { line = k; bytes = held }))) in
+      subst (λ (these : List ℕ). IsRead bytes bound these (read + (index + 1)) number (count - (index + 1)) (k + 1)) text
+      (subst (λ (n : ℕ). IsRead bytes bound ((front ++ lines_text lines) ++ line_line k held) n number (count - (index + 1)) (k + 1)) place now)
+
+  pub record_bad : (front text left : List ℕ) (read index count number least : ℕ) (lines : List ShipLine) → index < count → least + (count - index) ≤ bound → number < 2 ^ 64 → text ≡ lines_text lines ++ left
+      → IsRead bytes bound (front ++ lines_text lines) (read + index) number (count - index) least
+      → ((k : ℕ) (held rest : List ℕ) → least ≤ k → k ≤ bound - (count - index) → length held ≡ bytes → All (λ byte. byte < 256) held → left ≢ line_line k held ++ rest) → IsFirstBad (front ++ text) (read + index + 1)
+  record_bad front text left read index count number least lines inside room small text_is is none =
+      let owed : count - index ≡ suc (count - (index + 1)) = omega (arith, inside) in
+      let was = subst (λ (n : ℕ). IsRead bytes bound (front ++ lines_text lines) (read + index) number n least) owed is in
+      bad_here bytes bound few (front ++ lines_text lines) (read + index) number (suc (count - (index + 1))) least (front ++ text) left was small (omega (arith, room, owed))
+      (ap (λ (these : List ℕ). front ++ these) text_is ∙ sym (append_assoc front (lines_text lines) left))
+      (λ line more may same. none may.0 may.1 more may.2 (omega (arith, may.3, owed)) may.4 may.5 (same ∙ ap (λ (these : List ℕ). these ++ more) may.6))
+
+  -- a record more
+  pub records_step : (head : List ℕ) (read number start count : ℕ) (records : List (List ShipLine)) (lines : List ShipLine) → number ≡ later start (length records) → count ≤ bound → length lines ≡ count
+      → IsRead bytes bound (head ++ records_text start records) read number 0 0
+      → (IsRead bytes bound ((head ++ records_text start records) ++ record_line (next number) count) (read + 1) (next number) count 0
+      → IsRead bytes bound (((head ++ records_text start records) ++ record_line (next number) count) ++ lines_text lines) (read + 1 + count) (next number) 0 0)
+      → IsRead bytes bound (head ++ records_text start (records ++ lines ∷ [])) (read + 1 + count) (next number) 0 0
+  records_step head read number start count records lines number_is le many is goes =
+      let front = head ++ records_text start records in
+      let now = goes (read_count bytes bound few front read number 0 count le is) in
+      subst (λ (these : List ℕ). IsRead bytes bound these (read + 1 + count) (next number) 0 0)
+      (append_assoc front (record_line (next number) count) (lines_text lines)
+      ∙ append_assoc head (records_text start records) (record_line (next number) count ++ lines_text lines)
+      ∙ ap (λ (these : List ℕ). head ++ these) (records_one start number count records lines number_is many))
+      now

@@ -1,0 +1,35 @@
+use Rattle.std.proofs.Common.{◌+◌, ◌∷◌, ◌++◌, List, ℕ, length, drop, sym, ap, ◌∙◌, arith}
+use Rattle.std.proofs.lemmas.List.{length-take-le, take_rest}
+use Rattle.hex.specs.Hex.{encode_lower, lower_digits}
+use Rattle.hex.proofs.HexLemmas.{length-encode_with}
+use Rattle.standby.proofs.PartLemmas.{cut_at, hex_word, parts_at, uncut}
+use Rattle.standby.proofs.read.held_of.Goals as goal
+
+pub returns-in-Some-2 : goal.returns-in-Some-2
+returns-in-Some-2 c =
+    let text = c.args.text.now in
+    let at = c.in-Some.at in
+    let told = rw c.in-Some-2.is at c.in_ok-held-in-Some.ensures in
+    let digits = told.0 in
+    let long = length-take-le at text (omega (arith, c.in-Some.ensures.inside)) in (
+      omega (arith, ap length digits, long, length-encode_with lower_digits c.in-Some-2.held.items, c.if-at-from.false, c.from.ensures),
+      told.1,
+      parts_at 10 at text (sym c.place_of.ensures.value ∙ c.in-Some.is)
+          ∙ ap (λ (these : List ℕ). these ++ 10 ∷ drop (at + 1) text) digits
+          ∙ ap (λ (these : List ℕ). encode_lower c.in-Some-2.held.items ++ 10 ∷ these) (sym (take_rest text (at + 1))),
+    )
+
+pub returns-then-at-from : goal.returns-then-at-from
+returns-then-at-from c = λ held rest sized all is.
+    let cut = cut_at 10 c.in-Some.at c.args.text.now (encode_lower held) rest (omega arith) (hex_word held all) (sym c.place_of.ensures.value ∙ c.in-Some.is) is in
+    absurd (omega (arith, cut.0, sized, length-encode_with lower_digits held, c.if-at-from.true, c.from.ensures))
+
+pub returns-in-None-2 : goal.returns-in-None-2
+returns-in-None-2 c = λ held rest sized all is.
+    let cut = cut_at 10 c.in-Some.at c.args.text.now (encode_lower held) rest (omega arith) (hex_word held all) (sym c.place_of.ensures.value ∙ c.in-Some.is) is in
+    let none = rw c.in-None-2.is at c.in_ok-held-in-Some.ensures in
+    none held all cut.1
+
+pub returns-in-None : goal.returns-in-None
+returns-in-None c = λ held rest sized all is.
+    uncut 10 c.args.text.now (encode_lower held) rest (omega arith) (hex_word held all) (sym c.place_of.ensures.value ∙ c.in-None.is) is

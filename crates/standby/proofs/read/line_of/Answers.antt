@@ -1,0 +1,14 @@
+use Rattle.std.proofs.Common.{◌≡◌, ◌∷◌, ◌++◌, [], List, ℕ, codes, decimal, drop, sym, ap, ◌∙◌, arith}
+use Rattle.hex.specs.Hex.{encode_lower}
+use Rattle.standby.proofs.PartLemmas.{line_front, line_parts}
+use Rattle.standby.proofs.read.line_of.Goals as goal
+
+pub returns-in-None : goal.returns-in-None
+returns-in-None c = λ line held rest low high sized all is.
+    let parts = is ∙ line_parts line held rest in
+    let skipped : c.skip.result.now ≡ decimal line ++ 32 ∷ (encode_lower held ++ 10 ∷ rest) = c.skip.ensures ∙ ap (λ (text : List ℕ). drop 5 text) parts in
+    let first = c.number_to-line.ensures line (encode_lower held ++ 10 ∷ rest) (omega (arith, high, c.ranges.most.fits)) skipped in
+    let number = c.small-line.ensures (omega (arith, high, c.ranges.most.fits, first.0)) ∙ first.0 in
+    let room : c.as_slice.result.now ≡ (codes "line" ++ 32 ∷ decimal line) ++ 32 ∷ [] =
+    c.as_slice.ensures ∙ c.word.ensures.value ∙ ap (λ (these : List ℕ). these ++ 32 ∷ []) (c.number.ensures.value ∙ ap (λ (these : List ℕ). these ++ 32 ∷ decimal c.from.result) c.begin.ensures ∙ ap (λ (n : ℕ). codes "line" ++ 32 ∷ decimal n) (c.from.ensures ∙ number)) in
+    c.in-None.ensures (encode_lower held ++ 10 ∷ rest) (parts ∙ sym (line_front line (encode_lower held ++ 10 ∷ rest)) ∙ ap (λ (these : List ℕ). these ++ (encode_lower held ++ 10 ∷ rest)) (sym room))
