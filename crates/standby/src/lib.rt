@@ -6,6 +6,8 @@ mod line;
 mod put;
 mod read;
 mod shipping;
+#[cfg(test)]
+mod tests;
 mod text;
 mod word;
 

@@ -1,0 +1,290 @@
+//! A store of one commit is shipped, and another follows it; texts that are none are told at their first bad line.
+ghost use Rattle.std.specs.Prelude.{◌<◌, ◌^◌, length};
+ghost use Rattle.standby.specs.Text.{IsShip};
+
+use super::{Followed, Ship, ShipFault, Shipped, follow, read_ship, ship};
+use line_geometry::{Directory, PageSize};
+use outside::{Call, Joint, MemoryDisk, MemoryScreen, Refusal};
+use redo_journal::Kept;
+use restart::Durable;
+use std::alloc::{AllocError, Global};
+use std::process::Abort;
+use std::test::Fail;
+use store_format::Header;
+
+type Both = Joint<MemoryDisk, MemoryScreen>;
+
+/// The sizes of pages, with the bytes of a line.
+const SIZES: [(PageSize, usize); 2] = [(PageSize::Two, 128), (PageSize::Four, 256)];
+
+/// The store of `try`, with nothing in it.
+fn fresh(rt: &impl Abort, alloc: Global, page: PageSize) -> Result<Vec<u8>, AllocError> {
+    let directory = Directory::new(page, &[(1, 4), (2, 2)]).expect(rt, "a directory");
+    Header::new(directory, 65_536).fresh(alloc)
+}
+
+fn over(alloc: Global, image: Vec<u8>, refused: Vec<Refusal>, fails: Vec<(u32, u32)>) -> Both {
+    Joint::new(
+        MemoryDisk::new(alloc, image, refused),
+        MemoryScreen::new(alloc, fails),
+    )
+}
+
+/// The store of `try` with the word 5 in line 0, by one commit.
+fn first(rt: &impl Abort, alloc: Global, page: PageSize) -> Result<Vec<u8>, AllocError> {
+    let image = fresh(rt, alloc, page)?;
+    let mut outside = over(alloc, image, Vec::new(alloc), Vec::new(alloc));
+    let mut store = Durable::open(alloc, &mut outside).expect(rt, "a store");
+    let mut line = [0; 256];
+    line[3] = 5;
+    let width = store.header().line_bytes();
+    assert!(rt; width <= 256);
+    assert!(rt; store.header().directory().line_count() == 96);
+    assert!(rt; store.header().bank_bytes() == 65_536);
+    store.record_start();
+    store.record_line(0, &line[..width]);
+    assert_eq!(rt; store.commit(&mut outside), Kept::Done);
+    let (disk, _screen) = outside.into_parts();
+    Ok(disk.into_image())
+}
+
+/// How a shipping of an image behind a number ends, and what it prints.
+fn shipped(rt: &impl Abort, alloc: Global, image: Vec<u8>, from: u64) -> (Shipped, Vec<u8>) {
+    let mut outside = over(alloc, image, Vec::new(alloc), Vec::new(alloc));
+    let store = Durable::open(alloc, &mut outside).expect(rt, "a store");
+    let done = ship(&store, &mut outside, from);
+    let (_disk, screen) = outside.into_parts();
+    (done, screen.into_bytes())
+}
+
+/// What a store of one commit is shipped as behind a number, by the bytes of its lines.
+fn wanted(alloc: Global, bytes: usize, from: u64) -> Result<Vec<u8>, AllocError> {
+    let head: &[u8] = if bytes == 128 {
+        b"ship 128 96 "
+    } else {
+        b"ship 256 96 "
+    };
+    let mut text = Vec::from_slice(alloc, head)?;
+    if from == 0 {
+        text.extend_from_slice(b"0\nrecord 1 1\nline 0 00000005")?;
+        for _ in 4..bytes {
+            text.extend_from_slice(b"00")?;
+        }
+        text.extend_from_slice(b"\nend 1\n")?;
+    } else {
+        text.extend_from_slice(b"1\nend 1\n")?;
+    }
+    Ok(text)
+}
+
+/// Whether a store with pages of a size is shipped as it should be behind each number.
+fn ships(rt: &impl Abort, alloc: Global, page: PageSize, bytes: usize) -> Result<(), AllocError> {
+    let image = first(rt, alloc, page)?;
+    for from in 0..2 {
+        let (done, text) = shipped(rt, alloc, image.clone()?, from);
+        assert_eq!(rt; done, Shipped::Done);
+        assert_eq!(rt; text.as_slice(), wanted(alloc, bytes, from)?.as_slice());
+    }
+    for from in [2, u64::MAX] {
+        let (done, text) = shipped(rt, alloc, image.clone()?, from);
+        assert_eq!(rt; done, Shipped::NotKept);
+        assert!(rt; text.is_empty());
+    }
+    Ok(())
+}
+
+#[test]
+fn a_store_is_shipped(rt: HostRuntime) -> Result<(), Fail> {
+    for (page, bytes) in SIZES {
+        ships(&rt, rt.alloc(), page, bytes)?;
+    }
+    Ok(())
+}
+
+/// How following a text went on an image, what was printed, the writes, and the image left.
+#[derive(Drop)]
+struct Outcome {
+    done: Followed,
+    text: Vec<u8>,
+    writes: u64,
+    image: Vec<u8>,
+}
+
+fn followed(
+    rt: &impl Abort,
+    alloc: Global,
+    text: &Ship,
+    image: Vec<u8>,
+    refused: Vec<Refusal>,
+    fails: Vec<(u32, u32)>,
+) -> Outcome
+    requires { IsShip text.now }
+{
+    let mut outside = over(alloc, image, refused, fails);
+    let mut store = Durable::open(alloc, &mut outside).expect(rt, "a store");
+    let done = follow(&mut store, text, &mut outside);
+    let (disk, screen) = outside.into_parts();
+    Outcome {
+        done,
+        text: screen.into_bytes(),
+        writes: disk.writes(),
+        image: disk.into_image(),
+    }
+}
+
+/// What a text holds.
+fn read(rt: &impl Abort, alloc: Global, text: &[u8]) -> Ship
+    ensures { IsShip result }
+{
+    assert!(rt; text.len() < 65_536);
+    read_ship(alloc, text).expect(rt, "a text")
+}
+
+/// Follows the first store by a fresh one, and again.
+fn follows(rt: &impl Abort, alloc: Global, page: PageSize, bytes: usize) -> Result<(), AllocError> {
+    let none = || Vec::new(alloc);
+    let text = read(rt, alloc, wanted(alloc, bytes, 0)?.as_slice());
+    let once = followed(
+        rt,
+        alloc,
+        &text,
+        fresh(rt, alloc, page)?,
+        none(),
+        Vec::new(alloc),
+    );
+    assert_eq!(rt; once.done, Followed::Done);
+    assert_eq!(rt; once.text.as_slice(), b"kept 1\nend 1\n".as_slice());
+    assert_eq!(rt; once.image.as_slice(), first(rt, alloc, page)?.as_slice());
+    let again = followed(rt, alloc, &text, once.image, none(), Vec::new(alloc));
+    assert_eq!(rt; again.done, Followed::Done);
+    assert_eq!(rt; again.text.as_slice(), b"end 1\n".as_slice());
+    assert_eq!(rt; again.writes, 0);
+    Ok(())
+}
+
+#[test]
+fn a_store_follows(rt: HostRuntime) -> Result<(), Fail> {
+    for (page, bytes) in SIZES {
+        follows(&rt, rt.alloc(), page, bytes)?;
+    }
+    Ok(())
+}
+
+/// Refusals, and how following ends under them.
+const REFUSALS: [(Call, u64, u64, u32, Followed, &[u8]); 5] = [
+    (Call::Write, 265, 408, 0, Followed::DiskFault, b""),
+    (Call::Write, 264, 265, 0, Followed::DiskFault, b""),
+    (Call::Sync, 0, 0, 1, Followed::DiskFault, b""),
+    (Call::Sync, 0, 0, 2, Followed::DiskFault, b""),
+    (Call::Sync, 0, 0, 3, Followed::Done, b"kept 1\nend 1\n"),
+];
+
+/// Puts that fail behind three bytes, and what is printed then.
+const FAILS: [(u32, &[u8]); 2] = [(1, b"kep"), (2, b"kept 1\nend")];
+
+/// How a fresh store follows the first one under a refusal, or where a put fails.
+fn under(
+    rt: &impl Abort,
+    alloc: Global,
+    refused: Vec<Refusal>,
+    fails: Vec<(u32, u32)>,
+) -> Result<Outcome, AllocError> {
+    let text = read(rt, alloc, wanted(alloc, 128, 0)?.as_slice());
+    let image = fresh(rt, alloc, PageSize::Two)?;
+    Ok(followed(rt, alloc, &text, image, refused, fails))
+}
+
+#[test]
+fn faults_end_it(rt: HostRuntime) -> Result<(), Fail> {
+    let alloc = rt.alloc();
+    for (call, from, to, skip, done, told) in REFUSALS {
+        let refused = vec![in alloc;
+            Refusal {
+                call,
+                from,
+                to,
+                skip
+            },
+        ]?;
+        let found = under(&rt, alloc, refused, Vec::new(alloc))?;
+        assert_eq!(rt; found.done, done);
+        assert_eq!(rt; found.text.as_slice(), told);
+    }
+    for (put, told) in FAILS {
+        let fails = Vec::from_slice(alloc, &[(put, 3)])?;
+        let found = under(&rt, alloc, Vec::new(alloc), fails)?;
+        assert_eq!(rt; found.done, Followed::PutFault);
+        assert_eq!(rt; found.text.as_slice(), told);
+        assert_eq!(rt;
+            found.image.as_slice(),
+            first(&rt, alloc, PageSize::Two)?.as_slice()
+        );
+    }
+    Ok(())
+}
+
+/// Texts, and the first line of each that is wrong, or how the store of `try` follows it.
+const TEXTS: [(&[u8], Result<Followed, u32>); 25] = [
+    (b"", Err(1)),
+    (b"\n", Err(1)),
+    (b"ship 128 96 0", Err(1)),
+    (b"ship 128 96 0\n", Err(2)),
+    (b"ship 0 96 0\nend 0\n", Err(1)),
+    (b"ship 65536 96 0\nend 0\n", Err(1)),
+    (b"ship 128 4294967296 0\nend 0\n", Err(1)),
+    (b"ship 128 96 18446744073709551616\nend 0\n", Err(1)),
+    (b"ship 128 96 00\nend 0\n", Err(1)),
+    (b"ship 128 96 0\nend 1\n", Err(2)),
+    (b"ship 128 96 0\nend 0\nend 0\n", Err(3)),
+    (b"ship 128 96 0\nend 0\nx", Err(3)),
+    (b"ship 128 96 0\nrecord 2 0\nend 2\n", Err(2)),
+    (b"ship 128 96 0\nrecord 1 97\n", Err(2)),
+    (
+        b"ship 2 96 0\nrecord 1 2\nline 5 0000\nline 5 0000\nend 1\n",
+        Err(4),
+    ),
+    (b"ship 2 96 0\nrecord 1 2\nline 95 0000\n", Err(3)),
+    (b"ship 2 96 0\nrecord 1 1\nline 96 0000\n", Err(3)),
+    (b"ship 2 96 0\nrecord 1 1\nline 9 00AA\nend 1\n", Err(3)),
+    (b"ship 2 96 0\nrecord 1 1\nline 9 000\nend 1\n", Err(3)),
+    (b"ship 2 96 0\nrecord 1 1\nline 9 0000\n", Err(4)),
+    (
+        b"ship 2 96 0\nrecord 1 1\nline 9 00aa\nend 1\n",
+        Ok(Followed::Geometry),
+    ),
+    (b"ship 128 95 0\nend 0\n", Ok(Followed::Geometry)),
+    (b"ship 128 96 1\nend 1\n", Ok(Followed::NotKept)),
+    (
+        b"ship 128 96 18446744073709551615\nend 18446744073709551615\n",
+        Ok(Followed::NotKept),
+    ),
+    (
+        b"ship 128 96 18446744073709551614\nrecord 18446744073709551615 0\nrecord 0 0\nrecord 1 0\nend 1\n",
+        Ok(Followed::Done),
+    ),
+];
+
+/// The first bad line of a text, or how a fresh store follows it; none where there is no memory.
+fn found(rt: &impl Abort, alloc: Global, text: &[u8]) -> Result<Result<Followed, u32>, AllocError> {
+    assert!(rt; text.len() < 65_536);
+    match read_ship(alloc, text) {
+        Ok(ship) => {
+            let image = fresh(rt, alloc, PageSize::Two)?;
+            Ok(Ok(followed(rt, alloc, &ship, image, Vec::new(alloc), Vec::new(alloc)).done))
+        }
+        Err(ShipFault::Bad(line)) => Ok(Err(line)),
+        Err(ShipFault::Memory) => Err(AllocError),
+    }
+}
+
+#[test]
+fn texts_are_read_or_not(rt: HostRuntime) -> Result<(), Fail> {
+    let alloc = rt.alloc();
+    for (text, wanted) in TEXTS {
+        assert_eq!(rt; found(&rt, alloc, text)?, wanted);
+    }
+    let whole = wanted(alloc, 128, 0)?;
+    let cut = whole.len().saturating_sub(6);
+    assert_eq!(rt; found(&rt, alloc, &whole[..cut])?, Err(4));
+    Ok(())
+}
