@@ -6,9 +6,9 @@ ghost use Rattle.hex.specs.Hex.{encode_lower};
 
 use super::line::{fill_end, fill_head, fill_record};
 use super::text::{Ship, ShipFault, ShipRecord};
-use super::word::{behind, bytes_of, number_to, place_of, short, skip, small};
+use super::word::{behind, bytes_of, number_to, short, skip, small};
 use std::alloc::{AllocError, Global};
-use text_line::TextLine;
+use text_line::{TextLine, place_of};
 
 /// What a ship text holds (docs/FORMATS.md, "Ship text"). It takes time linear in the text.
 ///

@@ -1,10 +1,11 @@
 // The numbers and the digits of a text.
-ghost use Rattle.std.specs.Prelude.{◌≡◌, ◌≢◌, ◌≤◌, ◌<◌, ◌^◌, ◌++◌, ◌∷◌, ℕ, List, All, length, drop, decimal, position, None, IfOk, IfSome, MatchOption, IsTrue, ◌↔◌, ◌==◌};
+ghost use Rattle.std.specs.Prelude.{◌≡◌, ◌≢◌, ◌≤◌, ◌<◌, ◌^◌, ◌++◌, ◌∷◌, ℕ, List, All, length, drop, decimal, None, IfOk, MatchOption, IsTrue, ◌↔◌};
 ghost use Rattle.hex.specs.Hex.{encode_lower};
 ghost use Rattle.hex.specs.declared.error.FromHexError.TheVariants.{OutOfMemory};
 
 use hex::FromHexError;
 use std::alloc::{AllocError, Global};
+use text_line::{number, place_of};
 
 /// What stands in a text behind so many bytes; nothing where it has fewer.
 pub fn skip(count: usize, text: &[u8]) -> &[u8]
@@ -15,14 +16,6 @@ pub fn skip(count: usize, text: &[u8]) -> &[u8]
     } else {
         &[]
     }
-}
-
-/// The place of the first byte of a text that is this one.
-pub fn place_of(byte: u8, text: &[u8]) -> Option<usize>
-    ensures value { result ≡ position (λ other. other == byte) text.now }
-    ensures inside { IfSome result (λ at. at < length text.now) }
-{
-    text.iter().position(|other| *other == byte)
 }
 
 /// The number that a text begins with in front of a byte, and what stands behind that; anything where it begins with none.
@@ -55,16 +48,6 @@ pub fn short(number: u64) -> u16
     ensures { number < 2 ^ 16 → result ≡ number }
 {
     u16::try_from(number).unwrap_or(0)
-}
-
-/// The number that a word is; anything where it is none.
-fn number(word: &[u8]) -> u64
-    ensures { (n : ℕ) → n < 2 ^ 64 → word.now ≡ decimal n → result ≡ n }
-{
-    match str::from_utf8(word) {
-        Ok(text) => text.parse::<u64>().unwrap_or(0),
-        Err(_) => 0,
-    }
 }
 
 /// The bytes that digits in lower case are; none where they are none.
