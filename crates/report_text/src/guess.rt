@@ -9,10 +9,9 @@ ghost use Rattle.report_text.specs.ReadLines.{IsLine, owned_told};
 ghost use Rattle.report_text.specs.Words.{kind_of, parts_of};
 
 use super::owned::OwnedLine;
-use super::word::{
-    address, all_small, behind, bytes, first_number, first_small, number, small, split,
-};
+use super::word::{address, all_small, behind, bytes, first_number, first_small, small, split};
 use std::alloc::{AllocError, Global};
+use text_line::number;
 
 /// The line that a text without its line feed can only be.
 pub(crate) fn guess(alloc: Global, text: &[u8]) -> Result<OwnedLine, AllocError>

@@ -14,4 +14,5 @@ pub use line::Line;
 pub use owned::OwnedLine;
 pub use put::{Reporter, put_line};
 pub use read::{LinesFault, read_lines};
-pub use word::{behind, first_number, place_of};
+pub use text_line::place_of;
+pub use word::{behind, first_number};

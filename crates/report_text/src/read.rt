@@ -13,9 +13,8 @@ use super::guess::guess;
 use super::line::Line;
 use super::owned::OwnedLine;
 use super::put::fill;
-use super::word::place_of;
 use std::alloc::{AllocError, AllocFailed, Global};
-use text_line::TextLine;
+use text_line::{TextLine, place_of};
 
 /// Why a text is not made up of lines of a report.
 #[derive(Debug, Clone, Copy, PartialEq, Eq)]

@@ -1,5 +1,5 @@
 // The words of a line. Each function here gives what was written where something was, and anything where nothing was.
-ghost use Rattle.std.specs.Prelude.{◌≡◌, ◌≢◌, ℕ, ◌<◌, ◌^◌, ◌==◌, List, [], ◌∷◌, length, map, decimal, position, All, IfOk, IfSome};
+ghost use Rattle.std.specs.Prelude.{◌≡◌, ◌≢◌, ℕ, ◌<◌, ◌^◌, List, [], ◌∷◌, length, map, decimal, All, IfOk};
 ghost use Rattle.std.specs.List.{AllByRecursion, join_with_byte};
 ghost use Rattle.byteorder.specs.Endian.{big_bytes};
 ghost use Rattle.hex.specs.Hex.{encode_lower};
@@ -10,14 +10,7 @@ ghost use Rattle.report_text.specs.Words.{IsOneWord};
 use byteorder::{BigEndian, ByteOrder};
 use hex::FromHexError;
 use std::alloc::{AllocError, Global};
-
-/// The place of the first byte of a text that is this one.
-pub fn place_of(byte: u8, text: &[u8]) -> Option<usize>
-    ensures value { result ≡ position (λ other. other == byte) text.now }
-    ensures inside { IfSome result (λ at. at < length text.now) }
-{
-    text.iter().position(|other| *other == byte)
-}
+use text_line::{number, place_of};
 
 /// The first word of a text, and what stands behind the space after it.
 pub(crate) fn split(text: &[u8]) -> (&[u8], &[u8])
@@ -37,16 +30,6 @@ pub fn behind(text: &[u8]) -> &[u8]
         → text.now ≡ join_with_byte 32 (word ∷ words) → result.now ≡ join_with_byte 32 words }
 {
     split(text).1
-}
-
-/// The number that a word is.
-pub(crate) fn number(word: &[u8]) -> u64
-    ensures { (n : ℕ) → n < 2 ^ 64 → word.now ≡ decimal n → result ≡ n }
-{
-    match str::from_utf8(word) {
-        Ok(text) => text.parse::<u64>().unwrap_or(0),
-        Err(_) => 0,
-    }
 }
 
 /// The number of 32 bits that a word is.
