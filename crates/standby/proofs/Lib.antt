@@ -11,3 +11,4 @@ pub mod ContentLemmas
 pub mod PartLemmas
 pub mod TailLemmas
 pub mod ReadLemmas
+pub mod OneLemmas

@@ -9,7 +9,7 @@ use Rattle.standby.specs.Text.{AreLines, Content, ShipLine, end_line, head_line,
 use Rattle.standby.proofs.PartLemmas.{IsLine, end_is_line, end_parts, feeds_append, head_is_line, head_parts, line_is_line, line_parts, record_is_line, record_parts, same_hex, same_number}
 
 -- lines that ascend below a bound are no more than lie between
-room_left : (bytes bound least : ℕ) (lines : List ShipLine) → AreLines bytes bound least lines → least ≤ bound → least + length lines ≤ bound
+pub room_left : (bytes bound least : ℕ) (lines : List ShipLine) → AreLines bytes bound least lines → least ≤ bound → least + length lines ≤ bound
 room_left bytes bound least [] are le = omega (arith, le)
 room_left bytes bound least (line ∷ lines) are le = omega (arith, room_left bytes bound (line.line + 1) lines are.4 (omega (arith, are.1)), are.0)
 
@@ -38,7 +38,7 @@ on_is : (number count : ℕ) → later number (suc count) ≡ later (next number
 on_is number count = omega arith
 
 -- records behind a number begin with the first line of one
-records_are : (number : ℕ) (lines : List ShipLine) (records : List (List ShipLine)) (last : List ℕ)
+pub records_are : (number : ℕ) (lines : List ShipLine) (records : List (List ShipLine)) (last : List ℕ)
     → records_text number (lines ∷ records) ++ last ≡ record_line (next number) (length lines) ++ (lines_text lines ++ (records_text (next number) records ++ last))
 records_are number lines records last =
     append_assoc (record_text (next number) lines) (records_text (next number) records) last
@@ -160,7 +160,7 @@ first_byte (byte ∷ bytes) = byte
 differs : (one two : List ℕ) → first_byte one ≢ first_byte two → one ≡ two → ⊥
 differs one two other is = other (ap first_byte is)
 
-first_is : (text one two : List ℕ) → text ≡ one → text ≡ two → first_byte one ≢ first_byte two → ⊥
+pub first_is : (text one two : List ℕ) → text ≡ one → text ≡ two → first_byte one ≢ first_byte two → ⊥
 first_is text one two is same other = differs one two other (sym is ∙ same)
 
 drop_same : (word a b : List ℕ) → word ++ a ≡ word ++ b → a ≡ b
@@ -168,20 +168,20 @@ drop_same [] a b is = is
 drop_same (c ∷ word) a b is = let less : word ++ a ≡ word ++ b = cc in drop_same word a b less
 
 -- the same record, and what stands behind its first line
-same_record : (n count other : ℕ) (x y : List ℕ) → n < 2 ^ 64 → count < 2 ^ 64 → other < 2 ^ 64 → record_line n count ++ x ≡ record_line n other ++ y → (count ≡ other) × (x ≡ y)
+pub same_record : (n count other : ℕ) (x y : List ℕ) → n < 2 ^ 64 → count < 2 ^ 64 → other < 2 ^ 64 → record_line n count ++ x ≡ record_line n other ++ y → (count ≡ other) × (x ≡ y)
 same_record n count other x y small one two is =
     let all = drop_same (codes "record ") (decimal n ++ 32 ∷ (decimal count ++ 10 ∷ x)) (decimal n ++ 32 ∷ (decimal other ++ 10 ∷ y)) (sym (record_parts n count x) ∙ is ∙ record_parts n other y) in
     let behind = same_number 32 n n (decimal count ++ 10 ∷ x) (decimal other ++ 10 ∷ y) (omega arith) small small all in
     same_number 10 count other x y (omega arith) one two behind.1
 
-same_line : (k other : ℕ) (held those x y : List ℕ) → k < 2 ^ 64 → other < 2 ^ 64 → All (λ byte. byte < 256) held → All (λ byte. byte < 256) those → line_line k held ++ x ≡ line_line other those ++ y → (k ≡ other) × (held ≡ those) × (x ≡ y)
+pub same_line : (k other : ℕ) (held those x y : List ℕ) → k < 2 ^ 64 → other < 2 ^ 64 → All (λ byte. byte < 256) held → All (λ byte. byte < 256) those → line_line k held ++ x ≡ line_line other those ++ y → (k ≡ other) × (held ≡ those) × (x ≡ y)
 same_line k other held those x y one two all each is =
     let parts = drop_same (codes "line ") (decimal k ++ 32 ∷ (encode_lower held ++ 10 ∷ x)) (decimal other ++ 32 ∷ (encode_lower those ++ 10 ∷ y)) (sym (line_parts k held x) ∙ is ∙ line_parts other those y) in
     let behind = same_number 32 k other (encode_lower held ++ 10 ∷ x) (encode_lower those ++ 10 ∷ y) (omega arith) one two parts in
     let rest = same_hex held those x y all each behind.1 in
     (behind.0, rest.0, rest.1)
 
-same_head : (w l n v m k : ℕ) (x y : List ℕ) → w < 2 ^ 64 → l < 2 ^ 64 → n < 2 ^ 64 → v < 2 ^ 64 → m < 2 ^ 64 → k < 2 ^ 64 → head_line w l n ++ x ≡ head_line v m k ++ y → (w ≡ v) × (l ≡ m) × (n ≡ k) × (x ≡ y)
+pub same_head : (w l n v m k : ℕ) (x y : List ℕ) → w < 2 ^ 64 → l < 2 ^ 64 → n < 2 ^ 64 → v < 2 ^ 64 → m < 2 ^ 64 → k < 2 ^ 64 → head_line w l n ++ x ≡ head_line v m k ++ y → (w ≡ v) × (l ≡ m) × (n ≡ k) × (x ≡ y)
 same_head w l n v m k x y one two three four five six is =
     let parts = drop_same (codes "ship ") (decimal w ++ 32 ∷ (decimal l ++ 32 ∷ (decimal n ++ 10 ∷ x))) (decimal v ++ 32 ∷ (decimal m ++ 32 ∷ (decimal k ++ 10 ∷ y))) (sym (head_parts w l n x) ∙ is ∙ head_parts v m k y) in
     let first = same_number 32 w v (decimal l ++ 32 ∷ (decimal n ++ 10 ∷ x)) (decimal m ++ 32 ∷ (decimal k ++ 10 ∷ y)) (omega arith) one four parts in

@@ -103,3 +103,7 @@ pub record IsTextOf (text : List ℕ) (ship : Ship) : Type 0 where
 -- lines of a bank's record, without their places
 abbrev pub told : List RecordLine → List ShipLine
 told lines = map (λ one. record { line = one.line; bytes = one.bytes }) lines
+
+-- a text holds at most one content
+abbrev pub HoldsOne : Type 0
+HoldsOne = (one two : Content) → IsContent one → IsContent two → text_of one ≡ text_of two → one ≡ two

@@ -2,6 +2,7 @@
 #![tactic(auto)]
 
 mod following;
+mod law;
 mod line;
 mod put;
 mod read;
@@ -12,6 +13,7 @@ mod text;
 mod word;
 
 pub use following::{Followed, follow};
+pub use law::a_text_holds_one_content;
 pub use read::read_ship;
 pub use shipping::{Shipped, ship};
 pub use text::{Ship, ShipFault, ShipRecord};
