@@ -9,7 +9,7 @@ use Rattle.outside.specs.Causes.{Rose}
 use Rattle.restart.specs.Kept.{KeptStore}
 use Rattle.standby.specs.Followed.{well, broken}
 use Rattle.standby.specs.State.{behind}
-use Rattle.standby.specs.Text.{Content, head_line, told}
+use Rattle.standby.specs.Text.{Content, told}
 use Rattle.standby.specs.declared.shipping.Shipped.{Shipped}
 use Rattle.standby.specs.declared.shipping.Shipped.TheVariants.{Done, NotKept, DiskFault, PutFault}
 
@@ -25,10 +25,6 @@ shipped store records from = record {
   start = from;
   records = map told (drop (behind store.bank.base from) records);
 }
-
--- its first line
-abbrev pub shipped_head : KeptStore → ℕ → List ℕ
-shipped_head store from = head_line (line_bytes store.header.directory.page) (line_count store.header.directory) from
 
 -- a fault stopped it
 abbrev pub IsStopped : Shipped → Type 0
