@@ -17,7 +17,7 @@ fn main(rt: HostRuntime) -> ExitCode {
     ExitCode::from(status.number())
 }
 
-/// The console on the real source and screen, and the disk that the words name: a file, which `new` and `new2` alone make, or one
+/// The console on the real source and screen, and the disk that the words name: a file, which `new`, `new2` and `renew` alone make, or one
 /// in memory, which for `try` and `big` holds the store of `try`.
 fn run(rt: &HostRuntime) -> Result<Ended, Status> {
     let alloc = rt.alloc();
@@ -62,7 +62,7 @@ fn names_store(word: &str) -> bool {
 
 /// Whether this word makes the store's file.
 fn makes_store(word: &str) -> bool {
-    matches!(word, "new" | "new2")
+    matches!(word, "new" | "new2" | "renew")
 }
 
 /// The console on this disk.
