@@ -1,6 +1,7 @@
 #!/usr/bin/env bash
 # big.sh PROGRAM [SCRATCH]: the load of `big 512` beside the same job through `run` on a store in a file, and through `try`, in turns in
-# one run; and the audit of that run, with the trace of its first activation. Prints the lines of docs/SPEED.md, "A load with waits and victims". Wants gcc. SCRATCH is a folder on the disk to measure.
+# one run; and the audit of that run, with the trace of its first activation; and how often that job waits and is rolled back with pages of either size, and
+# with fine ones. Prints the lines of docs/SPEED.md, "A load with waits and victims". Wants gcc. SCRATCH is a folder on the disk to measure.
 set -eu
 
 here=$(dirname -- "$(readlink -f -- "${BASH_SOURCE[0]}")")
@@ -114,3 +115,23 @@ for kind in big try run audit trace; do
         printf "| %s | %.1f | %.1f |\n", name[kind], wall / 1000, spent / 1000
     }'
 done
+# counts NAME WORD..: what came of the job on a new store that these words make
+counts() {
+    local name=$1
+    shift
+    rm -f "$scratch/store"
+    "$program" "$1" "$scratch/store" "${@:2}" >"$scratch/printed"
+    cp "$scratch/store" "$scratch/opening"
+    "$program" run "$scratch/store" <"$scratch/big.job" >"$scratch/report"
+    "$here/../examples/bundle.sh" "$scratch/big.job" "$scratch/report" "$scratch/opening" "$scratch/store" >"$scratch/bundle"
+    "$program" audit <"$scratch/bundle" | grep -q '^audit yes' || return 1
+    awk -v name="$name" '
+        $1 == "turn" { pages += $6; locks += $8 }
+        { lines[$1]++ }
+        END { printf "| %s | %d | %d | %d | %d | %d |\n", name, lines["wait"], lines["victim"] + lines["check"], lines["commit"], pages, locks }
+    ' "$scratch/report"
+}
+echo
+counts 'pages of 2,048 bytes' new 65536 1 4 2 2
+counts 'pages of 4,096 bytes' new2 65536 1 2 2 1
+counts 'fine pages of 4,096 bytes' new2 65536 1 2f 2 1f
