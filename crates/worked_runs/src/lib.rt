@@ -4,6 +4,8 @@
 #[cfg(test)]
 mod alone_tests;
 #[cfg(test)]
+mod fine_tests;
+#[cfg(test)]
 mod running;
 #[cfg(test)]
 mod side_by_side_tests;
