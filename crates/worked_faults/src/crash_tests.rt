@@ -37,12 +37,23 @@ const PAGES: &str =
     "frames 2\nprogram shown\n.window 1, 1, r\ncau r6, r0, 0x1000\nl r2, 0(r6)\nsvc 1\nl r2, 2048(r6)\nsvc 1\n\
     l r2, 4096(r6)\nsvc 1\nsvc 0\nend\nschedule\nbegin shown\nturn 1 9\nend\n";
 
+/// The same in three lines of one page, which is fine.
+const FINE_PAGE: &str =
+    "frames 2\nprogram put\n.window 1, 1, rw\ncau r6, r0, 0x1000\na r6, r3\nst r2, 0(r6)\nsvc 0\nend\nschedule\n\
+    begin put 5 0\nbegin put 7 256\nbegin put 9 512\nturn 1 3\nturn 2 3\nturn 3 3\nturn 2 9\nturn 1 9\nend\n";
+
+/// A program that prints the last byte of the first word of each of the three lines.
+const LINES: &str =
+    "frames 2\nprogram shown\n.window 1, 1, r\ncau r6, r0, 0x1000\nl r2, 0(r6)\nsvc 1\nl r2, 256(r6)\nsvc 1\n\
+    l r2, 512(r6)\nsvc 1\nsvc 0\nend\nschedule\nbegin shown\nturn 1 9\nend\n";
+
 /// What runs until the disk stops.
 #[derive(Clone, Copy)]
 enum Running {
     OneAdd,
     Filled,
     SideBySide,
+    FinePage,
 }
 
 /// A disk that stops at a write with some bytes in its range, and what opens then.
@@ -53,7 +64,7 @@ struct Stop {
     report: &'static str,
 }
 
-const STOPS: [Stop; 14] = [
+const STOPS: [Stop; 18] = [
     Stop {
         running: Running::OneAdd,
         write: 1,
@@ -139,6 +150,31 @@ const STOPS: [Stop; 14] = [
         write: 4,
         outcome: (0xa5, 1),
         report: "open 2\nbegin 1 shown\nturn 1 ran 8 page 3 lock 3\ncommit 1 number 3 steps 8 out 050700\nend 3\n",
+    },
+    // the gate of the first commit, and the body and the gate of the second
+    Stop {
+        running: Running::FinePage,
+        write: 2,
+        outcome: (0xa5, 1),
+        report: "open 1\nbegin 1 shown\nturn 1 ran 8 page 1 lock 3\ncommit 1 number 2 steps 8 out 000700\nend 2\n",
+    },
+    Stop {
+        running: Running::FinePage,
+        write: 3,
+        outcome: (0xff, 271),
+        report: "open 1\nbegin 1 shown\nturn 1 ran 8 page 1 lock 3\ncommit 1 number 2 steps 8 out 000700\nend 2\n",
+    },
+    Stop {
+        running: Running::FinePage,
+        write: 4,
+        outcome: (0x5a, 1),
+        report: "open 1\nbegin 1 shown\nturn 1 ran 8 page 1 lock 3\ncommit 1 number 2 steps 8 out 000700\nend 2\n",
+    },
+    Stop {
+        running: Running::FinePage,
+        write: 4,
+        outcome: (0xa5, 1),
+        report: "open 2\nbegin 1 shown\nturn 1 ran 8 page 1 lock 3\ncommit 1 number 3 steps 8 out 050700\nend 3\n",
     },
 ];
 
@@ -309,12 +345,19 @@ fn small_store(alloc: Global) -> Result<Vec<u8>, Fail> {
     Ok(Header::new(directory, 4104).fresh(alloc)?)
 }
 
+/// A store of segment 1 with a page, which is fine.
+fn fine_store(alloc: Global) -> Result<Vec<u8>, Fail> {
+    let directory = Directory::with_fine(PageSize::Four, &[(1, 1)], 1)?;
+    Ok(Header::new(directory, 4096).fresh(alloc)?)
+}
+
 /// The store on which this runs, and its job.
 fn parts_of(alloc: Global, running: Running) -> Result<(Vec<u8>, &'static str), Fail> {
     match running {
         Running::OneAdd => Ok((try_store(alloc)?, ONE_ADD)),
         Running::Filled => Ok((small_store(alloc)?, FILLED)),
         Running::SideBySide => Ok((try_store(alloc)?, SIDE_BY_SIDE)),
+        Running::FinePage => Ok((fine_store(alloc)?, FINE_PAGE)),
     }
 }
 
@@ -327,6 +370,7 @@ fn a_disk_that_stopped_opens_as_the_commits_before(rt: HostRuntime) -> Result<()
             Running::OneAdd => FIRST,
             Running::Filled => SHOWN,
             Running::SideBySide => PAGES,
+            Running::FinePage => LINES,
         };
         let outcome = vec![in alloc; stop.outcome.0; stop.outcome.1]?;
         let stopped = run(alloc, held, Some((stop.write, outcome)), job)?;
