@@ -1,7 +1,8 @@
 #!/usr/bin/env bash
 # big.sh PROGRAM [SCRATCH]: the load of `big 512` beside the same job through `run` on a store in a file, and through `try`, in turns in
-# one run; and the audit of that run, with the trace of its first activation; and how often that job waits and is rolled back with pages of either size, and
-# with fine ones. Prints the lines of docs/SPEED.md, "A load with waits and victims". Wants gcc. SCRATCH is a folder on the disk to measure.
+# one run; the audit of that run, with the trace of its first activation; and how often the job waits and is rolled back on pages of
+# either size, and on fine ones. Prints the lines of docs/SPEED.md, "A load with waits and victims". Wants gcc. SCRATCH is a folder on
+# the disk to measure.
 set -eu
 
 here=$(dirname -- "$(readlink -f -- "${BASH_SOURCE[0]}")")
