@@ -41,6 +41,8 @@ number_of status.TooBig = 8
 number_of status.Exists = 9
 number_of status.NoRange = 10
 number_of (status.Bundle part at) = 11
+number_of (status.NotKept base number) = 12
+number_of (status.Stream place kind) = 13
 number_of status.NoCommit = 14
 number_of (status.NotSerial place) = 15
 
@@ -58,6 +60,8 @@ text_of status.TooBig = codes "big"
 text_of status.Exists = codes "exists"
 text_of status.NoRange = codes "range"
 text_of (status.Bundle part at) = (codes "bundle " ++ decimal part) ++ (codes " " ++ decimal at)
+text_of (status.NotKept base number) = (codes "kept " ++ decimal base) ++ (codes " " ++ decimal number)
+text_of (status.Stream place kind) = (codes "stream " ++ decimal place) ++ (codes " " ++ decimal kind)
 text_of status.NoCommit = codes "commit"
 text_of (status.NotSerial place) = codes "serial " ++ decimal place
 

@@ -37,6 +37,12 @@ pub enum Status {
     NoRange,
     /// The bundle is none: the part with this number is wrong, at this place.
     Bundle(u8, u64),
+    /// The records that are asked for aren't kept: the bank's base and the store's number, or the first and the last number of a
+    /// ship text.
+    NotKept(u64, u64),
+    /// The ship text can't be followed: at this line it is none, its store is another one, or the record with this number is too
+    /// long, by the kind (docs/FORMATS.md, "Statuses").
+    Stream(u64, u8),
     /// No commit line is the activation's.
     NoCommit,
     /// The commit line with this number isn't sound.
@@ -61,6 +67,8 @@ impl Status {
             Status::Exists => 9,
             Status::NoRange => 10,
             Status::Bundle(..) => 11,
+            Status::NotKept(..) => 12,
+            Status::Stream(..) => 13,
             Status::NoCommit => 14,
             Status::NotSerial(_) => 15,
         }
@@ -90,6 +98,14 @@ pub fn status_text(status: &Status) -> ArrayString<64>
         Status::Bundle(part, at) => {
             push_with(&mut text, "bundle ", u64::from(*part));
             push_with(&mut text, " ", *at);
+        }
+        Status::NotKept(base, number) => {
+            push_with(&mut text, "kept ", *base);
+            push_with(&mut text, " ", *number);
+        }
+        Status::Stream(place, kind) => {
+            push_with(&mut text, "stream ", *place);
+            push_with(&mut text, " ", u64::from(*kind));
         }
         Status::NoCommit => push(&mut text, "commit"),
         Status::NotSerial(place) => push_with(&mut text, "serial ", *place),

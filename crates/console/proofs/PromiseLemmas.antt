@@ -27,6 +27,8 @@ begins command.Run words says = (says.store ∷ says.numbers, says.are)
 begins (command.Show range) words says = (says.store ∷ says.numbers, says.are)
 begins (command.New header) words says = (says.store ∷ says.numbers, says.are)
 begins (command.Renew bank) words says = (says.store ∷ says.numbers, says.are)
+begins (command.Ship from) words says = (says.store ∷ says.number ∷ [], says.are)
+begins command.Follow words says = (says.store ∷ says.numbers, says.are)
 begins (command.Big transfers) words says = (says.number ∷ [], says.are)
 begins (command.Trace activation) words says = (says.number ∷ [], says.are)
 
@@ -57,6 +59,8 @@ by_audit command.Run is = cc
 by_audit (command.Show range) is = cc
 by_audit (command.New header) is = absurd (let first : 110 ≡ 97 = sym (new_begins header.directory.page) ∙ ap (λ (word : List ℕ). slice_index word 0) is in omega (arith, first))
 by_audit (command.Renew bank) is = absurd (let first : 114 ≡ 97 = ap (λ (word : List ℕ). slice_index word 0) is in omega (arith, first))
+by_audit (command.Ship from) is = absurd (let first : 115 ≡ 97 = ap (λ (word : List ℕ). slice_index word 0) is in omega (arith, first))
+by_audit command.Follow is = absurd (let first : 102 ≡ 97 = ap (λ (word : List ℕ). slice_index word 0) is in omega (arith, first))
 by_audit (command.Big transfers) is = cc
 
 by_trace : (form : Command) → word_of form ≡ codes "trace" → IsBundled form
@@ -69,6 +73,8 @@ by_trace command.Run is = cc
 by_trace (command.Show range) is = cc
 by_trace (command.New header) is = absurd (let first : 110 ≡ 116 = sym (new_begins header.directory.page) ∙ ap (λ (word : List ℕ). slice_index word 0) is in omega (arith, first))
 by_trace (command.Renew bank) is = absurd (let first : 114 ≡ 116 = ap (λ (word : List ℕ). slice_index word 0) is in omega (arith, first))
+by_trace (command.Ship from) is = absurd (let first : 115 ≡ 116 = ap (λ (word : List ℕ). slice_index word 0) is in omega (arith, first))
+by_trace command.Follow is = absurd (let first : 102 ≡ 116 = ap (λ (word : List ℕ). slice_index word 0) is in omega (arith, first))
 by_trace (command.Big transfers) is = cc
 
 -- nothing is promised of it
@@ -110,6 +116,8 @@ module _ {W : Type 0} (G : Ghosts W) where
   needs_old left outside (command.Show range) is has = absurd (let first : 115 ≡ 114 = ap (λ (word : List ℕ). slice_index word 0) is in omega (arith, first))
   needs_old left outside (command.New header) is has = absurd (let first : 110 ≡ 114 = sym (new_begins header.directory.page) ∙ ap (λ (word : List ℕ). slice_index word 0) is in omega (arith, first))
   needs_old left outside (command.Big transfers) is has = absurd (let first : 98 ≡ 114 = ap (λ (word : List ℕ). slice_index word 0) is in omega (arith, first))
+  needs_old left outside (command.Ship from) is has = absurd has
+  needs_old left outside command.Follow is has = absurd has
   needs_old left outside command.Audit is has = absurd has
   needs_old left outside (command.Trace activation) is has = absurd has
 
@@ -146,3 +154,39 @@ module _ {W : Type 0} (G : Ghosts W) where
   renewal_promise words bank asked left left_now faults faults_now before after order status did of complete calm disk put =
       let needs = needs_old left before complete.form (one_word complete.form (command.Renew bank) (map string_bytes words) complete.asks.says asked.says) complete.has in
       renewal_ends left left_now faults faults_now before after order needs.0 needs.1 calm bank status did of disk put
+
+-- a store that is shipped or follows by its word
+module _ {W : Type 0} (G : Ghosts W) (left : Option (List ℕ)) (outside : W) where
+  pub no_promise_shipped : (words : List (String Global)) (from : ℕ) → IsForm (command.Ship from) words → IsComplete G words left outside → ⊥
+  no_promise_shipped words from asked complete = none complete.form (one_word complete.form (command.Ship from) (map string_bytes words) complete.asks.says asked.says) complete.has
+    where
+      none : (form : Command) → word_of form ≡ codes "ship" → HasAll G form left outside → ⊥
+      none (command.Ship from) is has = has
+      none command.Follow is has = has
+      none command.Audit is has = has
+      none (command.Trace activation) is has = has
+      none command.Try is has = let first : 116 ≡ 115 = ap (λ (word : List ℕ). slice_index word 0) is in omega (arith, first)
+      none command.List is has = let first : 108 ≡ 115 = ap (λ (word : List ℕ). slice_index word 0) is in omega (arith, first)
+      none command.Drill is has = let first : 100 ≡ 115 = ap (λ (word : List ℕ). slice_index word 0) is in omega (arith, first)
+      none command.Run is has = let first : 114 ≡ 115 = ap (λ (word : List ℕ). slice_index word 0) is in omega (arith, first)
+      none (command.Show range) is has = let third : 111 ≡ 105 = ap (λ (word : List ℕ). slice_index word 2) is in omega (arith, third)
+      none (command.New header) is has = let first : 110 ≡ 115 = sym (new_begins header.directory.page) ∙ ap (λ (word : List ℕ). slice_index word 0) is in omega (arith, first)
+      none (command.Renew bank) is has = let first : 114 ≡ 115 = ap (λ (word : List ℕ). slice_index word 0) is in omega (arith, first)
+      none (command.Big transfers) is has = let first : 98 ≡ 115 = ap (λ (word : List ℕ). slice_index word 0) is in omega (arith, first)
+
+  pub no_promise_followed : (words : List (String Global)) → IsForm command.Follow words → IsComplete G words left outside → ⊥
+  no_promise_followed words asked complete = none complete.form (one_word complete.form command.Follow (map string_bytes words) complete.asks.says asked.says) complete.has
+    where
+      none : (form : Command) → word_of form ≡ codes "follow" → HasAll G form left outside → ⊥
+      none (command.Ship from) is has = has
+      none command.Follow is has = has
+      none command.Audit is has = has
+      none (command.Trace activation) is has = has
+      none command.Try is has = let first : 116 ≡ 102 = ap (λ (word : List ℕ). slice_index word 0) is in omega (arith, first)
+      none command.List is has = let first : 108 ≡ 102 = ap (λ (word : List ℕ). slice_index word 0) is in omega (arith, first)
+      none command.Drill is has = let first : 100 ≡ 102 = ap (λ (word : List ℕ). slice_index word 0) is in omega (arith, first)
+      none command.Run is has = let first : 114 ≡ 102 = ap (λ (word : List ℕ). slice_index word 0) is in omega (arith, first)
+      none (command.Show range) is has = let first : 115 ≡ 102 = ap (λ (word : List ℕ). slice_index word 0) is in omega (arith, first)
+      none (command.New header) is has = let first : 110 ≡ 102 = sym (new_begins header.directory.page) ∙ ap (λ (word : List ℕ). slice_index word 0) is in omega (arith, first)
+      none (command.Renew bank) is has = let first : 114 ≡ 102 = ap (λ (word : List ℕ). slice_index word 0) is in omega (arith, first)
+      none (command.Big transfers) is has = let first : 98 ≡ 102 = ap (λ (word : List ℕ). slice_index word 0) is in omega (arith, first)

@@ -17,7 +17,7 @@ use Rattle.store_format.specs.Header.{Header}
 use Rattle.store_calls.specs.declared.show.Range.{Range}
 use Rattle.console.specs.declared.words.Command.{Command}
 use Rattle.console.specs.declared.words.Command.TheVariants as command
-use Rattle.console.specs.Words.{AreNumbers, AreWithin, IsAlone, IsForm, IsNoForm, IsNumbered, IsOnStore, NamesStore, SaysNumber, ends_marked, marked_of, new_word, number_of, number_said, numbers_of, plain, spread, word_of}
+use Rattle.console.specs.Words.{AreNumbers, AreWithin, IsAlone, IsForm, IsLong, IsNoForm, IsNumbered, IsOnStore, NamesStore, SaysNumber, ShipsFrom, ends_marked, marked_of, new_word, number_of, number_said, numbers_of, plain, spread, word_of}
 
 -- a word of at most ten bytes
 short : (word : List ℕ) → length word ≤ 10 → number_of word ≡ number_in 10 word
@@ -155,6 +155,8 @@ alone (first ∷ []) word bytes None some one is same given = no
     no (command.Show range) form = let are = form.says.are in cc
     no (command.New header) form = let are = form.says.are in cc
     no (command.Renew bank) form = let are = form.says.are in cc
+    no (command.Ship from) form = let are = form.says.are in cc
+    no command.Follow form = let are = form.says.are in cc
     no (command.Big transfers) form = let are = form.says.are in cc
     no (command.Trace activation) form = let are = form.says.are in cc
 alone (first ∷ []) word bytes (Some command.Try) some one is same given = let said = given.1 in record { says = cc; within = tt }
@@ -165,6 +167,8 @@ alone (first ∷ []) word bytes (Some command.Run) some one is same given = absu
 alone (first ∷ []) word bytes (Some (command.Show range)) some one is same given = absurd given.0
 alone (first ∷ []) word bytes (Some (command.New header)) some one is same given = absurd given.0
 alone (first ∷ []) word bytes (Some (command.Renew bank)) some one is same given = absurd given.0
+alone (first ∷ []) word bytes (Some (command.Ship from)) some one is same given = absurd given.0
+alone (first ∷ []) word bytes (Some command.Follow) some one is same given = absurd given.0
 alone (first ∷ []) word bytes (Some (command.Big transfers)) some one is same given = absurd given.0
 alone (first ∷ []) word bytes (Some (command.Trace activation)) some one is same given = absurd given.0
 
@@ -177,13 +181,13 @@ not_empty (byte ∷ bytes) empty is not none = cc
 pub with_store : (words : List (String Global)) (word store : String Global) (bytes : List ℕ) (numbers : List (ℕ × Bool)) (result : Option Command) → 2 ≤ length words
     → word ≡ get_or words 0 word → store ≡ get_or words 1 store → bytes ≡ string_bytes word → string_bytes store ≢ []
     → AreNumbers (map string_bytes (take (length words - 2) (drop 2 words))) numbers
-    → ((form : Command) → IsNumbered form → IsForm form words → ⊥)
+    → ((form : Command) → IsNumbered form → IsForm form words → ⊥) → ((from : ℕ) → IsForm (command.Ship from) words → ⊥)
     → MatchOption result ((form : Command) → IsOnStore form → bytes ≡ word_of form → numbers ≡ numbers_of form → AreWithin form → ⊥)
     (λ command. IsOnStore command × (bytes ≡ word_of command) × (numbers ≡ numbers_of command) × AreWithin command)
     → MatchOption result (IsNoForm words) (λ command. IsForm command words)
-with_store [] word store bytes numbers result two is there same some are no_number_said given = absurd (omega arith)
-with_store (first ∷ []) word store bytes numbers result two is there same some are no_number_said given = absurd (omega arith)
-with_store (first ∷ second ∷ rest) word store bytes numbers result two is there same some are no_number_said given = answered result given
+with_store [] word store bytes numbers result two is there same some are no_number_said no_ship given = absurd (omega arith)
+with_store (first ∷ []) word store bytes numbers result two is there same some are no_number_said no_ship given = absurd (omega arith)
+with_store (first ∷ second ∷ rest) word store bytes numbers result two is there same some are no_number_said no_ship given = answered result given
   where
     these : AreNumbers (map string_bytes rest) numbers
     these = subst (λ (behind : List (String Global)). AreNumbers (map string_bytes behind) numbers) (behind_two first second rest) are
@@ -212,6 +216,8 @@ with_store (first ∷ second ∷ rest) word store bytes numbers result two is th
     no none (command.Show range) form = unnamed (command.Show range) none tt form.within form.says
     no none (command.New header) form = unnamed (command.New header) none tt form.within form.says
     no none (command.Renew bank) form = unnamed (command.Renew bank) none tt form.within form.says
+    no none (command.Ship from) form = no_ship from form
+    no none command.Follow form = unnamed command.Follow none tt form.within form.says
     no none (command.Big transfers) form = no_number_said (command.Big transfers) tt form
     no none (command.Trace activation) form = no_number_said (command.Trace activation) tt form
 
@@ -230,12 +236,14 @@ with_store (first ∷ second ∷ rest) word store bytes numbers result two is th
     answered (Some (command.Show range)) given = record { says = named (command.Show range) given.1 given.2; within = given.3 }
     answered (Some (command.New header)) given = record { says = named (command.New header) given.1 given.2; within = given.3 }
     answered (Some (command.Renew bank)) given = record { says = named (command.Renew bank) given.1 given.2; within = given.3 }
+    answered (Some (command.Ship from)) given = absurd given.0
+    answered (Some command.Follow) given = record { says = named command.Follow given.1 given.2; within = given.3 }
 
 -- behind a store there are words that aren't numbers, or too many
-pub without_numbers : (words : List (String Global)) → 2 ≤ length words → ((numbers : List (ℕ × Bool)) → length numbers ≤ 31 → AreNumbers (map string_bytes (take (length words - 2) (drop 2 words))) numbers → ⊥) → ((form : Command) → IsNumbered form → IsForm form words → ⊥) → IsNoForm words
-without_numbers [] two none no_number_said form is = omega arith
-without_numbers (first ∷ []) two none no_number_said form is = omega arith
-without_numbers (first ∷ second ∷ rest) two none no_number_said form is = no form is
+pub without_numbers : (words : List (String Global)) → 2 ≤ length words → ((numbers : List (ℕ × Bool)) → length numbers ≤ 31 → AreNumbers (map string_bytes (take (length words - 2) (drop 2 words))) numbers → ⊥) → ((form : Command) → IsNumbered form → IsForm form words → ⊥) → ((from : ℕ) → IsForm (command.Ship from) words → ⊥) → IsNoForm words
+without_numbers [] two none no_number_said no_ship form is = omega arith
+without_numbers (first ∷ []) two none no_number_said no_ship form is = omega arith
+without_numbers (first ∷ second ∷ rest) two none no_number_said no_ship form is = no form is
   where
     unnamed : (form : Command) → length (numbers_of form) ≤ 31 → NamesStore form (map string_bytes (first ∷ second ∷ rest)) → ⊥
     unnamed form few names =
@@ -250,6 +258,8 @@ without_numbers (first ∷ second ∷ rest) two none no_number_said form is = no
     no command.Run form = unnamed command.Run (omega arith) form.says
     no (command.Show range) form = unnamed (command.Show range) (omega arith) form.says
     no (command.Renew bank) form = unnamed (command.Renew bank) (omega arith) form.says
+    no (command.Ship from) form = no_ship from form
+    no command.Follow form = unnamed command.Follow (omega arith) form.says
     no (command.New header) form = unnamed (command.New header) (let few = form.within.1.few in omega (arith, few, length-spread header.directory.segments header.directory.fine)) form.says
     no (command.Big transfers) form = no_number_said (command.Big transfers) tt form
     no (command.Trace activation) form = no_number_said (command.Trace activation) tt form
@@ -295,6 +305,43 @@ pub one_bank : (words : List (String Global)) (one two : ℕ) → IsForm (comman
 one_bank words one two first second =
     let same : plain (one ∷ []) ≡ plain (two ∷ []) = same_words (command.Renew one) (command.Renew two) (map string_bytes words) first.says second.says in
     ap (λ (those : List (ℕ × Bool)). (get_or those 0 (0, false)).0) same
+
+-- a word, a store and a long number
+pub with_long : (words : List (String Global)) (word store number : String Global) (result : Option ℕ) → length words ≡ 3 → word ≡ get_or words 0 word → store ≡ get_or words 1 store → number ≡ get_or words 2 number
+    → string_bytes word ≡ codes "ship" → string_bytes store ≢ []
+    → MatchOption result ((n : ℕ) → IsLong (string_bytes number) n → ⊥) (λ n. IsLong (string_bytes number) n)
+    → MatchOption result ((from : ℕ) → IsForm (command.Ship from) words → ⊥) (λ from. IsForm (command.Ship from) words)
+with_long [] word store number result three is there last said some given = absurd (omega (arith, three))
+with_long (first ∷ []) word store number result three is there last said some given = absurd (omega (arith, three))
+with_long (first ∷ second ∷ []) word store number result three is there last said some given = absurd (omega (arith, three))
+with_long (first ∷ second ∷ third ∷ fourth ∷ rest) word store number result three is there last said some given = absurd (omega (arith, three))
+with_long (first ∷ second ∷ third ∷ []) word store number None three is there last said some given = λ from form.
+    let are = form.says.are in
+    let same : form.says.number ≡ string_bytes number = cc in
+    given from (subst (λ (digits : List ℕ). IsLong digits from) same form.says.say)
+with_long (first ∷ second ∷ third ∷ []) word store number (Some from) three is there last said some given = record {
+  says = record { store = string_bytes store; some = some; number = string_bytes number; are = cc; say = given };
+  within = tt;
+}
+
+-- and one number from which records are shipped
+pub one_from : (words : List (String Global)) (one two : ℕ) → IsForm (command.Ship one) words → IsForm (command.Ship two) words → one ≡ two
+one_from words one two first second =
+    let here = first.says.are in
+    let there = second.says.are in
+    let same : first.says.number ≡ second.says.number = cc in
+    sym first.says.say.value ∙ ap (digits_value 10) same ∙ second.says.say.value
+
+-- what `parse` answers for a long word without a sign
+pub parsed_long : {E : Type 0} (word : List ℕ) (result : Result ℕ E) → length word ≤ 20 → slice_index word 0 ≢ 43 → ParsesUnsigned 64 10 word result
+    → MatchResult result (λ number. IsLong word number) (λ fault. (number : ℕ) → IsLong word number → ⊥)
+parsed_long {E} word result few plain gives =
+    let whole : without_leading_plus word ≡ word = rw (same_none (slice_index word 0) 43 plain) refl in
+    answered result (subst (λ (digits : List ℕ). OkIff result (IsNumeral 10 digits × (digits_value 10 digits < 2 ^ 64)) (digits_value 10 digits)) whole gives)
+  where
+    answered : (result : Result ℕ E) → OkIff result (IsNumeral 10 word × (digits_value 10 word < 2 ^ 64)) (digits_value 10 word) → MatchResult result (λ number. IsLong word number) (λ fault. (number : ℕ) → IsLong word number → ⊥)
+    answered (Ok number) is = record { few = few; digits = is.0.0; value = sym is.1; fits = subst (λ (n : ℕ). n < 2 ^ 64) (sym is.1) is.0.1 }
+    answered (Err fault) is = λ number long. is (long.digits, subst (λ (n : ℕ). n < 2 ^ 64) (sym long.value) long.fits)
 
 -- a word that makes a store is of one size of pages
 one_page : (one two : PageSize) → new_word one ≡ new_word two → one ≡ two

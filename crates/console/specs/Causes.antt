@@ -15,6 +15,8 @@ use Rattle.store_calls.specs.Show.{HasRange, IsOfShow}
 use Rattle.store_calls.specs.New.{IsOfNew}
 use Rattle.store_calls.specs.Renewed.{IsOfRenew, standing_as_one}
 use Rattle.job_calls.specs.Causes.{IsOfEvents, IsOfRun}
+use Rattle.standby_calls.specs.Followed.{IsOfFollow}
+use Rattle.standby_calls.specs.Shipped.{IsOfShip}
 use Rattle.bundle_calls.specs.Audited.{IsOfAudit}
 use Rattle.bundle_calls.specs.Traced.{IsOfTrace}
 use Rattle.console.specs.Words.{IsForm}
@@ -40,7 +42,7 @@ pub record HasOldStore (left : Option (List ℕ)) : Type 0 where
   pub stood : standing_as_one text ≡ Stands number store
 
 -- what a command needs: the text of a job and a store to run it on, to list it or to drill it; bytes that stand for a store with a range; an empty disk, and a store of version 1 to renew; a store to
--- run a load on. Of a bundle's two commands nothing is promised: their statuses name the part that is wrong.
+-- run a load on. Of a bundle's two commands nothing is promised, and nothing of a store that is shipped or follows: their statuses name what is wrong.
 abbrev pub HasAll : {W : Type 0} → Ghosts W → Command → Option (List ℕ) → W → Type 0
 HasAll G command.Try left outside = HasJob left × HasStore G outside
 HasAll G command.Run left outside = HasJob left × HasStore G outside
@@ -50,6 +52,8 @@ HasAll G (command.Show range) left outside = IsSome (G.held outside) × HasRange
 HasAll G (command.New header) left outside = G.held outside ≡ Some []
 HasAll G (command.Renew bank) left outside = HasOldStore left × (G.held outside ≡ Some [])
 HasAll G (command.Big transfers) left outside = HasStore G outside
+HasAll G (command.Ship from) left outside = ⊥
+HasAll G command.Follow left outside = ⊥
 HasAll G command.Audit left outside = ⊥
 HasAll G (command.Trace activation) left outside = ⊥
 
@@ -68,6 +72,8 @@ IsOf command.Drill = IsOfLines
 IsOf (command.Show range) = IsOfShow
 IsOf (command.New header) = IsOfNew
 IsOf (command.Renew bank) = IsOfRenew
+IsOf (command.Ship from) = IsOfShip
+IsOf command.Follow = IsOfFollow
 IsOf (command.Big transfers) = IsOfEvents
 IsOf command.Audit = IsOfAudit
 IsOf (command.Trace activation) = IsOfTrace

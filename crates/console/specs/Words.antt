@@ -1,5 +1,6 @@
 -- The words of the command line.
-use Rattle.std.specs.Prelude.{◌≡◌, ◌≢◌, ◌⊎◌, ℕ, ◌-◌, ◌/◌, ◌%◌, ◌≤◌, ◌==◌, nat_le, if◌then◌else◌, Bool, true, false, List, [], ◌∷◌, map, length, take, slice_index, codes, Option, Some, None, option_map, String, string_bytes}
+use Rattle.std.specs.Prelude.{◌≡◌, ◌≢◌, ◌⊎◌, ℕ, ◌-◌, ◌/◌, ◌%◌, ◌^◌, ◌<◌, ◌≤◌, ◌==◌, nat_le, if◌then◌else◌, Bool, true, false, List, [], ◌∷◌, map, length, take, slice_index, codes, Option, Some, None, option_map, String, string_bytes}
+use Rattle.std.specs.Str.Parse.{IsNumeral, digits_value}
 use Rattle.std.specs.declared.alloc.Global.{Global}
 use Rattle.asm_parse.specs.Number.{number_in}
 use Rattle.line_geometry.specs.declared.directory.PageSize.{PageSize}
@@ -23,6 +24,8 @@ word_of command.Drill = codes "drill"
 word_of (command.Show range) = codes "show"
 word_of (command.New header) = new_word header.directory.page
 word_of (command.Renew bank) = codes "renew"
+word_of (command.Ship from) = codes "ship"
+word_of command.Follow = codes "follow"
 word_of (command.Big transfers) = codes "big"
 word_of command.Audit = codes "audit"
 word_of (command.Trace activation) = codes "trace"
@@ -30,6 +33,13 @@ word_of (command.Trace activation) = codes "trace"
 -- the number of a word: one to ten decimal digits, which write at most 4,294,967,295
 abbrev pub number_of : List ℕ → Option ℕ
 number_of word = if nat_le (length word) 10 then number_in 10 word else None
+
+-- The word is this long number: one to twenty decimal digits, which write at most 18,446,744,073,709,551,615.
+pub record IsLong (word : List ℕ) (number : ℕ) : Type 0 where
+  pub few : length word ≤ 20
+  pub digits : IsNumeral 10 word
+  pub value : digits_value 10 word ≡ number
+  pub fits : number < 2 ^ 64
 
 -- whether the last byte of a word is the letter `f`
 abbrev pub ends_marked : List ℕ → Bool
@@ -95,6 +105,7 @@ IsOnStore command.Run = Unit {0}
 IsOnStore (command.Show range) = Unit {0}
 IsOnStore (command.New header) = Unit {0}
 IsOnStore (command.Renew bank) = Unit {0}
+IsOnStore command.Follow = Unit {0}
 IsOnStore _ = ⊥
 
 -- the words are a command's word, a store, which is any word that isn't empty, and the command's numbers
@@ -111,6 +122,14 @@ pub record SaysNumber (form : Command) (words : List (List ℕ)) : Type 0 where
   pub are : words ≡ word_of form ∷ number ∷ []
   pub say : number_of number ≡ Some (number_said form)
 
+-- The words are that of shipping, a store, which is any word that isn't empty, and a long number.
+pub record ShipsFrom (from : ℕ) (words : List (List ℕ)) : Type 0 where
+  pub store : List ℕ
+  pub some : store ≢ []
+  pub number : List ℕ
+  pub are : words ≡ word_of (command.Ship from) ∷ store ∷ number ∷ []
+  pub say : IsLong number from
+
 -- the words say a command: its word alone, with a number, or with a store and its numbers
 abbrev pub Says : Command → List (List ℕ) → Type 0
 Says command.Try words = words ≡ word_of command.Try ∷ []
@@ -119,6 +138,7 @@ Says command.Drill words = words ≡ word_of command.Drill ∷ []
 Says command.Audit words = words ≡ word_of command.Audit ∷ []
 Says (command.Big transfers) words = SaysNumber (command.Big transfers) words
 Says (command.Trace activation) words = SaysNumber (command.Trace activation) words
+Says (command.Ship from) words = ShipsFrom from words
 Says form words = NamesStore form words
 
 -- the words are a command
@@ -149,3 +169,7 @@ ReadsBundle words = IsForm command.Audit words ⊎ ((activation : ℕ) × IsForm
 -- the words ask for a store to be read from the source: `renew` with a bank
 abbrev pub ReadsStore : List (String Global) → Type 0
 ReadsStore words = (bank : ℕ) × IsForm (command.Renew bank) words
+
+-- the words ask for a ship text to be read: `follow`
+abbrev pub ReadsText : List (String Global) → Type 0
+ReadsText words = IsForm command.Follow words

@@ -5,6 +5,8 @@ ghost use Rattle.store_format.specs.Header.{Header};
 ghost use Rattle.call_status.specs.Reading.{ReadsBy};
 ghost use Rattle.store_calls.specs.New.{Made};
 ghost use Rattle.store_calls.specs.Renewed.{Renewed};
+ghost use Rattle.standby_calls.specs.Followed.{FollowedFrom};
+ghost use Rattle.standby_calls.specs.Shipped.{ShippedFrom};
 ghost use Rattle.store_calls.specs.Show.{Shown};
 ghost use Rattle.job_calls.specs.Big.{Loaded};
 ghost use Rattle.job_calls.specs.Causes.{OpensBy};
@@ -15,7 +17,7 @@ ghost use Rattle.bundle_calls.specs.Audited.{Audited};
 ghost use Rattle.bundle_calls.specs.Traced.{TracedFrom};
 ghost use Rattle.console.specs.Causes.{IsComplete, IsOf};
 ghost use Rattle.console.specs.Listed.{Listed};
-ghost use Rattle.console.specs.Words.{IsForm, IsNoForm, OpensSession, ReadsBundle, ReadsJob, ReadsStore, RunsJob};
+ghost use Rattle.console.specs.Words.{IsForm, IsNoForm, OpensSession, ReadsBundle, ReadsJob, ReadsStore, ReadsText, RunsJob};
 
 use super::list::list_source;
 use super::words::{Command, command_of};
@@ -24,6 +26,7 @@ use call_status::Status;
 use drills::drill_source;
 use job_calls::{Ended, run_load, run_source};
 use outside::{Outside, Source};
+use standby_calls::{follow_source, ship_store};
 use std::alloc::Global;
 use store_calls::{Range, make_store, renew_store, show_range};
 
@@ -36,7 +39,9 @@ use store_calls::{Range, make_store, renew_store, show_range};
 /// `show STORE S FROM COUNT`: bytes of the disk's store are put, a row at a time. The words `new STORE BANK S P ..`: an
 /// empty disk becomes a store with nothing in it, and `new2` in place of `new` one with pages of 4,096 bytes, of which a segment is
 /// fine whose pages have an `f` behind them. The words `renew STORE BANK`: an empty disk becomes a store of version 2 with what
-/// the source's store of version 1 has. The words `big N`: a load of N transfers, with waits and victims, runs on
+/// the source's store of version 1 has. The words `ship STORE N`: the records that the disk's store keeps behind number N are put as
+/// a text. The words `follow STORE`: the records of such a text, from the source, are committed to the disk's store, with a line for
+/// each. The words `big N`: a load of N transfers, with waits and victims, runs on
 /// the disk's store, and one line tells what came of it. The word `audit`: the bundle of the source is checked, and one line
 /// tells its verdict. The words `trace A`: the lines that activation A of a bundle touched are put. A file that the word STORE
 /// names is opened by whoever makes the disk.
@@ -50,7 +55,7 @@ pub fn console<S: Source, W: Outside>(
     ensures unasked { result.status ≡ Status.Usage → (job.new ≡ job.old) × (outside.new ≡ outside.old) × (order_told result.order.items ≡ []) }
     ensures only { (form : Command) → IsForm form words.now → IsOf form result.status }
     ensures read { ReadsJob words.now → ReadsBy (S.left job.old) (S.left job.new) (S.faults job.old) (S.faults job.new) result.status }
-    ensures unread { (ReadsJob words.now ⊎ ReadsBundle words.now ⊎ ReadsStore words.now → ⊥) → job.new ≡ job.old }
+    ensures unread { (ReadsJob words.now ⊎ ReadsBundle words.now ⊎ ReadsStore words.now ⊎ ReadsText words.now → ⊥) → job.new ≡ job.old }
     ensures unfailed { result.status ≡ Status.Done → (S.faults job.new ≡ S.faults job.old) × (W.put_faults outside.new ≡ W.put_faults outside.old) }
     ensures opened { RunsJob words.now → OpensBy W.Outside outside.old outside.new result.status }
     ensures put { result.status ≡ Status.PutFault → Rose (W.put_faults outside.old) (W.put_faults outside.new) }
@@ -63,6 +68,8 @@ pub fn console<S: Source, W: Outside>(
     ensures shown { (range : Range) → IsForm (Command.Show range) words.now → Shown W.Outside range outside.old outside.new (order_told result.order.items) result.status }
     ensures made { (header : Header) → IsForm (Command.New header) words.now → Made W.Outside header outside.old outside.new (order_told result.order.items) result.status }
     ensures renewed { (bank : ℕ) → IsForm (Command.Renew bank) words.now → Renewed W.Outside bank (S.left job.old) (S.left job.new) (S.faults job.old) (S.faults job.new) outside.old outside.new (order_told result.order.items) result.status }
+    ensures shipped { (from : ℕ) → IsForm (Command.Ship from) words.now → ShippedFrom W.Outside from outside.old outside.new (order_told result.order.items) result.status }
+    ensures followed { IsForm Command.Follow words.now → FollowedFrom W.Outside (S.left job.old) (S.left job.new) (S.faults job.old) (S.faults job.new) outside.old outside.new (order_told result.order.items) result.status }
     ensures loaded { (transfers : ℕ) → IsForm (Command.Big transfers) words.now → Loaded W.Outside transfers outside.old outside.new (order_told result.order.items) result.session result.status }
     ensures audited { IsForm Command.Audit words.now → Audited W.Outside (S.left job.old) (S.left job.new) (S.faults job.old) (S.faults job.new) outside.old outside.new (order_told result.order.items) result.status }
     ensures traced { (activation : ℕ) → IsForm (Command.Trace activation) words.now → TracedFrom W.Outside activation (S.left job.old) (S.left job.new) (S.faults job.old) (S.faults job.new) outside.old outside.new (order_told result.order.items) result.status }
@@ -80,6 +87,8 @@ pub fn console<S: Source, W: Outside>(
         Command::Renew(bank_bytes) => {
             Ended::without_events(alloc, renew_store(alloc, bank_bytes, job, outside))
         }
+        Command::Ship(from) => Ended::without_events(alloc, ship_store(alloc, from, outside)),
+        Command::Follow => Ended::without_events(alloc, follow_source(alloc, job, outside)),
         Command::Big(transfers) => run_load(alloc, transfers, outside),
         Command::Audit => Ended::without_events(alloc, audit_source(alloc, job, outside)),
         Command::Trace(activation) => {

@@ -2,7 +2,7 @@
 ghost use Rattle.std.specs.Prelude.{◌≡◌, ◌≢◌, ◌≤◌, ◌<◌, ◌+◌, ◌^◌, [], ◌∷◌, ◌++◌, Bool, List, ℕ, All, map, length, false, MatchOption, Some, string_bytes};
 ghost use Rattle.line_geometry.specs.Legal.{IsLegal, IsInRange, AreFlags};
 ghost use Rattle.store_format.specs.Header.{Header as Layout, HasRanges};
-ghost use Rattle.console.specs.Words.{IsForm, IsNoForm, AreWithin, AreNumbers, IsAlone, IsNumbered, IsOnStore, number_said, word_of, numbers_of, number_of, marked_of, plain, spread};
+ghost use Rattle.console.specs.Words.{IsForm, IsNoForm, AreWithin, AreNumbers, IsAlone, IsLong, IsNumbered, IsOnStore, number_said, word_of, numbers_of, number_of, marked_of, plain, spread};
 
 use arrayvec::ArrayVec;
 use line_geometry::{Directory, PageSize};
@@ -32,6 +32,10 @@ pub enum Command {
     New(Header),
     /// A store of version 1 that the source has is made one of version 2 in a file, with a bank of so many bytes.
     Renew(u32),
+    /// The records that a store in a file keeps behind a number are printed.
+    Ship(u64),
+    /// The records of the source's ship text are committed to a store in a file.
+    Follow,
     /// The load of so many transfers is run, on the disk that is handed in.
     Big(u32),
     /// A bundle is audited.
@@ -46,6 +50,9 @@ pub fn command_of(words: &[String]) -> Option<Command>
 {
     if let Some(command) = numbered(words) {
         return Some(command);
+    }
+    if let Some(from) = shipping(words) {
+        return Some(Command::Ship(from));
     }
     match words {
         [] => None,
@@ -68,6 +75,18 @@ fn numbered(words: &[String]) -> Option<Command>
 {
     match words {
         [word, number] => command_with(word.as_str(), number.as_str()),
+        _ => None,
+    }
+}
+
+/// The number from which the words ask a store to ship, if they do.
+fn shipping(words: &[String]) -> Option<u64>
+    ensures { MatchOption result ((from : ℕ) → IsForm (Command.Ship from) words.now → ⊥) (λ from. IsForm (Command.Ship from) words.now) }
+{
+    match words {
+        [word, store, number] if word.as_str() == "ship" && !store.as_str().is_empty() => {
+            long_number_of(number.as_str())
+        }
         _ => None,
     }
 }
@@ -112,7 +131,9 @@ fn command_on(word: &str, numbers: &[(u32, bool)]) -> Option<Command>
         (λ command. IsOnStore command × (word.now ≡ word_of command) × (numbers.now ≡ numbers_of command) × AreWithin command) }
 {
     if word == "run" {
-        run_of(numbers)
+        bare(numbers, Command::Run)
+    } else if word == "follow" {
+        bare(numbers, Command::Follow)
     } else if word == "show" {
         range_of(numbers).map(Command::Show)
     } else if word == "new" {
@@ -126,12 +147,12 @@ fn command_on(word: &str, numbers: &[(u32, bool)]) -> Option<Command>
     }
 }
 
-/// The command to run a job on a store: it has no numbers.
-fn run_of(numbers: &[(u32, bool)]) -> Option<Command>
-    ensures { MatchOption result (numbers.now ≢ []) (λ command. (command ≡ Command.Run) × (numbers.now ≡ [])) }
+/// A command on a store that has no numbers.
+fn bare(numbers: &[(u32, bool)], command: Command) -> Option<Command>
+    ensures { MatchOption result (numbers.now ≢ []) (λ bare. (bare ≡ command) × (numbers.now ≡ [])) }
 {
     if numbers.is_empty() {
-        Some(Command::Run)
+        Some(command)
     } else {
         None
     }
@@ -271,6 +292,20 @@ fn number_of(word: &str) -> Option<u32>
         return None;
     }
     match word.parse::<u32>() {
+        Ok(number) => Some(number),
+        Err(_) => None,
+    }
+}
+
+/// The long number that a word is, if it is one.
+fn long_number_of(word: &str) -> Option<u64>
+    ensures { MatchOption result ((number : ℕ) → IsLong word.now number → ⊥) (λ number. IsLong word.now number) }
+{
+    let digits = word.as_bytes();
+    if digits.is_empty() || digits.len() > 20 || digits[0] == b'+' {
+        return None;
+    }
+    match word.parse::<u64>() {
         Ok(number) => Some(number),
         Err(_) => None,
     }

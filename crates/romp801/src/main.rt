@@ -57,7 +57,7 @@ fn runs_in_memory(words: &[String]) -> bool {
 
 /// Whether a store stands behind this word.
 fn names_store(word: &str) -> bool {
-    matches!(word, "run" | "show") || makes_store(word)
+    matches!(word, "run" | "show" | "ship" | "follow") || makes_store(word)
 }
 
 /// Whether this word makes the store's file.

@@ -10,7 +10,7 @@ use Rattle.job_calls.specs.Big.{Loaded}
 use Rattle.bundle_calls.specs.Traced.{TracedFrom}
 use Rattle.console.specs.declared.words.Command.{Command}
 use Rattle.console.specs.Words.{IsForm}
-use Rattle.console.proofs.PromiseLemmas.{no_promise, renewal_promise}
+use Rattle.console.proofs.PromiseLemmas.{no_promise, no_promise_followed, no_promise_shipped, renewal_promise}
 use Rattle.console.proofs.WordLemmas.{one_header, one_load, one_range, one_trace}
 use Rattle.console.proofs.commands.console.Goals as goal
 
@@ -30,7 +30,7 @@ pub returns-in_default-clause-renewed : goal.returns-in_default-clause-renewed
 returns-in_default-clause-renewed g c = λ bank renews. absurd (c.in_default.ensures (Command.Renew bank) renews)
 
 pub returns-in-Renew-clause-unread : goal.returns-in-Renew-clause-unread
-returns-in-Renew-clause-unread g c = λ none. absurd (none (inr (inr (c.in-Renew.bank_bytes, subst (λ (form : Command). IsForm form c.args.words.now) c.in-Renew.is c.in-Some.ensures))))
+returns-in-Renew-clause-unread g c = λ none. absurd (none (inr (inr (inl (c.in-Renew.bank_bytes, subst (λ (form : Command). IsForm form c.args.words.now) c.in-Renew.is c.in-Some.ensures)))))
 
 pub returns-in-Renew-clause-complete : goal.returns-in-Renew-clause-complete
 returns-in-Renew-clause-complete g c = λ complete calm disk put.
@@ -40,6 +40,22 @@ returns-in-Renew-clause-complete g c = λ complete calm disk put.
     subst (λ (status : Status). (status ≡ Status.Done) ⊎ (status ≡ Status.NoMemory)) (sym ended.status)
     (renewal_promise g.W.Outside c.args.words.now c.in-Renew.bank_bytes asked (g.S.Source.left c.args.job.now) (g.S.Source.left c.renew_store.new.source) (g.S.Source.faults c.args.job.now) (g.S.Source.faults c.renew_store.new.source) c.args.outside.now c.renew_store.new.outside []
     c.renew_store.result did.renewed did.only complete calm (λ is. disk (did.disk is)) (λ is. put (did.put is)))
+
+pub returns-in_default-clause-shipped : goal.returns-in_default-clause-shipped
+returns-in_default-clause-shipped g c = λ from ships. absurd (c.in_default.ensures (Command.Ship from) ships)
+
+pub returns-in_default-clause-followed : goal.returns-in_default-clause-followed
+returns-in_default-clause-followed g c = λ follows. absurd (c.in_default.ensures Command.Follow follows)
+
+pub returns-in-Ship-clause-complete : goal.returns-in-Ship-clause-complete
+returns-in-Ship-clause-complete g c = λ complete.
+    let asked : IsForm (Command.Ship c.in-Ship.from) c.args.words.now = subst (λ (form : Command). IsForm form c.args.words.now) c.in-Ship.is c.in-Some.ensures in
+    absurd (no_promise_shipped g.W.Outside (g.S.Source.left c.args.job.now) c.args.outside.now c.args.words.now c.in-Ship.from asked complete)
+
+pub returns-in-Follow-clause-complete : goal.returns-in-Follow-clause-complete
+returns-in-Follow-clause-complete g c = λ complete.
+    let asked : IsForm Command.Follow c.args.words.now = subst (λ (form : Command). IsForm form c.args.words.now) c.in-Follow.is c.in-Some.ensures in
+    absurd (no_promise_followed g.W.Outside (g.S.Source.left c.args.job.now) c.args.outside.now c.args.words.now asked complete)
 
 pub returns-in_default-clause-loaded : goal.returns-in_default-clause-loaded
 returns-in_default-clause-loaded g c = λ transfers loads. absurd (c.in_default.ensures (Command.Big transfers) loads)

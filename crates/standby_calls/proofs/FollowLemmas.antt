@@ -1,0 +1,166 @@
+-- A call over an opening that follows a text.
+use Rattle.std.proofs.Common.{◌≡◌, inl, inr, ℕ, ◌-◌, ◌^◌, ◌<◌, ◌≤◌, List, [], ◌++◌, length, refl, sym, ◌∙◌, ap, subst, arith, append-nil, IsSome, IsTrue}
+use Rattle.std.specs.Prelude.{Option, Some, None, Result, unwrap_or}
+use Rattle.std.proofs.lemmas.List.{take_all, length-drop}
+use Rattle.line_geometry.specs.FlatStore.{FlatStore}
+use Rattle.store_format.specs.Stands.{Stands, stands}
+use Rattle.store_format.proofs.Sound.{stood_header}
+use Rattle.outside.specs.declared.world.Outside.{Ghosts}
+use Rattle.outside.specs.Bytes.{Prints}
+use Rattle.outside.specs.Moments.{Elapses}
+use Rattle.outside.specs.Runs.{FewerLater, Leaves, OnlyAsks, held_of}
+use Rattle.outside.proofs.Durable.{told_is}
+use Rattle.outside.proofs.Prints.{prints_on, prints_same}
+use Rattle.outside.proofs.Runs.{leaves_on}
+use Rattle.redo_journal.specs.declared.fault.OpenFault.{OpenFault}
+use Rattle.redo_journal.specs.declared.fault.OpenFault.TheVariants as open_fault
+use Rattle.restart.specs.Faults.{IsOpenFault}
+use Rattle.restart.specs.Kept.{KeptStore, number_of}
+use Rattle.restart.specs.Shows.{Shows, Tracks}
+use Rattle.restart.proofs.ShowLemmas.{shown_stands}
+use Rattle.standby.specs.Followed.{Follows, IsAtNumber, broken, followed_text, kept_text, well}
+use Rattle.standby.specs.Puts.{shown_of}
+use Rattle.standby.specs.State.{IsAmong, behind, due, laid_by}
+use Rattle.standby.specs.Text.{Content, ShipLine, later}
+use Rattle.standby.specs.declared.following.Followed.{Followed}
+use Rattle.standby.specs.declared.following.Followed.TheVariants.{Done, DiskFault, PutFault}
+use Rattle.standby.proofs.PutLemmas.{PrintedNow}
+use Rattle.standby.proofs.TellLemmas.{at_some, told_front}
+use Rattle.call_status.specs.Opening.{StandsAt}
+use Rattle.call_status.specs.Statuses.{status_of_open}
+use Rattle.call_status.specs.declared.status.Status.{Status}
+use Rattle.call_status.specs.declared.status.Status.TheVariants as status
+use Rattle.standby_calls.specs.Followed.{FollowsOn, HasFollowed, OnStore}
+
+-- nothing more was printed
+nothing_printed : (old new : Option (List ℕ)) (bytes : List ℕ) → new ≡ old → Prints old new bytes broken
+nothing_printed None new bytes same = same
+nothing_printed (Some old) new bytes same = (0, same ∙ ap (λ (these : List ℕ). Some these) (sym (append-nil old)))
+
+-- the lines of some of the records
+prints_some : (old new : Option (List ℕ)) (number count all : ℕ) → count < all → Prints old new (kept_text number count) well → Prints old new (followed_text number all) broken
+prints_some old new number count all lt prints =
+    let front = told_front number count all (omega (arith, lt)) in
+    prints_same old new (kept_text number count ++ front.0) (followed_text number all) broken (sym front.1)
+    (prints_on old new new (kept_text number count) front.0 tt broken prints (nothing_printed new new front.0 refl))
+
+-- the last number of what is due is the text's
+last_is : (content : Content) (number : ℕ) → content.start < 2 ^ 64 → number < 2 ^ 64 → IsAmong content number → later number (length (due content number)) ≡ later content.start (length content.records)
+last_is content number start few among =
+    let long = length-drop (behind content.start number) content.records in
+    ap (later number) long ∙ moved content.start number (length content.records) start few among
+  where
+    moved : (start number all : ℕ) → start < 2 ^ 64 → number < 2 ^ 64 → behind start number ≤ all → later number (all - behind start number) ≡ later start all
+    moved start number all less few le = omega (arith, less, few, le)
+
+module _ {W : Type 0} (G : Ghosts W) (fewer_later : FewerLater G) (printed_now : PrintedNow G) (content : Content) (before mid : W) (asks : OnlyAsks G before mid) where
+  small : (number : ℕ) (store : FlatStore) → StandsAt G before number store → number < 2 ^ 64
+  small number store at = (stood_header (held_of G before) number store at.stood).2
+
+  -- a crash in the opening leaves the store at the number
+  opening_crash : (number : ℕ) (store : FlatStore) → StandsAt G before number store → IsSome (G.printed before)
+      → Leaves G (IsAtNumber content.line_bytes number store (due content number) (shown_of G before)) before mid
+  opening_crash number store at told image seen left =
+      let since = asks.crash at.told image seen left in
+      let few = small number store at in
+      let number_is : later number 0 ≡ number = omega (arith, few) in
+      at_some content.line_bytes number store (due content number) (shown_of G before) 0 image seen (omega arith)
+      (at.images image seen since ∙ ap (λ (n : ℕ). Stands n store) (sym number_is))
+      (told_is (G.printed before) seen told (printed_now before image seen since) ∙ sym (append-nil (shown_of G before)))
+
+  -- the disk failed in the opening
+  unopened : FollowsOn G content before mid status.DiskFault
+  unopened number store at = record {
+    crash = opening_crash number store at;
+    printed = nothing_printed (G.printed before) (G.printed mid) (followed_text number (length (due content number))) asks.calls.quiet.same;
+    sure = λ is. absurd (cc);
+    stood = λ is. absurd (cc);
+    last = λ is. absurd (cc);
+  }
+
+  -- the store isn't opened
+  pub not_opened : (fault : OpenFault) (now : Status) → now ≡ status_of_open fault → IsOpenFault G before mid fault → OnStore G content before mid now
+  not_opened fault now is why = subst (OnStore G content before mid) (sym is) (by fault why)
+    where
+      by : (fault : OpenFault) → IsOpenFault G before mid fault → OnStore G content before mid (status_of_open fault)
+      by (open_fault.NotAStore offset) why = (asks, λ told. inl (why told))
+      by (open_fault.Damaged offset) why = (asks, λ told. inr (why told))
+      by open_fault.DiskFault why = (inl asks, unopened)
+      by open_fault.Memory why = asks
+
+  module _ (durable kept : KeptStore) (shows : IsSome (G.held before) → Shows (held_of G before) durable) (tracks : IsTrue (G.is_honest before) → IsSome (G.held before) → Tracks G durable mid)
+      (after : W) (time : Elapses G.moment G.left_since mid after) where
+    -- what was followed from the opened store
+    abbrev Goes : Followed → Type 0
+    Goes how = (store : FlatStore) → Tracks G durable mid → stands (held_of G mid) ≡ Stands (number_of durable) store → Follows G content.line_bytes (number_of durable) store (due content (number_of durable)) kept mid after how
+
+    number_is : (number : ℕ) (store : FlatStore) → StandsAt G before number store → number ≡ number_of durable
+    number_is number store at =
+        let shown = shown_stands (held_of G before) durable (shows at.told) in
+        let same : Stands number store ≡ Stands (number_of durable) shown.0 = sym at.stood ∙ shown.1 in
+        cc
+
+    -- of the number that stood
+    from_number : (now : Status) → ((store : FlatStore) → StandsAt G before (number_of durable) store → HasFollowed G content (number_of durable) store before after now) → FollowsOn G content before after now
+    from_number now has number store at =
+        let same = number_is number store at in
+        subst (λ (n : ℕ). HasFollowed G content n store before after now) (sym same) (has store (subst (λ (n : ℕ). StandsAt G before n store) same at))
+
+    goes_from : (how : Followed) → Goes how → (store : FlatStore) → StandsAt G before (number_of durable) store → Follows G content.line_bytes (number_of durable) store (due content (number_of durable)) kept mid after how
+    goes_from how goes store at =
+        let same : held_of G mid ≡ held_of G before = ap (λ (these : Option (List ℕ)). unwrap_or these []) asks.held in
+        goes store (tracks at.honest at.told) (ap stands same ∙ at.stood)
+
+    -- a crash since the opening began
+    crash_since : (how : Followed) → Goes how → (store : FlatStore) → StandsAt G before (number_of durable) store → IsSome (G.printed before)
+        → Leaves G (IsAtNumber content.line_bytes (number_of durable) store (due content (number_of durable)) (shown_of G before)) before after
+    crash_since how goes store at told =
+        let printed : G.printed mid ≡ G.printed before = asks.calls.quiet.same in
+        leaves_on G fewer_later before mid after asks.calls.time time (IsAtNumber content.line_bytes (number_of durable) store (due content (number_of durable)) (shown_of G before))
+        (opening_crash (number_of durable) store at told)
+        (λ image seen left.
+        subst (λ (these : Option (List ℕ)). IsAtNumber content.line_bytes (number_of durable) store (due content (number_of durable)) (unwrap_or these []) image seen) printed
+        ((goes_from how goes store at).crash (subst (λ (these : Option (List ℕ)). IsSome these) (sym printed) told) image seen left))
+
+    -- the puts of the call are those behind the opening
+    printed_since : (bytes : List ℕ) (result : Result (Unit {0}) _) → Prints (G.printed mid) (G.printed after) bytes result → Prints (G.printed before) (G.printed after) bytes result
+    printed_since bytes result prints = subst (λ (these : Option (List ℕ)). Prints these (G.printed after) bytes result) asks.calls.quiet.same prints
+
+    pub followed_done : content.start < 2 ^ 64 → IsAmong content (number_of durable) → Goes Done → FollowsOn G content before after status.Done
+    followed_done start among goes = from_number status.Done (λ store at.
+        let follows = goes_from Done goes store at in
+        let number = number_of durable in
+        let records = due content (number_of durable) in
+        record {
+          crash = crash_since Done goes store at;
+          printed = printed_since (followed_text number (length records)) well follows.ends.1;
+          sure = λ is. follows.ends.0.tracks.sure;
+          stood = λ is.
+              follows.ends.0.stood
+              ∙ ap (λ (these : List (List ShipLine)). Stands (later number (length records)) (laid_by content.line_bytes store these)) (sym (take_all (length records) records (omega arith)));
+          last = λ is. last_is content number start (small number store at) among;
+        })
+
+    pub followed_put : Goes PutFault → FollowsOn G content before after status.PutFault
+    followed_put goes = from_number status.PutFault (λ store at.
+        let follows = goes_from PutFault goes store at in
+        record {
+          crash = crash_since PutFault goes store at;
+          printed = printed_since (followed_text (number_of durable) (length (due content (number_of durable)))) broken follows.ends;
+          sure = λ is. absurd (cc);
+          stood = λ is. absurd (cc);
+          last = λ is. absurd (cc);
+        })
+
+    pub followed_disk : Goes DiskFault → FollowsOn G content before after status.DiskFault
+    followed_disk goes = from_number status.DiskFault (λ store at.
+        let follows = goes_from DiskFault goes store at in
+        record {
+          crash = crash_since DiskFault goes store at;
+          printed =
+              printed_since (followed_text (number_of durable) (length (due content (number_of durable)))) broken
+              (prints_some (G.printed mid) (G.printed after) (number_of durable) follows.ends.0 (length (due content (number_of durable))) follows.ends.1 follows.ends.2);
+          sure = λ is. absurd (cc);
+          stood = λ is. absurd (cc);
+          last = λ is. absurd (cc);
+        })

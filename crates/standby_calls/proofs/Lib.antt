@@ -1,0 +1,2 @@
+pub mod ShipLemmas
+pub mod FollowLemmas

@@ -1,0 +1,20 @@
+use Rattle.std.proofs.Common.{refl}
+use Rattle.standby_calls.proofs.ShipLemmas.{none_kept, shipped_all, shipped_part, shipped_short}
+use Rattle.standby_calls.proofs.ship.ship_store.Goals as goal
+
+pub returns-in-Done-clause-shipped : goal.returns-in-Done-clause-shipped
+returns-in-Done-clause-shipped g c =
+    shipped_all g.W.Outside g.met.W.Outside.fewer_later c.args.from c.args.outside.now c.open.new.outside c.ship.new.outside c.in-Ok.ensures.asks c.in-Ok.store c.in-Ok.ensures.shows c.in-Done.ensures.only c.in-Done.ensures.ships (c.in-Done.ensures.content refl)
+
+pub returns-in-NotKept-clause-shipped : goal.returns-in-NotKept-clause-shipped
+returns-in-NotKept-clause-shipped g c =
+    none_kept g.W.Outside g.met.W.Outside.fewer_later c.args.from c.args.outside.now c.open.new.outside c.ship.new.outside c.in-Ok.ensures.asks c.in-Ok.store c.in-Ok.ensures.shows c.in-NotKept.ensures.only c.base.result c.number.result
+    (c.in-NotKept.ensures.refused refl) c.base.ensures c.number.ensures (c.in-NotKept.ensures.not_kept.0 refl)
+
+pub returns-in-DiskFault-clause-shipped : goal.returns-in-DiskFault-clause-shipped
+returns-in-DiskFault-clause-shipped g c =
+    shipped_short g.W.Outside g.met.W.Outside.fewer_later c.args.from c.args.outside.now c.open.new.outside c.ship.new.outside c.in-Ok.ensures.asks c.in-Ok.store c.in-Ok.ensures.shows c.in-DiskFault.ensures.only c.in-DiskFault.ensures.ships
+
+pub returns-clause-shipped : goal.returns-clause-shipped
+returns-clause-shipped g c =
+    shipped_part g.W.Outside g.met.W.Outside.fewer_later c.args.from c.args.outside.now c.open.new.outside c.ship.new.outside c.in-Ok.ensures.asks c.in-Ok.store c.in-Ok.ensures.shows c.in-PutFault.ensures.only c.in-PutFault.ensures.ships

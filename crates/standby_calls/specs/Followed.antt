@@ -1,0 +1,122 @@
+-- What following a ship text did.
+use Rattle.std.specs.Prelude.{◌≡◌, ◌⊎◌, ℕ, ◌+◌, ◌≤◌, List, [], length, Option, IsSome, All}
+use Rattle.outside.specs.declared.world.Outside.{Ghosts}
+use Rattle.outside.specs.Causes.{Rose}
+use Rattle.outside.specs.Durable.{IsSure}
+use Rattle.outside.specs.Moments.{Elapses}
+use Rattle.outside.specs.Runs.{Leaves, OnlyAsks, held_of}
+use Rattle.line_geometry.specs.FlatStore.{FlatStore}
+use Rattle.store_format.specs.Header.{most_lines}
+use Rattle.store_format.specs.Stands.{Stands, stands}
+use Rattle.restart.specs.Kept.{KeptStore, number_of}
+use Rattle.restart.specs.Shows.{Shows}
+use Rattle.standby.specs.Followed.{IsAlike, IsAtNumber, followed_text}
+use Rattle.standby.specs.Puts.{shown_of}
+use Rattle.standby.specs.Read.{IsFirstBad}
+use Rattle.standby.specs.State.{IsAmong, IsFirstLong, due, state}
+use Rattle.standby.specs.Text.{Content, IsContent, IsTextOf, later, text_of}
+use Rattle.standby.specs.declared.text.Ship.{Ship}
+use Rattle.call_status.specs.Opening.{IsFaultAt, StandsAt}
+use Rattle.call_status.specs.Printed.{PrintsBy}
+use Rattle.call_status.specs.SourceText.{HasRead, IsWhole}
+use Rattle.call_status.specs.Statuses.{IsOfOpening}
+use Rattle.call_status.specs.declared.status.Status.{Status}
+use Rattle.call_status.specs.declared.status.Status.TheVariants as status
+
+-- Where the bytes and each image of the start stand for a number and a store: each image that a crash leaves since stands for the store at that
+-- number or at one of the text's behind it, and not before a number whose whole `kept` line was printed; the lines are printed, or a first part of
+-- them. At Done the bytes, and each image of the end, stand for the text's last number.
+pub record HasFollowed {W : Type 0} (G : Ghosts W) (content : Content) (number : ℕ) (store : FlatStore) (before after : W) (now : Status) : Type 0 where
+  pub crash : IsSome (G.printed before) → Leaves G (IsAtNumber content.line_bytes number store (due content number) (shown_of G before)) before after
+  pub printed : PrintsBy (G.printed before) (G.printed after) (followed_text number (length (due content number))) now
+  pub sure : now ≡ status.Done → IsSure G after
+  pub stood : now ≡ status.Done → stands (held_of G after) ≡ Stands (later number (length (due content number))) (state content number store (length (due content number)))
+  pub last : now ≡ status.Done → later number (length (due content number)) ≡ later content.start (length content.records)
+
+-- what following did from a text with this content, on a store that stood
+abbrev pub FollowsOn : {W : Type 0} → Ghosts W → Content → W → W → Status → Type 0
+FollowsOn G content before after now = (number : ℕ) (store : FlatStore) → StandsAt G before number store → HasFollowed G content number store before after now
+
+-- The store isn't alike; or its number isn't among the text's; or a record behind it, the first such, is too long; or the text is followed.
+abbrev pub IsDueOn : KeptStore → Content → Status → Type 0
+IsDueOn store content (status.Stream place kind) =
+    ((kind ≡ 2) × (place ≡ 1) × (IsAlike store.header content → ⊥))
+    ⊎ ((kind ≡ 3) × IsAlike store.header content × IsAmong content (number_of store) × ((at : ℕ) × (place ≡ later (number_of store) (at + 1)) × IsFirstLong (most_lines store.header) (due content (number_of store)) at))
+IsDueOn store content (status.NotKept first last) =
+    (first ≡ content.start) × (last ≡ later content.start (length content.records)) × IsAlike store.header content × (IsAmong content (number_of store) → ⊥)
+IsDueOn store content _ = IsAlike store.header content × IsAmong content (number_of store) × All (λ lines. length lines ≤ most_lines store.header) (due content (number_of store))
+
+-- the bytes show a store for which the status is due
+pub record IsDue {W : Type 0} (G : Ghosts W) (content : Content) (before : W) (now : Status) : Type 0 where
+  pub store : KeptStore
+  pub shows : Shows (held_of G before) store
+  pub due_on : IsDueOn store content now
+
+-- what following a text with this content did, by the status; one that isn't to be followed leaves the disk, and so does a disk that fails in the
+-- opening
+abbrev pub OnStore : {W : Type 0} → Ghosts W → Content → W → W → Status → Type 0
+OnStore G content before after status.NoMemory = OnlyAsks G before after
+OnStore G content before after (status.Store offset) = OnlyAsks G before after × (IsSome (G.held before) → IsFaultAt (held_of G before) offset)
+OnStore G content before after (status.Stream place kind) = ((kind ≡ 2) ⊎ (kind ≡ 3)) × OnlyAsks G before after × (IsSome (G.held before) → IsDue G content before (status.Stream place kind))
+OnStore G content before after (status.NotKept first last) = OnlyAsks G before after × (IsSome (G.held before) → IsDue G content before (status.NotKept first last))
+OnStore G content before after status.Done = (IsSome (G.held before) → IsDue G content before status.Done) × FollowsOn G content before after status.Done
+OnStore G content before after status.PutFault = (IsSome (G.held before) → IsDue G content before status.PutFault) × FollowsOn G content before after status.PutFault
+OnStore G content before after status.DiskFault = (OnlyAsks G before after ⊎ (IsSome (G.held before) → IsDue G content before status.DiskFault)) × FollowsOn G content before after status.DiskFault
+OnStore G content before after _ = ⊥
+
+-- The source gave a ship text, whole, that holds this.
+pub record HasText (left left_now : Option (List ℕ)) (content : Content) : Type 0 where
+  pub text : List ℕ
+  pub whole : IsWhole left left_now text
+  pub is_content : IsContent content
+  pub means : text ≡ text_of content
+
+-- the source gave a text, whole, that holds what the value does
+abbrev pub IsShipFrom : (left left_now : Option (List ℕ)) → Ship → Type 0
+IsShipFrom left left_now ship = (text : List ℕ) × IsWhole left left_now text × IsTextOf text ship
+
+-- why there is no ship text from a source
+abbrev pub IsNoText : (left left_now : Option (List ℕ)) → (faults faults_now : ℕ) → Status → Type 0
+IsNoText left left_now faults faults_now status.SourceFault = Rose faults faults_now
+IsNoText left left_now faults faults_now status.TooBig = HasRead left left_now 1048577
+IsNoText left left_now faults faults_now status.NoMemory = Unit {0}
+IsNoText left left_now faults faults_now (status.Stream place kind) = (kind ≡ 1) × ((text : List ℕ) × IsWhole left left_now text × IsFirstBad text place)
+IsNoText left left_now faults faults_now _ = ⊥
+
+-- there is no ship text, and all that is outside is left; or one was followed so
+abbrev pub FollowedBy : {W : Type 0} → Ghosts W → (left left_now : Option (List ℕ)) → (faults faults_now : ℕ) → W → W → Status → Type 0
+FollowedBy G left left_now faults faults_now before after now =
+    ((after ≡ before) × IsNoText left left_now faults faults_now now) ⊎ ((content : Content) × HasText left left_now content × OnStore G content before after now)
+
+-- nothing was committed
+abbrev pub IsRefusal : Status → Type 0
+IsRefusal status.Done = ⊥
+IsRefusal status.PutFault = ⊥
+IsRefusal status.DiskFault = ⊥
+IsRefusal _ = Unit {0}
+
+-- each image that a crash leaves since the start stands for the number and the store for which the bytes and each image of the start stand
+abbrev pub Stays : {W : Type 0} → Ghosts W → W → W → Type 0
+Stays G before after = (number : ℕ) (store : FlatStore) → StandsAt G before number store → Leaves G (λ image seen. stands image ≡ Stands number store) before after
+
+-- what it did; there is no order
+pub record FollowedFrom {W : Type 0} (G : Ghosts W) (left left_now : Option (List ℕ)) (faults faults_now : ℕ) (before after : W) (order : List (ℕ × ℕ)) (now : Status) : Type 0 where
+  pub no_order : order ≡ []
+  pub honest : G.is_honest after ≡ G.is_honest before
+  pub time : Elapses G.moment G.left_since before after
+  pub stays : IsRefusal now → Stays G before after
+  pub by_status : FollowedBy G left left_now faults faults_now before after now
+
+-- a status of following a ship text
+abbrev pub IsOfText : Status → Type 0
+IsOfText status.Done = Unit {0}
+IsOfText status.PutFault = Unit {0}
+IsOfText (status.NotKept first last) = Unit {0}
+IsOfText (status.Stream place kind) = Unit {0}
+IsOfText other = IsOfOpening other
+
+-- a status of following
+abbrev pub IsOfFollow : Status → Type 0
+IsOfFollow status.SourceFault = Unit {0}
+IsOfFollow status.TooBig = Unit {0}
+IsOfFollow other = IsOfText other

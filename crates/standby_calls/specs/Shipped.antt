@@ -1,0 +1,54 @@
+-- What shipping the records of a store did.
+use Rattle.std.specs.Prelude.{◌≡◌, ◌⊎◌, ◌<◌, ℕ, List, [], IsSome}
+use Rattle.outside.specs.declared.world.Outside.{Ghosts}
+use Rattle.outside.specs.Runs.{OnlyAsks, held_of}
+use Rattle.restart.specs.Kept.{KeptStore, number_of}
+use Rattle.restart.specs.Shows.{Shows}
+use Rattle.standby.specs.Shipped.{shipped}
+use Rattle.standby.specs.State.{behind}
+use Rattle.standby.specs.Text.{IsContent, text_of}
+use Rattle.call_status.specs.Opening.{IsFaultAt}
+use Rattle.call_status.specs.Printed.{PrintsBy}
+use Rattle.call_status.specs.Statuses.{IsOfOpening}
+use Rattle.call_status.specs.declared.status.Status.{Status}
+use Rattle.call_status.specs.declared.status.Status.TheVariants as status
+use Rattle.standby.specs.Puts.{AsksAndPuts}
+
+-- The bytes show a store, and the text of the records that its bank has behind the number was put: all of it, or a first part. At Done these
+-- records are in the ranges of a ship text.
+pub record PutsText {W : Type 0} (G : Ghosts W) (from : ℕ) (before after : W) (now : Status) : Type 0 where
+  pub store : KeptStore
+  pub shows : Shows (held_of G before) store
+  pub printed : PrintsBy (G.printed before) (G.printed after) (text_of (shipped store shows.read.records from)) now
+  pub content : now ≡ Status.Done → IsContent (shipped store shows.read.records from)
+
+-- The bytes show a store whose bank has this base, and which has this number, and the bank doesn't keep all records behind the number asked for.
+pub record IsNotKept {W : Type 0} (G : Ghosts W) (from : ℕ) (before : W) (base number : ℕ) : Type 0 where
+  pub store : KeptStore
+  pub shows : Shows (held_of G before) store
+  pub base_is : base ≡ store.bank.base
+  pub number_is : number ≡ number_of store
+  pub behind_all : store.bank.count < behind store.bank.base from
+
+-- what it did, by the status, where the disk tells its bytes; other statuses don't come
+abbrev pub ShippedBy : {W : Type 0} → Ghosts W → ℕ → W → W → Status → Type 0
+ShippedBy G from before after status.Done = IsSome (G.held before) → PutsText G from before after status.Done
+ShippedBy G from before after status.PutFault = IsSome (G.held before) → PutsText G from before after status.PutFault
+ShippedBy G from before after status.DiskFault = (G.printed after ≡ G.printed before) ⊎ (IsSome (G.held before) → PutsText G from before after status.DiskFault)
+ShippedBy G from before after (status.NotKept base number) = OnlyAsks G before after × (IsSome (G.held before) → IsNotKept G from before base number)
+ShippedBy G from before after (status.Store offset) = OnlyAsks G before after × (IsSome (G.held before) → IsFaultAt (held_of G before) offset)
+ShippedBy G from before after status.NoMemory = OnlyAsks G before after
+ShippedBy G from before after _ = ⊥
+
+-- what it did; it writes nothing, each image that a crash may leave since is one of the start, and there is no order
+pub record ShippedFrom {W : Type 0} (G : Ghosts W) (from : ℕ) (before after : W) (order : List (ℕ × ℕ)) (now : Status) : Type 0 where
+  pub no_order : order ≡ []
+  pub only : AsksAndPuts G before after
+  pub by_status : ShippedBy G from before after now
+
+-- a status of shipping
+abbrev pub IsOfShip : Status → Type 0
+IsOfShip status.Done = Unit {0}
+IsOfShip status.PutFault = Unit {0}
+IsOfShip (status.NotKept base number) = Unit {0}
+IsOfShip other = IsOfOpening other
