@@ -80,7 +80,6 @@ awk -v ours="$ours" -v loop="$loop" -v all="$all" 'BEGIN {
     printf 'schedule\nend\n'
 ) >"$scratch/large.job"
 # comments in front, up to a little below the most that a job may have
-# comments in front, up to a little below the most that a job may have
 (
     for ((left = (1048000 - $(wc -c <"$scratch/large.job")) / 51; left > 0; left--)); do
         echo '; a comment, in front of the line with the frames.'
@@ -95,3 +94,33 @@ for word in run try; do
 done
 for ((round = 0; round < rounds; round++)); do micros 1 "$program" show "$scratch/wide" 1 0 65536; done | least |
     awk '{ printf "| `show` of 65,536 bytes, ms | %.1f | |\n", $1 / 1000 }'
+
+# a bank of 131,072 bytes with nine hundred commits of one line: shipped, and followed by a copy of the store as it was, beside a copy of
+# the file that is synced; the records followed are held against as many commits of a run, the best of each
+records=900
+(
+    cat "$scratch/add.part"
+    for ((turn = 1; turn <= records; turn++)); do printf 'begin add\nturn %d 9\n' "$turn"; done
+    echo end
+) >"$scratch/many.job"
+rm -f "$scratch/empty" "$scratch/first"
+"$program" new "$scratch/empty" 131072 1 4 >"$scratch/printed"
+: >"$scratch/ours"
+: >"$scratch/shipped"
+: >"$scratch/followed"
+: >"$scratch/copied"
+for ((round = 0; round < rounds; round++)); do
+    cp "$scratch/empty" "$scratch/first"
+    cp "$scratch/empty" "$scratch/second"
+    micros 1 "$program" run "$scratch/first" <"$scratch/many.job" >>"$scratch/ours"
+    "$program" ship "$scratch/first" 0 >"$scratch/text"
+    micros 1 "$program" ship "$scratch/first" 0 >>"$scratch/shipped"
+    micros 1 "$program" follow "$scratch/second" <"$scratch/text" >>"$scratch/followed"
+    micros 1 /bin/sh -c 'cp "$1" "$2" && sync "$2"' - "$scratch/first" "$scratch/copy" >>"$scratch/copied"
+done
+awk -v ours="$(least <"$scratch/ours")" -v shipped="$(least <"$scratch/shipped")" -v followed="$(least <"$scratch/followed")" \
+    -v copied="$(least <"$scratch/copied")" -v records="$records" 'BEGIN {
+    printf "| `ship` of %d records of one line, ms | %.1f | |\n", records, shipped / 1000
+    printf "| `follow` of them, µs a record: beside a commit of `run` | %d, %d | %.2f |\n", followed / records, ours / records, ours / followed
+    printf "| a copy of the file that is synced, ms | %.1f | |\n", copied / 1000
+}'
