@@ -1,6 +1,7 @@
 -- Of the commands that read a bundle no end is promised, and of a renewal one by what it did.
-use Rattle.std.proofs.Common.{◌≡◌, ◌⊎◌, ◌+◌, ◌≤◌, ◌++◌, ℕ, List, [], ◌∷◌, length, map, refl, sym, ◌∙◌, ap, subst, arith, inl, inr}
-use Rattle.std.specs.Prelude.{codes, slice_index, Option, Some, None, IsSome, String, string_bytes, unwrap_or}
+use Rattle.std.proofs.Common.{◌≡◌, ◌⊎◌, ◌+◌, ◌<◌, ◌≤◌, ◌++◌, get_or, ℕ, List, [], ◌∷◌, length, map, refl, sym, ◌∙◌, ap, subst, arith, inl, inr, ⊎_elim}
+use Rattle.std.specs.Prelude.{codes, slice_index, Option, Some, None, IsSome, String, string_bytes, unwrap_or, All, slice_get}
+use Rattle.std.proofs.lemmas.Option.{slice_get_cases}
 use Rattle.std.specs.Io.KnownBytes.{Consumes, IsAtEnd}
 use Rattle.std.proofs.lemmas.List.{append-nil, length-append}
 use Rattle.outside.specs.Causes.{Rose}
@@ -8,13 +9,21 @@ use Rattle.outside.specs.Runs.{held_of}
 use Rattle.call_status.specs.declared.status.Status.{Status}
 use Rattle.call_status.specs.declared.status.Status.TheVariants as status
 use Rattle.store_calls.specs.Renewed.{IsNotOne, IsOfRenew, Renewed}
+use Rattle.store_format.specs.Header.{most_lines}
+use Rattle.restart.specs.Kept.{KeptStore, number_of}
+use Rattle.standby.specs.State.{IsFirstLong, due}
+use Rattle.standby.specs.Text.{Content, IsContent, ShipLine, text_of}
+use Rattle.standby_calls.specs.Followed.{FollowedBy, FollowedFrom, IsNoText, IsOfFollow, OnStore}
+use Rattle.standby_calls.specs.Shipped.{IsOfShip, ShippedFrom}
+use Rattle.call_status.specs.Opening.{IsFaultAt, IsStanding}
+use Rattle.console.proofs.WordLemmas.{one_from}
 use Rattle.std.specs.declared.alloc.Global.{Global}
 use Rattle.line_geometry.specs.declared.directory.PageSize.{PageSize}
 use Rattle.line_geometry.specs.declared.directory.PageSize.TheVariants.{Two, Four}
 use Rattle.outside.specs.declared.world.Outside.{Ghosts}
 use Rattle.console.specs.declared.words.Command.{Command}
 use Rattle.console.specs.declared.words.Command.TheVariants as command
-use Rattle.console.specs.Causes.{HasAll, HasOldStore, IsComplete}
+use Rattle.console.specs.Causes.{CanFollow, CanShip, HasAll, HasOldStore, IsComplete}
 use Rattle.console.specs.Words.{IsForm, ReadsBundle, Says, new_word, word_of}
 
 -- words begin with that of their command
@@ -116,8 +125,8 @@ module _ {W : Type 0} (G : Ghosts W) where
   needs_old left outside (command.Show range) is has = absurd (let first : 115 ≡ 114 = ap (λ (word : List ℕ). slice_index word 0) is in omega (arith, first))
   needs_old left outside (command.New header) is has = absurd (let first : 110 ≡ 114 = sym (new_begins header.directory.page) ∙ ap (λ (word : List ℕ). slice_index word 0) is in omega (arith, first))
   needs_old left outside (command.Big transfers) is has = absurd (let first : 98 ≡ 114 = ap (λ (word : List ℕ). slice_index word 0) is in omega (arith, first))
-  needs_old left outside (command.Ship from) is has = absurd has
-  needs_old left outside command.Follow is has = absurd has
+  needs_old left outside (command.Ship from) is has = absurd (let first : 115 ≡ 114 = ap (λ (word : List ℕ). slice_index word 0) is in omega (arith, first))
+  needs_old left outside command.Follow is has = absurd (let first : 102 ≡ 114 = ap (λ (word : List ℕ). slice_index word 0) is in omega (arith, first))
   needs_old left outside command.Audit is has = absurd has
   needs_old left outside (command.Trace activation) is has = absurd has
 
@@ -157,36 +166,105 @@ module _ {W : Type 0} (G : Ghosts W) where
 
 -- a store that is shipped or follows by its word
 module _ {W : Type 0} (G : Ghosts W) (left : Option (List ℕ)) (outside : W) where
-  pub no_promise_shipped : (words : List (String Global)) (from : ℕ) → IsForm (command.Ship from) words → IsComplete G words left outside → ⊥
-  no_promise_shipped words from asked complete = none complete.form (one_word complete.form (command.Ship from) (map string_bytes words) complete.asks.says asked.says) complete.has
-    where
-      none : (form : Command) → word_of form ≡ codes "ship" → HasAll G form left outside → ⊥
-      none (command.Ship from) is has = has
-      none command.Follow is has = has
-      none command.Audit is has = has
-      none (command.Trace activation) is has = has
-      none command.Try is has = let first : 116 ≡ 115 = ap (λ (word : List ℕ). slice_index word 0) is in omega (arith, first)
-      none command.List is has = let first : 108 ≡ 115 = ap (λ (word : List ℕ). slice_index word 0) is in omega (arith, first)
-      none command.Drill is has = let first : 100 ≡ 115 = ap (λ (word : List ℕ). slice_index word 0) is in omega (arith, first)
-      none command.Run is has = let first : 114 ≡ 115 = ap (λ (word : List ℕ). slice_index word 0) is in omega (arith, first)
-      none (command.Show range) is has = let third : 111 ≡ 105 = ap (λ (word : List ℕ). slice_index word 2) is in omega (arith, third)
-      none (command.New header) is has = let first : 110 ≡ 115 = sym (new_begins header.directory.page) ∙ ap (λ (word : List ℕ). slice_index word 0) is in omega (arith, first)
-      none (command.Renew bank) is has = let first : 114 ≡ 115 = ap (λ (word : List ℕ). slice_index word 0) is in omega (arith, first)
-      none (command.Big transfers) is has = let first : 98 ≡ 115 = ap (λ (word : List ℕ). slice_index word 0) is in omega (arith, first)
+  -- words of shipping say one number
+  needs_kept : (words : List (String Global)) (from : ℕ) → IsForm (command.Ship from) words → (form : Command) → IsForm form words → word_of form ≡ codes "ship" → HasAll G form left outside → CanShip G from outside
+  needs_kept words from asked (command.Ship other) says is has = subst (λ (n : ℕ). CanShip G n outside) (one_from words other from says asked) has
+  needs_kept words from asked command.Follow says is has = absurd (let first : 102 ≡ 115 = ap (λ (word : List ℕ). slice_index word 0) is in omega (arith, first))
+  needs_kept words from asked command.Audit says is has = absurd has
+  needs_kept words from asked (command.Trace activation) says is has = absurd has
+  needs_kept words from asked command.Try says is has = absurd (let first : 116 ≡ 115 = ap (λ (word : List ℕ). slice_index word 0) is in omega (arith, first))
+  needs_kept words from asked command.List says is has = absurd (let first : 108 ≡ 115 = ap (λ (word : List ℕ). slice_index word 0) is in omega (arith, first))
+  needs_kept words from asked command.Drill says is has = absurd (let first : 100 ≡ 115 = ap (λ (word : List ℕ). slice_index word 0) is in omega (arith, first))
+  needs_kept words from asked command.Run says is has = absurd (let first : 114 ≡ 115 = ap (λ (word : List ℕ). slice_index word 0) is in omega (arith, first))
+  needs_kept words from asked (command.Show range) says is has = absurd (let third : 111 ≡ 105 = ap (λ (word : List ℕ). slice_index word 2) is in omega (arith, third))
+  needs_kept words from asked (command.New header) says is has = absurd (let first : 110 ≡ 115 = sym (new_begins header.directory.page) ∙ ap (λ (word : List ℕ). slice_index word 0) is in omega (arith, first))
+  needs_kept words from asked (command.Renew bank) says is has = absurd (let first : 114 ≡ 115 = ap (λ (word : List ℕ). slice_index word 0) is in omega (arith, first))
+  needs_kept words from asked (command.Big transfers) says is has = absurd (let first : 98 ≡ 115 = ap (λ (word : List ℕ). slice_index word 0) is in omega (arith, first))
 
-  pub no_promise_followed : (words : List (String Global)) → IsForm command.Follow words → IsComplete G words left outside → ⊥
-  no_promise_followed words asked complete = none complete.form (one_word complete.form command.Follow (map string_bytes words) complete.asks.says asked.says) complete.has
-    where
-      none : (form : Command) → word_of form ≡ codes "follow" → HasAll G form left outside → ⊥
-      none (command.Ship from) is has = has
-      none command.Follow is has = has
-      none command.Audit is has = has
-      none (command.Trace activation) is has = has
-      none command.Try is has = let first : 116 ≡ 102 = ap (λ (word : List ℕ). slice_index word 0) is in omega (arith, first)
-      none command.List is has = let first : 108 ≡ 102 = ap (λ (word : List ℕ). slice_index word 0) is in omega (arith, first)
-      none command.Drill is has = let first : 100 ≡ 102 = ap (λ (word : List ℕ). slice_index word 0) is in omega (arith, first)
-      none command.Run is has = let first : 114 ≡ 102 = ap (λ (word : List ℕ). slice_index word 0) is in omega (arith, first)
-      none (command.Show range) is has = let first : 115 ≡ 102 = ap (λ (word : List ℕ). slice_index word 0) is in omega (arith, first)
-      none (command.New header) is has = let first : 110 ≡ 102 = sym (new_begins header.directory.page) ∙ ap (λ (word : List ℕ). slice_index word 0) is in omega (arith, first)
-      none (command.Renew bank) is has = let first : 114 ≡ 102 = ap (λ (word : List ℕ). slice_index word 0) is in omega (arith, first)
-      none (command.Big transfers) is has = let first : 98 ≡ 102 = ap (λ (word : List ℕ). slice_index word 0) is in omega (arith, first)
+  needs_text : (form : Command) → word_of form ≡ codes "follow" → HasAll G form left outside → CanFollow G left outside
+  needs_text command.Follow is has = has
+  needs_text (command.Ship from) is has = absurd (let first : 115 ≡ 102 = ap (λ (word : List ℕ). slice_index word 0) is in omega (arith, first))
+  needs_text command.Audit is has = absurd has
+  needs_text (command.Trace activation) is has = absurd has
+  needs_text command.Try is has = absurd (let first : 116 ≡ 102 = ap (λ (word : List ℕ). slice_index word 0) is in omega (arith, first))
+  needs_text command.List is has = absurd (let first : 108 ≡ 102 = ap (λ (word : List ℕ). slice_index word 0) is in omega (arith, first))
+  needs_text command.Drill is has = absurd (let first : 100 ≡ 102 = ap (λ (word : List ℕ). slice_index word 0) is in omega (arith, first))
+  needs_text command.Run is has = absurd (let first : 114 ≡ 102 = ap (λ (word : List ℕ). slice_index word 0) is in omega (arith, first))
+  needs_text (command.Show range) is has = absurd (let first : 115 ≡ 102 = ap (λ (word : List ℕ). slice_index word 0) is in omega (arith, first))
+  needs_text (command.New header) is has = absurd (let first : 110 ≡ 102 = sym (new_begins header.directory.page) ∙ ap (λ (word : List ℕ). slice_index word 0) is in omega (arith, first))
+  needs_text (command.Renew bank) is has = absurd (let first : 114 ≡ 102 = ap (λ (word : List ℕ). slice_index word 0) is in omega (arith, first))
+  needs_text (command.Big transfers) is has = absurd (let first : 98 ≡ 102 = ap (λ (word : List ℕ). slice_index word 0) is in omega (arith, first))
+
+  -- bytes that stand have no fault
+  no_fault : (offset : ℕ) → IsStanding (held_of G outside) → IsFaultAt (held_of G outside) offset → ⊥
+  no_fault offset stood (inl is) = let those = stood.2 in cc
+  no_fault offset stood (inr is) = let those = stood.2 in cc
+
+  module _ (after : W) (order : List (ℕ × ℕ)) where
+    ship_ends : (from : ℕ) (now : Status) → CanShip G from outside → ShippedFrom G from outside after order now → IsOfShip now → (now ≡ Status.DiskFault → ⊥) → (now ≡ Status.PutFault → ⊥) → (now ≡ Status.Done) ⊎ (now ≡ Status.NoMemory)
+    ship_ends from status.Done can did of disk put = inl refl
+    ship_ends from status.NoMemory can did of disk put = inr refl
+    ship_ends from status.DiskFault can did of disk put = absurd (disk refl)
+    ship_ends from status.PutFault can did of disk put = absurd (put refl)
+    ship_ends from (status.Store offset) can did of disk put = absurd (no_fault offset can.stood (did.by_status.1 can.told))
+    ship_ends from (status.NotKept base number) can did of disk put =
+        let why = did.by_status.1 can.told in
+        let keeps = can.keeps why.store why.shows in
+        let all = why.behind_all in
+        absurd (omega (arith, keeps, all))
+    ship_ends from _ can did of disk put = absurd of
+
+    pub ship_promise : (words : List (String Global)) (from : ℕ) → IsForm (command.Ship from) words → (now : Status) → ShippedFrom G from outside after order now → IsOfShip now → IsComplete G words left outside
+        → (now ≡ Status.DiskFault → ⊥) → (now ≡ Status.PutFault → ⊥) → (now ≡ Status.Done) ⊎ (now ≡ Status.NoMemory)
+    ship_promise words from asked now did of complete disk put =
+        ship_ends from now (needs_kept words from asked complete.form complete.asks (one_word complete.form (command.Ship from) (map string_bytes words) complete.asks.says asked.says) complete.has) did of disk put
+
+    module _ (left_now : Option (List ℕ)) (faults faults_now : ℕ) (can : CanFollow G left outside) (calm : Rose faults faults_now → ⊥) where
+      -- a record that is too long isn't among those that aren't
+      none_long : (most place : ℕ) (records : List (List ShipLine)) → All (λ lines. length lines ≤ most) records → IsFirstLong most records place → ⊥
+      none_long most place records few first = ⊎_elim there past (slice_get_cases records place).1
+        where
+          there : (x : List ShipLine) × (place < length records) × (slice_get records place ≡ Some x) × (get_or records place x ≡ x) → ⊥
+          there (x, below, is, got) =
+              let given = first.there in
+              let same : x ≡ first.lines = cc in
+              let short : length x ≤ most = subst (λ (those : List ShipLine). length those ≤ most) got (few place x below) in
+              omega (arith, short, ap (length {A = ShipLine}) same, first.long)
+
+          past : (length records ≤ place) × (slice_get records place ≡ None) → ⊥
+          past (behind, none) = let given = first.there in cc
+
+      on_store : (held : Content) → IsContent held → can.text ≡ text_of held → (now : Status) → OnStore G held outside after now → IsOfFollow now → (now ≡ Status.DiskFault → ⊥) → (now ≡ Status.PutFault → ⊥) → (now ≡ Status.Done) ⊎ (now ≡ Status.NoMemory)
+      on_store held is means status.Done did of disk put = inl refl
+      on_store held is means status.NoMemory did of disk put = inr refl
+      on_store held is means status.DiskFault did of disk put = absurd (disk refl)
+      on_store held is means status.PutFault did of disk put = absurd (put refl)
+      on_store held is means (status.Store offset) did of disk put = absurd (no_fault offset can.stood (did.1 can.told))
+      on_store held is means (status.Stream place kind) did of disk put =
+          let why = did.2 can.told in
+          let (alike, among, few) = can.follows held is means why.store why.shows in
+          absurd (⊎_elim (λ other. other.2 alike) (λ long. none_long (most_lines why.store.header) long.3.0 (due held (number_of why.store)) few long.3.2) why.due_on)
+      on_store held is means (status.NotKept first last) did of disk put =
+          let why = did.1 can.told in
+          let (alike, among, few) = can.follows held is means why.store why.shows in
+          absurd (why.due_on.3 among)
+      on_store held is means _ did of disk put = absurd did
+
+      no_text : (now : Status) → IsNoText left left_now faults faults_now now → (now ≡ Status.Done) ⊎ (now ≡ Status.NoMemory)
+      no_text status.NoMemory why = inr refl
+      no_text status.SourceFault why = absurd (calm why)
+      no_text status.TooBig why = absurd (too_much left left_now can.text why.0 1048576 can.has_text can.few why.1 why.2)
+      no_text (status.Stream place kind) why =
+          let (text, whole, bad) = why.1 in
+          absurd (bad.none can.content can.is_content (read_whole left left_now can.text text can.has_text whole.all whole.none ∙ can.means))
+      no_text _ why = absurd why
+
+      follow_ends : (now : Status) → FollowedBy G left left_now faults faults_now outside after now → IsOfFollow now → (now ≡ Status.DiskFault → ⊥) → (now ≡ Status.PutFault → ⊥) → (now ≡ Status.Done) ⊎ (now ≡ Status.NoMemory)
+      follow_ends now (inl (same, why)) of disk put = no_text now why
+      follow_ends now (inr (held, has, did)) of disk put =
+          on_store held has.is_content (sym (read_whole left left_now can.text has.text can.has_text has.whole.all has.whole.none) ∙ has.means) now did of disk put
+
+    pub follow_promise : (words : List (String Global)) → IsForm command.Follow words → (left_now : Option (List ℕ)) (faults faults_now : ℕ) (now : Status) → FollowedFrom G left left_now faults faults_now outside after order now → IsOfFollow now
+        → IsComplete G words left outside → (Rose faults faults_now → ⊥) → (now ≡ Status.DiskFault → ⊥) → (now ≡ Status.PutFault → ⊥) → (now ≡ Status.Done) ⊎ (now ≡ Status.NoMemory)
+    follow_promise words asked left_now faults faults_now now did of complete calm disk put =
+        follow_ends left_now faults faults_now (needs_text complete.form (one_word complete.form command.Follow (map string_bytes words) complete.asks.says asked.says) complete.has) calm now did.by_status of disk put

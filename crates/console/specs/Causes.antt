@@ -1,5 +1,5 @@
 -- What a command may end with, and what it needs to end well.
-use Rattle.std.specs.Prelude.{◌≡◌, ◌≤◌, ℕ, List, [], length, Option, Some, String, IsSome, IsTrue}
+use Rattle.std.specs.Prelude.{◌≡◌, ◌≤◌, ℕ, List, [], length, All, Option, Some, String, IsSome, IsTrue}
 use Rattle.std.specs.declared.alloc.Global.{Global}
 use Rattle.line_geometry.specs.FlatStore.{FlatStore}
 use Rattle.store_format.specs.Stands.{Stands}
@@ -15,6 +15,12 @@ use Rattle.store_calls.specs.Show.{HasRange, IsOfShow}
 use Rattle.store_calls.specs.New.{IsOfNew}
 use Rattle.store_calls.specs.Renewed.{IsOfRenew, standing_as_one}
 use Rattle.job_calls.specs.Causes.{IsOfEvents, IsOfRun}
+use Rattle.store_format.specs.Header.{most_lines}
+use Rattle.restart.specs.Kept.{KeptStore, number_of}
+use Rattle.restart.specs.Shows.{Shows}
+use Rattle.standby.specs.Followed.{IsAlike}
+use Rattle.standby.specs.State.{IsAmong, behind, due}
+use Rattle.standby.specs.Text.{Content, IsContent, text_of}
 use Rattle.standby_calls.specs.Followed.{IsOfFollow}
 use Rattle.standby_calls.specs.Shipped.{IsOfShip}
 use Rattle.bundle_calls.specs.Audited.{IsOfAudit}
@@ -41,8 +47,28 @@ pub record HasOldStore (left : Option (List ℕ)) : Type 0 where
   pub store : FlatStore
   pub stood : standing_as_one text ≡ Stands number store
 
--- what a command needs: the text of a job and a store to run it on, to list it or to drill it; bytes that stand for a store with a range; an empty disk, and a store of version 1 to renew; a store to
--- run a load on. Of a bundle's two commands nothing is promised, and nothing of a store that is shipped or follows: their statuses name what is wrong.
+-- The disk's bytes are told and stand for a store, whose bank keeps all records behind a number.
+pub record CanShip {W : Type 0} (G : Ghosts W) (from : ℕ) (outside : W) : Type 0 where
+  pub told : IsSome (G.held outside)
+  pub stood : IsStanding (held_of G outside)
+  pub keeps : (store : KeptStore) → Shows (held_of G outside) store → behind store.bank.base from ≤ store.bank.count
+
+-- The source has a ship text, whole, and the disk's bytes are told and stand for a store that can follow it: its lines are as long and as many, its
+-- number is among the text's, and no record behind that is too long.
+pub record CanFollow {W : Type 0} (G : Ghosts W) (left : Option (List ℕ)) (outside : W) : Type 0 where
+  pub text : List ℕ
+  pub has_text : left ≡ Some text
+  pub few : length text ≤ 1048576
+  pub content : Content
+  pub is_content : IsContent content
+  pub means : text ≡ text_of content
+  pub told : IsSome (G.held outside)
+  pub stood : IsStanding (held_of G outside)
+  pub follows : (held : Content) → IsContent held → text ≡ text_of held → (store : KeptStore) → Shows (held_of G outside) store
+      → IsAlike store.header held × IsAmong held (number_of store) × All (λ lines. length lines ≤ most_lines store.header) (due held (number_of store))
+
+-- what a command needs: the text of a job and a store to run it on, to list it or to drill it; bytes that stand for a store with a range; an empty disk, and a store of version 1 to renew; records
+-- that are kept, or that can be followed; a store to run a load on. Of a bundle's two commands nothing is promised: their statuses name the part that is wrong.
 abbrev pub HasAll : {W : Type 0} → Ghosts W → Command → Option (List ℕ) → W → Type 0
 HasAll G command.Try left outside = HasJob left × HasStore G outside
 HasAll G command.Run left outside = HasJob left × HasStore G outside
@@ -52,8 +78,8 @@ HasAll G (command.Show range) left outside = IsSome (G.held outside) × HasRange
 HasAll G (command.New header) left outside = G.held outside ≡ Some []
 HasAll G (command.Renew bank) left outside = HasOldStore left × (G.held outside ≡ Some [])
 HasAll G (command.Big transfers) left outside = HasStore G outside
-HasAll G (command.Ship from) left outside = ⊥
-HasAll G command.Follow left outside = ⊥
+HasAll G (command.Ship from) left outside = CanShip G from outside
+HasAll G command.Follow left outside = CanFollow G left outside
 HasAll G command.Audit left outside = ⊥
 HasAll G (command.Trace activation) left outside = ⊥
 

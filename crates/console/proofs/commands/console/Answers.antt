@@ -10,7 +10,7 @@ use Rattle.job_calls.specs.Big.{Loaded}
 use Rattle.bundle_calls.specs.Traced.{TracedFrom}
 use Rattle.console.specs.declared.words.Command.{Command}
 use Rattle.console.specs.Words.{IsForm}
-use Rattle.console.proofs.PromiseLemmas.{no_promise, no_promise_followed, no_promise_shipped, renewal_promise}
+use Rattle.console.proofs.PromiseLemmas.{follow_promise, no_promise, renewal_promise, ship_promise}
 use Rattle.console.proofs.WordLemmas.{one_header, one_load, one_range, one_trace}
 use Rattle.console.proofs.commands.console.Goals as goal
 
@@ -48,14 +48,21 @@ pub returns-in_default-clause-followed : goal.returns-in_default-clause-followed
 returns-in_default-clause-followed g c = λ follows. absurd (c.in_default.ensures Command.Follow follows)
 
 pub returns-in-Ship-clause-complete : goal.returns-in-Ship-clause-complete
-returns-in-Ship-clause-complete g c = λ complete.
+returns-in-Ship-clause-complete g c = λ complete calm disk put.
     let asked : IsForm (Command.Ship c.in-Ship.from) c.args.words.now = subst (λ (form : Command). IsForm form c.args.words.now) c.in-Ship.is c.in-Some.ensures in
-    absurd (no_promise_shipped g.W.Outside (g.S.Source.left c.args.job.now) c.args.outside.now c.args.words.now c.in-Ship.from asked complete)
+    let ended = c.without_events-in-Ship.ensures in
+    let did = c.ship_store.ensures in
+    subst (λ (status : Status). (status ≡ Status.Done) ⊎ (status ≡ Status.NoMemory)) (sym ended.status)
+    (ship_promise g.W.Outside (g.S.Source.left c.args.job.now) c.args.outside.now c.ship_store.new.outside [] c.args.words.now c.in-Ship.from asked c.ship_store.result did.shipped did.only complete (λ is. disk (did.disk is)) (λ is. put (did.put is)))
 
 pub returns-in-Follow-clause-complete : goal.returns-in-Follow-clause-complete
-returns-in-Follow-clause-complete g c = λ complete.
+returns-in-Follow-clause-complete g c = λ complete calm disk put.
     let asked : IsForm Command.Follow c.args.words.now = subst (λ (form : Command). IsForm form c.args.words.now) c.in-Follow.is c.in-Some.ensures in
-    absurd (no_promise_followed g.W.Outside (g.S.Source.left c.args.job.now) c.args.outside.now c.args.words.now asked complete)
+    let ended = c.without_events-in-Follow.ensures in
+    let did = c.follow_source.ensures in
+    subst (λ (status : Status). (status ≡ Status.Done) ⊎ (status ≡ Status.NoMemory)) (sym ended.status)
+    (follow_promise g.W.Outside (g.S.Source.left c.args.job.now) c.args.outside.now c.follow_source.new.outside [] c.args.words.now asked (g.S.Source.left c.follow_source.new.source) (g.S.Source.faults c.args.job.now) (g.S.Source.faults c.follow_source.new.source)
+    c.follow_source.result did.followed did.only complete calm (λ is. disk (did.disk is)) (λ is. put (did.put is)))
 
 pub returns-in_default-clause-loaded : goal.returns-in_default-clause-loaded
 returns-in_default-clause-loaded g c = λ transfers loads. absurd (c.in_default.ensures (Command.Big transfers) loads)
