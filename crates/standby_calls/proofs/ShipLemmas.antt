@@ -1,6 +1,7 @@
 -- What shipping the records of a store did.
-use Rattle.std.proofs.Common.{◌≡◌, ◌<◌, ℕ, List, [], inr, refl, sym, ◌∙◌, ap, subst}
+use Rattle.std.proofs.Common.{◌≡◌, ◌<◌, ◌≤◌, ℕ, List, [], inl, inr, refl, sym, ◌∙◌, ap, subst}
 use Rattle.std.specs.Prelude.{Option, IsSome, Result}
+use Rattle.std.proofs.lemmas.Bool.{cases_lt}
 use Rattle.outside.specs.declared.failed.Failed.{Failed}
 use Rattle.outside.specs.declared.world.Outside.{Ghosts}
 use Rattle.outside.specs.Bytes.{Prints}
@@ -21,6 +22,13 @@ use Rattle.call_status.specs.declared.status.Status.{Status}
 use Rattle.call_status.specs.declared.status.Status.TheVariants as status
 use Rattle.standby_calls.specs.Shipped.{IsNotKept, PutsText, ShippedFrom}
 
+-- all is kept unless the answer is that it isn't
+pub all_kept : (answer : Shipped) (count far : ℕ) → (count < far → answer ≡ how.NotKept) → (answer ≡ how.NotKept → ⊥) → far ≤ count
+all_kept answer count far only other = elim (cases_lt count far) [
+  | inl less ↦ absurd (other (only less))
+  | inr within ↦ within
+]
+
 module _ {W : Type 0} (G : Ghosts W) (fewer_later : FewerLater G) (from : ℕ) (before mid after : W) (asks : OnlyAsks G before mid) (store : KeptStore) (shows : IsSome (G.held before) → Shows (held_of G before) store) (only : AsksAndPuts G mid after) where
   all_shows : AsksAndPuts G before after
   all_shows = shows_on G fewer_later before mid after (shows_asks G before mid asks) only
@@ -40,34 +48,35 @@ module _ {W : Type 0} (G : Ghosts W) (fewer_later : FewerLater G) (from : ℕ) (
         subst (λ (these : Option (List ℕ)). Prints these (G.printed after) (text (shows told).read.records) result) asks.calls.quiet.same
         (subst (λ (records : List (List RecordLine)). Prints (G.printed mid) (G.printed after) (text records) result) still.1 prints)
 
-    puts_text : (now : Status) → PrintsBy (G.printed before) (G.printed after) (text (shows told).read.records) now → (now ≡ Status.Done → IsContent (shipped store still.0.shows.read.records from)) → PutsText G from before after now
-    puts_text now printed content = record {
+    puts_text : (now : Status) → behind store.bank.base from ≤ store.bank.count → PrintsBy (G.printed before) (G.printed after) (text (shows told).read.records) now → (now ≡ Status.Done → IsContent (shipped store still.0.shows.read.records from)) → PutsText G from before after now
+    puts_text now kept printed content = record {
       store = store;
       shows = shows told;
+      kept = kept;
       printed = printed;
       content = λ is. subst (λ (records : List (List RecordLine)). IsContent (shipped store records from)) still.1 (content is);
     }
 
-  pub shipped_all : ((now : IsShown G store mid) → ShipsBy G (text_of (shipped store now.shows.read.records from)) mid after how.Done) → ((now : IsShown G store mid) → IsContent (shipped store now.shows.read.records from))
+  pub shipped_all : behind store.bank.base from ≤ store.bank.count → ((now : IsShown G store mid) → ShipsBy G (text_of (shipped store now.shows.read.records from)) mid after how.Done) → ((now : IsShown G store mid) → IsContent (shipped store now.shows.read.records from))
       → ShippedFrom G from before after [] status.Done
-  shipped_all ships content = record {
+  shipped_all kept ships content = record {
     no_order = refl;
     only = all_shows;
-    by_status = λ told. puts_text told status.Done (from_before told well (ships (still told).0)) (λ is. content (still told).0);
+    by_status = λ told. puts_text told status.Done kept (from_before told well (ships (still told).0)) (λ is. content (still told).0);
   }
 
-  pub shipped_part : ((now : IsShown G store mid) → ShipsBy G (text_of (shipped store now.shows.read.records from)) mid after how.PutFault) → ShippedFrom G from before after [] status.PutFault
-  shipped_part ships = record {
+  pub shipped_part : behind store.bank.base from ≤ store.bank.count → ((now : IsShown G store mid) → ShipsBy G (text_of (shipped store now.shows.read.records from)) mid after how.PutFault) → ShippedFrom G from before after [] status.PutFault
+  shipped_part kept ships = record {
     no_order = refl;
     only = all_shows;
-    by_status = λ told. puts_text told status.PutFault (from_before told broken (ships (still told).0)) (λ is. absurd (cc));
+    by_status = λ told. puts_text told status.PutFault kept (from_before told broken (ships (still told).0)) (λ is. absurd (cc));
   }
 
-  pub shipped_short : ((now : IsShown G store mid) → ShipsBy G (text_of (shipped store now.shows.read.records from)) mid after how.DiskFault) → ShippedFrom G from before after [] status.DiskFault
-  shipped_short ships = record {
+  pub shipped_short : behind store.bank.base from ≤ store.bank.count → ((now : IsShown G store mid) → ShipsBy G (text_of (shipped store now.shows.read.records from)) mid after how.DiskFault) → ShippedFrom G from before after [] status.DiskFault
+  shipped_short kept ships = record {
     no_order = refl;
     only = all_shows;
-    by_status = inr (λ told. puts_text told status.DiskFault (from_before told broken (ships (still told).0)) (λ is. absurd (cc)));
+    by_status = inr (λ told. puts_text told status.DiskFault kept (from_before told broken (ships (still told).0)) (λ is. absurd (cc)));
   }
 
   pub none_kept : (base number : ℕ) → after ≡ mid → base ≡ store.bank.base → number ≡ number_of store → store.bank.count < behind store.bank.base from → ShippedFrom G from before after [] (status.NotKept base number)

@@ -1,5 +1,5 @@
 -- What shipping the records of a store did.
-use Rattle.std.specs.Prelude.{◌≡◌, ◌⊎◌, ◌<◌, ℕ, List, [], IsSome}
+use Rattle.std.specs.Prelude.{◌≡◌, ◌⊎◌, ◌<◌, ◌≤◌, ℕ, List, [], IsSome}
 use Rattle.outside.specs.declared.world.Outside.{Ghosts}
 use Rattle.outside.specs.Runs.{OnlyAsks, held_of}
 use Rattle.restart.specs.Kept.{KeptStore, number_of}
@@ -14,11 +14,12 @@ use Rattle.call_status.specs.declared.status.Status.{Status}
 use Rattle.call_status.specs.declared.status.Status.TheVariants as status
 use Rattle.standby.specs.Puts.{AsksAndPuts}
 
--- The bytes show a store, and the text of the records that its bank has behind the number was put: all of it, or a first part. At Done these
--- records are in the ranges of a ship text.
+-- The bytes show a store whose bank keeps all records behind the number, and their text was put: all of it, or a first part. At Done they are in the
+-- ranges of a ship text.
 pub record PutsText {W : Type 0} (G : Ghosts W) (from : ℕ) (before after : W) (now : Status) : Type 0 where
   pub store : KeptStore
   pub shows : Shows (held_of G before) store
+  pub kept : behind store.bank.base from ≤ store.bank.count
   pub printed : PrintsBy (G.printed before) (G.printed after) (text_of (shipped store shows.read.records from)) now
   pub content : now ≡ Status.Done → IsContent (shipped store shows.read.records from)
 

@@ -1,10 +1,13 @@
 use Rattle.std.proofs.Common.{refl}
-use Rattle.standby_calls.proofs.ShipLemmas.{none_kept, shipped_all, shipped_part, shipped_short}
+use Rattle.standby_calls.proofs.ShipLemmas.{all_kept, none_kept, shipped_all, shipped_part, shipped_short}
+use Rattle.standby.specs.State.{behind}
+use Rattle.standby.specs.declared.shipping.Shipped.TheVariants as how
 use Rattle.standby_calls.proofs.ship.ship_store.Goals as goal
 
 pub returns-in-Done-clause-shipped : goal.returns-in-Done-clause-shipped
 returns-in-Done-clause-shipped g c =
-    shipped_all g.W.Outside g.met.W.Outside.fewer_later c.args.from c.args.outside.now c.open.new.outside c.ship.new.outside c.in-Ok.ensures.asks c.in-Ok.store c.in-Ok.ensures.shows c.in-Done.ensures.only c.in-Done.ensures.ships (c.in-Done.ensures.content refl)
+    shipped_all g.W.Outside g.met.W.Outside.fewer_later c.args.from c.args.outside.now c.open.new.outside c.ship.new.outside c.in-Ok.ensures.asks c.in-Ok.store c.in-Ok.ensures.shows c.in-Done.ensures.only
+    (all_kept how.Done c.in-Ok.store.bank.count (behind c.in-Ok.store.bank.base c.args.from) c.in-Done.ensures.not_kept.1 (λ is. cc)) c.in-Done.ensures.ships (c.in-Done.ensures.content refl)
 
 pub returns-in-NotKept-clause-shipped : goal.returns-in-NotKept-clause-shipped
 returns-in-NotKept-clause-shipped g c =
@@ -13,8 +16,10 @@ returns-in-NotKept-clause-shipped g c =
 
 pub returns-in-DiskFault-clause-shipped : goal.returns-in-DiskFault-clause-shipped
 returns-in-DiskFault-clause-shipped g c =
-    shipped_short g.W.Outside g.met.W.Outside.fewer_later c.args.from c.args.outside.now c.open.new.outside c.ship.new.outside c.in-Ok.ensures.asks c.in-Ok.store c.in-Ok.ensures.shows c.in-DiskFault.ensures.only c.in-DiskFault.ensures.ships
+    shipped_short g.W.Outside g.met.W.Outside.fewer_later c.args.from c.args.outside.now c.open.new.outside c.ship.new.outside c.in-Ok.ensures.asks c.in-Ok.store c.in-Ok.ensures.shows c.in-DiskFault.ensures.only
+    (all_kept how.DiskFault c.in-Ok.store.bank.count (behind c.in-Ok.store.bank.base c.args.from) c.in-DiskFault.ensures.not_kept.1 (λ is. cc)) c.in-DiskFault.ensures.ships
 
 pub returns-clause-shipped : goal.returns-clause-shipped
 returns-clause-shipped g c =
-    shipped_part g.W.Outside g.met.W.Outside.fewer_later c.args.from c.args.outside.now c.open.new.outside c.ship.new.outside c.in-Ok.ensures.asks c.in-Ok.store c.in-Ok.ensures.shows c.in-PutFault.ensures.only c.in-PutFault.ensures.ships
+    shipped_part g.W.Outside g.met.W.Outside.fewer_later c.args.from c.args.outside.now c.open.new.outside c.ship.new.outside c.in-Ok.ensures.asks c.in-Ok.store c.in-Ok.ensures.shows c.in-PutFault.ensures.only
+    (all_kept how.PutFault c.in-Ok.store.bank.count (behind c.in-Ok.store.bank.base c.args.from) c.in-PutFault.ensures.not_kept.1 (λ is. cc)) c.in-PutFault.ensures.ships
