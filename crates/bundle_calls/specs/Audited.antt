@@ -11,8 +11,9 @@ use Rattle.serial_audit.specs.declared.auditing.Verdict.TheVariants.{NotSerial, 
 use Rattle.serial_audit.specs.declared.bundle.Bundle.{Bundle}
 use Rattle.call_status.specs.declared.status.Status.{Status}
 use Rattle.call_status.specs.declared.status.Status.TheVariants as status
-use Rattle.bundle_calls.specs.Bundled.{IsBadClosing, IsNoJob, IsOpened, IsWrongPart, WithBundle, part_of}
+use Rattle.bundle_calls.specs.Bundled.{HasBundle, IsBadClosing, IsNoJob, IsOpened, IsWrongPart, WithBundle, part_of}
 use Rattle.store_calls.specs.Kept.{Keeps}
+use Rattle.call_status.specs.Opening.{IsStanding}
 use Rattle.call_status.specs.Printed.{put_of}
 use Rattle.call_status.specs.Statuses.{IsOfLines}
 
@@ -58,6 +59,11 @@ AuditedBy G bytes before after other = IsUnchecked bytes other × (after ≡ bef
 pub record Audited {W : Type 0} (G : Ghosts W) (left left_now : Option (List ℕ)) (faults faults_now : ℕ) (before after : W) (order : List (ℕ × ℕ)) (status : Status) : Type 0 where
   pub no_order : order ≡ []
   pub by_status : WithBundle left left_now faults faults_now (after ≡ before) (λ text. AuditedBy G text before after status) status
+
+-- The source has what an audit needs: a bundle, whose closing store stands too.
+pub record CanAudit (left : Option (List ℕ)) : Type 0 where
+  pub has : HasBundle left
+  pub closing : IsStanding (part_of has.text has.bundle.closing)
 
 -- a status of an audit
 abbrev pub IsOfAudit : Status → Type 0

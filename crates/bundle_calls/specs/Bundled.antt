@@ -1,5 +1,5 @@
 -- What the parts of a bundle are, and the first that is wrong.
-use Rattle.std.specs.Prelude.{◌≡◌, ℕ, ◌-◌, ◌⊎◌, List, Option, Ok, Err}
+use Rattle.std.specs.Prelude.{◌≡◌, ℕ, ◌-◌, ◌≤◌, ◌⊎◌, List, length, Option, Some, Ok, Err}
 use Rattle.outside.specs.Bytes.{bytes_at}
 use Rattle.outside.specs.Causes.{Rose}
 use Rattle.job_text.specs.Grammar.{Content, content_of, job_of}
@@ -13,7 +13,8 @@ use Rattle.serial_audit.specs.declared.bundle.Span.{Span}
 use Rattle.call_status.specs.declared.status.Status.{Status}
 use Rattle.call_status.specs.declared.status.Status.TheVariants as status
 use Rattle.store_calls.specs.Kept.{Keeps}
-use Rattle.call_status.specs.Opening.{IsFaultAt}
+use Rattle.call_status.specs.Opening.{IsFaultAt, IsStanding}
+use Rattle.call_status.specs.Reading.{IsSomeJob}
 use Rattle.call_status.specs.SourceText.{HasRead, IsWholeBundle}
 
 -- the bytes of a part
@@ -65,6 +66,17 @@ pub record IsBadClosing (bytes : List ℕ) (offset : ℕ) : Type 0 where
 abbrev pub IsWrongPart : List ℕ → (part at : ℕ) → Type 0
 IsWrongPart bytes part at =
     ((at ≡ 0) × IsWrongAt bytes part) ⊎ ((part ≡ 2) × IsBadReport bytes at) ⊎ ((part ≡ 3) × IsBadOpening bytes at)
+
+-- The source has a bundle, whole: its job is one, no line of its report is bad, and its opening store stands.
+pub record HasBundle (left : Option (List ℕ)) : Type 0 where
+  pub text : List ℕ
+  pub has_text : left ≡ Some text
+  pub few : length text ≤ 33554432
+  pub bundle : Bundle
+  pub parts : IsBundle text bundle
+  pub job : IsSomeJob (part_of text bundle.job)
+  pub report : (number : ℕ) → IsFirstBad (part_of text bundle.report) number → ⊥
+  pub opening : IsStanding (part_of text bundle.opening)
 
 -- why a bundle isn't opened, by the status
 abbrev pub IsShut : List ℕ → Status → Type 0

@@ -15,7 +15,7 @@ use Rattle.touch_trace.specs.declared.touch.Touch.{Touch}
 use Rattle.touch_trace.specs.Trace.{IsAnswer}
 use Rattle.call_status.specs.declared.status.Status.{Status}
 use Rattle.call_status.specs.declared.status.Status.TheVariants as status
-use Rattle.bundle_calls.specs.Bundled.{IsNoJob, IsOpened, IsWrongPart, WithBundle}
+use Rattle.bundle_calls.specs.Bundled.{HasBundle, IsNoJob, IsOpened, IsWrongPart, WithBundle}
 use Rattle.bundle_calls.specs.Audited.{IsOfAudit}
 use Rattle.call_status.specs.Printed.{put_of}
 
@@ -81,6 +81,11 @@ abbrev pub status_of_trace : TraceFault → Status
 status_of_trace fault.NoCommit = Status.NoCommit
 status_of_trace (fault.NotSerial place) = Status.NotSerial place
 status_of_trace fault.Memory = Status.NoMemory
+
+-- The source has what a trace of this activation needs: a bundle, and for no reason but want of memory is there no trace in it.
+pub record CanTrace (activation : ℕ) (left : Option (List ℕ)) : Type 0 where
+  pub has : HasBundle left
+  pub traced : (why : TraceFault) → IsFound has.text activation (Err why) → why ≡ fault.Memory
 
 -- a status of a trace
 abbrev pub IsOfTrace : Status → Type 0

@@ -1,10 +1,10 @@
 // The audit of a finished run.
-ghost use Rattle.std.specs.Prelude.{◌≡◌, ◌≤◌, ◌<◌, ◌^◌, ℕ, [], count_by, length, MatchResult};
+ghost use Rattle.std.specs.Prelude.{◌≡◌, ◌⊎◌, ◌≤◌, ◌<◌, ◌^◌, ℕ, [], count_by, length, MatchResult};
 ghost use Rattle.outside.specs.Causes.{Rose};
 ghost use Rattle.listing.specs.Puts.{Puts, PutsTimes};
 ghost use Rattle.desk.specs.Commits.{is_commit};
 ghost use Rattle.report_text.specs.ReadLines.{owned_told};
-ghost use Rattle.bundle_calls.specs.Audited.{Audited, AuditedBy, IsChecked, IsOfAudit, IsUnchecked, verdict_line};
+ghost use Rattle.bundle_calls.specs.Audited.{Audited, AuditedBy, CanAudit, IsChecked, IsOfAudit, IsUnchecked, verdict_line};
 
 use super::bundle::{open_bundle, part, store_in};
 use call_status::{MOST_OF_BUNDLE, Status, read_text};
@@ -30,6 +30,7 @@ pub fn audit_source<S: Source, W: Outside>(alloc: Global, source: &mut S, outsid
     ensures only { IsOfAudit result }
     ensures unfailed { result ≡ Status.Done → (S.faults source.new ≡ S.faults source.old) × (W.put_faults outside.new ≡ W.put_faults outside.old) }
     ensures put { result ≡ Status.PutFault → Rose (W.put_faults outside.old) (W.put_faults outside.new) }
+    ensures complete { CanAudit (S.left source.old) → (Rose (S.faults source.old) (S.faults source.new) → ⊥) → (Rose (W.put_faults outside.old) (W.put_faults outside.new) → ⊥) → (result ≡ Status.Done) ⊎ (result ≡ Status.NoMemory) }
 {
     match read_text(alloc, source, MOST_OF_BUNDLE) {
         Ok(text) => audit_text(alloc, &text, outside),

@@ -1,9 +1,9 @@
 // The trace of an activation in a finished run.
-ghost use Rattle.std.specs.Prelude.{◌≡◌, ◌+◌, ◌≤◌, [], length, MatchResult};
+ghost use Rattle.std.specs.Prelude.{◌≡◌, ◌⊎◌, ◌+◌, ◌≤◌, [], length, MatchResult};
 ghost use Rattle.std.specs.List.{flat_map};
 ghost use Rattle.outside.specs.Causes.{Rose};
 ghost use Rattle.listing.specs.Puts.{Puts, PutsTimes};
-ghost use Rattle.bundle_calls.specs.Traced.{IsOfTrace, IsTraced, IsUntraced, TracedBy, TracedFrom, status_of_trace, steps_line, touch_line, trace_lines};
+ghost use Rattle.bundle_calls.specs.Traced.{CanTrace, IsOfTrace, IsTraced, IsUntraced, TracedBy, TracedFrom, status_of_trace, steps_line, touch_line, trace_lines};
 
 use super::bundle::open_bundle;
 use call_status::{MOST_OF_BUNDLE, Status, read_text};
@@ -23,6 +23,7 @@ pub fn trace_source<S: Source, W: Outside>(
     ensures only { IsOfTrace result }
     ensures unfailed { result ≡ Status.Done → (S.faults source.new ≡ S.faults source.old) × (W.put_faults outside.new ≡ W.put_faults outside.old) }
     ensures put { result ≡ Status.PutFault → Rose (W.put_faults outside.old) (W.put_faults outside.new) }
+    ensures complete { CanTrace activation (S.left source.old) → (Rose (S.faults source.old) (S.faults source.new) → ⊥) → (Rose (W.put_faults outside.old) (W.put_faults outside.new) → ⊥) → (result ≡ Status.Done) ⊎ (result ≡ Status.NoMemory) }
 {
     match read_text(alloc, source, MOST_OF_BUNDLE) {
         Ok(text) => trace_text(alloc, &text, activation, outside),

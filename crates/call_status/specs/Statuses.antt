@@ -83,7 +83,7 @@ abbrev pub IsPastJob : Status → Type 0
 IsPastJob (status.Job line kind) = ⊥
 IsPastJob other = IsPastText other
 
--- the store was opened
+-- the events ran to their end, so the store was opened: a disk that failed in an event is none of these
 abbrev pub IsPastOpening : Status → Type 0
 IsPastOpening status.Done = Unit {0}
 IsPastOpening status.PutFault = Unit {0}

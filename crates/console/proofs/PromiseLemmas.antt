@@ -1,9 +1,8 @@
--- Of the commands that read a bundle no end is promised, and of a renewal one by what it did.
-use Rattle.std.proofs.Common.{◌≡◌, ◌⊎◌, ◌+◌, ◌<◌, ◌≤◌, ◌++◌, get_or, ℕ, List, [], ◌∷◌, length, map, refl, sym, ◌∙◌, ap, subst, arith, inl, inr, ⊎_elim}
-use Rattle.std.specs.Prelude.{codes, slice_index, Option, Some, None, IsSome, String, string_bytes, unwrap_or, All, slice_get}
+-- A command that has what it needs ends well, by what it did.
+use Rattle.std.proofs.Common.{◌≡◌, ◌⊎◌, ◌+◌, ◌*◌, ◌<◌, ◌≤◌, ◌++◌, get_or, ℕ, List, [], ◌∷◌, length, map, refl, sym, ◌∙◌, ap, subst, arith, inl, inr, ⊎_elim}
+use Rattle.std.specs.Prelude.{codes, nat_eq, Bool, true, false, slice_index, Option, Some, None, IsSome, String, string_bytes, unwrap_or, All, slice_get}
 use Rattle.std.proofs.lemmas.Option.{slice_get_cases}
-use Rattle.std.specs.Io.KnownBytes.{Consumes, IsAtEnd}
-use Rattle.std.proofs.lemmas.List.{append-nil, length-append}
+use Rattle.call_status.proofs.TextLemmas.{read_whole, too_much}
 use Rattle.outside.specs.Causes.{Rose}
 use Rattle.outside.specs.Runs.{held_of}
 use Rattle.call_status.specs.declared.status.Status.{Status}
@@ -16,7 +15,9 @@ use Rattle.standby.specs.Text.{Content, IsContent, ShipLine, text_of}
 use Rattle.standby_calls.specs.Followed.{FollowedBy, FollowedFrom, IsNoText, IsOfFollow, OnStore}
 use Rattle.standby_calls.specs.Shipped.{IsOfShip, ShippedFrom}
 use Rattle.call_status.specs.Opening.{IsFaultAt, IsStanding}
-use Rattle.console.proofs.WordLemmas.{one_from}
+use Rattle.bundle_calls.specs.Audited.{CanAudit}
+use Rattle.bundle_calls.specs.Traced.{CanTrace}
+use Rattle.console.proofs.WordLemmas.{one_from, one_trace}
 use Rattle.std.specs.declared.alloc.Global.{Global}
 use Rattle.line_geometry.specs.declared.directory.PageSize.{PageSize}
 use Rattle.line_geometry.specs.declared.directory.PageSize.TheVariants.{Two, Four}
@@ -24,7 +25,7 @@ use Rattle.outside.specs.declared.world.Outside.{Ghosts}
 use Rattle.console.specs.declared.words.Command.{Command}
 use Rattle.console.specs.declared.words.Command.TheVariants as command
 use Rattle.console.specs.Causes.{CanFollow, CanShip, HasAll, HasOldStore, IsComplete}
-use Rattle.console.specs.Words.{IsForm, ReadsBundle, Says, new_word, word_of}
+use Rattle.console.specs.Words.{IsForm, Says, new_word, word_of}
 
 -- words begin with that of their command
 begins : (form : Command) (words : List (List ℕ)) → Says form words → (rest : List (List ℕ)) × (words ≡ word_of form ∷ rest)
@@ -47,89 +48,80 @@ one_word one two words first second =
     let (other, there) = begins two words second in
     cc
 
--- a word that makes a store begins with an n
-new_begins : (size : PageSize) → slice_index (new_word size) 0 ≡ 110
-new_begins Two = refl
-new_begins Four = refl
+-- the first three bytes of a word, as a number
+abbrev mark : List ℕ → ℕ
+mark word = (slice_index word 0 * 256 + slice_index word 1) * 256 + slice_index word 2
 
--- a command that reads a bundle
-abbrev IsBundled : Command → Type 0
-IsBundled command.Audit = Unit {0}
-IsBundled (command.Trace activation) = Unit {0}
-IsBundled _ = ⊥
+abbrev mark_of : Command → ℕ
+mark_of (command.New header) = mark (codes "new")
+mark_of form = mark (word_of form)
 
-by_audit : (form : Command) → word_of form ≡ codes "audit" → IsBundled form
-by_audit command.Audit is = tt
-by_audit (command.Trace activation) is = tt
-by_audit command.Try is = cc
-by_audit command.List is = cc
-by_audit command.Drill is = absurd (let first : 100 ≡ 97 = ap (λ (word : List ℕ). slice_index word 0) is in omega (arith, first))
-by_audit command.Run is = cc
-by_audit (command.Show range) is = cc
-by_audit (command.New header) is = absurd (let first : 110 ≡ 97 = sym (new_begins header.directory.page) ∙ ap (λ (word : List ℕ). slice_index word 0) is in omega (arith, first))
-by_audit (command.Renew bank) is = absurd (let first : 114 ≡ 97 = ap (λ (word : List ℕ). slice_index word 0) is in omega (arith, first))
-by_audit (command.Ship from) is = absurd (let first : 115 ≡ 97 = ap (λ (word : List ℕ). slice_index word 0) is in omega (arith, first))
-by_audit command.Follow is = absurd (let first : 102 ≡ 97 = ap (λ (word : List ℕ). slice_index word 0) is in omega (arith, first))
-by_audit (command.Big transfers) is = cc
+mark_is : (form : Command) → mark (word_of form) ≡ mark_of form
+mark_is (command.New header) = by header.directory.page
+  where
+    by : (size : PageSize) → mark (new_word size) ≡ mark (codes "new")
+    by Two = refl
+    by Four = refl
+mark_is _ = refl
 
-by_trace : (form : Command) → word_of form ≡ codes "trace" → IsBundled form
-by_trace command.Audit is = tt
-by_trace (command.Trace activation) is = tt
-by_trace command.Try is = cc
-by_trace command.List is = cc
-by_trace command.Drill is = absurd (let first : 100 ≡ 116 = ap (λ (word : List ℕ). slice_index word 0) is in omega (arith, first))
-by_trace command.Run is = cc
-by_trace (command.Show range) is = cc
-by_trace (command.New header) is = absurd (let first : 110 ≡ 116 = sym (new_begins header.directory.page) ∙ ap (λ (word : List ℕ). slice_index word 0) is in omega (arith, first))
-by_trace (command.Renew bank) is = absurd (let first : 114 ≡ 116 = ap (λ (word : List ℕ). slice_index word 0) is in omega (arith, first))
-by_trace (command.Ship from) is = absurd (let first : 115 ≡ 116 = ap (λ (word : List ℕ). slice_index word 0) is in omega (arith, first))
-by_trace command.Follow is = absurd (let first : 102 ≡ 116 = ap (λ (word : List ℕ). slice_index word 0) is in omega (arith, first))
-by_trace (command.Big transfers) is = cc
+abbrev Holds : Bool → Type 0
+Holds true = Unit {0}
+Holds false = ⊥
 
--- nothing is promised of it
+-- commands that the same words say have one mark
+same_mark : (one two : Command) (words : List (List ℕ)) → Says one words → Says two words → Holds (nat_eq (mark_of two) (mark_of two)) → Holds (nat_eq (mark_of one) (mark_of two))
+same_mark one two words first second itself =
+    let same = sym (mark_is one) ∙ ap mark (one_word one two words first second) ∙ mark_is two in
+    subst (λ (n : ℕ). Holds (nat_eq n (mark_of two))) (sym same) itself
+
+-- what a command needs, by its mark
 module _ {W : Type 0} (G : Ghosts W) (left : Option (List ℕ)) (outside : W) where
-  unpromised : (form : Command) → IsBundled form → HasAll G form left outside → ⊥
-  unpromised command.Audit bundled has = has
-  unpromised (command.Trace activation) bundled has = has
-  unpromised _ bundled has = absurd bundled
+  needs_old : (form : Command) → Holds (nat_eq (mark_of form) (mark_of (command.Renew 0))) → HasAll G form left outside → HasOldStore left × (G.held outside ≡ Some [])
+  needs_old (command.Renew bank) is has = has
+  needs_old _ is has = absurd is
 
-  pub no_promise : (words : List (String Global)) → ReadsBundle words → IsComplete G words left outside → ⊥
-  no_promise words (inl audits) complete =
-      unpromised complete.form (by_audit complete.form (one_word complete.form command.Audit (map string_bytes words) complete.asks.says audits.says)) complete.has
-  no_promise words (inr (activation, traces)) complete =
-      unpromised complete.form (by_trace complete.form (one_word complete.form (command.Trace activation) (map string_bytes words) complete.asks.says traces.says)) complete.has
+  needs_text : (form : Command) → Holds (nat_eq (mark_of form) (mark_of command.Follow)) → HasAll G form left outside → CanFollow G left outside
+  needs_text command.Follow is has = has
+  needs_text _ is has = absurd is
 
--- all that a source had is what was read to its end, and no more can be
-read_whole : (left left_now : Option (List ℕ)) (had text : List ℕ) → left ≡ Some had → Consumes left left_now text → IsAtEnd left_now → text ≡ had
-read_whole None left_now had text has all end = cc
-read_whole (Some bytes) None had text has all end = absurd all
-read_whole (Some bytes) (Some rest) had text has all end =
-    let same : bytes ≡ had = cc in
-    sym (append-nil text) ∙ ap (λ (those : List ℕ). text ++ those) (sym end) ∙ sym all ∙ same
+  needs_bundle : (form : Command) → Holds (nat_eq (mark_of form) (mark_of command.Audit)) → HasAll G form left outside → CanAudit left
+  needs_bundle command.Audit is has = has
+  needs_bundle _ is has = absurd is
 
-too_much : (left left_now : Option (List ℕ)) (had front : List ℕ) (most : ℕ) → left ≡ Some had → length had ≤ most → length front ≡ most + 1 → Consumes left left_now front → ⊥
-too_much None left_now had front most has few many all = cc
-too_much (Some bytes) None had front most has few many all = all
-too_much (Some bytes) (Some rest) had front most has few many all =
-    let same : bytes ≡ had = cc in
-    omega (arith, few, many, ap length all, length-append front rest, ap length same)
+  module _ (words : List (String Global)) where
+    -- words of shipping say one number, and so do those of a trace
+    needs_kept : (from : ℕ) → IsForm (command.Ship from) words → (form : Command) → IsForm form words → Holds (nat_eq (mark_of form) (mark_of (command.Ship 0))) → HasAll G form left outside → CanShip G from outside
+    needs_kept from asked (command.Ship other) says is has = subst (λ (n : ℕ). CanShip G n outside) (one_from words other from says asked) has
+    needs_kept from asked _ says is has = absurd is
 
--- a renewal by its word
+    needs_trace : (activation : ℕ) → IsForm (command.Trace activation) words → (form : Command) → IsForm form words → Holds (nat_eq (mark_of form) (mark_of (command.Trace 0))) → HasAll G form left outside → CanTrace activation left
+    needs_trace activation asked (command.Trace other) says is has = subst (λ (n : ℕ). CanTrace n left) (one_trace words other activation says asked) has
+    needs_trace activation asked _ says is has = absurd is
+
+    module _ (complete : IsComplete G words left outside) where
+      abbrev Marked : Command → Type 0
+      Marked asked = Holds (nat_eq (mark_of complete.form) (mark_of asked))
+
+      marked : (asked : Command) → IsForm asked words → Holds (nat_eq (mark_of asked) (mark_of asked)) → Marked asked
+      marked asked is itself = same_mark complete.form asked (map string_bytes words) complete.asks.says is.says itself
+
+      pub renews : (bank : ℕ) → IsForm (command.Renew bank) words → HasOldStore left × (G.held outside ≡ Some [])
+      renews bank asked = needs_old complete.form (marked (command.Renew bank) asked tt) complete.has
+
+      pub follows : IsForm command.Follow words → CanFollow G left outside
+      follows asked = needs_text complete.form (marked command.Follow asked tt) complete.has
+
+      pub ships : (from : ℕ) → IsForm (command.Ship from) words → CanShip G from outside
+      ships from asked = needs_kept from asked complete.form complete.asks (marked (command.Ship from) asked tt) complete.has
+
+      pub audits : IsForm command.Audit words → CanAudit left
+      audits asked = needs_bundle complete.form (marked command.Audit asked tt) complete.has
+
+      pub traces : (activation : ℕ) → IsForm (command.Trace activation) words → CanTrace activation left
+      traces activation asked = needs_trace activation asked complete.form complete.asks (marked (command.Trace activation) asked tt) complete.has
+
+-- a renewal
 module _ {W : Type 0} (G : Ghosts W) where
-  needs_old : (left : Option (List ℕ)) (outside : W) (form : Command) → word_of form ≡ codes "renew" → HasAll G form left outside → HasOldStore left × (G.held outside ≡ Some [])
-  needs_old left outside (command.Renew bank) is has = has
-  needs_old left outside command.Try is has = absurd (let first : 116 ≡ 114 = ap (λ (word : List ℕ). slice_index word 0) is in omega (arith, first))
-  needs_old left outside command.List is has = absurd (let first : 108 ≡ 114 = ap (λ (word : List ℕ). slice_index word 0) is in omega (arith, first))
-  needs_old left outside command.Drill is has = absurd (let first : 100 ≡ 114 = ap (λ (word : List ℕ). slice_index word 0) is in omega (arith, first))
-  needs_old left outside command.Run is has = absurd (let second : 117 ≡ 101 = ap (λ (word : List ℕ). slice_index word 1) is in omega (arith, second))
-  needs_old left outside (command.Show range) is has = absurd (let first : 115 ≡ 114 = ap (λ (word : List ℕ). slice_index word 0) is in omega (arith, first))
-  needs_old left outside (command.New header) is has = absurd (let first : 110 ≡ 114 = sym (new_begins header.directory.page) ∙ ap (λ (word : List ℕ). slice_index word 0) is in omega (arith, first))
-  needs_old left outside (command.Big transfers) is has = absurd (let first : 98 ≡ 114 = ap (λ (word : List ℕ). slice_index word 0) is in omega (arith, first))
-  needs_old left outside (command.Ship from) is has = absurd (let first : 115 ≡ 114 = ap (λ (word : List ℕ). slice_index word 0) is in omega (arith, first))
-  needs_old left outside command.Follow is has = absurd (let first : 102 ≡ 114 = ap (λ (word : List ℕ). slice_index word 0) is in omega (arith, first))
-  needs_old left outside command.Audit is has = absurd has
-  needs_old left outside (command.Trace activation) is has = absurd has
-
   -- it ends well where nothing fails
   module _ (left left_now : Option (List ℕ)) (faults faults_now : ℕ) (before after : W) (order : List (ℕ × ℕ)) (has : HasOldStore left) (empty : G.held before ≡ Some []) (calm : Rose faults faults_now → ⊥) where
     renewal_ends : (bank : ℕ) (status : Status) → Renewed G bank left left_now faults faults_now before after order status → IsOfRenew status
@@ -161,40 +153,11 @@ module _ {W : Type 0} (G : Ghosts W) where
       → Renewed G bank left left_now faults faults_now before after order status → IsOfRenew status → IsComplete G words left before → (Rose faults faults_now → ⊥)
       → (status ≡ Status.DiskFault → ⊥) → (status ≡ Status.PutFault → ⊥) → (status ≡ Status.Done) ⊎ (status ≡ Status.NoMemory)
   renewal_promise words bank asked left left_now faults faults_now before after order status did of complete calm disk put =
-      let needs = needs_old left before complete.form (one_word complete.form (command.Renew bank) (map string_bytes words) complete.asks.says asked.says) complete.has in
+      let needs = renews G left before words complete bank asked in
       renewal_ends left left_now faults faults_now before after order needs.0 needs.1 calm bank status did of disk put
 
--- a store that is shipped or follows by its word
+-- a store that is shipped or follows
 module _ {W : Type 0} (G : Ghosts W) (left : Option (List ℕ)) (outside : W) where
-  -- words of shipping say one number
-  needs_kept : (words : List (String Global)) (from : ℕ) → IsForm (command.Ship from) words → (form : Command) → IsForm form words → word_of form ≡ codes "ship" → HasAll G form left outside → CanShip G from outside
-  needs_kept words from asked (command.Ship other) says is has = subst (λ (n : ℕ). CanShip G n outside) (one_from words other from says asked) has
-  needs_kept words from asked command.Follow says is has = absurd (let first : 102 ≡ 115 = ap (λ (word : List ℕ). slice_index word 0) is in omega (arith, first))
-  needs_kept words from asked command.Audit says is has = absurd has
-  needs_kept words from asked (command.Trace activation) says is has = absurd has
-  needs_kept words from asked command.Try says is has = absurd (let first : 116 ≡ 115 = ap (λ (word : List ℕ). slice_index word 0) is in omega (arith, first))
-  needs_kept words from asked command.List says is has = absurd (let first : 108 ≡ 115 = ap (λ (word : List ℕ). slice_index word 0) is in omega (arith, first))
-  needs_kept words from asked command.Drill says is has = absurd (let first : 100 ≡ 115 = ap (λ (word : List ℕ). slice_index word 0) is in omega (arith, first))
-  needs_kept words from asked command.Run says is has = absurd (let first : 114 ≡ 115 = ap (λ (word : List ℕ). slice_index word 0) is in omega (arith, first))
-  needs_kept words from asked (command.Show range) says is has = absurd (let third : 111 ≡ 105 = ap (λ (word : List ℕ). slice_index word 2) is in omega (arith, third))
-  needs_kept words from asked (command.New header) says is has = absurd (let first : 110 ≡ 115 = sym (new_begins header.directory.page) ∙ ap (λ (word : List ℕ). slice_index word 0) is in omega (arith, first))
-  needs_kept words from asked (command.Renew bank) says is has = absurd (let first : 114 ≡ 115 = ap (λ (word : List ℕ). slice_index word 0) is in omega (arith, first))
-  needs_kept words from asked (command.Big transfers) says is has = absurd (let first : 98 ≡ 115 = ap (λ (word : List ℕ). slice_index word 0) is in omega (arith, first))
-
-  needs_text : (form : Command) → word_of form ≡ codes "follow" → HasAll G form left outside → CanFollow G left outside
-  needs_text command.Follow is has = has
-  needs_text (command.Ship from) is has = absurd (let first : 115 ≡ 102 = ap (λ (word : List ℕ). slice_index word 0) is in omega (arith, first))
-  needs_text command.Audit is has = absurd has
-  needs_text (command.Trace activation) is has = absurd has
-  needs_text command.Try is has = absurd (let first : 116 ≡ 102 = ap (λ (word : List ℕ). slice_index word 0) is in omega (arith, first))
-  needs_text command.List is has = absurd (let first : 108 ≡ 102 = ap (λ (word : List ℕ). slice_index word 0) is in omega (arith, first))
-  needs_text command.Drill is has = absurd (let first : 100 ≡ 102 = ap (λ (word : List ℕ). slice_index word 0) is in omega (arith, first))
-  needs_text command.Run is has = absurd (let first : 114 ≡ 102 = ap (λ (word : List ℕ). slice_index word 0) is in omega (arith, first))
-  needs_text (command.Show range) is has = absurd (let first : 115 ≡ 102 = ap (λ (word : List ℕ). slice_index word 0) is in omega (arith, first))
-  needs_text (command.New header) is has = absurd (let first : 110 ≡ 102 = sym (new_begins header.directory.page) ∙ ap (λ (word : List ℕ). slice_index word 0) is in omega (arith, first))
-  needs_text (command.Renew bank) is has = absurd (let first : 114 ≡ 102 = ap (λ (word : List ℕ). slice_index word 0) is in omega (arith, first))
-  needs_text (command.Big transfers) is has = absurd (let first : 98 ≡ 102 = ap (λ (word : List ℕ). slice_index word 0) is in omega (arith, first))
-
   -- bytes that stand have no fault
   no_fault : (offset : ℕ) → IsStanding (held_of G outside) → IsFaultAt (held_of G outside) offset → ⊥
   no_fault offset stood (inl is) = let those = stood.2 in cc
@@ -217,7 +180,7 @@ module _ {W : Type 0} (G : Ghosts W) (left : Option (List ℕ)) (outside : W) wh
     pub ship_promise : (words : List (String Global)) (from : ℕ) → IsForm (command.Ship from) words → (now : Status) → ShippedFrom G from outside after order now → IsOfShip now → IsComplete G words left outside
         → (now ≡ Status.DiskFault → ⊥) → (now ≡ Status.PutFault → ⊥) → (now ≡ Status.Done) ⊎ (now ≡ Status.NoMemory)
     ship_promise words from asked now did of complete disk put =
-        ship_ends from now (needs_kept words from asked complete.form complete.asks (one_word complete.form (command.Ship from) (map string_bytes words) complete.asks.says asked.says) complete.has) did of disk put
+        ship_ends from now (ships G left outside words complete from asked) did of disk put
 
     module _ (left_now : Option (List ℕ)) (faults faults_now : ℕ) (can : CanFollow G left outside) (calm : Rose faults faults_now → ⊥) where
       -- a record that is too long isn't among those that aren't
@@ -267,4 +230,4 @@ module _ {W : Type 0} (G : Ghosts W) (left : Option (List ℕ)) (outside : W) wh
     pub follow_promise : (words : List (String Global)) → IsForm command.Follow words → (left_now : Option (List ℕ)) (faults faults_now : ℕ) (now : Status) → FollowedFrom G left left_now faults faults_now outside after order now → IsOfFollow now
         → IsComplete G words left outside → (Rose faults faults_now → ⊥) → (now ≡ Status.DiskFault → ⊥) → (now ≡ Status.PutFault → ⊥) → (now ≡ Status.Done) ⊎ (now ≡ Status.NoMemory)
     follow_promise words asked left_now faults faults_now now did of complete calm disk put =
-        follow_ends left_now faults faults_now (needs_text complete.form (one_word complete.form command.Follow (map string_bytes words) complete.asks.says asked.says) complete.has) calm now did.by_status of disk put
+        follow_ends left_now faults faults_now (follows G left outside words complete asked) calm now did.by_status of disk put

@@ -23,8 +23,8 @@ use Rattle.standby.specs.State.{IsAmong, behind, due}
 use Rattle.standby.specs.Text.{Content, IsContent, text_of}
 use Rattle.standby_calls.specs.Followed.{IsOfFollow}
 use Rattle.standby_calls.specs.Shipped.{IsOfShip}
-use Rattle.bundle_calls.specs.Audited.{IsOfAudit}
-use Rattle.bundle_calls.specs.Traced.{IsOfTrace}
+use Rattle.bundle_calls.specs.Audited.{CanAudit, IsOfAudit}
+use Rattle.bundle_calls.specs.Traced.{CanTrace, IsOfTrace}
 use Rattle.console.specs.Words.{IsForm}
 
 -- the source has the text of a job, whole
@@ -68,7 +68,7 @@ pub record CanFollow {W : Type 0} (G : Ghosts W) (left : Option (List ℕ)) (out
       → IsAlike store.header held × IsAmong held (number_of store) × All (λ lines. length lines ≤ most_lines store.header) (due held (number_of store))
 
 -- what a command needs: the text of a job and a store to run it on, to list it or to drill it; bytes that stand for a store with a range; an empty disk, and a store of version 1 to renew; records
--- that are kept, or that can be followed; a store to run a load on. Of a bundle's two commands nothing is promised: their statuses name the part that is wrong.
+-- that are kept, or that can be followed; a store to run a load on; a bundle with no wrong part, and a trace in it.
 abbrev pub HasAll : {W : Type 0} → Ghosts W → Command → Option (List ℕ) → W → Type 0
 HasAll G command.Try left outside = HasJob left × HasStore G outside
 HasAll G command.Run left outside = HasJob left × HasStore G outside
@@ -80,8 +80,8 @@ HasAll G (command.Renew bank) left outside = HasOldStore left × (G.held outside
 HasAll G (command.Big transfers) left outside = HasStore G outside
 HasAll G (command.Ship from) left outside = CanShip G from outside
 HasAll G command.Follow left outside = CanFollow G left outside
-HasAll G command.Audit left outside = ⊥
-HasAll G (command.Trace activation) left outside = ⊥
+HasAll G command.Audit left outside = CanAudit left
+HasAll G (command.Trace activation) left outside = CanTrace activation left
 
 -- the words are a command that has what it needs
 pub record IsComplete {W : Type 0} (G : Ghosts W) (words : List (String Global)) (left : Option (List ℕ)) (outside : W) : Type 0 where

@@ -1,5 +1,5 @@
 -- Puts, one after another.
-use Rattle.std.proofs.Common.{◌≡◌, ℕ, ◌+◌, ◌<◌, List, [], ◌∷◌, ◌++◌, length, get_or, take, drop, min, sym, ◌∙◌, ap, subst, append_assoc, append-nil, arith, rules}
+use Rattle.std.proofs.Common.{◌≡◌, ℕ, ◌+◌, ◌<◌, List, [], ◌∷◌, ◌++◌, length, get_or, take, drop, min, refl, sym, ◌∙◌, ap, subst, append_assoc, append-nil, arith, rules}
 use Rattle.std.specs.Prelude.{Option, None, Some, Result, Ok, Err, IsErr}
 use Rattle.std.proofs.Math.Seq.{take-append-add}
 use Rattle.std.proofs.lemmas.List.{take-append-le, take_min, take_more, take-append-drop}
@@ -13,6 +13,17 @@ use Rattle.outside.proofs.Runs.{elapses-trans}
 -- the same bytes
 pub prints_same : {T : Type 0} (old new : Option (List ℕ)) (first second : List ℕ) (result : Result T Failed) → first ≡ second → Prints old new first result → Prints old new second result
 prints_same old new first second result same prints = subst (λ (bytes : List ℕ). Prints old new bytes result) same prints
+
+-- no bytes
+pub prints_none : {T : Type 0} (told : Option (List ℕ)) (value : T) → Prints told told [] (Ok value)
+prints_none None value = refl
+prints_none (Some bytes) value = ap (λ (these : List ℕ). Some these) (sym (append-nil bytes))
+
+-- none of some
+pub prints_unput : {T : Type 0} (old new : Option (List ℕ)) (bytes : List ℕ) (result : Result T Failed) → IsErr result → new ≡ old → Prints old new bytes result
+prints_unput None new bytes result err same = same
+prints_unput (Some old) new bytes (Ok value) err same = absurd (search (rules, err))
+prints_unput (Some old) new bytes (Err why) err same = (0, same ∙ ap (λ (these : List ℕ). Some these) (sym (append-nil old)))
 
 -- another value
 pub prints_well : {T U : Type 0} (old new : Option (List ℕ)) (bytes : List ℕ) (first : T) (second : U) → Prints old new bytes (Ok first) → Prints old new bytes (Ok second)

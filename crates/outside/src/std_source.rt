@@ -1,7 +1,7 @@
 // The real source. It tells nothing of content, and counts its failures.
 use crate::failed::fault;
 use crate::{Failed, Source};
-use std::io::Read;
+use std::io::{ErrorKind, Read};
 
 /// The standard input, or any other reader, of which nothing is told. Its contract says when its count of faults rises.
 #[derive(Drop)]
@@ -29,9 +29,14 @@ impl<I: Read> Source for StdSource<I> {
     ghost faults = { λ source. source.faults };
 
     fn read(&mut self, into: &mut [u8]) -> Result<usize, Failed> {
-        match self.input.read(into) {
-            Ok(count) => Ok(count),
-            Err(_) => fault(&mut self.faults),
+        // A signal may interrupt a read before it took a byte: then it is made again.
+        for _ in 0..u64::MAX {
+            match self.input.read(into) {
+                Ok(count) => return Ok(count),
+                Err(error) if error.kind() == ErrorKind::Interrupted => {}
+                Err(_) => break,
+            }
         }
+        fault(&mut self.faults)
     }
 }

@@ -54,3 +54,8 @@ abbrev pub IsWrongAt : List ℕ → ℕ → Type 0
 IsWrongAt bytes part =
     ((part ≡ 0) × ((sizes : Sizes) (rest : List ℕ) → ¬ (HasHead bytes sizes rest)))
     ⊎ ((part ≡ 5) × ((sizes : Sizes) × (rest : List ℕ) × HasHead bytes sizes rest × (length rest ≢ size_of sizes)))
+
+-- bytes are a bundle in one way at most, and of a bundle no part is wrong
+pub record HasOneSplitting : Type 0 where
+  pub one : (bytes : List ℕ) (first second : Bundle) → IsBundle bytes first → IsBundle bytes second → first ≡ second
+  pub whole : (bytes : List ℕ) (bundle : Bundle) (part : ℕ) → IsBundle bytes bundle → IsWrongAt bytes part → ⊥

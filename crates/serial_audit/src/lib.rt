@@ -5,6 +5,7 @@
 mod auditing;
 mod bundle;
 mod index;
+mod law;
 mod replay;
 #[cfg(test)]
 mod tests;
@@ -12,4 +13,5 @@ mod tests;
 pub use auditing::{KeptStore, Progress, Verdict, audit, audit_lines};
 pub use bundle::{Bundle, Span, split_bundle};
 pub use index::Entry;
+pub use law::a_bundle_has_one_splitting;
 pub use replay::Commit;

@@ -1,5 +1,6 @@
 -- Records that are kept and told, one after another.
-use Rattle.std.proofs.Common.{◌≡◌, ℕ, suc, ◌+◌, ◌-◌, ◌<◌, List, [], ◌++◌, length, take, get_or, refl, sym, ◌∙◌, ap, subst, arith, append-nil, IsSome}
+use Rattle.std.proofs.Common.{◌≡◌, ℕ, suc, ◌+◌, ◌-◌, ◌<◌, List, [], ◌++◌, length, take, get_or, refl, sym, ◌∙◌, ap, subst, arith, append-nil}
+use Rattle.std.proofs.lemmas.Option.{IfSome_then}
 use Rattle.std.specs.Prelude.{Option, Some, None, Result, Ok, Err, OnErr}
 use Rattle.std.proofs.lemmas.List.{take_all}
 use Rattle.line_geometry.specs.FlatStore.{FlatStore}
@@ -10,23 +11,19 @@ use Rattle.outside.specs.Bytes.{Prints}
 use Rattle.outside.specs.Moments.{Elapses}
 use Rattle.outside.specs.Runs.{FewerLater, Leaves, held_of}
 use Rattle.outside.proofs.Durable.{told_is}
-use Rattle.outside.proofs.Prints.{prints_on, prints_same, prints_stop}
+use Rattle.outside.proofs.Prints.{prints_none, prints_on, prints_same, prints_stop}
 use Rattle.outside.proofs.Runs.{leaves_on}
 use Rattle.restart.specs.Kept.{KeptStore}
 use Rattle.restart.specs.Shows.{Shows, Tracks}
 use Rattle.standby.specs.Followed.{FollowsBy, IsAtNumber, IsStopped, Follows, Keeps, SoFar, broken, kept_text, well}
-use Rattle.standby.specs.Puts.{Puts, shown_of}
+use Rattle.standby.specs.Puts.{Puts}
 use Rattle.standby.specs.State.{laid_by}
-use Rattle.standby.specs.Step.{IsStep, Steps, followed_of, over, put_of}
+use Rattle.standby.specs.Step.{Steps, followed_of, over, put_of}
 use Rattle.standby.specs.Text.{ShipLine, end_line, kept_line, later, next}
 use Rattle.standby.specs.declared.following.Followed.{Followed}
 use Rattle.standby.specs.declared.following.Followed.TheVariants.{Done, DiskFault, PutFault, Geometry, NotKept, Long}
-use Rattle.standby.proofs.PutLemmas.{PrintedNow, image_is, shown_after, sure_puts}
+use Rattle.standby.proofs.PutLemmas.{PrintedNow, image_is, sure_puts}
 use Rattle.standby.proofs.TellLemmas.{at_end, at_some, at_step, kept_front, later_more, laid_more}
-
-printed_none : (told : Option (List ℕ)) → Prints told told [] well
-printed_none None = refl
-printed_none (Some bytes) = ap (λ (these : List ℕ). Some these) (sym (append-nil bytes))
 
 module _ {W : Type 0} (G : Ghosts W) (fewer_later : FewerLater G) (printed_now : PrintedNow G) (bytes number : ℕ) (store : FlatStore) (records : List (List ShipLine)) where
   -- none yet
@@ -34,24 +31,21 @@ module _ {W : Type 0} (G : Ghosts W) (fewer_later : FewerLater G) (printed_now :
   so_far_none durable now number_is tracks stood =
       let here : stands (held_of G now) ≡ Stands (later number 0) (laid_by bytes store (take 0 records)) = stood ∙ ap (λ (n : ℕ). Stands n store) (sym number_is) in
       record {
-        crash = λ told image seen left.
+        crash = λ image seen left.
             let is : image ≡ held_of G now = told_is (G.held now) image tracks.sure.told (tracks.sure.durable image seen left) in
-            at_some bytes number store records (shown_of G now) 0 image seen (omega arith) (ap stands is ∙ here) (told_is (G.printed now) seen told (printed_now now image seen left) ∙ sym (append-nil (shown_of G now)));
+            at_some bytes number store records (G.printed now) 0 image seen (omega arith) (ap stands is ∙ here) (IfSome_then (G.printed now) (printed_now now image seen left) (λ shown same. same ∙ sym (append-nil shown)));
         tracks = tracks;
         stood = here;
-        printed = printed_none (G.printed now);
+        printed = prints_none (G.printed now) tt;
       }
 
   module _ (i : ℕ) (lt : i < length records) (old_store : KeptStore) (before mid : W) (time : Elapses G.moment G.left_since before mid) (so_far : SoFar G bytes number store records i old_store before mid)
       (durable : KeptStore) (after : W) (on : Elapses G.moment G.left_since mid after) where
     -- a crash in the next
-    crash_on : (result : Result (Unit {0}) Followed) → Steps G bytes (later number i) (laid_by bytes store (take i records)) (get_or records i []) durable mid after result → IsSome (G.printed before) → Leaves G (IsAtNumber bytes number store records (shown_of G before)) before after
-    crash_on result steps told =
-        let shown = shown_after (G.printed before) (G.printed mid) (kept_text number i) tt told so_far.printed in
-        leaves_on G fewer_later before mid after time on (IsAtNumber bytes number store records (shown_of G before)) (so_far.crash told)
-        (λ image seen left.
-        at_step bytes number store records (shown_of G before) i image seen lt
-        (subst (λ (printed : List ℕ). IsStep bytes (later number i) (laid_by bytes store (take i records)) (get_or records i []) printed image seen) shown.1 (steps.crash shown.0 image seen left)))
+    crash_on : (result : Result (Unit {0}) Followed) → Steps G bytes (later number i) (laid_by bytes store (take i records)) (get_or records i []) durable mid after result → Leaves G (IsAtNumber bytes number store records (G.printed before)) before after
+    crash_on result steps =
+        leaves_on G fewer_later before mid after time on (IsAtNumber bytes number store records (G.printed before)) so_far.crash
+        (λ image seen left. at_step bytes number store records (G.printed before) i (G.printed mid) image seen lt so_far.printed (steps.crash image seen left))
 
     number_on : next (later number i) ≡ later number (suc i)
     number_on =
@@ -117,14 +111,12 @@ module _ {W : Type 0} (G : Ghosts W) (fewer_later : FewerLater G) (printed_now :
     abbrev last : List ℕ
     last = end_line (later number (length records))
 
-    end_crash : {T : Type 0} (how : Result T Failed) → Puts G last mid after how → IsSome (G.printed before) → Leaves G (IsAtNumber bytes number store records (shown_of G before)) before after
-    end_crash how puts told =
-        let shown = shown_after (G.printed before) (G.printed mid) (kept_text number (length records)) tt told keeps.ends.1 in
-        leaves_on G fewer_later before mid after time puts.only.time (IsAtNumber bytes number store records (shown_of G before)) (keeps.crash told)
+    end_crash : {T : Type 0} (how : Result T Failed) → Puts G last mid after how → Leaves G (IsAtNumber bytes number store records (G.printed before)) before after
+    end_crash how puts =
+        leaves_on G fewer_later before mid after time puts.only.time (IsAtNumber bytes number store records (G.printed before)) keeps.crash
         (λ image seen left.
-        let from = image_is G printed_now last mid after how puts keeps.ends.0.tracks.sure shown.0 image seen left in
-        at_end bytes number store records (shown_of G before) image seen from.1.0 (ap stands from.0 ∙ keeps.ends.0.stood)
-        (from.1.1 ∙ ap (λ (printed : List ℕ). printed ++ take from.1.0 last) shown.1))
+        let from = image_is G printed_now last mid after how puts keeps.ends.0.tracks.sure image seen left in
+        at_end bytes number store records (G.printed before) (G.printed mid) image seen (ap stands from.0 ∙ keeps.ends.0.stood) keeps.ends.1 from.1)
 
     pub ended : (line : List ℕ) (result : Result (Unit {0}) Followed) → line ≡ last → OnErr result (result ≡ Err PutFault) → Puts G line mid after (put_of result) → Follows G bytes number store records durable before after (followed_of result)
     ended line (Ok done) is only puts =

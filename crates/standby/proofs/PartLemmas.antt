@@ -1,35 +1,19 @@
 -- The parts of a line of a ship text: where each ends, and that none holds a line feed.
 use Rattle.std.proofs.Common.{◌≡◌, ℕ, zero, suc, ◌+◌, ◌/◌, ◌%◌, ◌^◌, ◌<◌, ◌≤◌, ◌==◌, nat_lt, not, true, false, cond, List, [], ◌∷◌, ◌++◌, length, codes, decimal, get_or, position, Some, None, Ok, take, drop, refl, sym, ◌∙◌, ap, append_assoc, length-append, arith}
 use Rattle.std.specs.Prelude.{All, slice_index}
-use Rattle.std.specs.Char.{digit_value}
 use Rattle.std.specs.List.{AllByRecursion, prefix_len}
-use Rattle.std.specs.Str.Parse.{AllDigits}
 use Rattle.std.proofs.lemmas.Bool.{lt-ltb}
 use Rattle.std.proofs.lemmas.Bool.Decides.{nat_tests}
-use Rattle.std.proofs.lemmas.Fmt.{decimal_injective, decimal_is_IsNumeral}
 use Rattle.std.proofs.lemmas.List.{drop_at, take_at}
 use Rattle.std.proofs.lemmas.List.Quantifiers.{position-Some}
 use Rattle.std.proofs.lemmas.List.Elements.{All-get_or, recursion_from_All}
 use Rattle.std.proofs.lemmas.List.Sums.{AllPass-from_list_all, sum_by-append}
 use Rattle.hex.specs.Hex.{encode_lower, encode_with, lower_digits, decode_of}
 use Rattle.hex.proofs.HexLemmas.{decode_of-encode_lower}
+use Rattle.text_line.proofs.Words.{IsWord, number_word, same_number, word_cut}
 use Rattle.standby.proofs.ShipLemmas.{split_at}
 use Rattle.standby.specs.Read.{feeds}
 use Rattle.standby.specs.Text.{end_line, head_line, line_line, record_line}
-
--- the bytes of a word all come behind the space
-abbrev pub IsWord : List ℕ → Type 0
-IsWord word = AllByRecursion (λ byte. 32 < byte) word
-
-digit_inside : (digit : ℕ) → digit_value digit < 10 → 32 < digit
-digit_inside digit small = grind (arith, nat_tests)
-
-digits_word : (digits : List ℕ) → AllDigits 10 digits → IsWord digits
-digits_word [] are = tt
-digits_word (digit ∷ digits) are = (digit_inside digit are.0, digits_word digits are.1)
-
-pub number_word : (n : ℕ) → n < 2 ^ 64 → IsWord (decimal n)
-number_word n small = digits_word (decimal n) (decimal_is_IsNumeral n small).0.1
 
 behind_space : (byte : ℕ) → nat_lt 32 byte ≡ true → 32 < byte
 behind_space byte is = grind (arith, nat_tests)
@@ -44,23 +28,6 @@ hex_word_by (byte ∷ bytes) all = (hex_digit (byte / 16) (omega (arith, all.0))
 
 pub hex_word : (bytes : List ℕ) → All (λ byte. byte < 256) bytes → IsWord (encode_lower bytes)
 hex_word bytes all = hex_word_by bytes (recursion_from_All (λ byte. byte < 256) bytes all)
-
--- two words in front of a byte before them are the same
-pub word_cut : (stop : ℕ) (a b x y : List ℕ) → stop ≤ 32 → IsWord a → IsWord b → a ++ stop ∷ x ≡ b ++ stop ∷ y → (a ≡ b) × (x ≡ y)
-word_cut stop [] [] x y small one two is = (refl, cc)
-word_cut stop [] (d ∷ b) x y small one two is = let same : stop ≡ d = cc in absurd (omega (arith, same, small, two.0))
-word_cut stop (c ∷ a) [] x y small one two is = let same : c ≡ stop = cc in absurd (omega (arith, same, small, one.0))
-word_cut stop (c ∷ a) (d ∷ b) x y small one two is =
-    let same : c ≡ d = cc in
-    let left : a ++ stop ∷ x ≡ b ++ stop ∷ y = cc in
-    let rest = word_cut stop a b x y small one.1 two.1 left in
-    (cc, rest.1)
-
--- and so are two numbers
-pub same_number : (stop m n : ℕ) (x y : List ℕ) → stop ≤ 32 → m < 2 ^ 64 → n < 2 ^ 64 → decimal m ++ stop ∷ x ≡ decimal n ++ stop ∷ y → (m ≡ n) × (x ≡ y)
-same_number stop m n x y small one two is =
-    let cut = word_cut stop (decimal m) (decimal n) x y small (number_word m one) (number_word n two) is in
-    (decimal_injective m n one two cut.0, cut.1)
 
 each_byte : (bytes : List ℕ) → AllByRecursion (λ byte. byte < 256) bytes → (i : ℕ) → get_or bytes i 0 < 256
 each_byte [] all i = omega arith

@@ -1,6 +1,7 @@
 -- One record that is kept and told.
-use Rattle.std.proofs.Common.{◌≡◌, inl, inr, ⊎_elim, ℕ, ◌+◌, ◌*◌, List, [], ◌∷◌, ◌++◌, take, refl, sym, ◌∙◌, ap, subst, append-nil, IsSome}
-use Rattle.std.specs.Prelude.{◌%◌, ◌^◌, length, Option, Result, Ok, Err, OnErr, unwrap_or, fold}
+use Rattle.std.proofs.Common.{◌≡◌, inl, inr, ⊎_elim, ℕ, ◌+◌, ◌*◌, List, [], ◌∷◌, ◌++◌, take, refl, sym, ◌∙◌, ap, subst, append-nil}
+use Rattle.std.proofs.lemmas.Option.{IfSome_then}
+use Rattle.std.specs.Prelude.{◌%◌, ◌^◌, length, Option, Result, Ok, Err, OnErr, fold}
 use Rattle.owned_list.specs.Overlay.{overlaid}
 use Rattle.line_geometry.specs.FlatStore.{FlatStore}
 use Rattle.line_geometry.specs.Segments.{line_bytes}
@@ -12,7 +13,7 @@ use Rattle.store_format.proofs.Stores.{stands_is}
 use Rattle.restart.proofs.ShowLemmas.{shown_store}
 use Rattle.outside.specs.declared.failed.Failed.{Failed}
 use Rattle.outside.specs.declared.world.Outside.{Ghosts}
-use Rattle.outside.specs.Bytes.{Prints}
+use Rattle.outside.specs.Bytes.{AreTold, Prints}
 use Rattle.outside.specs.Durable.{IsSure}
 use Rattle.outside.specs.Runs.{CallsDisk, FewerLater, Leaves, held_of}
 use Rattle.outside.proofs.Runs.{leaves_on}
@@ -20,7 +21,7 @@ use Rattle.redo_journal.specs.Kept.{begun_of}
 use Rattle.redo_journal.specs.Tracks.{IsEither}
 use Rattle.restart.specs.Kept.{KeptStore}
 use Rattle.restart.specs.Shows.{Shows, Tracks}
-use Rattle.standby.specs.Puts.{Puts, shown_of}
+use Rattle.standby.specs.Puts.{Puts, SeesPart}
 use Rattle.standby.specs.State.{laid}
 use Rattle.standby.specs.Followed.{well, broken}
 use Rattle.standby.specs.Step.{IsStep, Steps, over, put_of, with_begun}
@@ -66,27 +67,25 @@ tracks_begun G store now lines outside is tracks =
 module _ {W : Type 0} (G : Ghosts W) (fewer_later : FewerLater G) (printed_now : PrintedNow G) (number bytes : ℕ) (store : FlatStore) (lines : List ShipLine) (begun : List RecordLine) (before mid : W)
     (sized : bytes ≡ line_bytes store.directory.page) (same : told begun ≡ lines) (stood : stands (held_of G before) ≡ Stands number store) (calls : CallsDisk G before mid) (either : Leaves G (IsEither begun (held_of G before)) before mid) where
   abbrev Left : List ℕ → List ℕ → Type 0
-  Left image seen = IsStep bytes number store lines (shown_of G before) image seen
+  Left image seen = IsStep bytes number store lines (G.printed before) image seen
 
   -- a crash while the disk is called
-  pub in_disk : IsSome (G.printed before) → Leaves G Left before mid
-  in_disk is_told image seen left =
-      let is : seen ≡ shown_of G before = quiet_is G printed_now before mid calls is_told image seen left in
+  pub in_disk : Leaves G Left before mid
+  in_disk image seen left =
+      let is : AreTold (G.printed before) seen = quiet_is G printed_now before mid calls image seen left in
       ⊎_elim
       (λ (was : stands image ≡ stands (held_of G before)). inl (was ∙ stood, is))
-      (λ (more : stands image ≡ one_more begun (stands (held_of G before))). inr (more ∙ one_over begun lines (stands (held_of G before)) number bytes store sized same stood, (0, is ∙ sym (append-nil (shown_of G before)))))
+      (λ (more : stands image ≡ one_more begun (stands (held_of G before))). inr (more ∙ one_over begun lines (stands (held_of G before)) number bytes store sized same stood, IfSome_then (G.printed before) is (λ shown same. (0, same ∙ sym (append-nil shown)))))
       (either image seen left)
 
   -- a crash while the line is put
   pub in_put : {T : Type 0} (after : W) (result : Result T Failed) → IsSure G mid → stands (held_of G mid) ≡ Stands (next number) (over bytes store lines) → Puts G (kept_line (next number)) mid after result
-      → IsSome (G.printed before) → Leaves G Left before after
-  in_put after result sure more puts is_told =
-      let quiet : G.printed mid ≡ G.printed before = calls.quiet.same in
-      let shown : shown_of G mid ≡ shown_of G before = ap (λ (those : Option (List ℕ)). unwrap_or those []) quiet in
-      leaves_on G fewer_later before mid after calls.time puts.only.time Left (in_disk is_told)
+      → Leaves G Left before after
+  in_put after result sure more puts =
+      leaves_on G fewer_later before mid after calls.time puts.only.time Left in_disk
       (λ image seen left.
-      let from = image_is G printed_now (kept_line (next number)) mid after result puts sure (subst (λ (those : Option (List ℕ)). IsSome those) (sym quiet) is_told) image seen left in
-      inr (ap stands from.0 ∙ more, (from.1.0, from.1.1 ∙ ap (λ (these : List ℕ). these ++ take from.1.0 (kept_line (next number))) shown)))
+      let from = image_is G printed_now (kept_line (next number)) mid after result puts sure image seen left in
+      inr (ap stands from.0 ∙ more, subst (λ (those : Option (List ℕ)). SeesPart those (kept_line (next number)) seen) calls.quiet.same from.1))
 
   -- the disk failed
   pub step_unkept : (durable : KeptStore) → Steps G bytes number store lines durable before mid (Err DiskFault)

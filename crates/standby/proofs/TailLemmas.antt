@@ -6,7 +6,8 @@ use Rattle.std.proofs.lemmas.List.Elements.{All-from_recursion, recursion_from_A
 use Rattle.hex.specs.Hex.{encode_lower}
 use Rattle.standby.specs.Read.{AreWhole, feeds, GoesOn, IsFirstBad, IsRead, Tail}
 use Rattle.standby.specs.Text.{AreLines, Content, ShipLine, end_line, head_line, later, line_line, lines_text, next, record_line, record_text, records_text, text_of}
-use Rattle.standby.proofs.PartLemmas.{IsLine, end_is_line, end_parts, feeds_append, head_is_line, head_parts, line_is_line, line_parts, record_is_line, record_parts, same_hex, same_number}
+use Rattle.standby.proofs.PartLemmas.{IsLine, end_is_line, end_parts, feeds_append, head_is_line, head_parts, line_is_line, line_parts, record_is_line, record_parts, same_hex}
+use Rattle.text_line.proofs.Words.{same_number}
 
 -- lines that ascend below a bound are no more than lie between
 pub room_left : (bytes bound least : ℕ) (lines : List ShipLine) → AreLines bytes bound least lines → least ≤ bound → least + length lines ≤ bound

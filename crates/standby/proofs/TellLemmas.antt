@@ -1,16 +1,20 @@
 -- The lines that tell of records, and what a crash leaves of them.
 use Rattle.std.proofs.Common.{◌≡◌, inl, inr, ⊎_elim, ℕ, zero, suc, ◌+◌, ◌-◌, ◌<◌, ◌≤◌, List, [], ◌∷◌, ◌++◌, length, take, get_or, min, refl, sym, ◌∙◌, ap, arith, append_assoc, append-nil, length-append}
-use Rattle.std.specs.Prelude.{fold, codes, decimal}
+use Rattle.std.specs.Prelude.{fold, codes, decimal, Option, IfSome}
+use Rattle.std.proofs.lemmas.Option.{IfSome_then}
 use Rattle.std.proofs.lemmas.Bool.{cases_lt}
 use Rattle.std.proofs.Math.Seq.{take-append-add, take-append_seam}
 use Rattle.std.proofs.lemmas.List.{take_more, take-append-le, take_min}
 use Rattle.std.proofs.lemmas.List.Sums.{fold-append}
 use Rattle.line_geometry.specs.FlatStore.{FlatStore}
 use Rattle.store_format.specs.Stands.{Stands, stands}
-use Rattle.standby.specs.Followed.{kept_text, followed_text, IsAtNumber}
+use Rattle.outside.specs.Bytes.{Prints}
+use Rattle.standby.specs.Followed.{kept_text, followed_text, IsAtNumber, well}
+use Rattle.standby.specs.Puts.{SeesPart}
 use Rattle.standby.specs.State.{laid, laid_by}
 use Rattle.standby.specs.Step.{IsStep, over}
 use Rattle.standby.specs.Text.{ShipLine, next, later, end_line, kept_line}
+use Rattle.standby.proofs.PutLemmas.{on_printed}
 
 -- a line has bytes
 line_some : (number : ℕ) → 0 < length (kept_line number)
@@ -84,52 +88,64 @@ laid_more bytes store records i lt =
     ap (λ (these : List ℕ). let it : FlatStore = record { directory = store.directory; bytes = these } in it)
     (sym (fold-append (laid bytes) store.bytes (take i records) (get_or records i [] ∷ [])) ∙ ap (fold (laid bytes) store.bytes) (sym (take_more records i [] lt)))
 
-module _ (bytes number : ℕ) (store : FlatStore) (records : List (List ShipLine)) (printed : List ℕ) where
+module _ (bytes number : ℕ) (store : FlatStore) (records : List (List ShipLine)) (printed : Option (List ℕ)) where
   -- what stands after so many records, with their lines
-  pub at_some : (i : ℕ) (image seen : List ℕ) → i ≤ length records → stands image ≡ Stands (later number i) (laid_by bytes store (take i records)) → seen ≡ printed ++ kept_text number i → IsAtNumber bytes number store records printed image seen
+  pub at_some : (i : ℕ) (image seen : List ℕ) → i ≤ length records → stands image ≡ Stands (later number i) (laid_by bytes store (take i records)) → IfSome printed (λ shown. seen ≡ shown ++ kept_text number i) → IsAtNumber bytes number store records printed image seen
   at_some i image seen le stood is = record {
     j = i;
     few = le;
     stood = stood;
-    count = length (kept_text number i);
-    seen_is = is ∙ ap (λ (these : List ℕ). printed ++ these) (sym (told_whole number i (length records) le));
-    told = λ k few many. kept_few number k i (length (kept_text number i)) (omega arith) many;
+    told = IfSome_then printed is (λ shown same. record {
+      count = length (kept_text number i);
+      seen_is = same ∙ ap (λ (these : List ℕ). shown ++ these) (sym (told_whole number i (length records) le));
+      no_more = λ k few many. kept_few number k i (length (kept_text number i)) (omega arith) many;
+    });
   }
 
   -- what a crash leaves in the next
-  pub at_step : (i : ℕ) (image seen : List ℕ) → i < length records → IsStep bytes (later number i) (laid_by bytes store (take i records)) (get_or records i []) (printed ++ kept_text number i) image seen → IsAtNumber bytes number store records printed image seen
-  at_step i image seen lt (inl was) = at_some i image seen (omega (arith, lt)) was.0 was.1
-  at_step i image seen lt (inr more) =
+  pub at_step : (i : ℕ) (mid : Option (List ℕ)) (image seen : List ℕ) → i < length records → Prints printed mid (kept_text number i) well → IsStep bytes (later number i) (laid_by bytes store (take i records)) (get_or records i []) mid image seen
+      → IsAtNumber bytes number store records printed image seen
+  at_step i mid image seen lt prints (inl was) =
+      at_some i image seen (omega (arith, lt)) was.0 (on_printed printed mid (kept_text number i) tt (λ (shown : List ℕ). seen ≡ shown) prints was.1)
+  at_step i mid image seen lt prints (inr more) =
       let is : suc i ≡ i + 1 = omega arith in
       let number_is : next (later number i) ≡ later number (suc i) = later_more number i ∙ ap (later number) (sym is) in
       let line = kept_line (later number (suc i)) in
-      let count = more.1.0 in
+      let part = on_printed printed mid (kept_text number i) tt (λ (shown : List ℕ). (count : ℕ) × (seen ≡ shown ++ take count (kept_line (next (later number i))))) prints more.1 in
       record {
         j = i + 1;
         few = omega (arith, lt);
         stood = more.0 ∙ ap (λ (n : ℕ). Stands n (over bytes (laid_by bytes store (take i records)) (get_or records i []))) (later_more number i) ∙ ap (Stands (later number (i + 1))) (laid_more bytes store records i lt);
-        count = length (kept_text number i) + min count (length line);
-        seen_is =
-            more.1.1
-            ∙ append_assoc printed (kept_text number i) (take count (kept_line (next (later number i))))
-            ∙ ap (λ (n : ℕ). printed ++ (kept_text number i ++ take count (kept_line n))) number_is
-            ∙ ap (λ (these : List ℕ). printed ++ these) (sym (told_into number i (length records) count lt));
-        told = λ k few many.
-            let up : k ≤ suc i = kept_few number k (suc i) (length (kept_text number i) + min count (length line)) (omega (arith, length-append (kept_text number i) line)) many in
-            omega (arith, up);
+        told = IfSome_then printed part (λ shown sees. record {
+          count = length (kept_text number i) + min sees.0 (length line);
+          seen_is =
+              sees.1
+              ∙ append_assoc shown (kept_text number i) (take sees.0 (kept_line (next (later number i))))
+              ∙ ap (λ (n : ℕ). shown ++ (kept_text number i ++ take sees.0 (kept_line n))) number_is
+              ∙ ap (λ (these : List ℕ). shown ++ these) (sym (told_into number i (length records) sees.0 lt));
+          no_more = λ k few many.
+              let up : k ≤ suc i = kept_few number k (suc i) (length (kept_text number i) + min sees.0 (length line)) (omega (arith, length-append (kept_text number i) line)) many in
+              omega (arith, up);
+        });
       }
 
   -- what it leaves in the last line
-  pub at_end : (image seen : List ℕ) (count : ℕ) → stands image ≡ Stands (later number (length records)) (laid_by bytes store records) → seen ≡ (printed ++ kept_text number (length records)) ++ take count (end_line (later number (length records))) → IsAtNumber bytes number store records printed image seen
-  at_end image seen count stood is =
+  pub at_end : (mid : Option (List ℕ)) (image seen : List ℕ) → stands image ≡ Stands (later number (length records)) (laid_by bytes store records) → Prints printed mid (kept_text number (length records)) well
+      → SeesPart mid (end_line (later number (length records))) seen → IsAtNumber bytes number store records printed image seen
+  at_end mid image seen stood prints sees =
       let all = length records in
       record {
         j = all;
         few = omega arith;
         stood = stood ∙ ap (λ (these : List (List ShipLine)). Stands (later number all) (laid_by bytes store these)) (sym (take_whole records));
-        count = length (kept_text number all) + count;
-        seen_is = is ∙ append_assoc printed (kept_text number all) (take count (end_line (later number all))) ∙ ap (λ (these : List ℕ). printed ++ these) (sym (take-append-add (kept_text number all) (end_line (later number all)) count));
-        told = λ k few many. few;
+        told = IfSome_then printed (on_printed printed mid (kept_text number all) tt (λ (shown : List ℕ). (count : ℕ) × (seen ≡ shown ++ take count (end_line (later number all)))) prints sees) (λ shown part. record {
+          count = length (kept_text number all) + part.0;
+          seen_is =
+              part.1
+              ∙ append_assoc shown (kept_text number all) (take part.0 (end_line (later number all)))
+              ∙ ap (λ (these : List ℕ). shown ++ these) (sym (take-append-add (kept_text number all) (end_line (later number all)) part.0));
+          no_more = λ k few many. few;
+        });
       }
     where
       take_whole : (these : List (List ShipLine)) → take (length these) these ≡ these

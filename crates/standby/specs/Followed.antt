@@ -1,5 +1,5 @@
 -- What following a text does.
-use Rattle.std.specs.Prelude.{◌≡◌, ℕ, zero, suc, ◌<◌, ◌≤◌, List, [], ◌++◌, length, take, Result, Ok, Err, IsSome}
+use Rattle.std.specs.Prelude.{◌≡◌, ℕ, zero, suc, ◌<◌, ◌≤◌, List, [], ◌++◌, length, take, Option, Result, Ok, Err, IsSome, IfSome}
 use Rattle.line_geometry.specs.FlatStore.{FlatStore}
 use Rattle.line_geometry.specs.Lines.{line_count}
 use Rattle.store_format.specs.Header.{Header}
@@ -14,7 +14,6 @@ use Rattle.outside.specs.Runs.{Leaves, held_of}
 use Rattle.redo_journal.specs.Held.{HoldsAtLeast, IsMoreBy}
 use Rattle.restart.specs.Kept.{KeptStore}
 use Rattle.restart.specs.Shows.{Tracks}
-use Rattle.standby.specs.Puts.{shown_of}
 use Rattle.standby.specs.State.{laid_by}
 use Rattle.standby.specs.Text.{Content, ShipLine, later, end_line, kept_line}
 use Rattle.standby.specs.declared.following.Followed.{Followed}
@@ -34,15 +33,20 @@ pub record IsAlike (header : Header) (content : Content) : Type 0 where
   pub bytes : content.line_bytes ≡ line_bytes header.directory.page
   pub lines : content.lines ≡ line_count header.directory
 
--- A crash left an image, and what was printed before with a first part of what is told of records behind a number: the image stands for the
--- store at that number or at one of theirs, and not before a number whose whole line was printed.
-pub record IsAtNumber (bytes number : ℕ) (store : FlatStore) (records : List (List ShipLine)) (printed image seen : List ℕ) : Type 0 where
+-- Seen is what was printed before with a first part of what is told of so many records behind a number, and of no record behind the first few a
+-- whole line.
+pub record TellsNoMore (number all few : ℕ) (seen printed : List ℕ) : Type 0 where
+  pub count : ℕ
+  pub seen_is : seen ≡ printed ++ take count (followed_text number all)
+  pub no_more : (i : ℕ) → i ≤ all → length (kept_text number i) ≤ count → i ≤ few
+
+-- A crash left an image that stands for the store at a number, or at one of the records behind it; and where the bytes printed are told, the whole
+-- line of none behind that was seen.
+pub record IsAtNumber (bytes number : ℕ) (store : FlatStore) (records : List (List ShipLine)) (printed : Option (List ℕ)) (image seen : List ℕ) : Type 0 where
   pub j : ℕ
   pub few : j ≤ length records
   pub stood : stands image ≡ Stands (later number j) (laid_by bytes store (take j records))
-  pub count : ℕ
-  pub seen_is : seen ≡ printed ++ take count (followed_text number (length records))
-  pub told : (i : ℕ) → i ≤ length records → length (kept_text number i) ≤ count → i ≤ j
+  pub told : IfSome printed (TellsNoMore number (length records) j seen)
 
 -- calls of the disk, and puts: told bytes stay told and get no fewer, no count falls, and time goes on
 pub record OnlyGoesOn {W : Type 0} (G : Ghosts W) (old new : W) : Type 0 where
@@ -99,17 +103,17 @@ FollowsBy G bytes number store records durable before after _ = after ≡ before
 
 -- so many of the records are kept and told
 pub record SoFar {W : Type 0} (G : Ghosts W) (bytes number : ℕ) (store : FlatStore) (records : List (List ShipLine)) (count : ℕ) (durable : KeptStore) (before now : W) : Type 0 where
-  pub crash : IsSome (G.printed before) → Leaves G (IsAtNumber bytes number store records (shown_of G before)) before now
+  pub crash : Leaves G (IsAtNumber bytes number store records (G.printed before)) before now
   pub tracks : Tracks G durable now
   pub stood : stands (held_of G now) ≡ Stands (later number count) (laid_by bytes store (take count records))
   pub printed : Prints (G.printed before) (G.printed now) (kept_text number count) well
 
 -- What keeping records did, and what a crash in it left.
 pub record Keeps {W : Type 0} (G : Ghosts W) (bytes number : ℕ) (store : FlatStore) (records : List (List ShipLine)) (durable : KeptStore) (before after : W) (how : Followed) : Type 0 where
-  pub crash : IsSome (G.printed before) → Leaves G (IsAtNumber bytes number store records (shown_of G before)) before after
+  pub crash : Leaves G (IsAtNumber bytes number store records (G.printed before)) before after
   pub ends : KeepsBy G bytes number store records durable before after how
 
 -- What following did: each moment of it leaves the store at a number, and how it ended.
 pub record Follows {W : Type 0} (G : Ghosts W) (bytes number : ℕ) (store : FlatStore) (records : List (List ShipLine)) (durable : KeptStore) (before after : W) (how : Followed) : Type 0 where
-  pub crash : IsSome (G.printed before) → Leaves G (IsAtNumber bytes number store records (shown_of G before)) before after
+  pub crash : Leaves G (IsAtNumber bytes number store records (G.printed before)) before after
   pub ends : FollowsBy G bytes number store records durable before after how

@@ -1,5 +1,5 @@
 -- What keeping one record of a text does.
-use Rattle.std.specs.Prelude.{◌≡◌, ◌⊎◌, ℕ, ◌≤◌, List, ◌++◌, length, take, Some, Result, Ok, Err, IsSome}
+use Rattle.std.specs.Prelude.{◌≡◌, ◌⊎◌, ℕ, ◌≤◌, List, length, Option, Some, Result, Ok, Err}
 use Rattle.line_geometry.specs.FlatStore.{FlatStore}
 use Rattle.line_geometry.specs.Lines.{line_count}
 use Rattle.store_format.specs.Bank.{RecordLine}
@@ -8,12 +8,12 @@ use Rattle.line_geometry.specs.Segments.{line_bytes}
 use Rattle.store_format.specs.Stands.{Stands, stands}
 use Rattle.outside.specs.declared.world.Outside.{Ghosts}
 use Rattle.outside.specs.declared.failed.Failed.{Failed}
-use Rattle.outside.specs.Bytes.{Prints}
+use Rattle.outside.specs.Bytes.{AreTold, Prints}
 use Rattle.outside.specs.Runs.{Leaves, held_of}
 use Rattle.restart.specs.Kept.{KeptStore}
 use Rattle.restart.specs.Shows.{Tracks}
 use Rattle.standby.specs.Followed.{well, broken}
-use Rattle.standby.specs.Puts.{shown_of}
+use Rattle.standby.specs.Puts.{SeesPart}
 use Rattle.standby.specs.State.{laid}
 use Rattle.standby.specs.Text.{ShipLine, AreLines, IsPacked, record_of, next, kept_line, told}
 use Rattle.standby.specs.declared.following.Followed.{Followed}
@@ -41,10 +41,10 @@ abbrev pub over : ℕ → FlatStore → List ShipLine → FlatStore
 over bytes store lines = record { directory = store.directory; bytes = laid bytes store.bytes lines }
 
 -- A crash left what stood, and what was printed before; or the store one record on, and of its line a first part.
-abbrev pub IsStep : (bytes number : ℕ) → FlatStore → List ShipLine → (printed image seen : List ℕ) → Type 0
+abbrev pub IsStep : (bytes number : ℕ) → FlatStore → List ShipLine → (printed : Option (List ℕ)) → (image seen : List ℕ) → Type 0
 IsStep bytes number store lines printed image seen =
-    ((stands image ≡ Stands number store) × (seen ≡ printed))
-    ⊎ ((stands image ≡ Stands (next number) (over bytes store lines)) × ((count : ℕ) × (seen ≡ printed ++ take count (kept_line (next number)))))
+    ((stands image ≡ Stands number store) × AreTold printed seen)
+    ⊎ ((stands image ≡ Stands (next number) (over bytes store lines)) × SeesPart printed (kept_line (next number)) seen)
 
 -- how a record was kept and told: it stands, tracked, and its line is printed; or a first part of that is; or the disk failed, and nothing
 -- was printed
@@ -57,7 +57,7 @@ StepsBy G bytes number store lines durable before after (Err _) = ⊥
 
 -- what keeping a record of these lines did
 pub record Steps {W : Type 0} (G : Ghosts W) (bytes number : ℕ) (store : FlatStore) (lines : List ShipLine) (durable : KeptStore) (before after : W) (result : Result (Unit {0}) Followed) : Type 0 where
-  pub crash : IsSome (G.printed before) → Leaves G (IsStep bytes number store lines (shown_of G before)) before after
+  pub crash : Leaves G (IsStep bytes number store lines (G.printed before)) before after
   pub ends : StepsBy G bytes number store lines durable before after result
 
 -- how it ended

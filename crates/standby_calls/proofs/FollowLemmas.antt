@@ -1,5 +1,6 @@
 -- A call over an opening that follows a text.
 use Rattle.std.proofs.Common.{◌≡◌, inl, inr, ℕ, ◌-◌, ◌^◌, ◌<◌, ◌≤◌, List, [], ◌++◌, length, refl, sym, ◌∙◌, ap, subst, arith, append-nil, IsSome, IsTrue}
+use Rattle.std.proofs.lemmas.Option.{IfSome_then}
 use Rattle.std.specs.Prelude.{Option, Some, None, Result, unwrap_or}
 use Rattle.std.proofs.lemmas.List.{take_all, length-drop}
 use Rattle.line_geometry.specs.FlatStore.{FlatStore}
@@ -9,8 +10,7 @@ use Rattle.outside.specs.declared.world.Outside.{Ghosts}
 use Rattle.outside.specs.Bytes.{Prints}
 use Rattle.outside.specs.Moments.{Elapses}
 use Rattle.outside.specs.Runs.{FewerLater, Leaves, OnlyAsks, held_of}
-use Rattle.outside.proofs.Durable.{told_is}
-use Rattle.outside.proofs.Prints.{prints_on, prints_same}
+use Rattle.outside.proofs.Prints.{prints_on, prints_same, prints_unput}
 use Rattle.outside.proofs.Runs.{leaves_on}
 use Rattle.redo_journal.specs.declared.fault.OpenFault.{OpenFault}
 use Rattle.redo_journal.specs.declared.fault.OpenFault.TheVariants as open_fault
@@ -19,7 +19,6 @@ use Rattle.restart.specs.Kept.{KeptStore, number_of}
 use Rattle.restart.specs.Shows.{Shows, Tracks}
 use Rattle.restart.proofs.ShowLemmas.{shown_stands}
 use Rattle.standby.specs.Followed.{Follows, IsAtNumber, broken, followed_text, kept_text, well}
-use Rattle.standby.specs.Puts.{shown_of}
 use Rattle.standby.specs.State.{IsAmong, behind, due, laid_by}
 use Rattle.standby.specs.Text.{Content, ShipLine, later}
 use Rattle.standby.specs.declared.following.Followed.{Followed}
@@ -32,17 +31,12 @@ use Rattle.call_status.specs.declared.status.Status.{Status}
 use Rattle.call_status.specs.declared.status.Status.TheVariants as status
 use Rattle.standby_calls.specs.Followed.{FollowsOn, HasFollowed, OnStore}
 
--- nothing more was printed
-nothing_printed : (old new : Option (List ℕ)) (bytes : List ℕ) → new ≡ old → Prints old new bytes broken
-nothing_printed None new bytes same = same
-nothing_printed (Some old) new bytes same = (0, same ∙ ap (λ (these : List ℕ). Some these) (sym (append-nil old)))
-
 -- the lines of some of the records
 prints_some : (old new : Option (List ℕ)) (number count all : ℕ) → count < all → Prints old new (kept_text number count) well → Prints old new (followed_text number all) broken
 prints_some old new number count all lt prints =
     let front = told_front number count all (omega (arith, lt)) in
     prints_same old new (kept_text number count ++ front.0) (followed_text number all) broken (sym front.1)
-    (prints_on old new new (kept_text number count) front.0 tt broken prints (nothing_printed new new front.0 refl))
+    (prints_on old new new (kept_text number count) front.0 tt broken prints (prints_unput new new front.0 broken refl refl))
 
 -- the last number of what is due is the text's
 last_is : (content : Content) (number : ℕ) → content.start < 2 ^ 64 → number < 2 ^ 64 → IsAmong content number → later number (length (due content number)) ≡ later content.start (length content.records)
@@ -58,21 +52,20 @@ module _ {W : Type 0} (G : Ghosts W) (fewer_later : FewerLater G) (printed_now :
   small number store at = (stood_header (held_of G before) number store at.stood).2
 
   -- a crash in the opening leaves the store at the number
-  opening_crash : (number : ℕ) (store : FlatStore) → StandsAt G before number store → IsSome (G.printed before)
-      → Leaves G (IsAtNumber content.line_bytes number store (due content number) (shown_of G before)) before mid
-  opening_crash number store at told image seen left =
+  opening_crash : (number : ℕ) (store : FlatStore) → StandsAt G before number store → Leaves G (IsAtNumber content.line_bytes number store (due content number) (G.printed before)) before mid
+  opening_crash number store at image seen left =
       let since = asks.crash at.told image seen left in
       let few = small number store at in
       let number_is : later number 0 ≡ number = omega (arith, few) in
-      at_some content.line_bytes number store (due content number) (shown_of G before) 0 image seen (omega arith)
+      at_some content.line_bytes number store (due content number) (G.printed before) 0 image seen (omega arith)
       (at.images image seen since ∙ ap (λ (n : ℕ). Stands n store) (sym number_is))
-      (told_is (G.printed before) seen told (printed_now before image seen since) ∙ sym (append-nil (shown_of G before)))
+      (IfSome_then (G.printed before) (printed_now before image seen since) (λ shown same. same ∙ sym (append-nil shown)))
 
   -- the disk failed in the opening
   unopened : FollowsOn G content before mid status.DiskFault
   unopened number store at = record {
     crash = opening_crash number store at;
-    printed = nothing_printed (G.printed before) (G.printed mid) (followed_text number (length (due content number))) asks.calls.quiet.same;
+    printed = prints_unput (G.printed before) (G.printed mid) (followed_text number (length (due content number))) broken refl asks.calls.quiet.same;
     sure = λ is. absurd (cc);
     stood = λ is. absurd (cc);
     last = λ is. absurd (cc);
@@ -112,15 +105,15 @@ module _ {W : Type 0} (G : Ghosts W) (fewer_later : FewerLater G) (printed_now :
         goes store (tracks at.honest at.told) (ap stands same ∙ at.stood)
 
     -- a crash since the opening began
-    crash_since : (how : Followed) → Goes how → (store : FlatStore) → StandsAt G before (number_of durable) store → IsSome (G.printed before)
-        → Leaves G (IsAtNumber content.line_bytes (number_of durable) store (due content (number_of durable)) (shown_of G before)) before after
-    crash_since how goes store at told =
+    crash_since : (how : Followed) → Goes how → (store : FlatStore) → StandsAt G before (number_of durable) store
+        → Leaves G (IsAtNumber content.line_bytes (number_of durable) store (due content (number_of durable)) (G.printed before)) before after
+    crash_since how goes store at =
         let printed : G.printed mid ≡ G.printed before = asks.calls.quiet.same in
-        leaves_on G fewer_later before mid after asks.calls.time time (IsAtNumber content.line_bytes (number_of durable) store (due content (number_of durable)) (shown_of G before))
-        (opening_crash (number_of durable) store at told)
+        leaves_on G fewer_later before mid after asks.calls.time time (IsAtNumber content.line_bytes (number_of durable) store (due content (number_of durable)) (G.printed before))
+        (opening_crash (number_of durable) store at)
         (λ image seen left.
-        subst (λ (these : Option (List ℕ)). IsAtNumber content.line_bytes (number_of durable) store (due content (number_of durable)) (unwrap_or these []) image seen) printed
-        ((goes_from how goes store at).crash (subst (λ (these : Option (List ℕ)). IsSome these) (sym printed) told) image seen left))
+        subst (λ (these : Option (List ℕ)). IsAtNumber content.line_bytes (number_of durable) store (due content (number_of durable)) these image seen) printed
+        ((goes_from how goes store at).crash image seen left))
 
     -- the puts of the call are those behind the opening
     printed_since : (bytes : List ℕ) (result : Result (Unit {0}) _) → Prints (G.printed mid) (G.printed after) bytes result → Prints (G.printed before) (G.printed after) bytes result

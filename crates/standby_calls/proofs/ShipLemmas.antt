@@ -10,13 +10,14 @@ use Rattle.store_format.specs.Bank.{RecordLine}
 use Rattle.restart.specs.Kept.{KeptStore, number_of}
 use Rattle.restart.specs.Shows.{IsShown, Shows}
 use Rattle.standby.specs.Followed.{well, broken}
-use Rattle.standby.specs.Puts.{AsksAndPuts}
+use Rattle.outside.specs.Runs.{AsksAndPuts}
 use Rattle.standby.specs.Shipped.{ShipsBy, shipped}
 use Rattle.standby.specs.State.{behind}
 use Rattle.standby.specs.Text.{IsContent, text_of}
 use Rattle.standby.specs.declared.shipping.Shipped.{Shipped}
 use Rattle.standby.specs.declared.shipping.Shipped.TheVariants as how
-use Rattle.standby.proofs.ShowLemmas.{shows_asks, shows_on, still_shown}
+use Rattle.outside.proofs.Shows.{shows_asks, shows_on}
+use Rattle.standby.proofs.ShowLemmas.{still_shown}
 use Rattle.call_status.specs.Printed.{PrintsBy}
 use Rattle.call_status.specs.declared.status.Status.{Status}
 use Rattle.call_status.specs.declared.status.Status.TheVariants as status

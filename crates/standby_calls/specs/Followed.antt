@@ -11,7 +11,6 @@ use Rattle.store_format.specs.Stands.{Stands, stands}
 use Rattle.restart.specs.Kept.{KeptStore, number_of}
 use Rattle.restart.specs.Shows.{Shows}
 use Rattle.standby.specs.Followed.{IsAlike, IsAtNumber, followed_text}
-use Rattle.standby.specs.Puts.{shown_of}
 use Rattle.standby.specs.Read.{IsFirstBad}
 use Rattle.standby.specs.State.{IsAmong, IsFirstLong, due, state}
 use Rattle.standby.specs.Text.{Content, IsContent, IsTextOf, later, text_of}
@@ -24,10 +23,10 @@ use Rattle.call_status.specs.declared.status.Status.{Status}
 use Rattle.call_status.specs.declared.status.Status.TheVariants as status
 
 -- Where the bytes and each image of the start stand for a number and a store: each image that a crash leaves since stands for the store at that
--- number or at one of the text's behind it, and not before a number whose whole `kept` line was printed; the lines are printed, or a first part of
--- them. At Done the bytes, and each image of the end, stand for the text's last number.
+-- number or at one of the text's behind it, and where the bytes printed are told, not before a number whose whole `kept` line was seen; the lines
+-- are printed, or a first part of them. At Done the bytes, and each image of the end, stand for the text's last number.
 pub record HasFollowed {W : Type 0} (G : Ghosts W) (content : Content) (number : ℕ) (store : FlatStore) (before after : W) (now : Status) : Type 0 where
-  pub crash : IsSome (G.printed before) → Leaves G (IsAtNumber content.line_bytes number store (due content number) (shown_of G before)) before after
+  pub crash : Leaves G (IsAtNumber content.line_bytes number store (due content number) (G.printed before)) before after
   pub printed : PrintsBy (G.printed before) (G.printed after) (followed_text number (length (due content number))) now
   pub sure : now ≡ status.Done → IsSure G after
   pub stood : now ≡ status.Done → stands (held_of G after) ≡ Stands (later number (length (due content number))) (state content number store (length (due content number)))

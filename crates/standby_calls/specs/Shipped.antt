@@ -12,7 +12,7 @@ use Rattle.call_status.specs.Printed.{PrintsBy}
 use Rattle.call_status.specs.Statuses.{IsOfOpening}
 use Rattle.call_status.specs.declared.status.Status.{Status}
 use Rattle.call_status.specs.declared.status.Status.TheVariants as status
-use Rattle.standby.specs.Puts.{AsksAndPuts}
+use Rattle.outside.specs.Runs.{AsksAndPuts}
 
 -- The bytes show a store whose bank keeps all records behind the number, and their text was put: all of it, or a first part. At Done they are in the
 -- ranges of a ship text.

@@ -12,9 +12,9 @@ use Rattle.outside.specs.declared.world.Outside.{Ghosts}
 use Rattle.outside.specs.declared.failed.Failed.{Failed}
 use Rattle.outside.specs.Bytes.{AreTold, Prints}
 use Rattle.outside.specs.Durable.{IsSure}
-use Rattle.outside.specs.Runs.{OnlyAsks, FewerLater, held_of}
-use Rattle.outside.proofs.Prints.{prints_broken, prints_on, prints_stop, prints_same}
-use Rattle.outside.proofs.Runs.{elapses-trans}
+use Rattle.outside.specs.Runs.{AsksAndPuts, OnlyAsks, FewerLater, held_of}
+use Rattle.outside.proofs.Prints.{prints_broken, prints_none, prints_on, prints_stop, prints_same, prints_unput}
+use Rattle.outside.proofs.Shows.{held_same, shows_asks, shows_none, shows_on, shows_puts}
 use Rattle.store_format.proofs.Stores.{stands_is}
 use Rattle.store_format.specs.Stands.{Standing, Stands, NotAStore, Damaged, stands}
 use Rattle.restart.specs.Kept.{KeptStore}
@@ -25,7 +25,7 @@ use Rattle.listing.specs.Puts.{Puts, PutsTimes}
 use Rattle.listing.proofs.RowLemmas.{rows_on}
 use Rattle.call_status.specs.declared.status.Status.{Status}
 use Rattle.call_status.specs.declared.status.Status.TheVariants as status
-use Rattle.store_calls.specs.Show.{AreRead, HasRead, OnlyShows, PutsBytes, PutsDone, StopsBy, bytes_in}
+use Rattle.store_calls.specs.Show.{AreRead, HasRead, PutsBytes, PutsDone, StopsBy, bytes_in}
 
 abbrev pub went : Result (Unit {0}) Failed
 went = Ok tt
@@ -36,68 +36,12 @@ broke = Err (record {})
 abbrev pub stopped : Failed → Result (Unit {0}) Failed
 stopped failed = Err failed
 
--- a put leaves printed bytes told
-still_told : {T : Type 0} (old new : Option (List ℕ)) (bytes : List ℕ) (result : Result T Failed) → Prints old new bytes result → IsSome old → IsSome new
-still_told None new bytes result prints told = cc
-still_told (Some old) new bytes (Ok value) prints told = cc
-still_told (Some old) new bytes (Err failed) prints told = let is : new ≡ Some (old ++ take prints.0 bytes) = prints.1 in cc
-
 module _ {W : Type 0} (G : Ghosts W) (fewer_later : FewerLater G) where
-  pub shows_asks : (old new : W) → OnlyAsks G old new → OnlyShows G old new
-  shows_asks old new asks = record {
-    held = asks.held;
-    writes = asks.writes;
-    honest = asks.calls.honest;
-    time = asks.calls.time;
-    disk = asks.calls.disk;
-    put = omega (arith, asks.calls.put);
-    told = λ told. subst (λ (these : Option (List ℕ)). IsSome these) (sym asks.calls.quiet.same) told;
-    images = λ told image seen left. (seen, asks.crash told image seen left);
-  }
-
-  pub shows_puts : {T : Type 0} (bytes : List ℕ) (old new : W) (result : Result T Failed) → Puts G bytes old new result → OnlyShows G old new
-  shows_puts bytes old new result puts = record {
-    held = puts.only.held;
-    writes = puts.only.writes;
-    honest = puts.only.honest;
-    time = puts.only.time;
-    disk = omega (arith, puts.only.disk);
-    put = puts.only.cause.later;
-    told = λ told. still_told (G.printed old) (G.printed new) bytes result puts.printed told;
-    images = λ told. puts.images;
-  }
-
-  pub shows_none : (now : W) → OnlyShows G now now
-  shows_none now = record {
-    held = refl;
-    writes = refl;
-    honest = refl;
-    time = record { later = record { calls = omega arith; puts = omega arith }; nothing_else = λ t image seen earlier left. inl left; keeps = λ t image seen earlier left. left };
-    disk = omega arith;
-    put = omega arith;
-    told = λ told. told;
-    images = λ told image seen left. (seen, left);
-  }
-
-  pub shows_on : (old mid new : W) → OnlyShows G old mid → OnlyShows G mid new → OnlyShows G old new
-  shows_on old mid new first second = record {
-    held = second.held ∙ first.held;
-    writes = second.writes ∙ first.writes;
-    honest = second.honest ∙ first.honest;
-    time = elapses-trans G fewer_later old mid new first.time second.time;
-    disk = omega (arith, first.disk, second.disk);
-    put = omega (arith, first.put, second.put);
-    told = λ told. second.told (first.told told);
-    images = λ told image seen left.
-        ⊎_elim (first.images told image seen)
-        (λ since.
-        let from = second.images (subst (λ (these : Option (List ℕ)). IsSome these) (sym first.held) told) image seen since in
-        first.images told image from.0 (fewer_later mid (G.moment old) (G.moment mid) image from.0 first.time.later from.1))
-        (second.time.nothing_else (G.moment old) image seen first.time.later left);
-  }
+  pub shows_line : {T : Type 0} (bytes : List ℕ) (old new : W) (result : Result T Failed) → Puts G bytes old new result → AsksAndPuts G old new
+  shows_line bytes old new result puts = shows_puts G bytes old new result puts.only puts.printed puts.images
 
   -- bytes that are sure stay sure
-  pub sure_shows : (old new : W) → IsSure G old → OnlyShows G old new → IsSure G new
+  pub sure_shows : (old new : W) → IsSure G old → AsksAndPuts G old new → IsSure G new
   sure_shows old new sure shows = record {
     honest = subst (λ b. IsTrue b) (sym shows.honest) sure.honest;
     told = subst (λ (these : Option (List ℕ)). IsSome these) (sym shows.held) sure.told;
@@ -106,14 +50,11 @@ module _ {W : Type 0} (G : Ghosts W) (fewer_later : FewerLater G) where
         subst (λ (these : Option (List ℕ)). AreTold these image) (sym shows.held) (sure.durable image from.0 from.1);
   }
 
-  pub held_same : (old new : W) → OnlyShows G old new → held_of G new ≡ held_of G old
-  held_same old new shows = ap (λ (these : Option (List ℕ)). unwrap_or these []) shows.held
-
   -- and a store that they show is shown
-  pub still_shown : (store : KeptStore) (old new : W) → IsShown G store old → OnlyShows G old new → IsShown G store new
+  pub still_shown : (store : KeptStore) (old new : W) → IsShown G store old → AsksAndPuts G old new → IsShown G store new
   still_shown store old new shown shows = record {
     told = subst (λ (these : Option (List ℕ)). IsSome these) (sym shows.held) shown.told;
-    shows = subst (λ (held : List ℕ). Shows held store) (sym (held_same old new shows)) shown.shows;
+    shows = subst (λ (held : List ℕ). Shows held store) (sym (held_same G old new shows)) shown.shows;
   }
 
 take_shorter : (n m : ℕ) (xs : List ℕ) → n ≤ m → take n (take m xs) ≡ take n xs
@@ -133,11 +74,6 @@ none_in (Stands number store) at = refl
 none_in (NotAStore offset) at = refl
 none_in (Damaged offset) at = refl
 
--- no bytes, of some
-pub prints_none : (old new : Option (List ℕ)) (bytes : List ℕ) → new ≡ old → Prints old new bytes broke
-prints_none None new bytes same = same
-prints_none (Some old) new bytes same = (0, same ∙ ap (λ (these : List ℕ). Some these) (sym (append-nil old)))
-
 prints_front : (old new : Option (List ℕ)) (first second : List ℕ) → Prints old new first broke → Prints old new (first ++ second) broke
 prints_front old new first second prints = prints_stop old new first second broke broke refl refl prints
 
@@ -155,7 +91,7 @@ module _ {W : Type 0} (G : Ghosts W) (fewer_later : FewerLater G) (store : KeptS
       ∙ ap (λ (n : ℕ). row_lines offset (bytes_in (stands (held_of G old)) at done) ++ row_lines (offset + n) more) (sym rows-are)
 
   same-held : held_of G mid ≡ held_of G old
-  same-held = held_same G fewer_later old mid before.only
+  same-held = held_same G old mid before.only
 
   shown-mid : IsShown G store old → IsShown G store mid
   shown-mid shown = still_shown G fewer_later store old mid shown before.only
@@ -213,7 +149,7 @@ module _ {W : Type 0} (G : Ghosts W) (fewer_later : FewerLater G) (store : KeptS
       → Prints (G.printed mid) (G.printed new) (row_lines (offset + done) (bytes_of (at + done) (count - done))) broke
   rest-prints status puts reads shown =
       ⊎_elim
-      (λ same. prints_none (G.printed mid) (G.printed new) (row_lines (offset + done) (bytes_of (at + done) (count - done))) same)
+      (λ same. prints_unput (G.printed mid) (G.printed new) (row_lines (offset + done) (bytes_of (at + done) (count - done))) broke refl same)
       (λ read.
       prints_same (G.printed mid) (G.printed new) (row_lines (offset + done) (bytes_of (at + done) part) ++ row_lines (offset + done + 2048) (bytes_of (at + done + part) (count - done - part))) (row_lines (offset + done) (bytes_of (at + done) (count - done))) broke
       (sym (rest-rows (part-long read shown)))
@@ -233,7 +169,7 @@ module _ {W : Type 0} (G : Ghosts W) (fewer_later : FewerLater G) (store : KeptS
     stops = stops why before.unfailed before.only puts.stops;
   }
     where
-      stops : (now : Status) → G.put_faults mid ≡ G.put_faults old → OnlyShows G old mid → StopsBy G mid new now → StopsBy G old new now
+      stops : (now : Status) → G.put_faults mid ≡ G.put_faults old → AsksAndPuts G old mid → StopsBy G mid new now → StopsBy G old new now
       stops status.DiskFault same only why = omega (arith, why, only.disk)
       stops status.PutFault same only why = omega (arith, why, same)
       stops _ same only why = absurd why
@@ -241,16 +177,14 @@ module _ {W : Type 0} (G : Ghosts W) (fewer_later : FewerLater G) (store : KeptS
 -- nothing was printed yet
 pub nothing_put : {W : Type 0} (G : Ghosts W) (fewer_later : FewerLater G) (store : KeptStore) (at offset : ℕ) (now : W) → PutsBytes G store at offset 0 now now (Ok tt)
 nothing_put G fewer_later store at offset now = record {
-  only = shows_none G fewer_later now;
-  printed = λ shown. prints_nothing (G.printed now) (row_lines offset (bytes_in (stands (held_of G now)) at 0)) (ap (row_lines offset) (none_in (stands (held_of G now)) at));
+  only = shows_none G now;
+  printed = λ shown.
+      prints_same (G.printed now) (G.printed now) [] (row_lines offset (bytes_in (stands (held_of G now)) at 0)) went (sym (ap (row_lines offset) (none_in (stands (held_of G now)) at)))
+      (prints_none (G.printed now) tt);
   times = λ told. omega arith;
   unfailed = refl;
   stops = tt;
 }
-  where
-    prints_nothing : (told : Option (List ℕ)) (bytes : List ℕ) → bytes ≡ [] → Prints told told bytes went
-    prints_nothing None bytes none = refl
-    prints_nothing (Some old) bytes none = ap (λ (these : List ℕ). Some these) (sym (append-nil old) ∙ ap (λ (more : List ℕ). old ++ more) (sym none))
 
 -- a part was read and its rows were put
 module _ {W : Type 0} (G : Ghosts W) (fewer_later : FewerLater G) (store : KeptStore) (at offset count some : ℕ) (bytes : List ℕ) (old mid new : W)
@@ -265,7 +199,7 @@ module _ {W : Type 0} (G : Ghosts W) (fewer_later : FewerLater G) (store : KeptS
 
   pub part_put : Puts G (row_lines offset bytes) mid new went → PutsTimes G (div_ceil (length bytes) 16) mid new went → PutsBytes G store at offset count old new (Ok tt)
   part_put puts times = record {
-    only = shows_on G fewer_later old mid new (shows_asks G fewer_later old mid asks) (shows_puts G fewer_later (row_lines offset bytes) mid new went puts);
+    only = shows_on G fewer_later old mid new (shows_asks G old mid asks) (shows_line G fewer_later (row_lines offset bytes) mid new went puts);
     printed = put-rows (Ok tt) puts.printed;
     times = λ told.
         times (subst (λ (these : Option (List ℕ)). IsSome these) (sym asks.calls.quiet.same) told)
@@ -276,7 +210,7 @@ module _ {W : Type 0} (G : Ghosts W) (fewer_later : FewerLater G) (store : KeptS
 
   pub part_failed : (failed : Failed) → Puts G (row_lines offset bytes) mid new (stopped failed) → PutsBytes G store at offset count old new (Err status.PutFault)
   part_failed failed puts = record {
-    only = shows_on G fewer_later old mid new (shows_asks G fewer_later old mid asks) (shows_puts G fewer_later (row_lines offset bytes) mid new (stopped failed) puts);
+    only = shows_on G fewer_later old mid new (shows_asks G old mid asks) (shows_line G fewer_later (row_lines offset bytes) mid new (stopped failed) puts);
     printed = λ shown. prints_broken (stopped failed) broke refl refl (G.printed old) (G.printed new) (row_lines offset (bytes_in (stands (held_of G old)) at count)) (put-rows (Err failed) puts.printed shown);
     times = tt;
     unfailed = tt;

@@ -1,10 +1,10 @@
 -- What printing a range of a store did.
-use Rattle.std.proofs.Common.{◌≡◌, ◌+◌, ℕ, List, [], refl, sym, ◌∙◌, ap, subst}
+use Rattle.std.proofs.Common.{◌≡◌, inr, ◌+◌, ℕ, List, [], refl, sym, ◌∙◌, ap, subst}
 use Rattle.std.specs.Prelude.{Option, IsSome, Result, Ok, Err}
 use Rattle.std.specs.Int.{div_ceil}
 use Rattle.outside.specs.declared.world.Outside.{Ghosts}
 use Rattle.outside.specs.Bytes.{Prints, bytes_at}
-use Rattle.outside.specs.Runs.{OnlyAsks, FewerLater, held_of}
+use Rattle.outside.specs.Runs.{AsksAndPuts, OnlyAsks, FewerLater, held_of}
 use Rattle.line_geometry.specs.Directory.{Layout, start_of}
 use Rattle.line_geometry.specs.FlatStore.{FlatStore}
 use Rattle.store_format.specs.Stands.{Stands, stands}
@@ -16,8 +16,8 @@ use Rattle.listing.specs.Listing.{row_lines}
 use Rattle.call_status.specs.declared.status.Status.{Status}
 use Rattle.call_status.specs.declared.status.Status.TheVariants as status
 use Rattle.store_calls.specs.declared.show.Range.{Range}
-use Rattle.store_calls.specs.Show.{HasRange, IsInside, OnlyShows, PutsBytes, PutsDone, Shown, ShownBy, StopsBy, bytes_in, rows_of}
-use Rattle.store_calls.proofs.ShowLemmas.{held_same, shows_asks, shows_on}
+use Rattle.store_calls.specs.Show.{HasRange, IsInside, PutsBytes, PutsDone, Shown, ShownBy, StopsBy, bytes_in, rows_of}
+use Rattle.outside.proofs.Shows.{held_same, shows_asks, shows_on}
 
 -- bytes that a store shows stand for one with its directory
 stood : (held : List ℕ) (store : KeptStore) → Shows held store → (number : ℕ) × (flat : FlatStore) × (stands held ≡ Stands number flat) × (flat.directory ≡ store.header.directory)
@@ -35,7 +35,7 @@ module _ {W : Type 0} (G : Ghosts W) (fewer_later : FewerLater G) (range : Range
     pub no_range : (IsInside store.header.directory range → ⊥) → Shown G range before start [] status.NoRange
     no_range outside = record {
       no_order = refl;
-      only = shows_asks G fewer_later before start asks;
+      only = shows_asks G before start asks;
       by_status = (
         asks,
         λ told.
@@ -54,7 +54,7 @@ module _ {W : Type 0} (G : Ghosts W) (fewer_later : FewerLater G) (range : Range
       rows-put : (result : Result (Unit {0}) Status) → PutsBytes G store at range.from range.count start after result → (told : IsSome (G.held before)) → (number : ℕ) (flat : FlatStore) → stands (held_of G before) ≡ Stands number flat
           → PutsDone G (rows_of flat range) before after result
       rows-put result puts told number flat is =
-          let same : held_of G start ≡ held_of G before = held_same G fewer_later before start (shows_asks G fewer_later before start asks) in
+          let same : held_of G start ≡ held_of G before = held_same G before start (shows_asks G before start asks) in
           let shown : IsShown G store start = record {
             told = subst (λ (those : Option (List ℕ)). IsSome those) (sym asks.held) told;
             shows = subst (λ (held : List ℕ). Shows held store) (sym same) (shows told);
@@ -68,8 +68,8 @@ module _ {W : Type 0} (G : Ghosts W) (fewer_later : FewerLater G) (range : Range
           from_start (Ok done) prints = subst (λ (these : Option (List ℕ)). Prints {T = Unit {0}} these (G.printed after) (rows_of flat range) (Ok tt)) asks.calls.quiet.same prints
           from_start (Err why) prints = subst (λ (these : Option (List ℕ)). Prints {T = Unit {0}} these (G.printed after) (rows_of flat range) (Err (record {}))) asks.calls.quiet.same prints
 
-      only-shows : (result : Result (Unit {0}) Status) → PutsBytes G store at range.from range.count start after result → OnlyShows G before after
-      only-shows result puts = shows_on G fewer_later before start after (shows_asks G fewer_later before start asks) puts.only
+      only-shows : (result : Result (Unit {0}) Status) → PutsBytes G store at range.from range.count start after result → AsksAndPuts G before after
+      only-shows result puts = shows_on G fewer_later before start after (shows_asks G before start asks) puts.only
 
       pub shown_whole : PutsBytes G store at range.from range.count start after (Ok tt) → Shown G range before after [] status.Done
       shown_whole puts = record {
@@ -82,6 +82,6 @@ module _ {W : Type 0} (G : Ghosts W) (fewer_later : FewerLater G) (range : Range
       shown_part why puts = record { no_order = refl; only = only-shows (Err why) puts; by_status = by why puts puts.stops }
         where
           by : (why : Status) → PutsBytes G store at range.from range.count start after (Err why) → StopsBy G start after why → ShownBy G range before after why
-          by status.DiskFault puts stops = rows-put (Err status.DiskFault) puts
+          by status.DiskFault puts stops = (rows-put (Err status.DiskFault) puts, inr has-range)
           by status.PutFault puts stops = (has-range, rows-put (Err status.PutFault) puts)
           by _ puts stops = absurd stops

@@ -1,5 +1,5 @@
 -- What making a store did.
-use Rattle.std.proofs.Common.{◌≡◌, ◌⊎◌, inl, inr, ◌+◌, ℕ, List, [], ◌∷◌, length, refl, sym, ◌∙◌, ap, subst, arith}
+use Rattle.std.proofs.Common.{◌≡◌, ◌⊎◌, inl, inr, ◌+◌, ◌<◌, ℕ, List, [], ◌∷◌, length, refl, sym, ◌∙◌, ap, subst, arith}
 use Rattle.std.specs.Prelude.{Option, Some, IsSome, IsTrue, Result, Ok, Err, unwrap_or}
 use Rattle.std.specs.Option.{option_map}
 use Rattle.outside.specs.declared.world.Outside.{Ghosts}
@@ -14,13 +14,17 @@ use Rattle.call_status.specs.declared.status.Status.{Status}
 use Rattle.call_status.specs.declared.status.Status.TheVariants as status
 use Rattle.call_status.specs.Printed.{put_of, PrintsBy, PutsOnce}
 use Rattle.store_calls.specs.New.{IsNoEmpty, IsOfWriting, IsStored, IsTornBy, IsWrittenWhole, LeavesTorn, Written, WrittenBy}
-use Rattle.store_calls.proofs.ShowLemmas.{shows_puts, sure_shows}
+use Rattle.store_calls.proofs.ShowLemmas.{shows_line, sure_shows}
 
 -- an image was written on an empty disk
 module _ {W : Type 0} (G : Ghosts W) (fewer_later : FewerLater G) (image line : List ℕ) (start mid : W) (calls : CallsDisk G start mid) (torn : LeavesTorn G (length image) start mid) where
+  -- no bytes were held
+  none_held : (after : W) → (IsSome (G.held start) → held_of G start ≡ []) → IsSome (G.held start) → 0 < length (held_of G start) → OnlyAsks G start after
+  none_held after empty told some = absurd (omega (arith, some, ap length (empty told)))
+
   -- the disk failed
-  pub written_torn : IsTornBy G (length image) start mid → Written G image line start mid [] status.DiskFault
-  written_torn left = record { no_order = refl; honest = calls.honest; time = calls.time; crash = torn; by_status = (calls.quiet.same, left) }
+  pub written_torn : (IsSome (G.held start) → held_of G start ≡ []) → IsTornBy G (length image) start mid → Written G image line start mid [] status.DiskFault
+  written_torn empty left = record { no_order = refl; honest = calls.honest; time = calls.time; crash = torn; full = none_held mid empty; by_status = (calls.quiet.same, left) }
 
   -- all was written, and the line put
   module _ (empty : IsSome (G.held start) → held_of G start ≡ []) (written : IsWrittenWhole G image start mid) (after : W) where
@@ -28,7 +32,7 @@ module _ {W : Type 0} (G : Ghosts W) (fewer_later : FewerLater G) (image line : 
     stored result puts = record {
       empty = empty;
       held = λ told. puts.only.held ∙ written.held told (empty told);
-      sure = λ honest told. sure_shows G fewer_later mid after (written.sure honest told) (shows_puts G fewer_later line mid after result puts);
+      sure = λ honest told. sure_shows G fewer_later mid after (written.sure honest told) (shows_line G fewer_later line mid after result puts);
       writes = puts.only.writes ∙ written.writes;
     }
 
@@ -46,6 +50,7 @@ module _ {W : Type 0} (G : Ghosts W) (fewer_later : FewerLater G) (image line : 
       honest = puts.only.honest ∙ calls.honest;
       time = elapses-trans G fewer_later start mid after calls.time puts.only.time;
       crash = torn-after result puts;
+      full = none_held after empty;
       by_status = by;
     }
 
@@ -106,12 +111,13 @@ module _ {W : Type 0} (G : Ghosts W) (fewer_later : FewerLater G) (before start 
     by-since status.DiskFault of (same, torn) = (same ∙ asks.calls.quiet.same, λ told. let left = torn (told-start told) in (left.0, subst (λ (held : List ℕ). Torn 0 (length image) held (held_of G after)) same-held left.1))
     by-since _ of by = absurd of
 
-    pub written_since : (now : Status) → IsOfWriting now → Written G image line start after [] now → Written G image line before after [] now
-    written_since now of written = record {
+    pub written_since : (now : Status) → IsOfWriting now → (IsSome (G.held before) → held_of G before ≡ []) → Written G image line start after [] now → Written G image line before after [] now
+    written_since now of empty written = record {
       no_order = refl;
       honest = written.honest ∙ asks.calls.honest;
       time = elapses-trans G fewer_later before start after asks.calls.time written.time;
       crash = torn_on (length image) after written.time written.crash;
+      full = λ told some. absurd (omega (arith, some, ap length (empty told)));
       by_status = by-since now of written.by_status;
     }
 
@@ -122,6 +128,7 @@ module _ {W : Type 0} (G : Ghosts W) (fewer_later : FewerLater G) (before start 
       honest = asks.calls.honest;
       time = asks.calls.time;
       crash = λ honest told crashed seen left. (crashed, seen, asks.crash told crashed seen left, untouched 0 (length image) crashed);
+      full = λ told some. asks;
       by_status = by now why;
     }
       where
@@ -137,5 +144,6 @@ module _ {W : Type 0} (G : Ghosts W) (fewer_later : FewerLater G) (before start 
       honest = asks.calls.honest;
       time = asks.calls.time;
       crash = λ honest told crashed seen left. (crashed, seen, asks.crash told crashed seen left, untouched 0 (length image) crashed);
+      full = λ told some. asks;
       by_status = asks;
     }

@@ -67,6 +67,8 @@ pub record Written {W : Type 0} (G : Ghosts W) (image line : List ℕ) (before a
   pub honest : G.is_honest after ≡ G.is_honest before
   pub time : Elapses G.moment G.left_since before after
   pub crash : LeavesTorn G (length image) before after
+  -- a disk that holds bytes is only asked
+  pub full : IsSome (G.held before) → 0 < length (held_of G before) → OnlyAsks G before after
   pub by_status : WrittenBy G image line before after status
 
 -- what making a store did: its image has nothing in it but the header

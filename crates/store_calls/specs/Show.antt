@@ -4,8 +4,7 @@ use Rattle.std.specs.Int.{div_ceil}
 use Rattle.outside.specs.declared.world.Outside.{Ghosts}
 use Rattle.outside.specs.Bytes.{Prints, bytes_at}
 use Rattle.outside.specs.Causes.{Rose}
-use Rattle.outside.specs.Moments.{Elapses}
-use Rattle.outside.specs.Runs.{OnlyAsks, held_of}
+use Rattle.outside.specs.Runs.{AsksAndPuts, OnlyAsks, held_of}
 use Rattle.line_geometry.specs.Directory.{Layout, length_of, start_of}
 use Rattle.line_geometry.specs.FlatStore.{FlatStore}
 use Rattle.store_format.specs.Stands.{Standing, Stands, NotAStore, Damaged, stands}
@@ -33,17 +32,6 @@ bytes_in (Damaged offset) at count = []
 abbrev pub rows_of : FlatStore → Range → List ℕ
 rows_of store range = row_lines range.from (bytes_at store.bytes (start_of store.directory range.segment + range.from) range.count)
 
--- Calls that ask the disk, and puts: the bytes held stay, and each image that a crash may have left since is one that it may have left at the start.
-pub record OnlyShows {W : Type 0} (G : Ghosts W) (old new : W) : Type 0 where
-  pub held : G.held new ≡ G.held old
-  pub writes : G.writes new ≡ G.writes old
-  pub honest : G.is_honest new ≡ G.is_honest old
-  pub time : Elapses G.moment G.left_since old new
-  pub disk : G.disk_faults old ≤ G.disk_faults new
-  pub put : G.put_faults old ≤ G.put_faults new
-  pub told : IsSome (G.printed old) → IsSome (G.printed new)
-  pub images : IsSome (G.held old) → (image seen : List ℕ) → G.left_since new (G.moment old) image seen → (start : List ℕ) × G.left_since old (G.moment old) image start
-
 -- how puts of these bytes went, by the result: all are printed, or a prefix of them
 abbrev pub PutsDone : {W : Type 0} → Ghosts W → List ℕ → W → W → Result (Unit {0}) Status → Type 0
 PutsDone G bytes old new (Ok done) = Prints {T = Unit {0}} (G.printed old) (G.printed new) bytes (Ok tt)
@@ -58,7 +46,7 @@ StopsBy G old new _ = ⊥
 -- What printing so many bytes of a kept store from a place on did, in rows that begin with this offset: of a store that told bytes show the
 -- rows of its bytes are printed, each by one put, or a prefix of them.
 pub record PutsBytes {W : Type 0} (G : Ghosts W) (store : KeptStore) (at offset count : ℕ) (old new : W) (result : Result (Unit {0}) Status) : Type 0 where
-  pub only : OnlyShows G old new
+  pub only : AsksAndPuts G old new
   pub printed : IsShown G store old → PutsDone G (row_lines offset (bytes_in (stands (held_of G old)) at count)) old new result
   pub times : OnOk result (IsSome (G.printed old) → (G.moment new).puts ≡ (G.moment old).puts + div_ceil count 16)
   pub unfailed : OnOk result (G.put_faults new ≡ G.put_faults old)
@@ -90,11 +78,11 @@ PrintsRows G range before after status =
 abbrev pub PutsRows : {W : Type 0} → Ghosts W → Range → W → W → Type 0
 PutsRows G range before after = IsSome (G.printed before) → (G.moment after).puts ≡ (G.moment before).puts + div_ceil range.count 16
 
--- what it did, by the status; other statuses don't come
+-- what it did, by the status, and where the disk failed, nothing was put or the range is there; other statuses don't come
 abbrev pub ShownBy : {W : Type 0} → Ghosts W → Range → W → W → Status → Type 0
 ShownBy G range before after status.Done = HasRange G range before × PrintsRows G range before after status.Done × PutsRows G range before after
 ShownBy G range before after status.PutFault = HasRange G range before × PrintsRows G range before after status.PutFault
-ShownBy G range before after status.DiskFault = PrintsRows G range before after status.DiskFault
+ShownBy G range before after status.DiskFault = PrintsRows G range before after status.DiskFault × ((G.printed after ≡ G.printed before) ⊎ HasRange G range before)
 ShownBy G range before after status.NoRange = OnlyAsks G before after × HasNoRange G range before
 ShownBy G range before after (status.Store offset) = OnlyAsks G before after × (IsSome (G.held before) → IsFaultAt (held_of G before) offset)
 ShownBy G range before after status.NoMemory = OnlyAsks G before after
@@ -103,7 +91,7 @@ ShownBy G range before after _ = ⊥
 -- what it did; it writes nothing
 pub record Shown {W : Type 0} (G : Ghosts W) (range : Range) (before after : W) (order : List (ℕ × ℕ)) (status : Status) : Type 0 where
   pub no_order : order ≡ []
-  pub only : OnlyShows G before after
+  pub only : AsksAndPuts G before after
   pub by_status : ShownBy G range before after status
 
 -- a status of printing bytes of a store

@@ -3,7 +3,7 @@ use Rattle.std.proofs.Common.{◌≡◌, ℕ, zero, suc, ◌+◌, ◌*◌, ◌-�
 use Rattle.std.specs.Prelude.{Option, None, Some, nat_lt, nat_le, not, ◌&&◌, min, if◌then◌else◌, is_some}
 use Rattle.std.specs.Option.{option_or}
 use Rattle.std.proofs.lemmas.Bool.Decides.{nat_tests}
-use Rattle.store_format.specs.Header.{Field, number_at, within, segments_at, segment_fields, zeros, first_fault}
+use Rattle.store_format.specs.Header.{Field, number_at, within, segments_at, segment_fields, zeros, last_zeros, first_fault}
 
 option_or-if : (b c : Bool) (n m : ℕ) (later : Option ℕ) → (if b then Some n else if c then Some m else later) ≡ option_or (if b then Some n else if c then Some m else None) later
 option_or-if true c n m later = refl
@@ -135,3 +135,8 @@ segments_at-more image at (suc count) =
     ∙ ap (λ (these : List (ℕ × ℕ)). (number_at image at 2, number_at image (at + 2) 2) ∷ these)
     (segments_at-more image (at + 4) count
     ∙ ap (λ (n : ℕ). segments_at image (at + 4) count ++ (number_at image n 2, number_at image (n + 2) 2) ∷ []) place)
+
+-- the fifty zeros that a header of version 2 ends with
+pub last_zeros_are : (image : List ℕ) → last_zeros image ≡ zeros image 78 50
+unfolding last_zeros
+last_zeros_are image = refl

@@ -9,7 +9,8 @@ use Rattle.byteorder.specs.Endian.{big_from}
 use Rattle.outside.specs.Bytes.{bytes_at}
 use Rattle.line_geometry.specs.declared.directory.PageSize.{PageSize}
 use Rattle.line_geometry.specs.declared.directory.PageSize.TheVariants.{Two, Four}
-use Rattle.store_format.specs.Header.{Header, page_of, spare_fields, Field, number_at, within, name_field, segments_at, segments_of, segment_fields, zeros, fields, first_fault, header_of}
+use Rattle.store_format.proofs.Checks.{last_zeros_are}
+use Rattle.store_format.specs.Header.{Header, page_of, last_zeros, spare_fields, Field, number_at, within, name_field, segments_at, segments_of, segment_fields, zeros, fields, first_fault, header_of}
 
 -- lists that read the same at each place
 abbrev Same : List ℕ → List ℕ → Type 0
@@ -78,9 +79,9 @@ same_spare Two xs ys count same = same_zeros xs ys (16 + 4 * count) (112 - 4 * c
 same_spare Four xs ys count same =
     let front = zeros ys (16 + 4 * count) (60 - 4 * count) in
     let most = 2 ^ count - 1 in
-    ap (λ (these : List Field). these ++ within 76 2 (number_at xs 76 2) 0 most ∷ zeros xs 78 50) (same_zeros xs ys (16 + 4 * count) (60 - 4 * count) same)
-    ∙ ap (λ (n : ℕ). front ++ within 76 2 n 0 most ∷ zeros xs 78 50) (same_number xs ys 76 2 same)
-    ∙ ap (λ (these : List Field). front ++ within 76 2 (number_at ys 76 2) 0 most ∷ these) (same_zeros xs ys 78 50 same)
+    ap (λ (these : List Field). these ++ within 76 2 (number_at xs 76 2) 0 most ∷ last_zeros xs) (same_zeros xs ys (16 + 4 * count) (60 - 4 * count) same)
+    ∙ ap (λ (n : ℕ). front ++ within 76 2 n 0 most ∷ last_zeros xs) (same_number xs ys 76 2 same)
+    ∙ ap (λ (these : List Field). front ++ within 76 2 (number_at ys 76 2) 0 most ∷ these) (last_zeros_are xs ∙ same_zeros xs ys 78 50 same ∙ sym (last_zeros_are ys))
 
 same_behind : (xs ys : List ℕ) → Same xs ys → behind_name xs ≡ behind_name ys
 same_behind xs ys same =

@@ -8,7 +8,7 @@ use Rattle.std.proofs.lemmas.Bool.Decides.{Decides-eqb, nat_tests}
 use Rattle.line_geometry.specs.declared.directory.PageSize.{PageSize}
 use Rattle.line_geometry.specs.declared.directory.PageSize.TheVariants.{Two, Four}
 use Rattle.line_geometry.specs.Legal.{IsLegal, AreFlags, flag_count}
-use Rattle.store_format.specs.Header.{Header, number_at, within, name_field, segments_of, segment_fields, zeros, spare_fields, page_of, fields, first_fault, header_of, total}
+use Rattle.store_format.specs.Header.{Header, number_at, within, name_field, segments_of, segment_fields, zeros, last_zeros, spare_fields, page_of, fields, first_fault, header_of, total}
 use Rattle.store_format.specs.Bank.{Bank, Holds, Faulty, base_of, bank_of}
 use Rattle.store_format.specs.Stands.{Standing, Stands, NotAStore, stands, standing_if, standing_by, chosen}
 use Rattle.store_format.proofs.Checks.{none-append, right_number, length-segments_at}
@@ -49,8 +49,8 @@ flags_right Two head bytes count few none =
     omega (arith, high, low, get_or-drop 76 head 0 0, get_or-drop 76 head 1 0)
 flags_right Four head bytes count few none =
     let flags = within 76 2 (number_at head 76 2) 0 (2 ^ count - 1) in
-    let behind = none-append bytes (zeros head (16 + 4 * count) (60 - 4 * count)) (flags ∷ zeros head 78 50) none in
-    let flagged = none-append bytes (flags ∷ []) (zeros head 78 50) behind.1 in
+    let behind = none-append bytes (zeros head (16 + 4 * count) (60 - 4 * count)) (flags ∷ last_zeros head) none in
+    let flagged = none-append bytes (flags ∷ []) (last_zeros head) behind.1 in
     let most = right_number bytes 76 2 (number_at head 76 2) 0 (2 ^ count - 1) (ap (λ (fault : Option ℕ). is_some fault) flagged.0) in
     omega (arith, most.2, pow_pos count)
 

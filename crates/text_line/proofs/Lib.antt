@@ -1,1 +1,2 @@
 mod HexLemmas
+pub mod Words

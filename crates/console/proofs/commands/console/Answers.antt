@@ -10,7 +10,7 @@ use Rattle.job_calls.specs.Big.{Loaded}
 use Rattle.bundle_calls.specs.Traced.{TracedFrom}
 use Rattle.console.specs.declared.words.Command.{Command}
 use Rattle.console.specs.Words.{IsForm}
-use Rattle.console.proofs.PromiseLemmas.{follow_promise, no_promise, renewal_promise, ship_promise}
+use Rattle.console.proofs.PromiseLemmas.{audits, follow_promise, renewal_promise, ship_promise, traces}
 use Rattle.console.proofs.WordLemmas.{one_header, one_load, one_range, one_trace}
 use Rattle.console.proofs.commands.console.Goals as goal
 
@@ -79,14 +79,18 @@ returns-in-Big-clause-loaded g c = λ transfers loads.
     subst (λ (n : ℕ). Loaded g.W.Outside n c.args.outside.now c.run_load.new.outside (order_told c.run_load.result.order.items) c.run_load.result.session c.run_load.result.status) (one_load c.args.words.now c.in-Big.transfers transfers asked loads) c.run_load.ensures.loaded
 
 pub returns-in-Audit-clause-complete : goal.returns-in-Audit-clause-complete
-returns-in-Audit-clause-complete g c = λ complete.
+returns-in-Audit-clause-complete g c = λ complete calm disk put.
     let asked : IsForm Command.Audit c.args.words.now = subst (λ (form : Command). IsForm form c.args.words.now) c.in-Audit.is c.in-Some.ensures in
-    absurd (no_promise g.W.Outside (g.S.Source.left c.args.job.now) c.args.outside.now c.args.words.now (inl asked) complete)
+    let ended = c.without_events-in-Audit.ensures in
+    subst (λ (status : Status). (status ≡ Status.Done) ⊎ (status ≡ Status.NoMemory)) (sym ended.status)
+    (c.audit_source.ensures.complete (audits g.W.Outside (g.S.Source.left c.args.job.now) c.args.outside.now c.args.words.now complete asked) calm put)
 
 pub returns-in-Trace-clause-complete : goal.returns-in-Trace-clause-complete
-returns-in-Trace-clause-complete g c = λ complete.
+returns-in-Trace-clause-complete g c = λ complete calm disk put.
     let asked : IsForm (Command.Trace c.in-Trace.activation) c.args.words.now = subst (λ (form : Command). IsForm form c.args.words.now) c.in-Trace.is c.in-Some.ensures in
-    absurd (no_promise g.W.Outside (g.S.Source.left c.args.job.now) c.args.outside.now c.args.words.now (inr (c.in-Trace.activation, asked)) complete)
+    let ended = c.without_events-in-Trace.ensures in
+    subst (λ (status : Status). (status ≡ Status.Done) ⊎ (status ≡ Status.NoMemory)) (sym ended.status)
+    (c.trace_source.ensures.complete (traces g.W.Outside (g.S.Source.left c.args.job.now) c.args.outside.now c.args.words.now complete c.in-Trace.activation asked) calm put)
 
 pub returns-in-Trace-clause-traced : goal.returns-in-Trace-clause-traced
 returns-in-Trace-clause-traced g c = λ activation traces.

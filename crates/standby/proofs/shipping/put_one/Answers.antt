@@ -1,15 +1,17 @@
-use Rattle.std.proofs.Common.{◌≡◌, ℕ, List, subst, sym, ◌∙◌, ap}
+use Rattle.std.proofs.Common.{◌≡◌, ℕ, List, refl, subst, sym, ◌∙◌, ap}
 use Rattle.std.specs.Prelude.{Option}
 use Rattle.store_format.specs.Bank.{RecordLine}
 use Rattle.outside.specs.Bytes.{Prints}
+use Rattle.standby.specs.Followed.{broken}
 use Rattle.standby.specs.Step.{put_of}
 use Rattle.standby.specs.Text.{line_line}
-use Rattle.standby.proofs.ShowLemmas.{by_put, prints_none}
+use Rattle.outside.proofs.Prints.{prints_unput}
+use Rattle.standby.proofs.ShowLemmas.{by_put}
 use Rattle.standby.proofs.shipping.put_one.Goals as goal
 
 pub returns-in-Err-clause-prints : goal.returns-in-Err-clause-prints
 returns-in-Err-clause-prints g c shown at many one there =
-    prints_none (g.W.Outside.printed c.args.outside.now) (g.W.Outside.printed c.line_at.new.outside) (line_line one.line one.bytes) c.line_at.ensures.asks.calls.quiet.same
+    prints_unput (g.W.Outside.printed c.args.outside.now) (g.W.Outside.printed c.line_at.new.outside) (line_line one.line one.bytes) broken refl c.line_at.ensures.asks.calls.quiet.same
 
 pub returns-clause-prints : goal.returns-clause-prints
 returns-clause-prints g c shown at many one there =

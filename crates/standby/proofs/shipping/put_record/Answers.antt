@@ -11,7 +11,8 @@ use Rattle.standby.specs.Followed.{well, broken}
 use Rattle.standby.specs.Shipped.{HasBytes}
 use Rattle.standby.specs.Text.{ShipLine, line_line, lines_text, record_line, told}
 use Rattle.standby.proofs.ShipLemmas.{all_more, text_more, text_rest, there_still}
-use Rattle.standby.proofs.ShowLemmas.{shows_on, still_shown}
+use Rattle.outside.proofs.Shows.{shows_on}
+use Rattle.standby.proofs.ShowLemmas.{still_shown}
 use Rattle.standby.proofs.shipping.put_record.Goals as goal
 
 -- the first line counts the lines

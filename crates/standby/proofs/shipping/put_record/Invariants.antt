@@ -6,7 +6,7 @@ use Rattle.outside.specs.Runs.{held_of}
 use Rattle.redo_journal.specs.Records.{IsRecordAt}
 use Rattle.restart.specs.Shows.{IsShown}
 use Rattle.standby.specs.Followed.{well}
-use Rattle.standby.specs.Puts.{AsksAndPuts}
+use Rattle.outside.specs.Runs.{AsksAndPuts}
 use Rattle.standby.specs.Shipped.{HasBytes}
 use Rattle.standby.specs.Text.{lines_text, record_line, told}
 use Rattle.standby.proofs.shipping.put_record.Given as goal

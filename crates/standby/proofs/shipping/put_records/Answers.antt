@@ -9,7 +9,8 @@ use Rattle.standby.specs.Shipped.{HasBytes}
 use Rattle.standby.specs.Followed.{well, broken}
 use Rattle.standby.specs.Text.{later, record_text, records_text, told}
 use Rattle.standby.proofs.ShipLemmas.{all_more, area_more, later_later, next_is, records_more, records_rest, records_split, there_in}
-use Rattle.standby.proofs.ShowLemmas.{prints_none, prints_nothing, shows_asks, shows_none, shows_on}
+use Rattle.outside.proofs.Prints.{prints_none, prints_unput}
+use Rattle.outside.proofs.Shows.{shows_asks, shows_none, shows_on}
 use Rattle.standby.proofs.shipping.put_records.Goals as goal
 
 pub loop-index-init : goal.loop-index-init
@@ -23,7 +24,7 @@ loop-index-init g c =
       place = λ shown is. is;
       so_far = λ shown is.
           prints_same (g.W.Outside.printed c.args.outside.now) (g.W.Outside.printed c.args.outside.now) [] (records_text (later c.args.durable.now.bank.base c.args.passed) (take (c.args.passed - c.args.passed) (map told (drop c.args.passed shown.shows.read.records)))) well
-          (ap (λ (n : ℕ). records_text (later c.args.durable.now.bank.base c.args.passed) (take n (map told (drop c.args.passed shown.shows.read.records)))) (sym none)) (prints_nothing (g.W.Outside.printed c.args.outside.now));
+          (ap (λ (n : ℕ). records_text (later c.args.durable.now.bank.base c.args.passed) (take n (map told (drop c.args.passed shown.shows.read.records)))) (sym none)) (prints_none (g.W.Outside.printed c.args.outside.now) tt);
       bytes = λ shown is. subst (λ (n : ℕ). All (λ lines. All (HasBytes (line_bytes c.args.durable.now.header.directory.page)) lines) (take n (drop c.args.passed shown.shows.read.records))) (sym none) (λ k d lt. absurd (omega (arith, lt)));
     }
 
@@ -53,7 +54,7 @@ returns-in-Err-clause-prints g c shown is =
     let rest = part_of number behind i in
     prints_same (g.W.Outside.printed c.args.outside.now) (g.W.Outside.printed c.record_at.new.outside) (records_text number (take i (map told behind)) ++ rest.0) (records_text number (map told behind)) broken rest.1
     (prints_on (g.W.Outside.printed c.args.outside.now) (g.W.Outside.printed c.loop-index.outside) (g.W.Outside.printed c.record_at.new.outside) (records_text number (take i (map told behind))) rest.0 tt broken (c.loop-index.invariant.so_far shown is)
-    (prints_none (g.W.Outside.printed c.loop-index.outside) (g.W.Outside.printed c.record_at.new.outside) rest.0 c.record_at.ensures.asks.calls.quiet.same))
+    (prints_unput (g.W.Outside.printed c.loop-index.outside) (g.W.Outside.printed c.record_at.new.outside) rest.0 broken refl c.record_at.ensures.asks.calls.quiet.same))
 
 pub returns-in-Err-put_record-clause-only : goal.returns-in-Err-put_record-clause-only
 returns-in-Err-put_record-clause-only g c =

@@ -5,7 +5,7 @@ use Rattle.outside.specs.Bytes.{Prints}
 use Rattle.redo_journal.specs.Records.{area_bytes}
 use Rattle.restart.specs.Shows.{IsShown}
 use Rattle.standby.specs.Followed.{well}
-use Rattle.standby.specs.Puts.{AsksAndPuts}
+use Rattle.outside.specs.Runs.{AsksAndPuts}
 use Rattle.standby.specs.Shipped.{HasBytes}
 use Rattle.standby.specs.Text.{later, records_text, told}
 use Rattle.standby.proofs.shipping.put_records.Given as goal

@@ -17,17 +17,19 @@ use Rattle.standby.specs.Text.{end_line, head_line, later, records_text, text_of
 use Rattle.standby.proofs.ShipLemmas.{later_later}
 use Rattle.outside.specs.Runs.{held_of}
 use Rattle.standby.proofs.ContentLemmas.{content_is}
-use Rattle.standby.proofs.ShowLemmas.{by_put, prints_none, shows_asks, shows_on, shows_puts, still_shown}
+use Rattle.outside.proofs.Prints.{prints_unput}
+use Rattle.outside.proofs.Shows.{shows_asks, shows_on}
+use Rattle.standby.proofs.ShowLemmas.{by_put, shows_line, still_shown}
 use Rattle.standby.proofs.shipping.put_text.Goals as goal
 
 pub returns-in-Err-clause-prints : goal.returns-in-Err-clause-prints
 returns-in-Err-clause-prints g c shown =
-    prints_none (g.W.Outside.printed c.args.outside.now) (g.W.Outside.printed c.place_behind.new.outside) (text_of (shipped c.args.durable.now shown.shows.read.records c.args.from)) c.place_behind.ensures.asks.calls.quiet.same
+    prints_unput (g.W.Outside.printed c.args.outside.now) (g.W.Outside.printed c.place_behind.new.outside) (text_of (shipped c.args.durable.now shown.shows.read.records c.args.from)) broken refl c.place_behind.ensures.asks.calls.quiet.same
 
 pub returns-in-Err-put_line-clause-only : goal.returns-in-Err-put_line-clause-only
 returns-in-Err-put_line-clause-only g c =
     shows_on g.W.Outside g.met.W.Outside.fewer_later c.args.outside.now c.place_behind.new.outside c.put_line.new.outside (shows_asks g.W.Outside c.args.outside.now c.place_behind.new.outside c.place_behind.ensures.asks)
-    (shows_puts g.W.Outside c.as_slice.result.now c.place_behind.new.outside c.put_line.new.outside (put_of c.put_line.result) c.put_line.ensures.puts)
+    (shows_line g.W.Outside c.as_slice.result.now c.place_behind.new.outside c.put_line.new.outside (put_of c.put_line.result) c.put_line.ensures.puts)
 
 pub returns-in-Err-put_line-clause-prints : goal.returns-in-Err-put_line-clause-prints
 returns-in-Err-put_line-clause-prints g c shown =
@@ -103,7 +105,7 @@ pub returns-in-Err-put_records-clause-only : goal.returns-in-Err-put_records-cla
 returns-in-Err-put_records-clause-only g c =
     shows_on g.W.Outside g.met.W.Outside.fewer_later c.args.outside.now c.put_line.new.outside c.put_records.new.outside
     (shows_on g.W.Outside g.met.W.Outside.fewer_later c.args.outside.now c.place_behind.new.outside c.put_line.new.outside (shows_asks g.W.Outside c.args.outside.now c.place_behind.new.outside c.place_behind.ensures.asks)
-    (shows_puts g.W.Outside c.as_slice.result.now c.place_behind.new.outside c.put_line.new.outside (put_of c.put_line.result) c.put_line.ensures.puts))
+    (shows_line g.W.Outside c.as_slice.result.now c.place_behind.new.outside c.put_line.new.outside (put_of c.put_line.result) c.put_line.ensures.puts))
     c.put_records.ensures.only
 
 pub returns-clause-only : goal.returns-clause-only
@@ -111,9 +113,9 @@ returns-clause-only g c =
     shows_on g.W.Outside g.met.W.Outside.fewer_later c.args.outside.now c.put_records.new.outside c.put_line-2.new.outside
     (shows_on g.W.Outside g.met.W.Outside.fewer_later c.args.outside.now c.put_line.new.outside c.put_records.new.outside
     (shows_on g.W.Outside g.met.W.Outside.fewer_later c.args.outside.now c.place_behind.new.outside c.put_line.new.outside (shows_asks g.W.Outside c.args.outside.now c.place_behind.new.outside c.place_behind.ensures.asks)
-    (shows_puts g.W.Outside c.as_slice.result.now c.place_behind.new.outside c.put_line.new.outside (put_of c.put_line.result) c.put_line.ensures.puts))
+    (shows_line g.W.Outside c.as_slice.result.now c.place_behind.new.outside c.put_line.new.outside (put_of c.put_line.result) c.put_line.ensures.puts))
     c.put_records.ensures.only)
-    (shows_puts g.W.Outside c.as_slice-2.result.now c.put_records.new.outside c.put_line-2.new.outside (put_of c.put_line-2.result) c.put_line-2.ensures.puts)
+    (shows_line g.W.Outside c.as_slice-2.result.now c.put_records.new.outside c.put_line-2.new.outside (put_of c.put_line-2.result) c.put_line-2.ensures.puts)
 
 pub returns-clause-content : goal.returns-clause-content
 returns-clause-content g c =

@@ -1,6 +1,7 @@
 use Rattle.std.proofs.Common.{◌+◌, decimal, sym, ◌∙◌}
 use Rattle.std.proofs.lemmas.List.{take_rest}
-use Rattle.standby.proofs.PartLemmas.{cut_at, number_word, uncut}
+use Rattle.text_line.proofs.Words.{number_word}
+use Rattle.standby.proofs.PartLemmas.{cut_at, uncut}
 use Rattle.standby.proofs.word.number_to.Goals as goal
 
 pub returns-in-Some : goal.returns-in-Some

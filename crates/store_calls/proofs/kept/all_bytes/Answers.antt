@@ -7,7 +7,8 @@ use Rattle.store_format.specs.Stands.{Standing, stands}
 use Rattle.store_format.specs.Header.{Header}
 use Rattle.restart.specs.Shows.{page_in}
 use Rattle.store_calls.specs.Show.{bytes_in}
-use Rattle.store_calls.proofs.ShowLemmas.{bytes_on, has_pages, held_same, none_in, page_whole, shows_asks, shows_none, shows_on, still_shown}
+use Rattle.outside.proofs.Shows.{held_same, shows_asks, shows_none, shows_on}
+use Rattle.store_calls.proofs.ShowLemmas.{bytes_on, has_pages, none_in, page_whole, still_shown}
 use Rattle.store_calls.proofs.kept.all_bytes.Goals as goal
 
 pub loop-number-init : goal.loop-number-init
@@ -17,7 +18,7 @@ loop-number-init g c =
     let nothing : 0 * page_bytes directory.page ≡ 0 = omega arith in
     let this : Standing = stands (held_of g.W.Outside c.args.outside.now) in
     record {
-      shows = shows_none g.W.Outside g.met.W.Outside.fewer_later c.args.outside.now;
+      shows = shows_none g.W.Outside c.args.outside.now;
       long = c.split_at_mut-page.ensures.front_len ∙ c.from.ensures ∙ c.bytes.ensures.value ∙ ap page_bytes (c.page.ensures ∙ ap (λ (d : Layout). d.page) same);
       read = λ told. c.in_ok-bytes.ensures.items ∙ sym (ap (bytes_in this 0) nothing ∙ none_in this 0);
     }
@@ -33,12 +34,12 @@ loop-number-preserved g c =
     let size = page_bytes c.args.store.now.header.directory.page in
     let this : Standing = stands (held_of G before) in
     record {
-      shows = shows_on G later before here c.read_page.new.outside shown (shows_asks G later here c.read_page.new.outside c.read_page.ensures.asks);
+      shows = shows_on G later before here c.read_page.new.outside shown (shows_asks G here c.read_page.new.outside c.read_page.ensures.asks);
       long = c.read_page.auto.into ∙ c.loop-number.invariant.long;
       read = λ told.
           let page : c.read_page.new.into ≡ bytes_in this (number * size) size =
           c.in_ok-read_page.ensures.read (still_shown G later c.args.store.now before here told shown)
-          ∙ ap (λ (held : List ℕ). page_in (stands held) number) (held_same G later before here shown)
+          ∙ ap (λ (held : List ℕ). page_in (stands held) number) (held_same G before here shown)
           ∙ page_whole this c.args.store.now.header.directory.page (has_pages (held_of G before) c.args.store.now told.shows) number in
           let more : number * size + size ≡ (number + 1) * size = omega arith in
           c.in_ok-extend_from_slice.ensures.items

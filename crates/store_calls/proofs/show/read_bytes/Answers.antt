@@ -5,7 +5,8 @@ use Rattle.outside.proofs.Runs.{asks_on}
 use Rattle.outside.specs.Runs.{held_of}
 use Rattle.store_format.specs.Stands.{stands}
 use Rattle.store_calls.specs.Show.{bytes_in}
-use Rattle.store_calls.proofs.ShowLemmas.{held_same, in_two_pages, none_in, shows_asks, still_shown}
+use Rattle.outside.proofs.Shows.{held_same, shows_asks}
+use Rattle.store_calls.proofs.ShowLemmas.{in_two_pages, none_in, still_shown}
 use Rattle.store_calls.proofs.show.read_bytes.Goals as goal
 
 on_ok : {T E P Q : Type 0} (result : Result T E) → (P → Q) → OnOk result P → OnOk result Q
@@ -38,10 +39,10 @@ returns-clause-read g c =
     let split = c.split_at_mut-front.ensures in
     let old = c.args.outside.now in
     let mid = c.read_in_page.new.outside in
-    let asks = shows_asks g.W.Outside g.met.W.Outside.fewer_later old mid c.in_ok-read_in_page.ensures.asks in
+    let asks = shows_asks g.W.Outside old mid c.in_ok-read_in_page.ensures.asks in
     in_two_pages (stands (held_of g.W.Outside old)) c.args.at (length c.split_at_mut-front.result.0.now) (length c.split_at_mut-front.result.1.now) (length c.args.into.now) c.read_in_page.new.into c.read_in_page-2.new.into
     (omega (arith, split.front_len, split.back_len)) (c.in_ok-read_in_page.ensures.read shown)
     (reads (still_shown g.W.Outside g.met.W.Outside.fewer_later c.args.store.now old mid shown asks)
-    ∙ ap (λ (held : List ℕ). bytes_in (stands held) (c.args.at + c.min-here.result) (length c.split_at_mut-front.result.1.now)) (held_same g.W.Outside g.met.W.Outside.fewer_later old mid asks)
+    ∙ ap (λ (held : List ℕ). bytes_in (stands held) (c.args.at + c.min-here.result) (length c.split_at_mut-front.result.1.now)) (held_same g.W.Outside old mid asks)
     ∙ ap (λ (n : ℕ). bytes_in (stands (held_of g.W.Outside old)) (c.args.at + n) (length c.split_at_mut-front.result.1.now)) (sym split.front_len)))
     c.read_in_page-2.ensures.read

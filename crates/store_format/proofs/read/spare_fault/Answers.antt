@@ -1,8 +1,8 @@
 use Rattle.std.proofs.Common.{◌≡◌, ℕ, ◌+◌, ◌*◌, ◌-◌, ◌^◌, ◌∷◌, [], ◌++◌, ◌∙◌, sym, ap, arith}
 use Rattle.std.specs.Option.{option_or}
 use Rattle.line_geometry.specs.declared.directory.PageSize.{PageSize}
-use Rattle.store_format.specs.Header.{Field, number_at, within, zeros, spare_fields, first_fault}
-use Rattle.store_format.proofs.Checks.{first_fault-append, first_fault-cons, or_is, option_or-assoc}
+use Rattle.store_format.specs.Header.{Field, number_at, within, zeros, last_zeros, spare_fields, first_fault}
+use Rattle.store_format.proofs.Checks.{first_fault-append, first_fault-cons, or_is, option_or-assoc, last_zeros_are}
 use Rattle.store_format.proofs.read.spare_fault.Goals as goal
 
 pub returns-in-Two : goal.returns-in-Two
@@ -30,8 +30,8 @@ returns-in-Four c =
     c.zeros_fault-in-Four.ensures
     ∙ ap (λ (n : ℕ). first_fault bytes (zeros head n (76 - (16 + 4 * c.from.result)))) from
     ∙ ap (λ (n : ℕ). first_fault bytes (zeros head (16 + 4 * count) n)) left in
-    or_is c.or-in-Four.ensures (or_is c.or.ensures unused c.flags_fault.ensures) c.zeros_fault-in-Four-2.ensures
-    ∙ sym (option_or-assoc (first_fault bytes front) (first_fault bytes (flags ∷ [])) (first_fault bytes (zeros head 78 50)))
-    ∙ ap (option_or (first_fault bytes front)) (sym (first_fault-cons bytes flags (zeros head 78 50)))
-    ∙ sym (first_fault-append bytes front (flags ∷ zeros head 78 50))
+    or_is c.or-in-Four.ensures (or_is c.or.ensures unused c.flags_fault.ensures) (c.zeros_fault-in-Four-2.ensures ∙ ap (first_fault bytes) (sym (last_zeros_are head)))
+    ∙ sym (option_or-assoc (first_fault bytes front) (first_fault bytes (flags ∷ [])) (first_fault bytes (last_zeros head)))
+    ∙ ap (option_or (first_fault bytes front)) (sym (first_fault-cons bytes flags (last_zeros head)))
+    ∙ sym (first_fault-append bytes front (flags ∷ last_zeros head))
     ∙ ap (λ (page : PageSize). first_fault bytes (spare_fields page head count)) (sym c.in-Four.is)
