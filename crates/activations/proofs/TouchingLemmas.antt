@@ -32,7 +32,7 @@ use Rattle.flat_machine.specs.Row.{in_segment, in_window, in_register, located}
 use Rattle.flat_machine.specs.Touched.{lines_at}
 use Rattle.segment_regs.specs.declared.registers.Check.{Check}
 use Rattle.segment_regs.specs.declared.registers.Virtual.{Virtual}
-use Rattle.segment_regs.specs.Registers.{located_by}
+use Rattle.segment_regs.specs.Registers.{Registers, located_by, virtual_at}
 use Rattle.romp_cpu.specs.declared.storage.Access.{Access}
 use Rattle.romp_cpu.specs.Attempts.{lines_of_access}
 use Rattle.romp_cpu.specs.Segments.{registers_of_program}
@@ -44,6 +44,7 @@ use Rattle.desk_law.proofs.Entries.{filter-short}
 use Rattle.seats.proofs.Numbers.{AreOfPage}
 use Rattle.storage_unit.specs.declared.model.Reach.{Reach}
 use Rattle.storage_unit.specs.Places.{private_segment, is_private, offset_of, place_at}
+use Rattle.storage_unit.proofs.PlaceLemmas.{under, offset-is}
 use Rattle.storage_unit.proofs.LocatedLemmas.{lies-where}
 use Rattle.activations.specs.Activity.{Activity, live_in, program_in, entries, store_over}
 use Rattle.activations.specs.Follows.{AreOfPages, IsSound, IsKept}
@@ -226,12 +227,24 @@ module _ (a : Activity) (seat : ℕ) (sound : IsSound a) (taken : has a.seating.
         nowhere (Private (offset_of a.reach.directory.page first))
         (sym (found-where (Ok first) is) ∙ ap (λ (b : Bool). if b then Private (offset_of a.reach.directory.page first) else Shared (start_of a.reach.directory first.segment + offset_of a.reach.directory.page first)) own) refl
 
+    -- the offset of its first byte is what its address has below the register's number
+    kept : offset_of a.reach.directory.page first ≡ access.address % 2 ^ 28
+    kept =
+        let lies = under (live_in a seat).registers access.address access.bytes access.store first is in
+        let page : (live_in a seat).registers.page ≡ a.reach.directory.page = ap (λ (registers : Registers). registers.page) (sound.set_up seat taken).registers in
+        ap (offset_of a.reach.directory.page) (lies.is ∙ ap (λ (page : PageSize). virtual_at page lies.register.segment (access.address % 2 ^ 28)) page)
+        ∙ offset-is a.reach.directory.page lies.register.segment (access.address % 2 ^ 28)
+
     abbrev place : ℕ
-    place = start_of a.reach.directory first.segment + offset_of a.reach.directory.page first
+    place = start_of a.reach.directory first.segment + access.address % 2 ^ 28
 
     module _ (low : is_private first.segment ≡ false) where
       shared : located (program_in a seat) a.reach.directory access.address access.bytes access.store ≡ Shared place
-      shared = sym (found-where (Ok first) is) ∙ ap (λ (b : Bool). if b then Private (offset_of a.reach.directory.page first) else Shared place) low
+      shared =
+          let start = start_of a.reach.directory first.segment in
+          sym (found-where (Ok first) is)
+          ∙ ap (λ (b : Bool). if b then Private (offset_of a.reach.directory.page first) else Shared (start + offset_of a.reach.directory.page first)) low
+          ∙ ap (λ (offset : ℕ). Shared (start + offset)) kept
 
       -- and else those from its first byte's to its last byte's, all in the store
       pub touches-shared : 0 < access.bytes

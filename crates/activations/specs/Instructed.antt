@@ -44,9 +44,9 @@ IsEndOfRows G before after old new end.Shut = ⊥
 IsEndOfRows G before after old new _ = G.disk_faults after ≡ G.disk_faults before
 
 -- where an end is a wait, it is told of this activation and of some that hold what it asks for
-abbrev pub IsWaiter : (number : ℕ) → TurnEnd → Type 0
-IsWaiter number (end.Waits waiter holders) = (waiter ≡ number) × (holders.items ≢ [])
-IsWaiter number _ = Unit {0}
+abbrev pub IfWaits : (number : ℕ) → TurnEnd → Type 0
+IfWaits number (end.Waits waiter holders) = (waiter ≡ number) × (holders.items ≢ [])
+IfWaits number _ = Unit {0}
 
 -- a program check
 abbrev pub IsCheck : TurnEnd → Type 0

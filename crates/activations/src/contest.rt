@@ -13,7 +13,7 @@ use desk::{Cycle, TurnEnd};
 
 impl Activations {
     ghost use Rattle.activations.specs.Activity.{Activity};
-    ghost use Rattle.activations.specs.Causes.{IsVictim};
+    ghost use Rattle.activations.specs.Causes.{IfVictim};
     ghost use Rattle.activations.specs.Follows.{IsSound};
     ghost use Rattle.activations.specs.Kept.{KeepsParts, StaysSeated};
     ghost use Rattle.activations.specs.Serving.{IsContested};
@@ -36,7 +36,7 @@ impl Activations {
         ensures tally { tally.new ≡ record tally.old { cycles = tally.new.cycles } }
         ensures stays { OnOk result (StaysSeated (activity_of self.old) (activity_of self.new) seat) }
         ensures ends { IfErr result (IsContestEnd (number_in (activity_of self.old).seating seat)) }
-        ensures victim { IfErr result (IsVictim (number_in (activity_of self.old).seating seat) tally.new.cycles.items) }
+        ensures victim { IfErr result (IfVictim (number_in (activity_of self.old).seating seat) tally.new.cycles.items) }
         ensures settled { (begins : Word → Turning) (attempt : Attempt) (refused : List ℕ) (first : Desk) (committed : List ℕ) (order : List (ℕ × ℕ)) → attempt.entry.number ≡ number_in (activity_of self.old).seating seat → IsContested begins attempt refused first (activity_of self.old) committed order (counts_of tally.old) → IsSettled result begins attempt refused (activity_of self.new) committed order (counts_of tally.new) }
     {
         let number = self.seats.sitter(seat).number;

@@ -34,11 +34,11 @@ pub enum Went {
 
 impl Activations {
     ghost use Rattle.activations.specs.Activity.{live_in, program_in};
-    ghost use Rattle.activations.specs.Causes.{IsJournal, IsNoLimit, IsVictim};
+    ghost use Rattle.activations.specs.Causes.{IfJournal, IsNoLimit, IfVictim};
     ghost use Rattle.activations.specs.Attempted.{IsSelected, IsShut, plain_in};
     ghost use Rattle.activations.specs.Fetching.{IsStoreOf, HasBrokenOff};
     ghost use Rattle.activations.specs.Follows.{IsSound, Follows};
-    ghost use Rattle.activations.specs.Instructed.{TalliesMore, IsEndOfRows, IsCheck, IsWaiter, IsInstruction, IsAsked, IsServed, Prepares, Serves};
+    ghost use Rattle.activations.specs.Instructed.{TalliesMore, IsEndOfRows, IsCheck, IfWaits, IsInstruction, IsAsked, IsServed, Prepares, Serves};
     ghost use Rattle.activations.specs.Kept.{KeepsParts, StaysSeated};
     ghost use Rattle.activations.specs.Serves.{IsFetched};
     ghost use Rattle.activations.specs.Serving.{IsFree, instruction_in};
@@ -78,10 +78,10 @@ impl Activations {
         ensures stays { OnOk result (StaysSeated (activity_of self.old) (activity_of self.new) seat) }
         ensures calm { OnOk result (W.disk_faults outside.new ≡ W.disk_faults outside.old) }
         ensures ends { IfErr result (IsEndOfRows W.Outside outside.old outside.new tally.old tally.new) }
-        ensures waits { IfErr result (IsWaiter (number_in (activity_of self.old).seating seat)) }
-        ensures journal { IfErr result (IsJournal (activity_of self.new).most_lines) }
+        ensures waits { IfErr result (IfWaits (number_in (activity_of self.old).seating seat)) }
+        ensures journal { IfErr result (IfJournal (activity_of self.new).most_lines) }
         ensures no_limit { IfErr result IsNoLimit }
-        ensures victim { IfErr result (IsVictim (number_in (activity_of self.old).seating seat) tally.new.cycles.items) }
+        ensures victim { IfErr result (IfVictim (number_in (activity_of self.old).seating seat) tally.new.cycles.items) }
         ensures step { (committed : List ℕ) (order : List (ℕ × ℕ)) → IsStoreOf W.Outside store.now outside.old committed → Follows (activity_of self.old) committed → IsStep result (instruction_in (activity_of self.old) seat committed order (counts_of tally.old)) (activity_of self.new) seat committed order (counts_of tally.new) }
     {
         if let Some(access) = shut {
@@ -129,10 +129,10 @@ impl Activations {
         ensures stays { OnOk result (StaysSeated (activity_of self.old) (activity_of self.new) seat) }
         ensures calm { OnOk result (W.disk_faults outside.new ≡ W.disk_faults outside.old) }
         ensures ends { IfErr result (IsEndOfRows W.Outside outside.old outside.new tally.old tally.new) }
-        ensures waits { IfErr result (IsWaiter (number_in (activity_of self.old).seating seat)) }
-        ensures journal { IfErr result (IsJournal (activity_of self.new).most_lines) }
+        ensures waits { IfErr result (IfWaits (number_in (activity_of self.old).seating seat)) }
+        ensures journal { IfErr result (IfJournal (activity_of self.new).most_lines) }
         ensures no_limit { IfErr result IsNoLimit }
-        ensures victim { IfErr result (IsVictim (number_in (activity_of self.old).seating seat) tally.new.cycles.items) }
+        ensures victim { IfErr result (IfVictim (number_in (activity_of self.old).seating seat) tally.new.cycles.items) }
         ensures served { (committed : List ℕ) (order : List (ℕ × ℕ)) → IsStoreOf W.Outside store.now outside.old committed → Follows (activity_of self.old) committed → IsInstruction result (instruction_in (activity_of self.old) seat committed order (counts_of tally.old)) (activity_of self.new) seat committed order (counts_of tally.new) }
     {
         let (touch, refused) = self.prepare(store, outside, seat, access, tally)?;
@@ -171,10 +171,10 @@ impl Activations {
         ensures stays { OnOk result (StaysSeated (activity_of self.old) (activity_of self.new) seat) }
         ensures calm { OnOk result (W.disk_faults outside.new ≡ W.disk_faults outside.old) }
         ensures ends { IfErr result (IsEndOfRows W.Outside outside.old outside.new tally.old tally.new) }
-        ensures waits { IfErr result (IsWaiter (number_in (activity_of self.old).seating seat)) }
-        ensures journal { IfErr result (IsJournal (activity_of self.new).most_lines) }
+        ensures waits { IfErr result (IfWaits (number_in (activity_of self.old).seating seat)) }
+        ensures journal { IfErr result (IfJournal (activity_of self.new).most_lines) }
         ensures no_limit { IfErr result IsNoLimit }
-        ensures victim { IfErr result (IsVictim (number_in (activity_of self.old).seating seat) tally.new.cycles.items) }
+        ensures victim { IfErr result (IfVictim (number_in (activity_of self.old).seating seat) tally.new.cycles.items) }
         ensures prepared { (committed : List ℕ) (order : List (ℕ × ℕ)) → IsStoreOf W.Outside store.now outside.old committed → Follows (activity_of self.old) committed → Prepares result (instruction_in (activity_of self.old) seat committed order (counts_of tally.old)) (activity_of self.new) seat committed order (counts_of tally.new) }
     {
         let touch = self.touch_of(seat, access);
@@ -242,7 +242,7 @@ impl Activations {
         ensures tally { tally.new ≡ record tally.old { cycles = tally.new.cycles } }
         ensures stays { OnOk result (StaysSeated (activity_of self.old) (activity_of self.new) seat) }
         ensures ends { IfErr result (IsContestEnd (number_in (activity_of self.old).seating seat)) }
-        ensures victim { IfErr result (IsVictim (number_in (activity_of self.old).seating seat) tally.new.cycles.items) }
+        ensures victim { IfErr result (IfVictim (number_in (activity_of self.old).seating seat) tally.new.cycles.items) }
         ensures settled { (begins : Word → Turning) (attempt : desk.Attempt) (refused : List ℕ) (committed : List ℕ) (order : List (ℕ × ℕ)) → IsAsked begins attempt refused (activity_of self.old) seat (wants_of touch.now) committed order (counts_of tally.old) → IsSettled result begins attempt refused (activity_of self.new) committed order (counts_of tally.new) }
     {
         let request = self.request(touch);

@@ -10,7 +10,6 @@ ghost use Rattle.line_locks.specs.Holding.{of_seat, held_at};
 ghost use Rattle.segment_regs.specs.Registers.{located_by};
 ghost use Rattle.romp_cpu.specs.Attempts.{lines_of_access};
 ghost use Rattle.flat_machine.specs.declared.machine.Plain.{Plain};
-ghost use Rattle.storage_unit.specs.Places.{offset_of};
 ghost use Rattle.desk.specs.Instruction.{Counts};
 ghost use Rattle.activations.specs.Touched.{lines_between, wants_of, AreWanted};
 
@@ -48,7 +47,8 @@ impl Activations {
         if first.segment >= PRIVATE {
             Touch::Nothing
         } else {
-            touch_from(&self.directory, first, access)
+            let offset = access.address % 0x1000_0000;
+            touch_from(&self.directory, first.segment, offset, access)
         }
     }
 
@@ -131,17 +131,16 @@ impl Activations {
     }
 }
 
-/// The lines that an access touches whose first byte is one of the store.
+/// The lines that an access touches whose first byte is at an offset of a segment of the store.
 #[inline(always)]
-fn touch_from(directory: &Directory, first: Virtual, access: Access) -> Touch
+fn touch_from(directory: &Directory, segment: u16, offset: u32, access: Access) -> Touch
     requires some { 0 < access.bytes }
     requires few { access.bytes ≤ 64 }
-    requires within { start_of directory.now first.segment + offset_of directory.now.page first + access.bytes ≤ byte_count directory.now }
-    ensures lines { lines_wanted (wants_of result) ≡ lines_between (line_of directory.now (start_of directory.now first.segment + offset_of directory.now.page first)) (line_of directory.now (start_of directory.now first.segment + offset_of directory.now.page first + access.bytes - 1)) access.store }
+    requires within { start_of directory.now segment + offset + access.bytes ≤ byte_count directory.now }
+    ensures lines { lines_wanted (wants_of result) ≡ lines_between (line_of directory.now (start_of directory.now segment + offset)) (line_of directory.now (start_of directory.now segment + offset + access.bytes - 1)) access.store }
     ensures wanted { AreWanted directory.now (wants_of result) }
 {
-    let bytes = u32::from(directory.page().bytes());
-    let place = directory.start_of(first.segment) + (first.page * bytes + u32::from(first.byte));
+    let place = directory.start_of(segment) + offset;
     let end = place + u32::from(access.bytes) - 1;
     Touch::between(
         directory.line_of(place),

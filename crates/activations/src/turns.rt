@@ -17,10 +17,10 @@ use romp_cpu::Access;
 
 impl Activations {
     ghost use Rattle.activations.specs.Attempted.{IsSelected};
-    ghost use Rattle.activations.specs.Causes.{IsJournal, IsLimit, IsVictim};
+    ghost use Rattle.activations.specs.Causes.{IfJournal, IfLimit, IfVictim};
     ghost use Rattle.activations.specs.Fetching.{IsStoreOf};
     ghost use Rattle.activations.specs.Follows.{IsSound, Follows};
-    ghost use Rattle.activations.specs.Instructed.{IsEndOfRows, IsWaiter};
+    ghost use Rattle.activations.specs.Instructed.{IsEndOfRows, IfWaits};
     ghost use Rattle.activations.specs.Kept.{KeepsParts, AreRowsWithin, StaysSeated};
     ghost use Rattle.activations.specs.Steps.{counted};
     ghost use Rattle.activations.specs.Turning.{counts_of};
@@ -56,10 +56,10 @@ impl Activations {
         ensures stays { OnOk result (StaysSeated (activity_of self.old) (activity_of self.new) seat) }
         ensures calm { OnOk result (W.disk_faults outside.new ≡ W.disk_faults outside.old) }
         ensures ends { IfErr result (IsEndOfRows W.Outside outside.old outside.new tally.old tally.new) }
-        ensures waits { IfErr result (IsWaiter (number_in (activity_of self.old).seating seat)) }
-        ensures journal { IfErr result (IsJournal (activity_of self.new).most_lines) }
-        ensures limit { IfErr result (IsLimit limit tally.new.ran) }
-        ensures victim { IfErr result (IsVictim (number_in (activity_of self.old).seating seat) tally.new.cycles.items) }
+        ensures waits { IfErr result (IfWaits (number_in (activity_of self.old).seating seat)) }
+        ensures journal { IfErr result (IfJournal (activity_of self.new).most_lines) }
+        ensures limit { IfErr result (IfLimit limit tally.new.ran) }
+        ensures victim { IfErr result (IfVictim (number_in (activity_of self.old).seating seat) tally.new.cycles.items) }
         ensures turned { (committed : List ℕ) (order : List (ℕ × ℕ)) → IsStoreOf W.Outside store.now outside.old committed → Follows (activity_of self.old) committed → AreTurns result (turn_in (activity_of self.old) seat limit committed order (counts_of tally.old)) (activity_of self.new) seat committed order (counts_of tally.new) }
     {
         self.select(seat);

@@ -10,7 +10,7 @@ ghost use Rattle.standby_calls.specs.Shipped.{ShippedFrom};
 ghost use Rattle.store_calls.specs.Show.{Shown};
 ghost use Rattle.job_calls.specs.Big.{Loaded};
 ghost use Rattle.job_calls.specs.Causes.{OpensBy};
-ghost use Rattle.job_calls.specs.Handed.{HandsOn};
+ghost use Rattle.job_calls.specs.Handed.{HandedFits, HandsOn};
 ghost use Rattle.job_calls.specs.Headline.{Happened};
 ghost use Rattle.drills.specs.Drilled.{Drilled};
 ghost use Rattle.bundle_calls.specs.Audited.{Audited};
@@ -62,6 +62,7 @@ pub fn console<S: Source, W: Outside>(
     ensures disk { result.status ≡ Status.DiskFault → Rose (W.disk_faults outside.old) (W.disk_faults outside.new) }
     ensures happened { RunsJob words.now → Happened W.Outside (S.left job.old) (S.left job.new) outside.old outside.new (order_told result.order.items) result.session result.status }
     ensures handed { OpensSession words.now → HandsOn (order_told result.order.items) result.session result.status }
+    ensures fits { HandedFits W.Outside outside.new result.session }
     ensures no_session { (OpensSession words.now → ⊥) → result.session ≡ None }
     ensures listed { IsForm Command.List words.now → Listed W.Outside (S.left job.old) (S.left job.new) outside.old outside.new (order_told result.order.items) result.status }
     ensures drilled { IsForm Command.Drill words.now → Drilled W.Outside (S.left job.old) (S.left job.new) outside.old outside.new (order_told result.order.items) result.status }

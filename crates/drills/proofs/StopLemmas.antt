@@ -121,7 +121,7 @@ module _ {W : Type 0} (G : Ghosts W) (job : Job) (number : ℕ) (store : FlatSto
       let told : IsSome (G.printed before) = subst (λ (those : Option (List ℕ)). IsSome those) (sym nothing) (search rules) in
       subst (IsPrefix commits number store order [] image) is
       (subst (λ (those : Option (List ℕ)). IsPrefix commits number store order (unwrap_or those []) image seen) nothing
-      (ran.crash told image seen (fewer_later after (G.moment before) (G.moment after) image seen ran.time.later left)))
+      (ran.seen told image seen (fewer_later after (G.moment before) (G.moment after) image seen ran.time.later left)))
 
   -- where nothing failed all events were fine
   order-fine : (status : Status) → HasRun G job number store before after order session status → status ≡ Status.Done → (Rose (G.disk_faults before) (G.disk_faults after) → ⊥) → order ≡ fine_order job (held_of G before) store

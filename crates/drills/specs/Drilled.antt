@@ -51,20 +51,20 @@ pub record IsPair (pair : Pair) : Type 0 where
   pub old : IsFound pair.old
   pub torn : IsFound pair.torn
 
--- stops at the first of a job's writes, 256 at most
+-- of at most 256 writes the outcomes of two stops each, in none of which more commits were seen than restart finds
 pub record AreStops (pairs : List Pair) : Type 0 where
   pub few : length pairs ≤ 256
   pub each : All IsPair pairs
 
--- the lines of stops at the first writes are put, each by one put, or a prefix of them where a put failed
+-- lines of such stops, numbered from write 1 on, are put, each by one put, or a prefix of them where a put failed
 pub record PutsFirst {W T : Type 0} (G : Ghosts W) (before after : W) (result : Result T Failed) : Type 0 where
   pub pairs : List Pair
   pub stops : AreStops pairs
   pub puts : Puts G (stop_lines 1 pairs) before after result
   pub times : PutsTimes G (2 * length pairs) before after result
 
--- The lines of all stops and the last line are put, each by one put, or a prefix of them where a put failed. There are as many stops as the
--- job has writes, and so no fewer than two for each commit, or 256; the last number is that of the job's commits.
+-- Lines of such stops and the last line are put, each by one put, or a prefix of them where a put failed. The stops are at no fewer writes than
+-- two for each commit, or at 256; the last line tells at how many, and how many commits the job has.
 pub record PutsWhole {W T : Type 0} (G : Ghosts W) (job : Job) (before after : W) (result : Result T Failed) : Type 0 where
   pub pairs : List Pair
   pub stops : AreStops pairs

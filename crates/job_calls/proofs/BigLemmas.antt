@@ -2,6 +2,7 @@
 use Rattle.std.proofs.Common.{◌≡◌, ℕ, ◌*◌, ◌≤◌, ⊎_elim, true, false, List, [], ◌∷◌, ◌++◌, length, take, refl, sym, ◌∙◌, ap, subst, arith, append-nil, append_assoc, Option}
 use Rattle.std.specs.Prelude.{codes, decimal, All, Bool, Some, Result, Ok, Err, IsSome, IsTrue, unwrap_or, count_by}
 use Rattle.std.specs.List.{fold}
+use Rattle.std.specs.Option.{ForSome}
 use Rattle.outside.specs.declared.world.Outside.{Ghosts}
 use Rattle.outside.specs.declared.failed.Failed.{Failed}
 use Rattle.outside.specs.Bytes.{AreTold, Prints}
@@ -9,12 +10,10 @@ use Rattle.outside.specs.Causes.{RoseBy}
 use Rattle.outside.specs.Durable.{IsSure}
 use Rattle.outside.specs.Moments.{Elapses}
 use Rattle.outside.specs.Runs.{CallsDisk, FewerLater, Leaves, OnlyAsks, held_of}
-use Rattle.outside.proofs.Runs.{elapses-trans, leaves_on}
+use Rattle.outside.proofs.Runs.{elapses-trans}
 use Rattle.line_geometry.specs.FlatStore.{FlatStore}
 use Rattle.flat_machine.specs.declared.machine.Program.{Program}
 use Rattle.flat_machine.specs.Serial.{Activation}
-use Rattle.store_format.specs.Header.{header_of, most_lines}
-use Rattle.store_format.specs.Stands.{Standing, Stands}
 use Rattle.desk.specs.declared.event.Event.{Event}
 use Rattle.desk.specs.Commits.{begun, is_commit, commit_lines, serial_lines, IsSerial}
 use Rattle.desk.specs.Desk.{Desk}
@@ -24,10 +23,9 @@ use Rattle.hex.specs.Hex.{encode_lower}
 use Rattle.desk.specs.Lines as line
 use Rattle.desk.specs.Report.{event_lines}
 use Rattle.desk.specs.Run.{run, faulted, IsRunOf}
-use Rattle.desk.specs.Kept.{WritesMore, records_in, most_records}
+use Rattle.store_format.specs.Header.{Header, total}
+use Rattle.desk.specs.Kept.{HoldsStore, WritesMore, records_in, most_records}
 use Rattle.run_law.specs.Headline.{IsPrefix}
-use Rattle.run_law.specs.Left.{IsLeft}
-use Rattle.run_law.proofs.HeadlineLemmas.{left_is_prefix}
 use Rattle.supervisor.specs.Opened.{IsOpened}
 use Rattle.supervisor.specs.Session.{activity, order_of}
 use Rattle.supervisor.specs.declared.session.Session.{Session}
@@ -49,7 +47,7 @@ use Rattle.job_calls.specs.Causes.{OpensBy}
 use Rattle.call_status.specs.Printed.{put_of, PrintsBy}
 use Rattle.job_calls.specs.Headline.{job_desk}
 use Rattle.call_status.specs.Opening.{IsStanding, StandsAt}
-use Rattle.job_calls.proofs.RunLemmas.{RanFrom, Facts, first_desk, has-opened, number-small, given, wanted, these, is_run, ordered, closes, serial_run, rose, all-fine, calm-now, writes-now, leaves-now, records-now, shown-now, doubt-leaves}
+use Rattle.job_calls.proofs.RunLemmas.{RanFrom, Facts, crash-any, first_desk, has-opened, given, wanted, these, is_run, ordered, closes, serial_run, rose, all-fine, calm-now, writes-now, leaves-now, records-now, shown-now, doubt-leaves}
 
 -- only the commit lines tell what was printed last
 out_filtered : (last : List ℕ) (lines : List Line) → fold out_after last lines ≡ fold out_after last (commit_lines lines)
@@ -80,6 +78,12 @@ module _ {W : Type 0} (G : Ghosts W) (fewer_later : FewerLater G) where
       ⊎_elim (λ was. (seen, was))
       (λ since. let from = puts.images image seen since in (from.0, fewer_later before (G.moment start) (G.moment before) image from.0 time.later from.1))
       (puts.only.time.nothing_else (G.moment start) image seen time.later left)
+
+-- bytes that are enough are, after the line was put or nothing was
+pub still-holds : {W : Type 0} (G : Ghosts W) (header : Header) (transfers : ℕ) (quiet : Quiet) (last : List ℕ) (before after : W) (now : Status) → IsToldBy G transfers quiet last before after now → HoldsStore G header before → HoldsStore G header after
+still-holds G header transfers (quiet.Ended commits rollbacks) last before after now told holds =
+    subst (λ (those : Option (List ℕ)). ForSome those (λ bytes. total header ≤ length bytes)) (sym told.1.only.held) holds
+still-holds G header transfers quiet.Closed last before after now told holds = subst (HoldsStore G header) (sym told.1) holds
 
 -- the line of a tally is that of its lines
 line_told : (transfers commits rollbacks : ℕ) (last : List ℕ) (lines : List Line) → Tells (record { commits = commits; rollbacks = rollbacks }) [] last lines → big_line transfers commits rollbacks last ≡ line_for transfers lines
@@ -146,25 +150,10 @@ module _ {W : Type 0} (G : Ghosts W) (fewer_later : FewerLater G) (printed_now :
   closes_are : new.closed ≡ (run job.programs.items runs.ran.taken first).closed
   closes_are = closes G fewer_later printed_now job before start after desk new number store standing opens asks programs_are same_opened same_honest time asks-calm [] half
 
-  crash_any : Leaves G (λ image seen. IsPrefix activations number store (order_of new) [] image []) before after
-  crash_any =
-      leaves_on G fewer_later before start after asks.calls.time time (λ (image seen : List ℕ). IsPrefix activations number store (order_of new) [] image [])
-      (λ image seen left. record {
-        j = 0;
-        few = omega arith;
-        since = [];
-        seen_is = refl;
-        told = omega arith;
-        left = store;
-        leaves = refl;
-        stood = standing.images image seen (asks.crash standing.told image seen left)
-            ∙ ap (λ (n : ℕ). let that : Standing = Stands n store in that) (sym (number-small G fewer_later printed_now job before start after desk new number store standing opens asks programs_are same_opened same_honest time asks-calm));
-      })
-      (λ image seen left.
-      let other = images image seen left in
-      subst (λ (order : List (ℕ × ℕ)). IsPrefix activations number store order [] image []) (sym orders_are)
-      (left_is_prefix job.programs.items number job.frames 16 (most_lines (header_of (take 128 (held_of G before)))) store job.events.items runs.ran.taken runs.rest [] [] image [] runs_are
-      (subst (λ (f : Facts). IsLeft f.programs f.number f.start runs.ran.taken [] [] image []) facts_are (runs.ran.left image other.0 other.1))))
+  crash_all : Leaves G (λ image seen. IsPrefix activations number store (order_of new) [] image []) before after
+  crash_all =
+      crash-any G fewer_later printed_now job before start after desk new number store standing opens asks programs_are same_opened same_honest time asks-calm (order_of new) runs.ran.taken runs.rest runs_are orders_are
+      (λ image seen left. let other = images image seen left in runs.ran.left image other.0 other.1)
 
   -- the run of a load, by its status
   pub has_big_run : (now : Status) → (IsPastOpening now → (is_shut quiet ≡ false) × PrintsBy (G.printed before) (G.printed after) (line_for transfers (event_lines [] (activity desk).programs desk.opened runs.ran.taken (first_desk G job.frames before start desk opens asks))) now) → (now ≡ Status.DiskFault → is_shut quiet ≡ true)
@@ -193,7 +182,7 @@ module _ {W : Type 0} (G : Ghosts W) (fewer_later : FewerLater G) (printed_now :
     serial_run = serial_is;
     leaves = leaves-now G fewer_later printed_now job before start after desk new number store standing opens asks programs_are same_opened same_honest time asks-calm [] half;
     records = records-now G fewer_later printed_now job before start after desk new number store standing opens asks programs_are same_opened same_honest time asks-calm [] half;
-    crash = crash_any;
+    crash = crash_all;
     doubt = doubt-leaves G fewer_later printed_now job before start after desk new number store standing opens asks programs_are same_opened same_honest time asks-calm [] half;
   }
 
@@ -224,7 +213,7 @@ times_since G before start between after (Err failed) asks calls times = tt
 
 -- what a load did, by how its run ended
 module _ {W : Type 0} (G : Ghosts W) (fewer_later : FewerLater G) (printed_now : PrintedNow G) (transfers : ℕ) (job : Job) (is_load : IsBigJob transfers job) (before start between : W) (desk new : Session)
-    (opens : IsTrue (G.is_honest before) → IsSome (G.held before) → IsOpened G job.frames before start desk) (asks : OnlyAsks G before start) (programs_are : (activity desk).programs ≡ job.programs.items) (same_opened : new.opened ≡ desk.opened) (asks-calm : G.disk_faults start ≡ G.disk_faults before)
+    (opens : IsTrue (G.is_honest before) → IsSome (G.held before) → IsOpened G job.frames before start desk) (asks : OnlyAsks G before start) (programs_are : (activity desk).programs ≡ job.programs.items) (same_programs : (activity new).programs ≡ (activity desk).programs) (same_opened : new.opened ≡ desk.opened) (asks-calm : G.disk_faults start ≡ G.disk_faults before)
     (stood : IsSome (G.held before) → IsStanding (held_of G before)) (last : List ℕ) (calls : CallsDisk G start between) where
   abbrev Ran : Quiet → Type 0
   Ran quiet = (first : Desk) → IsSure G start → ghosts.shows desk (held_of G start) first → RunsQuietly ghosts G (activity desk).programs desk.opened job.events.items first new start between last quiet
@@ -257,6 +246,7 @@ module _ {W : Type 0} (G : Ghosts W) (fewer_later : FewerLater G) (printed_now :
                         (subst (λ (bytes : List ℕ). PrintsBy (G.printed between) (G.printed after) bytes now) (line_told transfers commits rollbacks last lines run.tells) (prints_now now past (G.printed between) (G.printed after) (big_line transfers commits rollbacks last) puts.printed)),
                   ))
                   (λ is. absurd (subst IsPastOpening is past));
+              runs = same_programs ∙ programs_are;
             })
             (times_since G before start between after (put_of now) asks calls times);
       }
@@ -275,6 +265,7 @@ module _ {W : Type 0} (G : Ghosts W) (fewer_later : FewerLater G) (printed_now :
                 let begins = has-opened G job.frames before start desk opened asks in
                 has_big_run G fewer_later printed_now transfers job before start between between desk new number store standing opened asks programs_are same_opened calls.honest calls.time asks-calm last quiet.Closed (runs (first_desk G job.frames before start desk opened asks) begins.sure begins.shows) refl refl refl
                 (λ sure. sure) (λ shut front event is. is) (λ image seen left. (seen, left)) Status.DiskFault (λ opened. absurd opened) (λ is. refl);
+            runs = same_programs ∙ programs_are;
           },
           calls.quiet.same ∙ asks.calls.quiet.same,
         );

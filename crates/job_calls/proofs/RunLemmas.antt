@@ -50,6 +50,7 @@ use Rattle.call_status.specs.declared.status.Status.TheVariants as status
 use Rattle.job_calls.specs.Causes.{status_of_replay}
 use Rattle.call_status.specs.Opening.{StandsAt}
 use Rattle.call_status.specs.SourceText.{IsWhole}
+use Rattle.job_calls.specs.Handed.{HandedRuns}
 use Rattle.job_calls.specs.Headline.{HasRun, DoubtStands, Happened, HappenedTo, put_by, names_of, job_desk}
 
 -- what stands for one number and store stands for no other
@@ -130,19 +131,33 @@ module _ {W : Type 0} (G : Ghosts W) (fewer_later : FewerLater G) (printed_now :
   shown-same = ap (λ (told : Option (List ℕ)). unwrap_or told []) asks.calls.quiet.same
 
   -- the opening left what stood
+  left-so : (order : List (ℕ × ℕ)) (shown image seen : List ℕ) → seen ≡ shown → stands image ≡ Stands number store → IsPrefix (begun job.programs.items job.events.items) number store order shown image seen
+  left-so order shown image seen is stood = record {
+    j = 0;
+    few = omega arith;
+    since = [];
+    seen_is = is ∙ sym (append-nil shown);
+    told = omega arith;
+    left = store;
+    leaves = refl;
+    stood = stood ∙ ap (λ (n : ℕ). let that : Standing = Stands n store in that) (sym number-small);
+  }
+
   opening-left : (order : List (ℕ × ℕ)) → IsSome (G.printed before) → Leaves G (IsPrefix (begun job.programs.items job.events.items) number store order (shown_of G before)) before start
   opening-left order told image seen left =
       let earlier = asks.crash standing.told image seen left in
-      record {
-        j = 0;
-        few = omega arith;
-        since = [];
-        seen_is = told-is (G.printed before) seen told (printed_now before image seen earlier) ∙ sym (append-nil (shown_of G before));
-        told = omega arith;
-        left = store;
-        leaves = refl;
-        stood = standing.images image seen earlier ∙ ap (λ (n : ℕ). let that : Standing = Stands n store in that) (sym number-small);
-      }
+      left-so order (shown_of G before) image seen (told-is (G.printed before) seen told (printed_now before image seen earlier)) (standing.images image seen earlier)
+
+  -- what a crash left of the opening and of a run from it, without a word on the screen
+  pub crash-any : (order : List (ℕ × ℕ)) (taken : List (Event × Word)) (rest : List Event) → IsRunOf job.programs.items job.events.items begins_with taken rest → order ≡ (run job.programs.items taken begins_with).order
+      → Leaves G (λ image seen. IsLeft (activity desk).programs desk.opened (first_desk G job.frames before start desk opens asks) taken [] [] image []) start after → Leaves G (λ image seen. IsPrefix (begun job.programs.items job.events.items) number store order [] image []) before after
+  crash-any order taken rest ran ordered_is images =
+      leaves_on G fewer_later before start after asks.calls.time time (λ (image seen : List ℕ). IsPrefix (begun job.programs.items job.events.items) number store order [] image [])
+      (λ image seen left. left-so order [] image [] refl (standing.images image seen (asks.crash standing.told image seen left)))
+      (λ image seen left.
+      subst (λ (those : List (ℕ × ℕ)). IsPrefix (begun job.programs.items job.events.items) number store those [] image []) (sym ordered_is)
+      (left_is_prefix job.programs.items number job.frames 16 (most_lines (header_of (take 128 (held_of G before)))) store job.events.items taken rest [] [] image [] ran
+      (subst (λ (f : Facts). IsLeft f.programs f.number f.start taken [] [] image []) these (images image seen left))))
 
   -- the same of a run from the opening, in the job's words
   module _ (names : List (List ℕ)) (half : RanFrom G names (activity desk).programs desk.opened job.events.items (first_desk G job.frames before start desk opens asks) new start after) where
@@ -289,7 +304,8 @@ module _ {W : Type 0} (G : Ghosts W) (fewer_later : FewerLater G) (printed_now :
       serial_run = serial_run names half;
       leaves = leaves-now names half;
       records = records-now names half;
-      crash = crash-leaves;
+      crash = crash-any (order_of new) reports.taken reports.rest (is_run names half) (ordered names half) reports.images;
+      seen = crash-leaves;
       doubt = doubt-leaves names half;
       honest = same_honest ∙ asks.calls.honest;
       time = elapses-trans G fewer_later before start after asks.calls.time time;
@@ -321,10 +337,10 @@ module _ {W : Type 0} (G : Ghosts W) (fewer_later : FewerLater G) (printed_now :
 
 -- what happened to the job of a text
 pub happens : {W : Type 0} (G : Ghosts W) (left left_now : Option (List ℕ)) (before after : W) (text : List ℕ) (job : Job) (order : List (ℕ × ℕ)) (session : Option Session) (now : Status)
-    → IsWhole left left_now text → job_of text ≡ Ok (content_of job) → HappenedTo G job before after order session now → Happened G left left_now before after order session now
-happens G left left_now before after text job order session status.Done whole means did = record { text = text; whole = whole; job = job; means = means; has_run = did }
-happens G left left_now before after text job order session status.PutFault whole means did = record { text = text; whole = whole; job = job; means = means; has_run = did }
-happens G left left_now before after text job order (Some session) status.DiskFault whole means did = record { text = text; whole = whole; job = job; means = means; has_run = did }
-happens G left left_now before after text job order None status.DiskFault whole means did = did
-happens G left left_now before after text job order session (status.Store offset) whole means did = did
-happens G left left_now before after text job order session _ whole means did = did
+    → IsWhole left left_now text → job_of text ≡ Ok (content_of job) → HappenedTo G job before after order session now → HandedRuns job.programs.items session → Happened G left left_now before after order session now
+happens G left left_now before after text job order session status.Done whole means did runs = record { text = text; whole = whole; job = job; means = means; has_run = did; runs = runs }
+happens G left left_now before after text job order session status.PutFault whole means did runs = record { text = text; whole = whole; job = job; means = means; has_run = did; runs = runs }
+happens G left left_now before after text job order (Some session) status.DiskFault whole means did runs = record { text = text; whole = whole; job = job; means = means; has_run = did; runs = runs }
+happens G left left_now before after text job order None status.DiskFault whole means did runs = did
+happens G left left_now before after text job order session (status.Store offset) whole means did runs = did
+happens G left left_now before after text job order session _ whole means did runs = did

@@ -28,6 +28,7 @@ use Rattle.call_status.specs.declared.status.Status.{Status}
 use Rattle.call_status.specs.declared.status.Status.TheVariants as status
 use Rattle.call_status.specs.Statuses.{IsPastOpening}
 use Rattle.job_calls.specs.Causes.{OpensBy}
+use Rattle.job_calls.specs.Handed.{HandedRuns}
 use Rattle.job_calls.specs.Headline.{ByOpening, DoubtStands, IsSessionAt, Refused, Untouched, job_desk}
 use Rattle.call_status.specs.Printed.{put_of, PutsOnce, PrintsBy}
 use Rattle.call_status.specs.Opening.{StandsAt}
@@ -89,11 +90,12 @@ IsToldBy G transfers (quiet.Ended commits rollbacks) last before after now =
     IsPastOpening now × Puts G (big_line transfers commits rollbacks last) before after (put_of now) × PutsTimes G 1 before after (put_of now)
 IsToldBy G transfers quiet.Closed last before after now = (now ≡ Status.DiskFault) × (after ≡ before)
 
--- the events of the load were run, from whatever number and store the disk stood for
+-- the events of the load were run, from whatever number and store the disk stood for; the session runs its programs
 pub record RanBig {W : Type 0} (G : Ghosts W) (transfers : ℕ) (before after : W) (order : List (ℕ × ℕ)) (session : Option Session) (status : Status) : Type 0 where
   pub job : Job
   pub is_load : IsBigJob transfers job
   pub has_run : (number : ℕ) (store : FlatStore) → StandsAt G before number store → HasBigRun G transfers job number store before after order session status
+  pub runs : HandedRuns job.programs.items session
 
 -- what a load did, by its status; a disk fault comes in the opening or in an event, and other statuses don't come
 abbrev pub LoadedBy : {W : Type 0} → Ghosts W → ℕ → W → W → List (ℕ × ℕ) → Option Session → Status → Type 0

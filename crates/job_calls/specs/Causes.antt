@@ -16,7 +16,9 @@ status_of_replay replayed.Closed = Status.DiskFault
 status_of_replay (replayed.Damaged offset) = Status.Store offset
 status_of_replay replayed.PutFault = Status.PutFault
 
--- What the bytes of a disk tell of the status with which a job ran on it. An honest disk whose bytes stand is never told otherwise.
+-- What the bytes of a disk tell of the status with which a job ran on it: no store, where the bytes of the start have that fault, or where those of
+-- now do, if they are told, under the header of the start, as a crash event finds it; a store, where they stand. An honest disk whose bytes stand is
+-- never told otherwise.
 pub record OpensBy {W : Type 0} (G : Ghosts W) (before now : W) (status : Status) : Type 0 where
   pub no_store : (offset : ℕ) → status ≡ Status.Store offset → IsSome (G.held before) → IsFaultAt (held_of G before) offset ⊎ (IsSome (G.held now) → IsFaultSince (held_of G before) (held_of G now) offset)
   pub store : IsPastOpening status → IsSome (G.held before) → IsStanding (held_of G before)

@@ -1,7 +1,10 @@
 -- The session that a call hands on.
-use Rattle.std.specs.Prelude.{◌≡◌, ℕ, List, Bool, true, false, Option, None, Some}
+use Rattle.std.specs.Prelude.{◌≡◌, ◌≤◌, ℕ, List, Bool, true, false, Option, None, Some}
+use Rattle.outside.specs.declared.world.Outside.{Ghosts}
+use Rattle.flat_machine.specs.declared.machine.Program.{Program}
+use Rattle.desk.specs.Kept.{HoldsStore}
 use Rattle.supervisor.specs.declared.session.Session.{Session}
-use Rattle.supervisor.specs.Session.{order_of, is_closed}
+use Rattle.supervisor.specs.Session.{IsSound, activity, order_of, is_closed, header_of_session, turns_of}
 use Rattle.call_status.specs.declared.status.Status.{Status}
 use Rattle.call_status.specs.declared.status.Status.TheVariants as status
 use Rattle.call_status.specs.Statuses.{IsPastOpening}
@@ -14,7 +17,24 @@ ClosesBy status.DiskFault closed = closed ≡ true
 ClosesBy (status.Store offset) closed = closed ≡ true
 ClosesBy _ closed = ⊥
 
--- a session is handed on with its order, closed as the status says; without one no event was run to its end
+-- a session is handed on with its order, closed as the status says; without one the events were not run to their end
 abbrev pub HandsOn : List (ℕ × ℕ) → Option Session → Status → Type 0
 HandsOn order (Some session) status = (order_of session ≡ order) × ClosesBy status (is_closed session)
 HandsOn order None status = IsPastOpening status → ⊥
+
+-- A session fits an outside: it is sound, the bytes that are told are enough for its store, and at most 10,000 turns were asked of it. So each of
+-- its calls may be asked of it with this outside, but for a begin behind the last for which it has room.
+pub record Fits {W : Type 0} (G : Ghosts W) (outside : W) (s : Session) : Type 0 where
+  pub sound : IsSound s
+  pub bytes : HoldsStore G (header_of_session s) outside
+  pub turns : turns_of s ≤ 10000
+
+-- the session that is handed on, if one is, fits the outside
+abbrev pub HandedFits : {W : Type 0} → Ghosts W → W → Option Session → Type 0
+HandedFits G outside None = Unit {0}
+HandedFits G outside (Some session) = Fits G outside session
+
+-- and runs these programs
+abbrev pub HandedRuns : List Program → Option Session → Type 0
+HandedRuns programs None = Unit {0}
+HandedRuns programs (Some session) = (activity session).programs ≡ programs

@@ -31,6 +31,7 @@ use Rattle.call_status.specs.declared.status.Status.{Status}
 use Rattle.call_status.specs.declared.status.Status.TheVariants as status
 use Rattle.call_status.specs.SourceText.{IsWhole}
 use Rattle.call_status.specs.Opening.{StandsAt}
+use Rattle.job_calls.specs.Handed.{HandedRuns}
 
 -- the names of a job's programs
 abbrev pub names_of : Job → List (List ℕ)
@@ -94,8 +95,10 @@ pub record HasRun {W : Type 0} (G : Ghosts W) (job : Job) (number : ℕ) (store 
   -- and their chosen bank holds no more records than the lines tell: behind the last checkpoint, as many as there are commits
   pub records : (run job.programs.items taken (job_desk job (held_of G before) store)).closed ≡ false
       → records_in (held_of G after) ≤ most_records (event_lines (names_of job) job.programs.items number taken (job_desk job (held_of G before) store)) (records_in (held_of G before))
-  -- a crash at any moment of the call leaves a store that the first commits leave one after another, and no fewer than those printed then
-  pub crash : IsSome (G.printed before) → Leaves G (IsPrefix (begun job.programs.items job.events.items) number store order (shown_of G before)) before after
+  -- a crash at any moment of the call leaves a store that the first commits leave one after another
+  pub crash : Leaves G (λ image seen. IsPrefix (begun job.programs.items job.events.items) number store order [] image []) before after
+  -- and where the printed bytes are told, no fewer of them than were printed by then
+  pub seen : IsSome (G.printed before) → Leaves G (IsPrefix (begun job.programs.items job.events.items) number store order (shown_of G before)) before after
   -- and where the last event ended in doubt, the gate byte alone decides whether its commit is among them
   pub doubt : (run job.programs.items taken (job_desk job (held_of G before) store)).closed ≡ true → (front : List (Event × Word)) (event : Event) → taken ≡ front ++ (event, Doubt) ∷ [] → DoubtStands G job number store order after
   pub honest : G.is_honest after ≡ G.is_honest before
@@ -109,13 +112,14 @@ HasRunFrom G job before after order session status = (number : ℕ) (store : Fla
 abbrev pub StoodForNone : {W : Type 0} → Ghosts W → W → Type 0
 StoodForNone G before = (number : ℕ) (store : FlatStore) → StandsAt G before number store → ⊥
 
--- the text was had whole, and means a job whose events were run
+-- the text was had whole, and means a job whose events were run; the session runs its programs
 pub record RanJob {W : Type 0} (G : Ghosts W) (left left_now : Option (List ℕ)) (before after : W) (order : List (ℕ × ℕ)) (session : Option Session) (status : Status) : Type 0 where
   pub text : List ℕ
   pub whole : IsWhole left left_now text
   pub job : Job
   pub means : job_of text ≡ Ok (content_of job)
   pub has_run : HasRunFrom G job before after order session status
+  pub runs : HandedRuns job.programs.items session
 
 -- no event was run: nothing was printed, and the disk was only asked
 pub record Untouched {W : Type 0} (G : Ghosts W) (before after : W) (order : List (ℕ × ℕ)) : Type 0 where

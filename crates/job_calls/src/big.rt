@@ -8,7 +8,7 @@ ghost use Rattle.job_text.specs.Ready.{IsReady};
 ghost use Rattle.listing.specs.Puts.{Puts, PutsTimes};
 ghost use Rattle.job_calls.specs.Big.{IsToldBy, Loaded, big_line};
 ghost use Rattle.job_calls.specs.Causes.{IsOfEvents};
-ghost use Rattle.job_calls.specs.Handed.{HandsOn};
+ghost use Rattle.job_calls.specs.Handed.{HandedFits, HandsOn};
 
 use super::ended::Ended;
 use super::run::{begins_in, filled};
@@ -26,6 +26,7 @@ pub fn run_load<W: Outside>(alloc: Global, transfers: u32, outside: &mut W) -> E
     requires { transfers ≤ 512 }
     ensures loaded { Loaded W.Outside transfers outside.old outside.new (order_told result.order.items) result.session result.status }
     ensures handed { HandsOn (order_told result.order.items) result.session result.status }
+    ensures fits { HandedFits W.Outside outside.new result.session }
     ensures unfailed { result.status ≡ Status.Done → W.put_faults outside.new ≡ W.put_faults outside.old }
     ensures put { result.status ≡ Status.PutFault → Rose (W.put_faults outside.old) (W.put_faults outside.new) }
     ensures disk { result.status ≡ Status.DiskFault → Rose (W.disk_faults outside.old) (W.disk_faults outside.new) }
@@ -43,6 +44,7 @@ fn run_with_order<W: Outside>(alloc: Global, transfers: u32, job: Job, outside: 
     requires ready { IsReady job }
     ensures loaded { Loaded W.Outside transfers outside.old outside.new (order_told result.order.items) result.session result.status }
     ensures handed { HandsOn (order_told result.order.items) result.session result.status }
+    ensures fits { HandedFits W.Outside outside.new result.session }
     ensures unfailed { result.status ≡ Status.Done → W.put_faults outside.new ≡ W.put_faults outside.old }
     ensures put { result.status ≡ Status.PutFault → Rose (W.put_faults outside.old) (W.put_faults outside.new) }
     ensures disk { result.status ≡ Status.DiskFault → Rose (W.disk_faults outside.old) (W.disk_faults outside.new) }
@@ -71,6 +73,7 @@ fn open_and_run<W: Outside>(
     requires room { begins ≤ vec_capacity order }
     ensures loaded { Loaded W.Outside transfers outside.old outside.new (order_told result.order.items) result.session result.status }
     ensures handed { HandsOn (order_told result.order.items) result.session result.status }
+    ensures fits { HandedFits W.Outside outside.new result.session }
     ensures unfailed { result.status ≡ Status.Done → W.put_faults outside.new ≡ W.put_faults outside.old }
     ensures put { result.status ≡ Status.PutFault → Rose (W.put_faults outside.old) (W.put_faults outside.new) }
     ensures disk { result.status ≡ Status.DiskFault → Rose (W.disk_faults outside.old) (W.disk_faults outside.new) }

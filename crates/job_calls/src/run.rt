@@ -6,7 +6,7 @@ ghost use Rattle.job_text.specs.Ready.{IsReady};
 ghost use Rattle.schedule_replay.specs.Asked.{begins_in};
 ghost use Rattle.call_status.specs.Reading.{ReadsBy};
 ghost use Rattle.job_calls.specs.Causes.{IsOfEvents, IsOfRun, OpensBy, status_of_replay};
-ghost use Rattle.job_calls.specs.Handed.{HandsOn};
+ghost use Rattle.job_calls.specs.Handed.{HandedFits, HandedRuns, HandsOn};
 ghost use Rattle.job_calls.specs.Headline.{Happened, HappenedTo};
 
 use super::ended::Ended;
@@ -27,6 +27,7 @@ pub fn run_source<S: Source, W: Outside>(alloc: Global, source: &mut S, outside:
     ensures disk { result.status ≡ Status.DiskFault → Rose (W.disk_faults outside.old) (W.disk_faults outside.new) }
     ensures happened { Happened W.Outside (S.left source.old) (S.left source.new) outside.old outside.new (order_told result.order.items) result.session result.status }
     ensures handed { HandsOn (order_told result.order.items) result.session result.status }
+    ensures fits { HandedFits W.Outside outside.new result.session }
     ensures only { IsOfRun result.status }
 {
     match job_from(alloc, source) {
@@ -44,6 +45,8 @@ pub fn try_job<W: Outside>(alloc: Global, job: Job, outside: &mut W) -> Ended
     ensures disk { result.status ≡ Status.DiskFault → Rose (W.disk_faults outside.old) (W.disk_faults outside.new) }
     ensures happened { HappenedTo W.Outside job outside.old outside.new (order_told result.order.items) result.session result.status }
     ensures handed { HandsOn (order_told result.order.items) result.session result.status }
+    ensures runs { HandedRuns job.programs.items result.session }
+    ensures fits { HandedFits W.Outside outside.new result.session }
     ensures only { IsOfEvents result.status }
 {
     let begins = begins_in(&job.events);
@@ -71,6 +74,8 @@ fn run_job<W: Outside>(
     ensures disk { result.status ≡ Status.DiskFault → Rose (W.disk_faults outside.old) (W.disk_faults outside.new) }
     ensures happened { HappenedTo W.Outside job outside.old outside.new (order_told result.order.items) result.session result.status }
     ensures handed { HandsOn (order_told result.order.items) result.session result.status }
+    ensures runs { HandedRuns job.programs.items result.session }
+    ensures fits { HandedFits W.Outside outside.new result.session }
     ensures only { IsOfEvents result.status }
 {
     let mut session = match Session::open(alloc, outside, job.programs, job.frames, begins) {

@@ -1,5 +1,5 @@
 -- What a step of an open desk does to its order, and the lines that it has.
-use Rattle.std.proofs.Common.{◌≡◌, ℕ, ◌+◌, ◌≤◌, List, [], ◌∷◌, ◌++◌, length, map, get_or, refl, sym, ap, ◌∙◌, subst, arith, append-nil, append_assoc, length-append, zero, suc, cond}
+use Rattle.std.proofs.Common.{◌≡◌, ℕ, ◌+◌, ◌≤◌, List, [], ◌∷◌, ◌++◌, length, map, get_or, refl, sym, ap, ◌∙◌, subst, arith, append-nil, append_assoc, length-append, zero, suc, cond, inl, inr, ⊎_elim, ◌⊎◌}
 use Rattle.std.specs.Prelude.{Bool, true, false, not, if◌then◌else◌, Some, None, Option, IsTrue, slice_get, slice_index_or, nat_lt}
 use Rattle.std.specs.List.{flat_map}
 use Rattle.flat_machine.specs.declared.machine.Program.{Program}
@@ -14,6 +14,7 @@ use Rattle.desk.specs.Lines.{Line}
 use Rattle.desk.specs.Lines as line
 use Rattle.desk.specs.Report.{number_after, happening_lines, turn_lines, ending_lines, cycle_lines, event_lines}
 use Rattle.desk.specs.Seen.{IsUnbroken}
+use Rattle.run_law.specs.Left.{EndsInDoubt}
 use Rattle.run_law.proofs.SeenLemmas.{ArePlain, plain_on, commits_in, commits_on}
 use Rattle.run_law.proofs.TurnLemmas.{StaysOpen, Ended, Ends, turn_ends}
 
@@ -36,12 +37,13 @@ counted_quiet activation counts ends =
     omega (arith, one, two, three)
 
 -- what a step of an open desk did: its order grew, it has no more commit lines than it made commits and none where it closed the desk,
--- and it leaves the desk open where its word is fine
+-- as many where it left the desk open or its word is no doubt, and it leaves the desk open where its word is fine
 pub record Stepped (word : Word) (order : List (ℕ × ℕ)) (names : List (List ℕ)) (after : Step) : Type 0 where
   pub more : List (ℕ × ℕ)
   pub order_is : after.desk.order ≡ order ++ more
   pub few : (number : ℕ) → commits_in (happening_lines names number after.happening) ≤ length more
   pub quiet : after.desk.closed ≡ true → (number : ℕ) → commits_in (happening_lines names number after.happening) ≡ 0
+  pub settled : (after.desk.closed ≡ false) ⊎ (word ≡ Doubt → ⊥) → (number : ℕ) → length more ≤ commits_in (happening_lines names number after.happening)
   pub stays : word ≡ Fine → after.desk.closed ≡ false
 
 module _ (word : Word) (order : List (ℕ × ℕ)) (names : List (List ℕ)) where
@@ -52,16 +54,18 @@ module _ (word : Word) (order : List (ℕ × ℕ)) (names : List (List ℕ)) whe
     order_is = is.1 ∙ sym (append-nil order);
     few = λ number. let no = none number in omega (arith, no);
     quiet = λ shut number. none number;
+    settled = λ cause number. omega arith;
     stays = λ fine. is.0;
   }
 
   -- it closed, with no commit line
-  shut_by : (after : Step) (more : List (ℕ × ℕ)) → after.desk.order ≡ order ++ more → (word ≡ Fine → ⊥) → ((number : ℕ) → commits_in (happening_lines names number after.happening) ≡ 0) → Stepped word order names after
-  shut_by after more is broken none = record {
-    more = more;
-    order_is = is;
+  shut_by : (after : Step) → after.desk.order ≡ order → (word ≡ Fine → ⊥) → ((number : ℕ) → commits_in (happening_lines names number after.happening) ≡ 0) → Stepped word order names after
+  shut_by after is broken none = record {
+    more = [];
+    order_is = is ∙ sym (append-nil order);
     few = λ number. let no = none number in omega (arith, no);
     quiet = λ shut number. none number;
+    settled = λ cause number. omega arith;
     stays = λ fine. absurd (broken fine);
   }
 
@@ -78,10 +82,18 @@ module _ (word : Word) (order : List (ℕ × ℕ)) (names : List (List ℕ)) whe
     order_is = ended.1.1;
     few = λ number. let one = counted_quiet activation counts (line.Commit activation number steps printed ∷ []) in omega (arith, one);
     quiet = λ shut. let no = sym ended.0 ∙ shut in cc;
+    settled = λ cause number. let one = counted_quiet activation counts (line.Commit activation number steps printed ∷ []) in omega (arith, one);
     stays = λ fine. ended.0;
   }
-  ended_by activation desk counts CommitUnwritten ended = shut_by (record { desk = desk; happening = Turned activation counts CommitUnwritten }) [] (ended.1 ∙ sym (append-nil order)) ended.2 (λ number. counted_quiet activation counts (line.Closed ∷ []))
-  ended_by activation desk counts CommitDoubted ended = shut_by (record { desk = desk; happening = Turned activation counts CommitDoubted }) (ended.1.0 ∷ []) ended.1.1 ended.2 (λ number. counted_quiet activation counts (line.Doubt activation number ∷ line.Closed ∷ []))
+  ended_by activation desk counts CommitUnwritten ended = shut_by (record { desk = desk; happening = Turned activation counts CommitUnwritten }) ended.1 ended.2 (λ number. counted_quiet activation counts (line.Closed ∷ []))
+  ended_by activation desk counts CommitDoubted ended = record {
+    more = ended.1.0 ∷ [];
+    order_is = ended.1.1;
+    few = λ number. let none = counted_quiet activation counts (line.Doubt activation number ∷ line.Closed ∷ []) in omega (arith, none);
+    quiet = λ shut number. counted_quiet activation counts (line.Doubt activation number ∷ line.Closed ∷ []);
+    settled = λ cause number. absurd (⊎_elim (λ still. let no : true ≡ false = sym ended.0 ∙ still in cc) (λ never. never ended.2) cause);
+    stays = λ fine. absurd (let no : Fine ≡ Doubt = sym fine ∙ ended.2 in cc);
+  }
 
   turned_by : (activation : ℕ) (turning : Turning) → Ends word order turning → Stepped word order names (turned activation turning)
   turned_by activation (Going desk counts) ends = absurd ends
@@ -114,14 +126,14 @@ checkpoint_by programs Fine names desk is = stayed Fine desk.order names (event_
 checkpoint_by programs (ReadFailed page) names desk is = stayed (ReadFailed page) desk.order names (event_of programs event.Checkpoint (ReadFailed page) desk) (is, refl) (λ number. refl)
 checkpoint_by programs Unwritten names desk is = stayed Unwritten desk.order names (event_of programs event.Checkpoint Unwritten desk) (is, refl) (λ number. refl)
 checkpoint_by programs Doubt names desk is = stayed Doubt desk.order names (event_of programs event.Checkpoint Doubt desk) (is, refl) (λ number. refl)
-checkpoint_by programs Failed names desk is = shut_by Failed desk.order names (event_of programs event.Checkpoint Failed desk) [] (sym (append-nil desk.order)) (λ fine. cc) (λ number. refl)
+checkpoint_by programs Failed names desk is = shut_by Failed desk.order names (event_of programs event.Checkpoint Failed desk) refl (λ fine. cc) (λ number. refl)
 
 crash_by : (programs : List Program) (word : Word) (names : List (List ℕ)) (desk : Desk) → desk.closed ≡ false → Stepped word desk.order names (event_of programs event.Crash word desk)
 crash_by programs Fine names desk is = stayed Fine desk.order names (event_of programs event.Crash Fine desk) (is, refl) (λ number. lost_behind (numbers desk) (line.Open number) refl)
 crash_by programs (ReadFailed page) names desk is = stayed (ReadFailed page) desk.order names (event_of programs event.Crash (ReadFailed page) desk) (is, refl) (λ number. lost_behind (numbers desk) (line.Open number) refl)
 crash_by programs Unwritten names desk is = stayed Unwritten desk.order names (event_of programs event.Crash Unwritten desk) (is, refl) (λ number. lost_behind (numbers desk) (line.Open number) refl)
 crash_by programs Doubt names desk is = stayed Doubt desk.order names (event_of programs event.Crash Doubt desk) (is, refl) (λ number. lost_behind (numbers desk) (line.Open number) refl)
-crash_by programs Failed names desk is = shut_by Failed desk.order names (event_of programs event.Crash Failed desk) [] (sym (append-nil desk.order)) (λ fine. cc) (λ number. lost_behind (numbers desk) line.Closed refl)
+crash_by programs Failed names desk is = shut_by Failed desk.order names (event_of programs event.Crash Failed desk) refl (λ fine. cc) (λ number. lost_behind (numbers desk) line.Closed refl)
 
 event_by : (programs : List Program) (one : Event) (word : Word) (names : List (List ℕ)) (desk : Desk) → desk.closed ≡ false → Stepped word desk.order names (event_of programs one word desk)
 event_by programs (event.Begin program args) word names desk is = code_by word desk.order names program args (slice_get programs program) desk (is, refl)
@@ -199,14 +211,28 @@ module _ (programs : List Program) (names : List (List ℕ)) (number : ℕ) wher
       by_test true is = cc
       by_test false is = refl
 
-  -- a run's order is longer, by no fewer commits than its lines have
+  -- a run that is open at its end, or whose last event didn't end in doubt
+  abbrev pub IsSettled : List (Event × Word) → Desk → Type 0
+  IsSettled taken desk = ((run programs taken desk).closed ≡ false) ⊎ (EndsInDoubt taken → ⊥)
+
+  settled_first : (one : Event × Word) (taken : List (Event × Word)) (desk : Desk) → OpenBeforeEach programs (one ∷ taken) desk → IsSettled (one ∷ taken) desk → ((step programs one.0 one.1 desk).desk.closed ≡ false) ⊎ (one.1 ≡ Doubt → ⊥)
+  settled_first one [] desk each_open (inl still) = inl still
+  settled_first one [] desk each_open (inr never) = inr (λ is. never ([], one.0, ap (λ (word : Word). (one.0, word) ∷ []) is))
+  settled_first one (next ∷ taken) desk each_open cause = inl (open_is (step programs one.0 one.1 desk).desk each_open.1.0)
+
+  settled_rest : (one : Event × Word) (taken : List (Event × Word)) (desk : Desk) → IsSettled (one ∷ taken) desk → IsSettled taken (step programs one.0 one.1 desk).desk
+  settled_rest one taken desk (inl still) = inl still
+  settled_rest one taken desk (inr never) = inr (λ ends. never (one ∷ ends.0, ends.1, ap (λ (behind : List (Event × Word)). one ∷ behind) ends.2))
+
+  -- a run's order is longer, by no fewer commits than its lines have, and as many where it is settled
   pub record Grew (taken : List (Event × Word)) (desk : Desk) : Type 0 where
     pub more : List (ℕ × ℕ)
     pub order_is : (run programs taken desk).order ≡ desk.order ++ more
     pub few : commits_in (event_lines names programs number taken desk) ≤ length more
+    pub settled : IsSettled taken desk → length more ≤ commits_in (event_lines names programs number taken desk)
 
   pub run_grew : (taken : List (Event × Word)) (desk : Desk) → OpenBeforeEach programs taken desk → Grew taken desk
-  run_grew [] desk each_open = record { more = []; order_is = sym (append-nil desk.order); few = omega arith }
+  run_grew [] desk each_open = record { more = []; order_is = sym (append-nil desk.order); few = omega arith; settled = λ cause. omega arith }
   run_grew (one ∷ taken) desk each_open =
       let after = step programs one.0 one.1 desk in
       let first : Stepped one.1 desk.order names after = step_by programs one.0 one.1 names desk (open_is desk each_open.0) in
@@ -218,5 +244,10 @@ module _ (programs : List Program) (names : List (List ℕ)) (number : ℕ) wher
             let split = commits_on (happening_lines names (number_after number after.desk) after.happening) (event_lines names programs number taken after.desk) in
             let here = first.few (number_after number after.desk) in
             let later = rest.few in
+            omega (arith, split, here, later, length-append first.more rest.more);
+        settled = λ cause.
+            let split = commits_on (happening_lines names (number_after number after.desk) after.happening) (event_lines names programs number taken after.desk) in
+            let here = first.settled (settled_first one taken desk each_open cause) (number_after number after.desk) in
+            let later = rest.settled (settled_rest one taken desk cause) in
             omega (arith, split, here, later, length-append first.more rest.more);
       }

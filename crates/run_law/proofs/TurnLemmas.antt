@@ -21,7 +21,7 @@ OneMore order desk = (one : ℕ × ℕ) × (desk.order ≡ order ++ one ∷ [])
 abbrev pub Ended : Word → List (ℕ × ℕ) → Desk → Ending → Type 0
 Ended word order desk (Committed steps printed) = (desk.closed ≡ false) × OneMore order desk
 Ended word order desk CommitUnwritten = (desk.closed ≡ true) × (desk.order ≡ order) × (word ≡ Fine → ⊥)
-Ended word order desk CommitDoubted = (desk.closed ≡ true) × OneMore order desk × (word ≡ Fine → ⊥)
+Ended word order desk CommitDoubted = (desk.closed ≡ true) × OneMore order desk × (word ≡ Doubt)
 Ended word order desk _ = StaysOpen order desk
 
 abbrev pub Keeps : Word → List (ℕ × ℕ) → Turning → Type 0
@@ -47,7 +47,7 @@ module _ (order : List (ℕ × ℕ)) where
   commits_keeps Fine attempt desk counts was_open = (was_open.0, one_more attempt desk was_open.1)
   commits_keeps (ReadFailed page) attempt desk counts was_open = (was_open.0, one_more attempt desk was_open.1)
   commits_keeps Unwritten attempt desk counts was_open = (refl, was_open.1, λ is. cc)
-  commits_keeps Doubt attempt desk counts was_open = (refl, one_more attempt desk was_open.1, λ is. cc)
+  commits_keeps Doubt attempt desk counts was_open = (refl, one_more attempt desk was_open.1, refl)
   commits_keeps Failed attempt desk counts was_open = (was_open.0, one_more attempt desk was_open.1)
 
   takes_effect_keeps : (word : Word) (attempt : Attempt) (outcome : Outcome) (desk : Desk) (counts : Counts) → StaysOpen order desk → Keeps word order (takes_effect word attempt outcome desk counts)

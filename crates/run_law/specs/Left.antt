@@ -1,13 +1,17 @@
 -- What a crash leaves of a run.
-use Rattle.std.specs.Prelude.{◌≡◌, ℕ, ◌+◌, ◌≤◌, false, List, ◌++◌, length, map, take}
+use Rattle.std.specs.Prelude.{◌≡◌, ℕ, ◌+◌, ◌≤◌, false, List, [], ◌∷◌, ◌++◌, length, map, take}
 use Rattle.flat_machine.specs.declared.machine.Program.{Program}
 use Rattle.store_format.specs.Stands.{stands}
 use Rattle.desk.specs.declared.event.Event.{Event}
 use Rattle.desk.specs.Desk.{Desk}
-use Rattle.desk.specs.Instruction.{Word}
+use Rattle.desk.specs.Instruction.{Word, Doubt}
 use Rattle.desk.specs.Run.{run, IsRunOf}
 use Rattle.desk.specs.Seen.{commits_seen}
 use Rattle.desk.specs.Crash.{standing_of}
+
+-- the last of these events ended in doubt
+abbrev pub EndsInDoubt : List (Event × Word) → Type 0
+EndsInDoubt taken = (front : List (Event × Word)) × (event : Event) × (taken ≡ front ++ (event, Doubt) ∷ [])
 
 -- A crash in a run left this image and these printed bytes, of which some stood before it. There is a run of the first of its events, all
 -- of whose desks are open, and whose order is the first part of the run's. The image stands for where that run ends. What was printed

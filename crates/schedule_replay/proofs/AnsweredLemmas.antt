@@ -2,8 +2,8 @@
 use Rattle.std.proofs.Common.{◌≡◌, ℕ, zero, suc, ◌+◌, ◌<◌, ◌≤◌, List, [], ◌∷◌, ◌++◌, length, get_or, take, drop, cond, refl, sym, ◌∙◌, ap, subst, arith, rules, IsSome}
 use Rattle.std.specs.Prelude.{false, Option, Result, Ok, Err, IsErr, All}
 use Rattle.std.specs.Option.{ForSome}
-use Rattle.std.proofs.lemmas.List.{take_all, take_more, take-append-drop}
-use Rattle.std.proofs.lemmas.List.Sums.{sum_by-append}
+use Rattle.std.proofs.lemmas.List.{length-take, take_all, take_more, take-append-drop}
+use Rattle.std.proofs.lemmas.List.Sums.{count_by-le-length, sum_by-append}
 use Rattle.outside.specs.declared.failed.Failed.{Failed}
 use Rattle.outside.specs.declared.world.Outside.{Ghosts}
 use Rattle.outside.specs.Causes.{HasCause}
@@ -31,6 +31,13 @@ begins_split xs ys = sum_by-append (λ event. cond (is_begin event) 1 0) xs ys
 
 turns_split : (xs ys : List Event) → turns_in (xs ++ ys) ≡ turns_in xs + turns_in ys
 turns_split xs ys = sum_by-append (λ event. cond (is_turn event) 1 0) xs ys
+
+-- the first of some events have no more turns than there are events
+pub turns_few : (events : List Event) (count : ℕ) → turns_in (take count events) ≤ length events
+turns_few events count =
+    let some : turns_in (take count events) ≤ length (take count events) = count_by-le-length is_turn (take count events) in
+    let cut = length-take count events in
+    omega (arith, some, cut)
 
 -- the events before one, that one, and those behind it
 parted : (events : List Event) (i : ℕ) (event : Event) → i < length events → (take i events ++ get_or events i event ∷ []) ++ drop (i + 1) events ≡ events

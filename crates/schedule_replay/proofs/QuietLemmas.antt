@@ -1,5 +1,5 @@
 -- Events without a report, one after another.
-use Rattle.std.proofs.Common.{◌≡◌, ℕ, ◌+◌, ◌*◌, ◌<◌, ◌≤◌, ◌⊎◌, List, [], ◌∷◌, ◌++◌, length, cond, take, get_or, refl, sym, ap, ◌∙◌, subst, arith, ⊎_elim, length-append}
+use Rattle.std.proofs.Common.{◌≡◌, ℕ, ◌+◌, ◌*◌, ◌<◌, ◌≤◌, ◌⊎◌, List, [], ◌∷◌, ◌++◌, length, cond, take, get_or, refl, sym, ap, ◌∙◌, subst, arith, ⊎_elim}
 use Rattle.std.specs.Prelude.{Bool, true, false, not, count_by, Option, None, Some, IfSome, unwrap_or}
 use Rattle.std.specs.List.{flat_map, fold}
 use Rattle.std.proofs.lemmas.List.{map-append, length-map, take_more}
@@ -28,8 +28,7 @@ use Rattle.desk.specs.Lines.{Line}
 use Rattle.desk.specs.Lines as line
 use Rattle.desk.specs.Report.{cycle_lines, event_lines, happening_lines, number_after}
 use Rattle.desk.specs.Run.{Step, run, step, faulted, is_fine}
-use Rattle.run_law.specs.Left.{IsLeft}
-use Rattle.run_law.proofs.LeftLemmas.{left_behind, left_more, left_none, left_quiet}
+use Rattle.run_law.proofs.LeftLemmas.{left_none, left_quiet}
 use Rattle.run_law.proofs.RunLemmas.{run_on, open_on, lines_on, faulted_on}
 use Rattle.run_law.proofs.SeenLemmas.{commits_in, commits_on}
 use Rattle.run_law.proofs.StepLemmas.{Grew, Stepped, counted_quiet, run_grew, step_by}
@@ -37,7 +36,7 @@ use Rattle.schedule_replay.specs.Quiet.{RanQuietly, Tells, WentQuietly, is_rollb
 use Rattle.schedule_replay.specs.Ran.{InDoubt}
 use Rattle.schedule_replay.specs.declared.quietly.Tally.{Tally}
 use Rattle.schedule_replay.proofs.CountLemmas.{faults_in, faults_front, faults_behind, happened_keep, most_on, most_le}
-use Rattle.outside.proofs.Runs.{leaves_on}
+use Rattle.schedule_replay.proofs.RanLemmas.{images_join}
 use Rattle.schedule_replay.proofs.WentLemmas.{last_is, one_event}
 use Rattle.schedule_replay.proofs.WriteLemmas.{writes_on, writes_same}
 
@@ -217,12 +216,8 @@ module _ {D W : Type 0} (S : desk.Ghosts D) (G : Ghosts W) (fewer_later : FewerL
             (let twice : 2 * commits_in first + 2 * commits_in second ≡ 2 * commits_in (event_lines [] programs number (one.taken ++ last_one) start) = omega (arith, split) in twice)
             (writes_on (G.writes before) (G.writes between) (G.writes after) (2 * commits_in first) (2 * commits_in second) one.writes two.writes);
         left =
-            leaves_on G fewer_later before between after calls_one.time calls_two.time (λ (image seen : List ℕ). IsLeft programs number start (one.taken ++ last_one) [] [] image [])
-            (λ image seen left. left_more programs number start one.taken last_one [] [] [] image [] steps.more steps.order_is (one.left image seen left))
-            (λ image seen left.
-            left_behind programs number start one.taken last_one [] [] [] image [] one.each_open
-            (let longer = ap (λ (order : List (ℕ × ℕ)). length order) grew.order_is in omega (arith, longer, length-append start.order grew.more)) (λ rest. omega arith)
-            (left_quiet programs number event word [] middle still_open [] [] image [] 0 (subst (λ (desk : Desk). IsEitherOf programs number event middle desk image) (sym next_is) (two.did.crash image seen left)) refl refl));
+            images_join G fewer_later programs number start one.taken last_one before between after grew.more steps.more calls_one.time calls_two.time one.each_open grew.order_is steps.order_is one.left
+            (λ image seen left. left_quiet programs number event word [] middle still_open [] [] image [] 0 (subst (λ (desk : Desk). IsEitherOf programs number event middle desk image) (sym next_is) (two.did.crash image seen left)) refl refl);
         doubt = λ shut front last is.
             let ends = last_is one.taken front (event, word) (last, Doubt) is in
             let doubted : word ≡ Doubt = ap (λ (pair : Event × Word). pair.1) ends.1 in

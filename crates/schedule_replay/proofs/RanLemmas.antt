@@ -60,13 +60,23 @@ one_of (one ∷ two ∷ taken) event is = absurd (let no : ⊥ = cc in no)
 
 -- what a crash left of two parts, one after another
 module _ {W : Type 0} (G : Ghosts W) (fewer_later : FewerLater G) (programs : List Program) (number : ℕ) where
-  pub leaves_join : (start : Desk) (one two : List (Event × Word)) (first second : List ℕ) (before between after : W) (more : List (ℕ × ℕ)) → Elapses G.moment G.left_since before between → Elapses G.moment G.left_since between after → shown_of G between ≡ shown_of G before ++ first → OpenBeforeEach programs one start
+  pub leaves_join : (view : List ℕ → List ℕ) (shown shown_between : List ℕ) (start : Desk) (one two : List (Event × Word)) (first second : List ℕ) (before between after : W) (more : List (ℕ × ℕ)) → Elapses G.moment G.left_since before between → Elapses G.moment G.left_since between after → shown_between ≡ shown ++ first → OpenBeforeEach programs one start
       → length start.order + commits_seen first ≤ length (run programs one start).order → ((rest : List ℕ) → commits_seen (first ++ rest) ≡ commits_seen first + commits_seen rest) → (run programs two (run programs one start)).order ≡ (run programs one start).order ++ more
-      → Leaves G (IsLeft programs number start one first (shown_of G before)) before between → Leaves G (IsLeft programs number (run programs one start) two second (shown_of G between)) between after → Leaves G (IsLeft programs number start (one ++ two) (first ++ second) (shown_of G before)) before after
-  leaves_join start one two first second before between after more time_one time_two shown each_open few adds grows left_one left_two =
-      leaves_on G fewer_later before between after time_one time_two (IsLeft programs number start (one ++ two) (first ++ second) (shown_of G before))
-      (λ image seen left. left_more programs number start one two first second (shown_of G before) image seen more grows (left_one image seen left))
-      (λ image seen left. left_behind programs number start one two first second (shown_of G before) image seen each_open few adds (subst (λ (printed : List ℕ). IsLeft programs number (run programs one start) two second printed image seen) shown (left_two image seen left)))
+      → Leaves G (λ image seen. IsLeft programs number start one first shown image (view seen)) before between → Leaves G (λ image seen. IsLeft programs number (run programs one start) two second shown_between image (view seen)) between after
+      → Leaves G (λ image seen. IsLeft programs number start (one ++ two) (first ++ second) shown image (view seen)) before after
+  leaves_join view shown shown_between start one two first second before between after more time_one time_two same each_open few adds grows left_one left_two =
+      leaves_on G fewer_later before between after time_one time_two (λ (image seen : List ℕ). IsLeft programs number start (one ++ two) (first ++ second) shown image (view seen))
+      (λ image seen left. left_more programs number start one two first second shown image (view seen) more grows (left_one image seen left))
+      (λ image seen left. left_behind programs number start one two first second shown image (view seen) each_open few adds (subst (λ (printed : List ℕ). IsLeft programs number (run programs one start) two second printed image (view seen)) same (left_two image seen left)))
+
+  -- the same of the images, without a word on the screen
+  pub images_join : (start : Desk) (one two : List (Event × Word)) (before between after : W) (earlier more : List (ℕ × ℕ)) → Elapses G.moment G.left_since before between → Elapses G.moment G.left_since between after → OpenBeforeEach programs one start
+      → (run programs one start).order ≡ start.order ++ earlier → (run programs two (run programs one start)).order ≡ (run programs one start).order ++ more
+      → Leaves G (λ image seen. IsLeft programs number start one [] [] image []) before between → Leaves G (λ image seen. IsLeft programs number (run programs one start) two [] [] image []) between after
+      → Leaves G (λ image seen. IsLeft programs number start (one ++ two) [] [] image []) before after
+  images_join start one two before between after earlier more time_one time_two each_open grew grows left_one left_two =
+      leaves_join (λ seen. []) [] [] start one two [] [] before between after more time_one time_two refl each_open
+      (let longer = ap (λ (order : List (ℕ × ℕ)). length order) grew in omega (arith, longer, length-append start.order earlier)) (λ rest. omega arith) grows left_one left_two
 
 -- the commits seen in lines, and in bytes behind them
 pub seen_behind : (lines : List Line) → ArePlain lines → (rest : List ℕ) → commits_seen (flat_map line_text lines ++ rest) ≡ commits_seen (flat_map line_text lines) + commits_seen rest
@@ -100,6 +110,7 @@ module _ {D W : Type 0} (S : desk.Ghosts D) (G : Ghosts W) (fewer_later : FewerL
     times = on_ok_as _ result other fails ran.times;
     earlier = ran.earlier;
     time = ran.time;
+    images = ran.images;
     left = ran.left;
     doubt = ran.doubt;
   }
@@ -151,10 +162,13 @@ module _ {D W : Type 0} (S : desk.Ghosts D) (G : Ghosts W) (fewer_later : FewerL
         earlier = earlier_on (G.printed before) (G.printed between) (G.printed after) bytes later one.taken two.taken value (later two.taken) result
             (λ front. sym (behind front)) one.printed two.printed one.earlier two.earlier;
         time = elapses-trans G fewer_later before between after one.time two.time;
+        images =
+            let grown : Grew programs names number one.taken start = run_grew programs names number one.taken start one.each_open in
+            images_join G fewer_later programs number start one.taken two.taken before between after grown.more grew.more one.time two.time one.each_open grown.order_is grew.order_is one.images two.images;
         left = λ told.
             let shown = shown_after (G.printed before) (G.printed between) (bytes one.taken) value told one.printed in
             subst (λ (text : List ℕ). Leaves G (IsLeft programs number start (one.taken ++ two.taken) text (shown_of G before)) before after) (behind two.taken)
-            (leaves_join G fewer_later programs number start one.taken two.taken (bytes one.taken) (later two.taken) before between after grew.more one.time two.time shown.1 one.each_open
+            (leaves_join G fewer_later programs number (λ seen. seen) (shown_of G before) (shown_of G between) start one.taken two.taken (bytes one.taken) (later two.taken) before between after grew.more one.time two.time shown.1 one.each_open
             (seen_few names are programs number one.taken start one.each_open)
             (seen_behind (event_lines names programs number one.taken start) (run_plain programs names number are one.taken start))
             grew.order_is (one.left told) (two.left shown.0));
@@ -208,6 +222,8 @@ ran_none S G printed_now stands_law open_law closed_law order_law names programs
   times = λ told. omega arith;
   earlier = inl refl;
   time = no_time G w;
+  images = λ image seen left.
+      left_none programs (S.opened new) start [] [] image [] 0 (open_law new (held_of G w) start shows) (ap stands (leaves_held G w sure image seen left) ∙ stands_law new (held_of G w) start shows) refl refl;
   left = λ told image seen left.
       left_none programs (S.opened new) start [] (shown_of G w) image seen 0 (open_law new (held_of G w) start shows) (ap stands (leaves_held G w sure image seen left) ∙ stands_law new (held_of G w) start shows)
       (told_is (G.printed w) seen told (printed_now w image seen left) ∙ sym (append-nil (shown_of G w))) refl;

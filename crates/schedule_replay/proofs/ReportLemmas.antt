@@ -9,7 +9,8 @@ use Rattle.outside.specs.Durable.{IsSure}
 use Rattle.outside.specs.Moments.{Elapses}
 use Rattle.outside.specs.Runs.{FewerLater, Leaves, held_of}
 use Rattle.outside.proofs.Prints.{prints_same, prints_well, prints_on, prints_stop}
-use Rattle.outside.proofs.Runs.{elapses-trans}
+use Rattle.outside.proofs.Durable.{leaves_held}
+use Rattle.outside.proofs.Runs.{elapses-trans, leaves_on}
 use Rattle.flat_machine.specs.declared.machine.Program.{Program}
 use Rattle.store_format.specs.Stands.{stands}
 use Rattle.desk.specs.declared.event.Event.{Event}
@@ -76,16 +77,31 @@ left_quiet : (activations : List ℕ) → commits_in (map Left activations) ≡ 
 left_quiet [] = refl
 left_quiet (activation ∷ activations) = let split = commits_on (Left activation ∷ []) (map Left activations) in let rest = left_quiet activations in omega (arith, split, rest)
 
-closing_quiet : (number : ℕ) (desk : Desk) → commits_seen (flat_map line_text (closing_lines number [] desk)) ≡ 0
-closing_quiet number desk = by_test desk.closed
+closing_plain : (number : ℕ) (rest : List Event) (desk : Desk) → ArePlain (closing_lines number rest desk) × (commits_in (closing_lines number rest desk) ≡ 0)
+closing_plain number (event ∷ rest) desk = (tt, refl)
+closing_plain number [] desk = by_test desk.closed
   where
-    by_test : (shut : Bool) → commits_seen (flat_map line_text (if shut then [] else map Left (numbers desk) ++ End (number_after number desk) ∷ [])) ≡ 0
-    by_test true = refl
+    by_test : (shut : Bool) → ArePlain (if shut then [] else map Left (numbers desk) ++ End (number_after number desk) ∷ []) × (commits_in (if shut then [] else map Left (numbers desk) ++ End (number_after number desk) ∷ []) ≡ 0)
+    by_test true = (tt, refl)
     by_test false =
-        let all = seen_all (map Left (numbers desk) ++ End (number_after number desk) ∷ []) (plain_on (map Left (numbers desk)) (End (number_after number desk) ∷ []) (left_plain (numbers desk)) (tt, tt)) in
         let split = commits_on (map Left (numbers desk)) (End (number_after number desk) ∷ []) in
         let none = left_quiet (numbers desk) in
-        omega (arith, all, split, none)
+        (plain_on (map Left (numbers desk)) (End (number_after number desk) ∷ []) (left_plain (numbers desk)) (tt, tt), omega (arith, split, none))
+
+closing_quiet : (number : ℕ) (desk : Desk) → commits_seen (flat_map line_text (closing_lines number [] desk)) ≡ 0
+closing_quiet number desk = let closing = closing_plain number [] desk in seen_all (closing_lines number [] desk) closing.0 ∙ closing.1
+
+-- a report of a run tells of as many commits as the lines of its events
+pub report_seen : (names : List (List ℕ)) → AreNames names → (programs : List Program) (number : ℕ) (taken : List (Event × Word)) (rest : List Event) (start : Desk) → commits_seen (report names programs number taken rest start) ≡ commits_in (event_lines names programs number taken start)
+report_seen names are programs number taken rest start =
+    let lines = event_lines names programs number taken start in
+    let ends = closing_lines number rest (run programs taken start) in
+    let closing = closing_plain number rest (run programs taken start) in
+    let whole : commits_seen (report names programs number taken rest start) ≡ commits_seen (flat_map line_text (Open number ∷ (lines ++ ends))) = ap (λ (these : List Line). commits_seen (flat_map line_text (Open number ∷ these))) (lines_end programs names number taken rest start) in
+    let all = seen_all (Open number ∷ (lines ++ ends)) (tt, plain_on lines ends (run_plain programs names number are taken start) closing.0) in
+    let one = commits_on (Open number ∷ []) (lines ++ ends) in
+    let two = commits_on lines ends in
+    omega (arith, whole, all, one, two, closing.1)
 
 -- what is printed of earlier events, behind the first line and with more behind it
 earlier_behind : {T : Type 0} (old between middle new : Option (List ℕ)) (first : List ℕ) (text : List (Event × Word) → List ℕ) (taken : List (Event × Word)) (value : T)
@@ -118,10 +134,18 @@ module _ {D W : Type 0} (S : desk.Ghosts D) (G : Ghosts W) (fewer_later : FewerL
         left_none programs number desk (flat_map line_text lines) (shown_of G before) image seen from.1.0 (open_law new (held_of G before) desk shows)
         (ap stands from.0 ∙ stands_law new (held_of G before) desk shows ∙ ap (λ n. standing_of n desk) opened) from.1.1 none
 
+    -- and the images of it, without a word on the screen
+    images_puts : {T : Type 0} (lines : List Line) (desk : Desk) (new : D) (before after : W) (result : Result T Failed) → S.opened new ≡ number → IsSure G before → S.shows new (held_of G before) desk → Puts G lines before after result → Leaves G (λ image seen. IsLeft programs number desk [] [] [] image []) before after
+    images_puts lines desk new before after result opened sure shows puts image seen left =
+        let from = puts.images image seen left in
+        left_none programs number desk [] [] image [] 0 (open_law new (held_of G before) desk shows)
+        (ap stands (leaves_held G before sure image from.0 from.1) ∙ stands_law new (held_of G before) desk shows ∙ ap (λ n. standing_of n desk) opened) refl refl
+
     -- what was put behind the first line
     pub record Tail {T : Type 0} (start : Desk) (taken : List (Event × Word)) (rest : List Event) (between after : W) (later : Result T Failed) : Type 0 where
       pub printed : Prints (G.printed between) (G.printed after) (text_of names programs number taken start ++ flat_map line_text (closing_lines number rest (run programs taken start))) later
       pub times : PutsTimes G (length (event_lines names programs number taken start ++ closing_lines number rest (run programs taken start))) between after later
+      pub images : Leaves G (λ image seen. IsLeft programs number start taken [] [] image []) between after
       pub left : IsSome (G.printed between) → Leaves G (IsLeft programs number start taken (text_of names programs number taken start ++ flat_map line_text (closing_lines number rest (run programs taken start))) (shown_of G between)) between after
       pub time : Elapses G.moment G.left_since between after
 
@@ -133,6 +157,7 @@ module _ {D W : Type 0} (S : desk.Ghosts D) (G : Ghosts W) (fewer_later : FewerL
         record {
           printed = prints_stop (G.printed between) (G.printed after) put ends result later one two ran.printed;
           times = times_failed _ later two;
+          images = ran.images;
           left = λ told image seen left. longer start ran.taken put ends (shown_of G between) image seen (ran.left told image seen left);
           time = ran.time;
         }
@@ -146,6 +171,7 @@ module _ {D W : Type 0} (S : desk.Ghosts D) (G : Ghosts W) (fewer_later : FewerL
         record {
           printed = subst (λ (bytes : List ℕ). Prints {T = U} (G.printed between) (G.printed after) bytes (Ok other)) (sym (append-nil put) ∙ ap (λ (tail : List ℕ). put ++ tail) (sym none)) (prints_well (G.printed between) (G.printed after) put value other ran.printed);
           times = subst (λ (lines : List Line). PutsTimes {T = U} G (length lines) between after (Ok other)) (sym (append-nil (event_lines names programs number ran.taken start)) ∙ ap (λ (tail : List Line). event_lines names programs number ran.taken start ++ tail) (sym (no_closing number rest (run programs ran.taken start) (sym ran.closes ∙ shut)))) ran.times;
+          images = ran.images;
           left = λ told image seen left. longer start ran.taken put ends (shown_of G between) image seen (ran.left told image seen left);
           time = ran.time;
         }
@@ -162,10 +188,15 @@ module _ {D W : Type 0} (S : desk.Ghosts D) (G : Ghosts W) (fewer_later : FewerL
         let all : Tail start ran.taken [] between after later = record {
           printed = prints_on (G.printed between) (G.printed middle) (G.printed after) put ends value later ran.printed puts.printed;
           times = times_on G between middle after (event_lines names programs number ran.taken start) (closing_lines number [] last) value later ran.printed ran.times puts.times;
+          images =
+              leaves_on G fewer_later between middle after ran.time puts.only.time (λ (image seen : List ℕ). IsLeft programs number start ran.taken [] [] image []) ran.images
+              (λ image seen left.
+              let from = puts.images image seen left in
+              ran.images image from.0 (fewer_later middle (G.moment between) (G.moment middle) image from.0 ran.time.later from.1));
           left = λ told.
               let shown = shown_after (G.printed between) (G.printed middle) put value told ran.printed in
               subst (λ (these : List (Event × Word)). Leaves G (IsLeft programs number start these (put ++ ends) (shown_of G between)) between after) (append-nil ran.taken)
-              (leaves_join G fewer_later programs number start ran.taken [] put ends between middle after [] ran.time puts.only.time shown.1 ran.each_open
+              (leaves_join G fewer_later programs number (λ seen. seen) (shown_of G between) (shown_of G middle) start ran.taken [] put ends between middle after [] ran.time puts.only.time shown.1 ran.each_open
               (seen_few names are programs number ran.taken start ran.each_open)
               (seen_behind (event_lines names programs number ran.taken start) (run_plain programs names number are ran.taken start))
               (sym (append-nil last.order)) (ran.left told)
@@ -198,6 +229,7 @@ module _ {D W : Type 0} (S : desk.Ghosts D) (G : Ghosts W) (fewer_later : FewerL
             earlier = inl refl;
             closed = if_ok_broken later (λ going. S.closed old ≡ is_closed going) two;
             all = if_ok_broken later (λ going. is_closed going ≡ false → events ≡ []) two;
+            images = images_puts (Open number ∷ []) start old before between result opened_at opened.sure opened.shows puts;
             left = λ told image seen left.
                 subst (λ (text : List ℕ). IsLeft programs number start [] text (shown_of G before) image seen) whole
                 (longer start [] first more (shown_of G before) image seen (left_puts (Open number ∷ []) start old before between result opened_at (seen_all (Open number ∷ []) (tt, tt)) opened.sure opened.shows puts told image seen left));
@@ -241,10 +273,13 @@ module _ {D W : Type 0} (S : desk.Ghosts D) (G : Ghosts W) (fewer_later : FewerL
                 (prints_same (G.printed before) (G.printed between) first (line_text (Open number)) (Ok value) (open_text number) puts.printed) ran.earlier more;
             closed = closed;
             all = all;
+            images =
+                leaves_on G fewer_later before between after puts.only.time tail.time (λ (image seen : List ℕ). IsLeft programs number start ran.taken [] [] image [])
+                (λ image seen left. left_more programs number start [] ran.taken [] [] [] image [] grew.more grew.order_is (images_puts (Open number ∷ []) start old before between (Ok value) opened_at opened.sure opened.shows puts image seen left)) tail.images;
             left = λ told.
                 let shown = shown_after (G.printed before) (G.printed between) first value told puts.printed in
                 subst (λ (text : List ℕ). Leaves G (IsLeft programs number start ran.taken text (shown_of G before)) before after) parts
-                (leaves_join G fewer_later programs number start [] ran.taken first (put ++ ends) before between after grew.more puts.only.time tail.time shown.1 tt
+                (leaves_join G fewer_later programs number (λ seen. seen) (shown_of G before) (shown_of G between) start [] ran.taken first (put ++ ends) before between after grew.more puts.only.time tail.time shown.1 tt
                 (let none = seen_all (Open number ∷ []) (tt, tt) in omega (arith, none))
                 (seen_behind (Open number ∷ []) (tt, tt)) grew.order_is
                 (left_puts (Open number ∷ []) start old before between (Ok value) opened_at (seen_all (Open number ∷ []) (tt, tt)) opened.sure opened.shows puts told)
@@ -286,6 +321,7 @@ reports_told S G names programs number events start new before after how shut is
   earlier = reports.earlier;
   closed = reports.closed ∙ is;
   all = λ going_on. reports.all (is ∙ going_on);
+  images = reports.images;
   left = reports.left;
   doubt = reports.doubt;
 }

@@ -140,6 +140,17 @@ module _ {D W : Type 0} (S : desk.Ghosts D) (G : Ghosts W) (fewer_later : FewerL
       abbrev Left : List ℕ → List ℕ → Type 0
       Left image seen = IsLeft programs number start ((event, word) ∷ []) text (shown_of G before) image seen
 
+      -- its images, without a word on the screen
+      images_disk : Leaves G (λ image seen. IsLeft programs number start ((event, word) ∷ []) [] [] image []) before between
+      images_disk image seen left = left_quiet programs number event word names start was_open [] [] image [] 0 (either image seen left) refl refl
+
+      images_all : Leaves G (λ image seen. IsLeft programs number start ((event, word) ∷ []) [] [] image []) before after
+      images_all =
+          leaves_on G fewer_later before between after calls.time lines_put.only.time (λ (image seen : List ℕ). IsLeft programs number start ((event, word) ∷ []) [] [] image []) images_disk
+          (λ image seen left.
+          let from = lines_put.images image seen left in
+          images_disk image from.0 (fewer_later between (G.moment before) (G.moment between) image from.0 calls.time.later from.1))
+
       in_disk : IsSome (G.printed before) → Leaves G Left before between
       in_disk told image seen left =
           left_quiet programs number event word names start was_open text (shown_of G before) image seen 0 (either image seen left) (quiet_is before between calls told image seen left ∙ sym (append-nil (shown_of G before))) refl
@@ -209,6 +220,7 @@ module _ {D W : Type 0} (S : desk.Ghosts D) (G : Ghosts W) (fewer_later : FewerL
         times = times_since result lines_put.times;
         earlier = inr ([], (event, word), refl, begins_none (G.printed before) (G.printed after) text result printed_since);
         time = elapses-trans G fewer_later before between after calls.time lines_put.only.time;
+        images = images_all;
         left = λ told. leaves_on G fewer_later before between after calls.time lines_put.only.time Left (in_disk told) (in_puts went.desk.closed refl told);
         doubt = in_doubt;
       }

@@ -45,8 +45,8 @@ abbrev pub text_of : List (List ℕ) → List Program → ℕ → List (Event ×
 text_of names programs number taken start = flat_map line_text (event_lines names programs number taken start)
 
 -- Events were run from a desk, each with a word, and their lines put. While the desk is open its bytes are sure and shown, and their
--- chosen bank holds no more records than the lines tell. The disk's count of faults stays where no line tells of one. A crash since the
--- start left what is said of the run.
+-- chosen bank holds no more records than the lines tell. The disk's count of faults stays where no line tells of one. The image that a
+-- crash since the start left is one of the run, and where printed bytes are told it lacks no commit that was seen by then.
 pub record Ran {D W : Type 0} (S : desk.Ghosts D) (G : Ghosts W) (names : List (List ℕ)) (programs : List Program) (number : ℕ) (events : List Event) (start : Desk) (new : D) (before after : W) {T : Type 0} (result : Result T Failed) : Type 0 where
   pub taken : List (Event × Word)
   pub events_taken : map (λ event. event.0) taken ≡ events
@@ -62,5 +62,6 @@ pub record Ran {D W : Type 0} (S : desk.Ghosts D) (G : Ghosts W) (names : List (
   pub times : PutsTimes G (length (event_lines names programs number taken start)) before after result
   pub earlier : PrintsEarlier (G.printed before) (G.printed after) (λ front. text_of names programs number front start) taken
   pub time : Elapses G.moment G.left_since before after
+  pub images : Leaves G (λ image seen. IsLeft programs number start taken [] [] image []) before after
   pub left : IsSome (G.printed before) → Leaves G (IsLeft programs number start taken (text_of names programs number taken start) (shown_of G before)) before after
   pub doubt : (run programs taken start).closed ≡ true → (front : List (Event × Word)) (event : Event) → taken ≡ front ++ (event, Doubt) ∷ [] → InDoubt G programs number start front event after

@@ -1,5 +1,5 @@
 // The events of a schedule, one after another, and their report.
-ghost use Rattle.std.specs.Prelude.{◌≡◌, ◌≤◌, ℕ, List, [], ◌∷◌, All, true, false, length, map, take, IfOk};
+ghost use Rattle.std.specs.Prelude.{◌≡◌, ◌+◌, ◌≤◌, ℕ, List, [], ◌∷◌, All, true, false, length, map, take, IfOk};
 ghost use Rattle.outside.specs.Causes.{Rose, HasCause};
 ghost use Rattle.outside.specs.Durable.{IsSure};
 ghost use Rattle.outside.specs.Moments.{Elapses};
@@ -69,6 +69,8 @@ pub fn replay<S: Supervisor, W: Outside>(
     ensures opened { S.opened desk.new ≡ S.opened desk.old }
     ensures header { S.header desk.new ≡ S.header desk.old }
     ensures begins { S.begins desk.new ≡ S.begins desk.old }
+    ensures programs { S.programs desk.new ≡ S.programs desk.old }
+    ensures turns { S.turns desk.new ≤ S.turns desk.old + length events.now }
 {
     match put_report(desk, names, events, &mut Reporter::new(), outside) {
         Err(Failed) => Replayed::PutFault,

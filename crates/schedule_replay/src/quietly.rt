@@ -1,5 +1,5 @@
 // The events of a schedule, one after another, without a report.
-ghost use Rattle.std.specs.Prelude.{◌≡◌, ◌≤◌, ℕ, List, [], ◌∷◌, All, true, false, length, None, IfSome};
+ghost use Rattle.std.specs.Prelude.{◌≡◌, ◌+◌, ◌≤◌, ℕ, List, [], ◌∷◌, All, true, false, length, None, IfSome};
 ghost use Rattle.outside.specs.Durable.{IsSure};
 ghost use Rattle.outside.specs.Runs.{CallsDisk, held_of};
 ghost use Rattle.desk.specs.declared.event.Event.TheVariants as event;
@@ -63,6 +63,8 @@ pub fn run_quiet<S: Supervisor, W: Outside>(
     ensures opened { S.opened desk.new ≡ S.opened desk.old }
     ensures header { S.header desk.new ≡ S.header desk.old }
     ensures begins { S.begins desk.new ≡ S.begins desk.old }
+    ensures programs { S.programs desk.new ≡ S.programs desk.old }
+    ensures turns { S.turns desk.new ≤ S.turns desk.old + length events.now }
 {
     let mut commits = 0;
     let mut rollbacks = 0;

@@ -5,3 +5,5 @@ pub mod DidLemmas
 pub mod OpeningLemmas
 pub mod TurnLemmas
 pub mod CauseLemmas
+pub mod ShownLemmas
+pub mod CyclesMet

@@ -36,7 +36,7 @@ use Rattle.activations.specs.Activity.{entries, entry_in, desk_over}
 use Rattle.activations.specs.Fetching.{IsStoreOf}
 use Rattle.activations.specs.Follows.{Follows}
 use Rattle.activations.specs.Follows as running
-use Rattle.activations.specs.Instructed.{IsEndOfRows, IsWaiter}
+use Rattle.activations.specs.Instructed.{IsEndOfRows, IfWaits}
 use Rattle.activations.specs.Kept as kept
 use Rattle.activations.specs.Serving.{IsOver as IsOverTurn}
 use Rattle.activations.specs.Turning.{HasEnded, counts_of}
@@ -161,7 +161,7 @@ module _ {W : Type 0} (G : Ghosts W) (fewer_later : FewerLater G) (s : Session) 
     fine how ended numbers = run-by Fine how (λ doubted. let no : ⊥ = cc in no) (inl refl) (ended.comes Fine (reads-all told.pages)) ended.follows numbers
 
     -- it ended before its commit call
-    pub ended : (how : TurnEnd) → IsEndOfRows G before mid tally told how → IsWaiter (number_in (activity s).seating seat) how
+    pub ended : (how : TurnEnd) → IsEndOfRows G before mid tally told how → IfWaits (number_in (activity s).seating seat) how
         → HasEnded how (turn_in (activity s) seat limit over.committed (order_of s) (counts_of tally)) (activity_of ran) over.committed (order_of s) (counts_of told)
         → HasRun G activation limit how s now told before mid over.committed
     ended end.Disk rows waits has = run-by (ReadFailed told.pages) end.Disk (λ doubted. let no : ⊥ = cc in no) (inr rows.0) has.comes has.follows tt

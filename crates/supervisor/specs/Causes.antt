@@ -50,6 +50,11 @@ EntersOrder activation (end.Committed told steps) old new = new ≡ old ++ (acti
 EntersOrder activation (end.Closed (Some doubted) told) old new = (steps : ℕ) × (new ≡ old ++ (activation, steps) ∷ [])
 EntersOrder activation _ old new = new ≡ old
 
+-- what the last commit printed stays but for a commit
+abbrev pub KeepsPrinted : TurnEnd → (old new : List ℕ) → Type 0
+KeepsPrinted (end.Committed told steps) old new = Unit {0}
+KeepsPrinted _ old new = new ≡ old
+
 -- the number in the answer to a crash is this one
 abbrev pub ReopenedNumber : Reopened → (number : ℕ) → Type 0
 ReopenedNumber (reopened.Number told) number = told ≡ number

@@ -1,36 +1,81 @@
--- What holds of each desk that a session shows, and of each run from one.
-use Rattle.std.specs.Prelude.{◌≡◌, ◌≤◌, ℕ, true, List}
+-- What holds of each desk that a session shows, and of each cycle that a turn records.
+use Rattle.std.specs.Prelude.{◌≡◌, ◌<◌, ◌≤◌, ◌==◌, ℕ, true, IsFalse, List, [], ◌∷◌, find, Some}
 use Rattle.line_geometry.specs.FlatStore.{FlatStore, IsWhole}
 use Rattle.lock_rules.specs.Sets.{has}
+use Rattle.lock_rules.specs.Waits.{shown_cycle}
 use Rattle.flat_machine.specs.declared.machine.Program.{Program}
 use Rattle.desk.specs.declared.event.Event.{Event}
-use Rattle.desk.specs.Desk.{Desk, Entry, opened}
-use Rattle.desk.specs.Instruction.{Word, turn}
+use Rattle.desk.specs.Desk.{Desk, Entry, opened, with_entry}
+use Rattle.desk.specs.Holdings.{numbers, waits_for}
+use Rattle.desk.specs.Instruction.{Word, Counts, Over, Limit, Idle, turn, no_counts, Contested, breaks_cycles}
 use Rattle.desk.specs.Run.{run}
-use Rattle.desk_law.specs.Beside.{AreAlike}
-use Rattle.desk_law.specs.Causes.{IsOverFor}
-use Rattle.desk_law.specs.Consistent.{IsAmong, due_to}
-use Rattle.desk_law.specs.Orderly.{IsOrderly}
-use Rattle.activations.specs.Activity.{locks_in, entry_in}
+use Rattle.desk_law.specs.Beside.{over_all}
+use Rattle.desk_law.specs.Causes.{IsOverFor, turn_counts}
+use Rattle.desk_law.specs.Consistent.{IsAmong, IsConsistent}
+use Rattle.desk_law.specs.Laws.{EachWaits, IsActive}
+use Rattle.desk_law.specs.Memory.{Machine, memory_after, memory_of}
+use Rattle.seats.specs.Seating.{number_in}
+use Rattle.activations.specs.Activity.{state_in, shown}
 use Rattle.supervisor.specs.declared.session.Session.{Session}
 use Rattle.supervisor.specs.Session.{activity}
 use Rattle.supervisor.specs.Shown.{Shown}
 
--- The law: a desk that a session shows is orderly. No line that one wrote is held by another, what a page's entry permits is held by its
--- owner, and no wait leads back to where it began.
-abbrev pub ShownIsOrderly : Type 0
-ShownIsOrderly = (s : Session) (held : List ℕ) (desk : Desk) → Shown s held desk → IsOrderly desk
+-- The law: a desk that a session shows is consistent.
+abbrev pub ShownIsConsistent : Type 0
+ShownIsConsistent = (s : Session) (held : List ℕ) (desk : Desk) → Shown s held desk → IsConsistent desk
 
--- The law: the locks that a session keeps of a taken seat are those due to its entry.
-abbrev pub LocksAreDue : Type 0
-LocksAreDue =
-    (s : Session) (held : List ℕ) (desk : Desk) (seat : ℕ) → Shown s held desk → has (activity s).seating.taken seat ≡ true
-    → AreAlike (locks_in (activity s) seat) (due_to desk.committed (entry_in (activity s) seat))
+-- The law: where somebody is active at such a desk, somebody who is active waits for nobody.
+abbrev pub SomebodyGoesOn : Type 0
+SomebodyGoesOn =
+    (s : Session) (held : List ℕ) (desk : Desk) (entry : Entry) → Shown s held desk → IsAmong desk.active entry
+    → (other : Entry) × IsAmong desk.active other × ((number : ℕ) → IsFalse (waits_for desk other.number number))
 
--- The law: whatever was run from a desk that opened on a whole store with two frames or more, the next turn of an entry that is active then
--- ends for its cause.
-abbrev pub RunsEndForCause : Type 0
-RunsEndForCause =
-    (programs : List Program) (frames most_active most_lines : ℕ) (store : FlatStore) (front : List (Event × Word)) (word : Word) (limit : ℕ) (entry : Entry)
-    → IsWhole store → 2 ≤ frames → IsAmong (run programs front (opened frames most_active most_lines store)).active entry
-    → IsOverFor word limit (run programs front (opened frames most_active most_lines store)) entry (turn word entry.number limit (run programs front (opened frames most_active most_lines store)))
+-- The law: from such a desk each turn of who is active ends for its cause, however it goes on the disk, and one of who isn't active is idle:
+-- the desk stays, and nothing is counted.
+abbrev pub ShownTurnsEnd : Type 0
+ShownTurnsEnd =
+    (s : Session) (held : List ℕ) (desk : Desk) (word : Word) (number limit : ℕ) → Shown s held desk
+    → ((entry : Entry) → IsAmong desk.active entry → IsOverFor word limit desk entry (turn word entry.number limit desk))
+    × ((IsActive desk number → ⊥) → turn word number limit desk ≡ Over desk no_counts Idle)
+
+-- A cycle was met in a turn. After so many of its rows the turn had come to a desk at which, with these pages resident, its entry was
+-- marked waiting and its contest went this many rounds; there the cycle was shown, and each of its members waits for the next.
+pub record WasMet (word : Word) (number limit : ℕ) (desk : Desk) (cycle : List ℕ) : Type 0 where
+  pub rows : ℕ
+  pub few : rows < limit
+  pub at : Desk
+  pub counted : Counts
+  pub came : turn word number rows desk ≡ Over at counted Limit
+  pub entry : Entry
+  pub is : find (λ entry. entry.number == number) at.active ≡ Some entry
+  pub resident : List ℕ
+  pub rounds : ℕ
+  pub before : Counts
+  pub after : Counts
+  pub met : Desk
+  pub contest : breaks_cycles rounds entry.number (Contested (with_entry (record at { resident = resident }) (record entry { waiting = true })) before) ≡ Contested met after
+  pub is_shown : shown_cycle (waits_for met) (numbers met) entry.number ≡ Some cycle
+  pub waits : EachWaits (waits_for met) cycle
+
+-- each of these was
+abbrev pub WereMet : Word → (number limit : ℕ) → Desk → List (List ℕ) → Type 0
+WereMet word number limit desk [] = Unit {0}
+WereMet word number limit desk (cycle ∷ cycles) = WasMet word number limit desk cycle × WereMet word number limit desk cycles
+
+-- The law: each cycle that a turn records was met in it, at whatever desk it begins.
+abbrev pub CyclesWereMet : Type 0
+CyclesWereMet = (word : Word) (number limit : ℕ) (desk : Desk) → WereMet word number limit desk (turn_counts (turn word number limit desk)).cycles
+
+-- The law: where a session shows the desk of a run, beside which plain machines ran on one memory without locks of their own, what runs in a
+-- taken seat is where the machine of its activation is: registers, status, address, private bytes and printed bytes. And all see the
+-- bytes of that memory.
+abbrev pub ShownIsIsolated : Type 0
+ShownIsIsolated =
+    (s : Session) (held : List ℕ) (programs : List Program) (frames most_active most_lines : ℕ) (store : FlatStore) (events : List (Event × Word))
+    → IsWhole store → 2 ≤ frames → Shown s held (run programs events (opened frames most_active most_lines store))
+    → ((seat : ℕ) → has (activity s).seating.taken seat ≡ true
+    → (machine : Machine)
+    × ((memory_after programs events (opened frames most_active most_lines store) (memory_of store)).machines (number_in (activity s).seating seat) ≡ Some machine)
+    × (over_all machine.state [] ≡ over_all (state_in (activity s) seat) []))
+    × ((memory_after programs events (opened frames most_active most_lines store) (memory_of store)).bytes
+    ≡ shown (activity s) (memory_after programs events (opened frames most_active most_lines store) (memory_of store)).committed)

@@ -6,7 +6,7 @@ ghost use Rattle.outside.specs.Runs.{CallsDisk, OnlyAsks, held_of};
 ghost use Rattle.desk.specs.declared.event.Event.TheVariants as event;
 ghost use Rattle.desk.specs.Desk.{Desk};
 ghost use Rattle.desk.specs.Holdings.{numbers};
-ghost use Rattle.desk.specs.Instruction.{Fine};
+ghost use Rattle.desk.specs.Instruction.{Fine, no_counts};
 ghost use Rattle.desk.specs.Run.{step};
 ghost use Rattle.desk.specs.Report.{number_after};
 ghost use Rattle.desk.specs.Answers.{begun_told, turn_told, stored_told, reopened_told, counts_told, turn_closes, stored_closes, reopened_closes, HasNumbers, StoredNumber, IsReopened};
@@ -40,9 +40,9 @@ fn told(tally: Tally, end: TurnEnd) -> Turn
 impl Session {
     ghost use Rattle.supervisor.specs.Session.{IsSound, activity, order_of, records_told, is_closed, opened_at, begins_of, turns_of, printed_of, header_of_session, number_told, store_told};
     ghost use Rattle.supervisor.specs.Shown.{Shown};
-    ghost use Rattle.supervisor.specs.Causes.{IsFull, HasPlace, lacking, TellsNumber, EntersOrder, ReopenedNumber, ClosesBy};
-    ghost use Rattle.activations.specs.Instructed.{IsWaiter};
-    ghost use Rattle.activations.specs.Causes.{IsJournal, IsLimit, IsVictim};
+    ghost use Rattle.supervisor.specs.Causes.{IsFull, HasPlace, lacking, TellsNumber, EntersOrder, KeepsPrinted, ReopenedNumber, ClosesBy};
+    ghost use Rattle.activations.specs.Instructed.{IfWaits};
+    ghost use Rattle.activations.specs.Causes.{IfJournal, IfLimit, IfVictim};
     ghost use Rattle.store_format.specs.Header.{most_lines};
     ghost use Rattle.seats.specs.Seating.{seat_of, numbers as numbers_seated};
 
@@ -59,6 +59,7 @@ impl Session {
         ensures unchanged { is_closed self.old ≡ true → self.new ≡ self.old }
         ensures closed { is_closed self.new ≡ is_closed self.old }
         ensures order { order_of self.new ≡ order_of self.old }
+        ensures printed { printed_of self.new ≡ printed_of self.old }
         ensures sound { IsSound self.new }
         ensures programs { (activity self.new).programs ≡ (activity self.old).programs }
         ensures opened { opened_at self.new ≡ opened_at self.old }
@@ -82,14 +83,16 @@ impl Session {
         ensures did { (desk : Desk) → IsSure W.Outside outside.old → Shown self.old (held_of W.Outside outside.old) desk → (did : Did W.Outside (activity self.old).programs (opened_at self.old) (event.Turn activation limit) (turn_told activation result (printed_of self.new)) (is_closed self.new) (order_of self.new) (Shown self.new) desk outside.old outside.new) × HasNumbers result.end activation (number_after (opened_at self.old) did.next) }
         ensures writes { WritesMore (W.writes outside.old) (W.writes outside.new) (writes_due result.end) }
         ensures shut { (result.end ≡ TurnEnd.Shut) ↔ (is_closed self.old ≡ true) }
+        ensures uncounted { is_closed self.old ≡ true → counts_told result ≡ no_counts }
         ensures idle { is_closed self.old ≡ false → (result.end ≡ TurnEnd.Idle) ↔ (seat_of (activity self.old).seating activation ≡ None) }
-        ensures waits { IsWaiter activation result.end }
-        ensures journal { IsJournal (most_lines (header_of_session self.old)) result.end }
-        ensures limit { IsLimit limit result.ran result.end }
-        ensures victim { IsVictim activation result.cycles.items result.end }
+        ensures waits { IfWaits activation result.end }
+        ensures journal { IfJournal (most_lines (header_of_session self.old)) result.end }
+        ensures limit { IfLimit limit result.ran result.end }
+        ensures victim { IfVictim activation result.cycles.items result.end }
         ensures pages { result.end ≡ TurnEnd.Disk → 0 < result.pages }
         ensures numbered { TellsNumber activation (number_told self.old) result.end }
         ensures ordered { EntersOrder activation result.end (order_of self.old) (order_of self.new) }
+        ensures printed { KeepsPrinted result.end (printed_of self.old) (printed_of self.new) }
         ensures unchanged { is_closed self.old ≡ true → (self.new ≡ self.old) × (outside.new ≡ outside.old) }
         ensures closed { is_closed self.new ≡ turn_closes result.end }
         ensures committing { ClosesBy W.Outside activation result.end (store_told self.old) self.new outside.old outside.new }
@@ -133,6 +136,8 @@ impl Session {
         ensures calls { CallsDisk W.Outside outside.old outside.new }
         ensures told { StillTold W.Outside outside.old outside.new }
         ensures bytes { HoldsStore W.Outside (header_of_session self.new) outside.new }
+        ensures order { order_of self.new ≡ order_of self.old }
+        ensures printed { printed_of self.new ≡ printed_of self.old }
         ensures sound { IsSound self.new }
         ensures programs { (activity self.new).programs ≡ (activity self.old).programs }
         ensures opened { opened_at self.new ≡ opened_at self.old }
@@ -167,6 +172,8 @@ impl Session {
         ensures damage { IsDamage W.Outside (header_of_session self.old) outside.old result }
         ensures undamaged { (desk : Desk) (offset : ℕ) → IsSome (W.held outside.old) → Shown self.old (held_of W.Outside outside.old) desk → result ≢ Reopened.Damaged offset }
         ensures asks { OnlyAsks W.Outside outside.old outside.new }
+        ensures order { order_of self.new ≡ order_of self.old }
+        ensures printed { printed_of self.new ≡ printed_of self.old }
         ensures sound { IsSound self.new }
         ensures programs { (activity self.new).programs ≡ (activity self.old).programs }
         ensures opened { opened_at self.new ≡ opened_at self.old }

@@ -19,11 +19,11 @@ use redo_journal::Kept;
 
 impl Session {
     ghost use Rattle.activations.specs.Turns.{IsAtCommit};
-    ghost use Rattle.activations.specs.Causes.{IsJournal};
+    ghost use Rattle.activations.specs.Causes.{IfJournal};
     ghost use Rattle.store_format.specs.Header.{most_lines};
     ghost use Rattle.supervisor.specs.Session.{IsSound, KeepsParts, activity, order_of, records_told};
     ghost use Rattle.supervisor.specs.Shown.{IsOver};
-    ghost use Rattle.supervisor.specs.Causes.{TellsNumber, EntersOrder, ClosesBy};
+    ghost use Rattle.supervisor.specs.Causes.{TellsNumber, EntersOrder, KeepsPrinted, ClosesBy};
     ghost use Rattle.restart.specs.Kept.{number_of};
     ghost use Rattle.supervisor.specs.Went.{HasCommitted, IsCommitEnd, most_kept};
 
@@ -44,9 +44,10 @@ impl Session {
         ensures only { OnlyWrites W.Outside outside.old outside.new }
         ensures writes { WritesMore (W.writes outside.old) (W.writes outside.new) (writes_due result) }
         ensures end { IsCommitEnd result }
-        ensures journal { IsJournal (most_lines self.old.store.header) result }
+        ensures journal { IfJournal (most_lines self.old.store.header) result }
         ensures numbered { TellsNumber (number_in (activity self.old).seating seat) (number_of self.old.store) result }
         ensures ordered { EntersOrder (number_in (activity self.old).seating seat) result (order_of self.old) (order_of self.new) }
+        ensures printed { KeepsPrinted result self.old.printed self.new.printed }
         ensures closed { self.new.closed ≡ turn_closes result }
         ensures committing { ClosesBy W.Outside (number_in (activity self.old).seating seat) result self.old.store self.new outside.old outside.new }
         ensures cause { turn_closes result ≡ true → Rose (W.disk_faults outside.old) (W.disk_faults outside.new) }

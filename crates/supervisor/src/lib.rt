@@ -9,5 +9,8 @@ mod session;
 mod supervisor;
 mod turns;
 
-pub use law::{locks_are_due, runs_end_for_cause, shown_desks_are_orderly};
+pub use law::{
+    cycles_were_met, shown_desks_are_consistent, shown_desks_are_isolated, shown_turns_end,
+    somebody_goes_on,
+};
 pub use session::Session;

@@ -17,9 +17,9 @@ impl Session {
     ghost use Rattle.activations.specs.Kept.{AreRowsWithin};
     ghost use Rattle.supervisor.specs.Session.{IsSound, KeepsParts, activity, order_of, records_told};
     ghost use Rattle.supervisor.specs.Shown.{IsOver};
-    ghost use Rattle.supervisor.specs.Causes.{TellsNumber, EntersOrder, ClosesBy};
-    ghost use Rattle.activations.specs.Instructed.{IsWaiter};
-    ghost use Rattle.activations.specs.Causes.{IsJournal, IsLimit, IsVictim};
+    ghost use Rattle.supervisor.specs.Causes.{TellsNumber, EntersOrder, KeepsPrinted, ClosesBy};
+    ghost use Rattle.activations.specs.Instructed.{IfWaits};
+    ghost use Rattle.activations.specs.Causes.{IfJournal, IfLimit, IfVictim};
     ghost use Rattle.store_format.specs.Header.{most_lines};
     ghost use Rattle.restart.specs.Kept.{number_of};
     ghost use Rattle.seats.specs.Seating.{seat_of};
@@ -47,13 +47,14 @@ impl Session {
         ensures writes { WritesMore (W.writes outside.old) (W.writes outside.new) (writes_due result) }
         ensures turned { IsTurned result }
         ensures idle { (result ≡ end.Idle) ↔ (seat_of (activity self.old).seating activation ≡ None) }
-        ensures waits { IsWaiter activation result }
-        ensures journal { IsJournal (most_lines self.old.store.header) result }
-        ensures limit { IsLimit limit tally.new.ran result }
-        ensures victim { IsVictim activation tally.new.cycles.items result }
+        ensures waits { IfWaits activation result }
+        ensures journal { IfJournal (most_lines self.old.store.header) result }
+        ensures limit { IfLimit limit tally.new.ran result }
+        ensures victim { IfVictim activation tally.new.cycles.items result }
         ensures pages { result ≡ end.Disk → 0 < tally.new.pages }
         ensures numbered { TellsNumber activation (number_of self.old.store) result }
         ensures ordered { EntersOrder activation result (order_of self.old) (order_of self.new) }
+        ensures printed { KeepsPrinted result self.old.printed self.new.printed }
         ensures closed { self.new.closed ≡ turn_closes result }
         ensures committing { ClosesBy W.Outside activation result self.old.store self.new outside.old outside.new }
         ensures cause { turn_closes result ≡ true → Rose (W.disk_faults outside.old) (W.disk_faults outside.new) }

@@ -1,17 +1,14 @@
-use Rattle.std.proofs.Common.{◌≡◌, ℕ, ◌+◌, ◌-◌, ◌*◌, ◌∙◌, ap, arith}
+use Rattle.std.proofs.Common.{◌≡◌, ℕ, ◌+◌, ◌-◌, ◌∙◌, ap, arith}
 use Rattle.line_geometry.specs.Directory.{start_of}
 use Rattle.line_geometry.specs.Lines.{line_of}
-use Rattle.line_geometry.specs.Segments.{page_bytes}
-use Rattle.storage_unit.specs.Places.{offset_of}
 use Rattle.activations.proofs.TouchingLemmas.{near-lines}
 use Rattle.activations.proofs.touching.touch_from.Goals as goal
 
 pub returns-clause-wanted : goal.returns-clause-wanted
 returns-clause-wanted c =
     let d = c.args.directory.now in
-    let at = start_of d c.args.first.segment + offset_of d.page c.args.first in
-    let bytes = ap (λ (n : ℕ). c.args.first.page * n) (c.from-bytes.ensures ∙ c.bytes.ensures.value ∙ ap page_bytes c.page.ensures) in
+    let at = start_of d c.args.segment + c.args.offset in
     let lies = near-lines d at c.args.access.bytes c.requires.some c.requires.few c.requires.within c.start_of.ensures.small in
     let last : c.line_of-2.result ≡ line_of d (at + c.args.access.bytes - 1) =
-    c.line_of-2.ensures ∙ ap (line_of d) (omega (arith, bytes, c.start_of.ensures.value, c.from.ensures, c.from-2.ensures)) in
+    c.line_of-2.ensures ∙ ap (line_of d) (omega (arith, c.start_of.ensures.value, c.from.ensures)) in
     c.between.ensures.wanted d (omega (arith, last, lies.3))

@@ -14,7 +14,7 @@ use Rattle.schedule_replay.specs.Asked.{is_turn, begins_in, turns_in}
 use Rattle.schedule_replay.specs.Quiet.{IsLasting, RunsQuietly}
 use Rattle.job_calls.specs.Big.{Loaded}
 use Rattle.job_calls.proofs.NameLemmas.{asked-among}
-use Rattle.job_calls.proofs.BigLemmas.{lasting, loaded}
+use Rattle.job_calls.proofs.BigLemmas.{lasting, loaded, still-holds}
 use Rattle.job_calls.proofs.big.open_and_run.Goals as goal
 
 pub run_quiet-quiet-requires-clause-ready : goal.run_quiet-quiet-requires-clause-ready
@@ -64,5 +64,11 @@ returns-clause-loaded g c =
     subst (λ (bytes : List ℕ). RunsQuietly ghosts G (activity desk).programs desk.opened job.events.items first new start between bytes quiet) (sym c.as_slice.ensures.value)
     (subst (λ (events : List Event). RunsQuietly ghosts G (activity desk).programs desk.opened events first new start between c.run_quiet-quiet.new.last.items quiet) c.deref.ensures.value (c.run_quiet-quiet.ensures.runs first sure shows)) in
     subst (λ (order : List (ℕ × ℕ)). Loaded G c.args.transfers before c.tell.new.outside order (Some new) c.tell.result) (sym (ap order_told c.filled.ensures ∙ c.order.ensures))
-    (loaded G g.met.W.Outside.fewer_later g.met.W.Outside.printed_now c.args.transfers job c.requires.load before start between desk new c.in-Ok.ensures.opened c.in-Ok.ensures.asks c.in-Ok.ensures.new.programs_are c.run_quiet-quiet.ensures.opened c.in-Ok.ensures.unfailed
+    (loaded G g.met.W.Outside.fewer_later g.met.W.Outside.printed_now c.args.transfers job c.requires.load before start between desk new c.in-Ok.ensures.opened c.in-Ok.ensures.asks c.in-Ok.ensures.new.programs_are c.run_quiet-quiet.ensures.programs c.run_quiet-quiet.ensures.opened c.in-Ok.ensures.unfailed
     (λ told. (c.in-Ok.ensures.told told).1) last c.run_quiet-quiet.ensures.calls quiet runs c.tell.new.outside c.tell.result c.tell.ensures)
+
+pub returns-clause-fits : goal.returns-clause-fits
+returns-clause-fits g c =
+    let ran = c.run_quiet-quiet.ensures in
+    let few : length c.deref.result.now ≡ length c.args.job.events.items = ap (λ (these : List Event). length these) c.deref.ensures.value in
+    record { sound = ran.sound; bytes = still-holds g.W.Outside c.run_quiet-quiet.new.desk.store.header c.args.transfers c.run_quiet-quiet.result c.as_slice.result.now c.run_quiet-quiet.new.outside c.tell.new.outside c.tell.result c.tell.ensures ran.bytes; turns = omega (arith, ran.turns, few, c.requires.ready.few, c.in-Ok.ensures.new.no_turns) }

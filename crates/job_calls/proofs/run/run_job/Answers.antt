@@ -111,3 +111,9 @@ pub returns-clause-disk : goal.returns-clause-disk
 returns-clause-disk g c = λ is.
     let rose = disk-rose g.W.Outside c.open.new.outside c.replay-replayed.new.outside c.in-Ok.session c.replay-replayed.new.desk c.replay-replayed.result c.in-Ok.ensures.new.still_open c.replay-replayed.ensures.ends (sym c.status_of_replay.ensures ∙ is) in
     omega (arith, rose, c.in-Ok.ensures.asks.calls.disk)
+
+pub returns-clause-fits : goal.returns-clause-fits
+returns-clause-fits g c =
+    let ran = c.replay-replayed.ensures in
+    let few : length c.deref-2.result.now ≡ length c.args.job.events.items = ap (λ (these : List Event). length these) c.deref-2.ensures.value in
+    record { sound = ran.sound; bytes = ran.bytes; turns = omega (arith, ran.turns, few, c.requires.ready.few, c.in-Ok.ensures.new.no_turns) }

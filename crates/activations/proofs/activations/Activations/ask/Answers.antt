@@ -4,7 +4,7 @@ use Rattle.seats.specs.Seating.{Seating, sitter, number_in}
 use Rattle.seats.specs.Waiting.{holders}
 use Rattle.activations.specs.Activity.{desk_over}
 use Rattle.activations.specs.Follows.{IsSound}
-use Rattle.activations.specs.Causes.{IsVictim}
+use Rattle.activations.specs.Causes.{IfVictim}
 use Rattle.activations.specs.Kept.{KeepsParts, StaysSeated}
 use Rattle.activations.specs.Serving.{IsContested}
 use Rattle.activations.specs.Turning.{IsContestEnd, counts_of}
@@ -72,6 +72,6 @@ returns-clause-settled c begins attempt refused committed order asked =
 
 pub returns-clause-victim : goal.returns-clause-victim
 returns-clause-victim c =
-    subst (λ (n : ℕ). IfErr c.contend.result (IsVictim n c.contend.new.tally.cycles.items))
+    subst (λ (n : ℕ). IfErr c.contend.result (IfVictim n c.contend.new.tally.cycles.items))
     (subst (λ (s : Seating). number_in s c.args.seat ≡ number_in c.args.self.now.seats c.args.seat) (sym c.wait.ensures) (stays-asking (activity_of c.args.self.now) c.args.seat c.request-request.result c.requires.sound c.requires.taken).number)
     c.contend.ensures.victim

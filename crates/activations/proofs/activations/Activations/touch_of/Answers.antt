@@ -1,8 +1,8 @@
-use Rattle.std.proofs.Common.{◌≡◌, ◌+◌, ◌-◌, ◌≤◌, true, false, sym, ◌∙◌, ap, subst, arith}
+use Rattle.std.proofs.Common.{◌≡◌, ◌+◌, ◌-◌, ◌%◌, ◌^◌, ◌≤◌, true, false, sym, ◌∙◌, ap, subst, arith}
 use Rattle.std.proofs.lemmas.Bool.Decides.{nat_tests}
 use Rattle.line_geometry.specs.Directory.{Layout, start_of, byte_count}
 use Rattle.line_geometry.specs.Lines.{line_of}
-use Rattle.storage_unit.specs.Places.{is_private, offset_of}
+use Rattle.storage_unit.specs.Places.{is_private}
 use Rattle.activations.specs.Touched.{lines_between}
 use Rattle.activations.specs.View.{activity_of}
 use Rattle.activations.proofs.TouchingLemmas.{touches-refused, touches-private, touches-shared, touches-within}
@@ -22,7 +22,7 @@ returns-then-first-ge-PRIVATE-clause-lines c =
 pub touch_from-requires-clause-within : goal.touch_from-requires-clause-within
 touch_from-requires-clause-within c =
     let low : is_private c.in-Ok.first.segment ≡ false = grind (arith, nat_tests, c.if-first-ge-PRIVATE.false) in
-    subst (λ (d : Layout). start_of d c.in-Ok.first.segment + offset_of d.page c.in-Ok.first + c.args.access.bytes ≤ byte_count d) c.args.self.now.same
+    subst (λ (d : Layout). start_of d c.in-Ok.first.segment + c.args.access.address % 2 ^ 28 + c.args.access.bytes ≤ byte_count d) c.args.self.now.same
     (touches-within (activity_of c.args.self.now) c.args.seat c.requires.sound c.requires.taken c.args.self.now.unit.legal c.args.access c.in-Ok.first
     (sym c.locate.ensures ∙ c.in-Ok.is) low)
 
@@ -30,7 +30,7 @@ pub returns-else-first-ge-PRIVATE-clause-lines : goal.returns-else-first-ge-PRIV
 returns-else-first-ge-PRIVATE-clause-lines c =
     let low : is_private c.in-Ok.first.segment ≡ false = grind (arith, nat_tests, c.if-first-ge-PRIVATE.false) in
     c.touch_from.ensures.lines
-    ∙ ap (λ (d : Layout). lines_between (line_of d (start_of d c.in-Ok.first.segment + offset_of d.page c.in-Ok.first)) (line_of d (start_of d c.in-Ok.first.segment + offset_of d.page c.in-Ok.first + c.args.access.bytes - 1)) c.args.access.store)
+    ∙ ap (λ (d : Layout). lines_between (line_of d (start_of d c.in-Ok.first.segment + c.args.access.address % 2 ^ 28)) (line_of d (start_of d c.in-Ok.first.segment + c.args.access.address % 2 ^ 28 + c.args.access.bytes - 1)) c.args.access.store)
     (sym c.args.self.now.same)
     ∙ touches-shared (activity_of c.args.self.now) c.args.seat c.requires.sound c.requires.taken c.args.self.now.unit.legal c.args.access c.in-Ok.first
     (sym c.locate.ensures ∙ c.in-Ok.is) low c.requires.some

@@ -7,8 +7,8 @@ use Rattle.seats.proofs.Numbers.{seat-found}
 use Rattle.supervisor.specs.Session.{activity, order_of}
 use Rattle.supervisor.proofs.TurnLemmas.{idle, ended, committed, nothing-counted, sound-ran, over-ran, store-over}
 use Rattle.activations.proofs.TurnLemmas.{asks-none}
-use Rattle.activations.specs.Causes.{IsVictim}
-use Rattle.activations.specs.Instructed.{IsWaiter}
+use Rattle.activations.specs.Causes.{IfVictim}
+use Rattle.activations.specs.Instructed.{IfWaits}
 use Rattle.restart.specs.Kept.{number_of}
 use Rattle.supervisor.specs.Causes.{TellsNumber, EntersOrder, ClosesBy}
 use Rattle.supervisor.proofs.CauseLemmas.{closes-since}
@@ -59,7 +59,7 @@ returns-in-Ok-clause-went g c sure over =
 pub returns-in-Err-clause-waits : goal.returns-in-Err-clause-waits
 returns-in-Err-clause-waits g c =
     let found = (seat-found (activity c.args.self.now).seating c.requires.sound.running.seating c.args.activation c.in-Some.seat (sym c.seat_of.ensures ∙ c.in-Some.is)).1 in
-    subst (λ (n : ℕ). IsWaiter n c.in-Err.end) found c.in-Err.ensures.waits
+    subst (λ (n : ℕ). IfWaits n c.in-Err.end) found c.in-Err.ensures.waits
 
 pub returns-in-Ok-clause-numbered : goal.returns-in-Ok-clause-numbered
 returns-in-Ok-clause-numbered g c =
@@ -74,7 +74,7 @@ returns-in-Ok-clause-ordered g c =
 pub returns-in-Err-clause-victim : goal.returns-in-Err-clause-victim
 returns-in-Err-clause-victim g c =
     let found = (seat-found (activity c.args.self.now).seating c.requires.sound.running.seating c.args.activation c.in-Some.seat (sym c.seat_of.ensures ∙ c.in-Some.is)).1 in
-    subst (λ (n : ℕ). IsVictim n c.run.new.tally.cycles.items c.in-Err.end) found c.in-Err.ensures.victim
+    subst (λ (n : ℕ). IfVictim n c.run.new.tally.cycles.items c.in-Err.end) found c.in-Err.ensures.victim
 
 pub returns-in-Ok-clause-committing : goal.returns-in-Ok-clause-committing
 returns-in-Ok-clause-committing g c =

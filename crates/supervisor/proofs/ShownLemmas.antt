@@ -1,0 +1,111 @@
+-- What holds of the desk that a session shows.
+use Rattle.std.proofs.Common.{◌≡◌, ℕ, ◌+◌, ◌<◌, ◌≤◌, ◌&&◌, inl, inr, Bool, true, false, List, [], ◌∷◌, length, refl, sym, ◌∙◌, ap, subst, arith, Option, Some, None, get_or}
+use Rattle.std.specs.Prelude.{not, IsFalse, IsTrue, is_some}
+use Rattle.std.proofs.lemmas.Bool.{and_parts, cases_lt}
+use Rattle.std.proofs.lemmas.List.{get_or_past}
+use Rattle.line_geometry.specs.Directory.{page_count}
+use Rattle.line_geometry.specs.FlatStore.{FlatStore}
+use Rattle.lock_rules.specs.Sets.{has}
+use Rattle.flat_machine.specs.declared.machine.Plain.{Plain}
+use Rattle.flat_machine.specs.declared.machine.Program.{Program}
+use Rattle.flat_machine.specs.After.{after}
+use Rattle.frame_pool.specs.Sound.{is_apart, IsPlaced}
+use Rattle.frame_pool.specs.Places.{Places}
+use Rattle.desk.specs.Desk.{Desk, Entry, opened}
+use Rattle.desk.specs.Run.{run}
+use Rattle.desk_law.specs.Beside.{over_all}
+use Rattle.desk_law.specs.Consistent.{IsAmong, AreDistinct, AreResident, IsConsistent}
+use Rattle.desk_law.specs.Current.{IsCurrent}
+use Rattle.desk_law.specs.Memory.{Machine, memory_after, memory_of}
+use Rattle.desk_law.proofs.CurrentLaw.{one-list-is-current}
+use Rattle.desk_law.proofs.MemoryLaw.{runs-are-isolated}
+use Rattle.desk_law.proofs.Seats.{seat-told}
+use Rattle.activations.specs.Activity.{entry_in, entries, store_over, state_in, shown as bytes_shown}
+use Rattle.supervisor.specs.declared.session.Session.{Session}
+use Rattle.supervisor.specs.Session.{activity, desk_of}
+use Rattle.supervisor.specs.Shown.{Shown}
+use Rattle.supervisor.specs.Laws.{ShownIsConsistent, ShownIsIsolated}
+
+-- each stands once where none stands twice
+not-there : (there : Bool) → not there ≡ true → IsFalse there
+not-there true is = absurd (cc)
+not-there false is = refl
+
+distinct : (xs : List ℕ) → is_apart xs ≡ true → AreDistinct xs
+distinct [] is = tt
+distinct (x ∷ xs) is =
+    let parts = and_parts (not (has xs x)) (is_apart xs) is in
+    (not-there (has xs x) parts.0, distinct xs parts.1)
+
+-- what has a place is within the places
+within-places : (places : List (Option ℕ)) (page : ℕ) → is_some (get_or places page None) ≡ true → page < length places
+within-places places page is =
+    elim (cases_lt page (length places)) [
+      | inl within ↦ within
+      | inr past ↦ absurd (let no : false ≡ true = sym (ap is_some (get_or_past places page None (omega (arith, past)))) ∙ is in cc)
+    ]
+
+-- the pages of a session's frames
+pages-fit : (s : Session) (committed : List ℕ) → AreResident (desk_of s committed).frames (page_count (desk_of s committed).committed.directory) (desk_of s committed).resident
+pages-fit s committed =
+    let unit = s.activations.unit in
+    let places = unit.pool.places in
+    let placed = places.sound.placed in
+    let used : length places.resident.items + length places.free.items ≡ places.frames = placed.used in
+    let few : length places.resident.items ≤ places.frames = omega (arith, used) in
+    let pages : length places.frame_of.items ≡ page_count (activity s).reach.directory = unit.pages in
+    record {
+      few = few;
+      once = distinct places.resident.items placed.pages_apart;
+      within = λ page there.
+          let inside : page < length places.frame_of.items = within-places places.frame_of.items page (sym (placed.resident page) ∙ there) in
+          let within : page < page_count (activity s).reach.directory = omega (arith, inside, pages) in
+          within;
+    }
+
+pub consistent : ShownIsConsistent
+consistent s held desk shown =
+    let is = shown.over.follows.orderly in
+    let over : IsConsistent (desk_of s shown.over.committed) = record {
+      whole = is.whole;
+      frames = s.activations.unit.pool.places.sound.sized.some;
+      resident = pages-fit s shown.over.committed;
+      few = is.few;
+      active = is.active;
+      held = is.held;
+      no_cycle = is.no_cycle;
+    } in
+    subst (λ (that : Desk). IsConsistent that) (sym shown.is) over
+
+-- a state without the bytes of its store
+abbrev alone-of : Option Plain → Option Plain
+alone-of None = None
+alone-of (Some state) = Some (over_all state [])
+
+same-some : (one two : Plain) → Some one ≡ Some two → one ≡ two
+same-some one two is = cc
+
+pub isolated : ShownIsIsolated
+isolated s held programs frames most_active most_lines store events whole two shown =
+    let desk = run programs events (opened frames most_active most_lines store) in
+    let memory = memory_after programs events (opened frames most_active most_lines store) (memory_of store) in
+    let a = activity s in
+    let law = (runs-are-isolated programs frames most_active most_lines store events whole two).0 in
+    let committed = shown.over.committed in
+    let kept = shown.over.follows.kept in
+    let same_store : desk.committed ≡ store_over a committed = ap (λ (that : Desk). that.committed) shown.is in
+    let same_active : desk.active ≡ entries a = ap (λ (that : Desk). that.active) shown.is in
+    let same_bytes : memory.committed ≡ committed = law.committed ∙ ap (λ (that : FlatStore). that.bytes) same_store in (
+      λ seat taken.
+          let entry = entry_in a seat in
+          let here : IsAmong desk.active entry = subst (λ (those : List Entry). IsAmong those entry) (sym same_active) (seat-told a.seating.taken (entry_in a) seat taken) in
+          let alone = law.alone entry here in
+          let stand = kept.stand seat taken in
+          let at : after entry.runs.program entry.runs.args desk.committed entry.rows ≡ Some (over_all (state_in a seat) stand.bytes) =
+          subst (λ (those : FlatStore). after entry.runs.program entry.runs.args those entry.rows ≡ Some (over_all (state_in a seat) stand.bytes)) (sym same_store) stand.at in
+          let both : Some (record alone.it.state { store = alone.bytes }) ≡ Some (over_all (state_in a seat) stand.bytes) = sym alone.at ∙ at in
+          (alone.it, alone.is, same-some (over_all alone.it.state []) (over_all (state_in a seat) []) (ap alone-of both)),
+      law.bytes
+          ∙ sym ((one-list-is-current desk (consistent s held desk shown)).1 (bytes_shown a committed) (subst (λ (those : FlatStore). IsCurrent those desk.active (bytes_shown a committed)) (sym same_store) (subst (λ (those : List Entry). IsCurrent (store_over a committed) those (bytes_shown a committed)) (sym same_active) kept.is_current)))
+          ∙ ap (λ (bytes : List ℕ). bytes_shown a bytes) (sym same_bytes),
+    )
