@@ -23,9 +23,9 @@ one_head bytes a b x y first second =
     let opening = same_number 32 a.opening b.opening _ _ (omega arith) (omega (arith, first.0.2)) (omega (arith, second.0.2)) report.1 in
     let closing = same_number 10 a.closing b.closing _ _ (omega arith) (omega (arith, first.0.3)) (omega (arith, second.0.3)) opening.1 in (
       ap (λ (n : ℕ). let sizes : Sizes = record { job = n; report = a.report; opening = a.opening; closing = a.closing } in sizes) job.0
-      ∙ ap (λ (n : ℕ). let sizes : Sizes = record { job = b.job; report = n; opening = a.opening; closing = a.closing } in sizes) report.0
-      ∙ ap (λ (n : ℕ). let sizes : Sizes = record { job = b.job; report = b.report; opening = n; closing = a.closing } in sizes) opening.0
-      ∙ ap (λ (n : ℕ). let sizes : Sizes = record { job = b.job; report = b.report; opening = b.opening; closing = n } in sizes) closing.0,
+          ∙ ap (λ (n : ℕ). let sizes : Sizes = record { job = b.job; report = n; opening = a.opening; closing = a.closing } in sizes) report.0
+          ∙ ap (λ (n : ℕ). let sizes : Sizes = record { job = b.job; report = b.report; opening = n; closing = a.closing } in sizes) opening.0
+          ∙ ap (λ (n : ℕ). let sizes : Sizes = record { job = b.job; report = b.report; opening = b.opening; closing = n } in sizes) closing.0,
       closing.1,
     )
 
