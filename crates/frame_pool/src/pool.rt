@@ -11,7 +11,7 @@ mod tests;
 
 use super::frame_bytes::FrameBytes;
 use super::pages::StorePages;
-use super::sizes::{line_bytes, page_bytes, private_frames};
+use super::sizes::{line_at, line_bytes, line_place, page_bytes, page_place, private_frames};
 use line_geometry::{LineSet, PageSize};
 use owned_list::OwnedList;
 use std::alloc::{AllocError, Global};
@@ -74,12 +74,11 @@ impl FramePool {
         requires few { frames ≤ 1024 }
         ensures { IfOk result (λ pool. pool_of pool ≡ fresh page frames pages) }
     {
-        let size = page_bytes(page);
         Ok(FramePool {
-            bytes: FrameBytes::zeros(alloc, usize::from(private_frames(page) + frames) * size)?,
+            bytes: FrameBytes::zeros(alloc, page_place(page, private_frames(page) + frames))?,
             places: StorePages::new(alloc, page, frames, pages)?,
             marked: no_lines(alloc, pages)?,
-            kept: zeros(alloc, usize::from(pages) * size)?,
+            kept: zeros(alloc, page_place(page, pages))?,
         })
     }
 
@@ -156,12 +155,12 @@ impl FramePool {
     {
         let page = self.places.resident[index];
         let frame = self.places.frame_of(page).unwrap_or(0);
-        let size = page_bytes(self.places.page);
+        let size = self.places.page;
         let marks = self.written(page);
         keep_over(
             &mut self.kept,
-            usize::from(page) * size,
-            self.bytes.part(usize::from(frame) * size, size),
+            page_place(size, page),
+            self.bytes.part(page_place(size, frame), page_bytes(size)),
             marks,
         );
         self.places.leave(index);
@@ -175,8 +174,9 @@ impl FramePool {
         ensures* writes_back { sem 𝓛 (LendsFrame self.entry (frame * page_bytes (pool_of self.entry.now).page) result) }
         ensures value { result.now ≡ frame_bytes (pool_of self.old) frame }
     {
-        let size = page_bytes(self.places.page);
-        self.bytes.part_mut(usize::from(frame) * size, size)
+        let size = self.places.page;
+        self.bytes
+            .part_mut(page_place(size, frame), page_bytes(size))
     }
 
     /// A part of a seat's private bytes, from an offset on. They lie end to end, whatever the size of a page.
@@ -220,11 +220,11 @@ impl FramePool {
         requires frame { frame < frame_count (pool_of self.old).page (pool_of self.old).frames }
         ensures { let size = page_bytes (pool_of self.old).page in pool_of self.new ≡ with_bytes (pool_of self.old) (frame * size) (slice_range (pool_of self.old).kept (page * size) (page * size + size)) }
     {
-        let size = page_bytes(self.places.page);
-        let from = usize::from(page) * size;
+        let size = self.places.page;
+        let from = page_place(size, page);
         self.bytes.write(
-            usize::from(frame) * size,
-            &self.kept.as_slice()[from..from + size],
+            page_place(size, frame),
+            &self.kept.as_slice()[from..from + page_bytes(size)],
         );
     }
 
@@ -247,12 +247,10 @@ impl FramePool {
         ensures { pool_of self.new ≡ line_laid page frame (pool_of self.old) line }
     {
         let at = self.place(Spot { frame, line });
-        let size = page_bytes(self.places.page);
-        let from = usize::from(page) * size + usize::from(line) * line_bytes(self.places.page);
-        self.bytes.write(
-            at,
-            &self.kept.as_slice()[from..from + line_bytes(self.places.page)],
-        );
+        let size = self.places.page;
+        let from = line_place(size, page, line);
+        self.bytes
+            .write(at, &self.kept.as_slice()[from..from + line_bytes(size)]);
     }
 
     /// Where a line of a frame begins.
@@ -263,8 +261,7 @@ impl FramePool {
         ensures value { result ≡ line_place (pool_of self.now).page at.frame at.line }
         ensures within { result + line_size (pool_of self.now).page ≤ vec_len self.now.bytes.items }
     {
-        usize::from(at.frame) * page_bytes(self.places.page)
-            + usize::from(at.line) * line_bytes(self.places.page)
+        line_place(self.places.page, at.frame, at.line)
     }
 
     /// One line of a frame.
@@ -284,10 +281,8 @@ impl FramePool {
         requires within { at + count ≤ page_bytes (pool_of self.now).page }
         ensures { result.now ≡ part_of (pool_of self.now) frame at count }
     {
-        self.bytes.part(
-            usize::from(frame) * page_bytes(self.places.page) + at,
-            count,
-        )
+        self.bytes
+            .part(page_place(self.places.page, frame) + at, count)
     }
 
     /// Lends one line of a frame, to be written. If the frame is a page's of the store, the line is marked.
@@ -312,7 +307,7 @@ impl FramePool {
         ensures* writes_back { sem 𝓛 (LendsMarked self.entry frame (lines_of_part (pool_of self.entry.now).page at count) (frame * page_bytes (pool_of self.entry.now).page + at) result) }
         ensures value { result.now ≡ part_of (pool_of self.old) frame at count }
     {
-        let place = usize::from(frame) * page_bytes(self.places.page) + at;
+        let place = page_place(self.places.page, frame) + at;
         self.mark(frame, self.lines_of_part(at, count));
         self.bytes.part_mut(place, count)
     }
@@ -339,8 +334,8 @@ impl FramePool {
         if count == 0 {
             return LineSet::none();
         }
-        let size = line_bytes(self.places.page);
-        LineSet::between((at / size) as u8, ((at + count - 1) / size) as u8)
+        let size = self.places.page;
+        LineSet::between(line_at(size, at), line_at(size, at + count - 1))
     }
 
     /// The lines of a page that are marked as written.
@@ -370,9 +365,9 @@ impl FramePool {
         requires line { line < 16 }
         ensures { result.now ≡ line_kept (pool_of self.now) page line }
     {
-        let size = line_bytes(self.places.page);
-        let at = usize::from(page) * page_bytes(self.places.page) + usize::from(line) * size;
-        &self.kept.as_slice()[at..at + size]
+        let size = self.places.page;
+        let at = line_place(size, page, line);
+        &self.kept.as_slice()[at..at + line_bytes(size)]
     }
 
     /// Lines of a page are no longer marked.

@@ -1,7 +1,7 @@
 // The sizes of pages and lines.
-ghost use Rattle.std.specs.Prelude.{◌≡◌, ◌*◌, ◌≤◌};
+ghost use Rattle.std.specs.Prelude.{◌≡◌, ◌+◌, ◌*◌, ◌/◌, ◌<◌, ◌≤◌, ◌^◌};
 ghost use Rattle.line_geometry.specs.Segments.{page_bytes};
-ghost use Rattle.frame_pool.specs.Sizes.{private_frames, line_size};
+ghost use Rattle.frame_pool.specs.Sizes.{private_frames, line_size, line_place};
 
 use line_geometry::PageSize;
 
@@ -32,5 +32,41 @@ pub fn private_frames(size: PageSize) -> u16
     match size {
         PageSize::Two => 128,
         PageSize::Four => 64,
+    }
+}
+
+/// Where a page begins, among pages that lie end to end.
+#[inline(always)]
+pub fn page_place(size: PageSize, page: u16) -> usize
+    ensures value { result ≡ page * page_bytes size }
+    ensures few { result < 2 ^ 28 }
+{
+    match size {
+        PageSize::Two => usize::from(page) * 2048,
+        PageSize::Four => usize::from(page) * 4096,
+    }
+}
+
+/// Where a line of a page begins, among pages that lie end to end.
+#[inline(always)]
+pub fn line_place(size: PageSize, page: u16, line: u8) -> usize
+    ensures value { result ≡ line_place size page line }
+    ensures few { result < 2 ^ 29 }
+{
+    match size {
+        PageSize::Two => usize::from(page) * 2048 + usize::from(line) * 128,
+        PageSize::Four => usize::from(page) * 4096 + usize::from(line) * 256,
+    }
+}
+
+/// The line of a page in which a byte of it lies.
+#[inline(always)]
+pub fn line_at(size: PageSize, byte: usize) -> u8
+    requires { byte < page_bytes size }
+    ensures { result ≡ byte / line_size size }
+{
+    match size {
+        PageSize::Two => (byte / 128) as u8,
+        PageSize::Four => (byte / 256) as u8,
     }
 }

@@ -5,7 +5,6 @@ use Rattle.std.proofs.Common.{arith, refl, ap, sym, ◌∙◌, add-one}
 use Rattle.std.proofs.lemmas.List.Sums.{sum_by-cons}
 use Rattle.std.proofs.lemmas.List.Elements.{All-nil, All-cons, All-head, All-tail}
 use Rattle.std.proofs.lemmas.Bool.Decides.{nat_tests}
-use Rattle.std.proofs.lemmas.Nat.{div_below}
 use Rattle.line_geometry.specs.declared.directory.DirectoryFault.{DirectoryFault}
 use Rattle.line_geometry.specs.declared.directory.DirectoryFault.TheVariants.{Order, Range, TooMany}
 use Rattle.line_geometry.specs.declared.directory.PageSize.{PageSize}
@@ -13,7 +12,7 @@ use Rattle.line_geometry.specs.declared.directory.PageSize.TheVariants.{Two, Fou
 use Rattle.line_geometry.specs.Segments.{page_bytes}
 use Rattle.line_geometry.specs.Directory.{Layout, page_count, byte_count}
 use Rattle.line_geometry.specs.Legal.{fault_of, fault_after, is_strange, IsInRange, IsLegal}
-use Rattle.line_geometry.proofs.Within.{byte_count-pages, page-bytes-pos}
+use Rattle.line_geometry.proofs.Within.{byte_count-pages}
 
 -- the identifiers of segments
 abbrev identifiers : List (ℕ × ℕ) → List ℕ
@@ -197,12 +196,3 @@ legal-bytes directory legal =
     let bound : page_count directory * page_bytes directory.page ≤ 4194304 =
     page-bound directory.page (page_count directory) legal.pages in
     omega (arith, bound, byte_count-pages directory)
-
--- a place of such a store lies in one of 1,024 pages
-pub legal-page :
-    (directory : Layout) (at : ℕ) → IsLegal directory.segments → at < byte_count directory → at / page_bytes directory.page < 1024
-legal-page directory at legal below =
-    let inside : at < page_count directory * page_bytes directory.page = omega (arith, below, byte_count-pages directory) in
-    let lies : at / page_bytes directory.page < page_count directory =
-    div_below at (page_bytes directory.page) (page_count directory) (page-bytes-pos directory.page) inside in
-    omega (arith, lies, legal.pages)

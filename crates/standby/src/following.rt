@@ -20,6 +20,7 @@ use super::text::{Ship, ShipRecord};
 use outside::{Failed, Outside};
 use redo_journal::Kept;
 use restart::Durable;
+use store_format::lines_bytes;
 use text_line::TextLine;
 
 /// How the records of a text were followed.
@@ -175,10 +176,11 @@ fn begin(durable: &mut Durable, record: &ShipRecord)
     requires { IsFitting durable.old.header record.now }
     ensures { IsBegun durable.old durable.new (record_of (line_bytes durable.old.header.directory.page) record.now) }
 {
-    let bytes = durable.header().line_bytes();
+    let page = durable.header().directory().page();
+    let bytes = usize::from(page.line_bytes());
     durable.record_start();
     for (index, line) in record.lines.iter().enumerate() {
-        let at = bytes * index;
+        let at = lines_bytes(page, index as u32) as usize;
         durable.record_line(*line, &record.bytes[at..at + bytes]);
     }
 }

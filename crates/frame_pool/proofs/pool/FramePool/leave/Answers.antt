@@ -19,7 +19,7 @@ part-requires c =
     let found : frame ≡ unwrap_or (frame_at (pool_of p) page) 0 = c.unwrap_or-frame.ensures ∙ ap (λ (o : Option ℕ). unwrap_or o 0) c.frame_of.ensures in
     let there = frame-at_index p c.args.index page frame c.requires is found in
     let fits = frame-part p frame (frame-within p page frame there) in
-    rw (c.from-2.ensures, c.page_bytes-size.ensures.value) fits
+    rw (c.page_place-2.ensures.value, c.page_bytes.ensures.value) fits
 
 pub returns-clause-value : goal.returns-clause-value
 returns-clause-value c =
@@ -34,12 +34,10 @@ returns-clause-value c =
     c.leave.ensures
     ∙ ap (λ (n : ℕ). left (places_of p.places) c.args.index n (frame_of_index (places_of p.places) c.args.index)) (sym is)
     ∙ ap (left (places_of p.places) c.args.index page) (sym (found ∙ ap (λ (n : ℕ). unwrap_or (frame_at (pool_of p) n) 0) is)) in
-    let at : c.from.result * c.page_bytes-size.result ≡ page * page_bytes p.places.page =
-    ap (λ (n : ℕ). n * c.page_bytes-size.result) c.from.ensures ∙ ap (λ (n : ℕ). page * n) c.page_bytes-size.ensures.value in
     let part : c.part.result.now ≡ slice_range p.bytes.items.items (frame * page_bytes p.places.page) (frame * page_bytes p.places.page + page_bytes p.places.page) =
     c.part.ensures
-    ∙ ap (λ (n : ℕ). slice_range p.bytes.items.items (n * c.page_bytes-size.result) (n * c.page_bytes-size.result + c.page_bytes-size.result)) c.from-2.ensures
-    ∙ ap (λ (n : ℕ). slice_range p.bytes.items.items (frame * n) (frame * n + n)) c.page_bytes-size.ensures.value in
+    ∙ ap (λ (n : ℕ). slice_range p.bytes.items.items n (n + c.page_bytes.result)) c.page_place-2.ensures.value
+    ∙ ap (λ (n : ℕ). slice_range p.bytes.items.items (frame * page_bytes p.places.page) (frame * page_bytes p.places.page + n)) c.page_bytes.ensures.value in
     let kept : c.keep_over.new.kept ≡ kept_after (pool_of p) page frame =
-    kept-after_by p page frame (c.from.result * c.page_bytes-size.result) c.written-marks.result c.part.result.now c.keep_over.new.kept c.written-marks.ensures at part c.keep_over.ensures.value in
+    kept-after_by p page frame c.page_place.result c.written-marks.result c.part.result.now c.keep_over.new.kept c.written-marks.ensures c.page_place.ensures.value part c.keep_over.ensures.value in
     left-gone p c.args.index page frame (places_of c.leave.new.self) c.keep_over.new.kept c.requires is there after kept ∙ ap (gone (pool_of p)) is
