@@ -1,3 +1,4 @@
 pub mod StepLemmas
 pub mod HomeLemmas
 pub mod MoveLemmas
+pub mod CommitLemmas

@@ -1,3 +1,4 @@
 pub mod Chosen
 pub mod Home
 pub mod Moved
+pub mod Committed

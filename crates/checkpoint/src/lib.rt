@@ -2,6 +2,7 @@
 #![tactic(auto)]
 
 mod banks;
+mod commit;
 mod home;
 mod selector;
 

@@ -1,5 +1,4 @@
 pub mod ShowLemmas
 pub mod PageLemmas
 pub mod Compose
-pub mod CommitLemmas
 pub mod StoodLemmas

@@ -1,5 +1,5 @@
 -- What a store shows of bytes, and what these stand for.
-use Rattle.std.proofs.Common.{◌≡◌, ℕ, ◌+◌, ◌*◌, ◌%◌, ◌^◌, ◌≤◌, List, [], length, take, refl, sym, ◌∙◌, ap, subst, arith, IsSome, IsTrue}
+use Rattle.std.proofs.Common.{◌≡◌, ⊎_elim, ℕ, ◌+◌, ◌*◌, ◌%◌, ◌^◌, ◌≤◌, List, [], ◌∷◌, ◌++◌, length, take, refl, sym, ◌∙◌, ap, subst, arith, IsSome, IsTrue}
 use Rattle.std.specs.Prelude.{Option, None, fold, unwrap_or, Result, Ok, Err, IfErr}
 use Rattle.line_geometry.specs.Lines.{line_count}
 use Rattle.store_format.specs.declared.header.Which.{Which}
@@ -14,17 +14,18 @@ use Rattle.outside.specs.declared.world.Outside.{Ghosts}
 use Rattle.outside.specs.Runs.{OnlyAsks, FewerLater, held_of}
 use Rattle.outside.specs.Bytes.{AreTold}
 use Rattle.outside.specs.Durable.{IsSure}
-use Rattle.redo_journal.specs.Kept.{KeptBank, place_of, end_of}
+use Rattle.redo_journal.specs.Kept.{KeptBank, place_of, end_of, begun_of, number_of as number_in}
 use Rattle.redo_journal.specs.Opened.{bank_in}
 use Rattle.redo_journal.proofs.AppendLemmas.{place_is}
 use Rattle.checkpoint.specs.Chosen as opened
-use Rattle.checkpoint.specs.Chosen.{IsChosen, IsOneOf}
+use Rattle.checkpoint.specs.Chosen.{IsChosen, IsOneOf, other}
+use Rattle.checkpoint.specs.Committed.{emptied, HoldsCommitted}
 use Rattle.redo_journal.specs.declared.fault.ReopenFault.{ReopenFault}
 use Rattle.redo_journal.specs.declared.fault.ReopenFault.TheVariants as reopening
 use Rattle.redo_journal.specs.declared.fault.OpenFault.{OpenFault}
 use Rattle.redo_journal.specs.declared.fault.OpenFault.TheVariants as opening
 use Rattle.redo_journal.specs.Tracks as journal
-use Rattle.redo_journal.specs.Tracks.{HoldsRecords}
+use Rattle.redo_journal.specs.Tracks.{HoldsRecords, HoldsOneOf}
 use Rattle.checkpoint.specs.Home.{store_bytes}
 use Rattle.restart.specs.Faults.{IsOpenFault, IsReopenFault}
 use Rattle.restart.specs.Kept.{KeptStore, Fits, number_of}
@@ -188,3 +189,11 @@ reopened_holds held header store same is =
       ap (bank_of held header) is.chosen_is ∙ bank_is held header bank.which bank.page bank.bank_bytes (length bank.newest) sized bytes lines ∙ is.read.holds,
       ap (λ (n : ℕ). (bank.base + n) % 2 ^ 64) (sym is.read.count) ∙ ap (λ (n : ℕ). (n + length is.read.records) % 2 ^ 64) (sym base),
     )
+
+-- bytes that a commit leaves are intact
+one_intact : (header : Header) (which : Which) (base : ℕ) (records : List (List RecordLine)) (lines : List RecordLine) (held : List ℕ) → HoldsOneOf header which base records lines held → IsIntact header held
+one_intact header which base records lines held one = ⊎_elim (λ before. records_intact header which base records held before) (λ after. records_intact header which base (records ++ lines ∷ []) held after) one
+
+pub committed_intact : (header : Header) (bank : KeptBank) (records : List (List RecordLine)) (held : List ℕ) → HoldsCommitted header bank records held → IsIntact header held
+committed_intact header bank records held one =
+    ⊎_elim (λ here. one_intact header bank.which bank.base records (begun_of bank) held here) (λ there. one_intact header (other bank.which) (number_in bank) [] (begun_of (emptied bank)) held there) one

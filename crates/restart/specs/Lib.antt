@@ -2,4 +2,3 @@ pub mod Kept
 pub mod Shows
 pub mod Faults
 pub mod Page
-pub mod Committed

@@ -14,10 +14,9 @@ ghost use Rattle.redo_journal.specs.Tracks.{IsEither};
 ghost use Rattle.restart.specs.Kept.{KeptStore, number_of};
 ghost use Rattle.checkpoint.specs.Moved.{IsSame, kept_after};
 ghost use Rattle.restart.specs.Shows.{Shows, IsShown, IsIntact, IsReopened, Tracks, IsCommitted, IsEmptied, page_in};
-ghost use Rattle.restart.specs.Committed.{roomy, number_after, IsKeptAfter, HoldsCommitted};
+ghost use Rattle.checkpoint.specs.Committed.{roomy, number_after, IsKeptAfter, HoldsCommitted};
 ghost use Rattle.restart.specs.Faults.{IsOpenFault, IsReopenFault};
 
-use crate::commit::add_record;
 use crate::page::read_newest;
 use crate::start::{start, synced};
 use checkpoint::{Banks, OpenFault, Record, ReopenFault};
@@ -172,7 +171,7 @@ impl Durable {
         ensures intact { Tracks W.Outside self.old outside.old → IsIntact self.old.header (held_of W.Outside outside.new) }
         ensures done { result ≡ Kept.Done → Tracks W.Outside self.old outside.old → IsCommitted W.Outside self.old self.new outside.old outside.new }
     {
-        add_record(&mut self.banks, outside)
+        self.banks.commit(outside)
     }
 
     /// Writes home what the chosen bank holds, and makes the other bank the chosen one, without records. It takes no

@@ -2,7 +2,6 @@
 //! their own room.
 #![tactic(auto)]
 
-mod commit;
 mod durable;
 mod law;
 mod page;

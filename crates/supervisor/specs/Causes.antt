@@ -11,7 +11,7 @@ use Rattle.redo_journal.specs.declared.keep.Kept.TheVariants as kept
 use Rattle.redo_journal.specs.Held.{OnlyWrites}
 use Rattle.redo_journal.specs.Kept.{begun_of}
 use Rattle.redo_journal.specs.Tracks.{IsEither}
-use Rattle.restart.specs.Committed.{roomy, IsKeptAfter}
+use Rattle.checkpoint.specs.Committed.{roomy, IsKeptAfter}
 use Rattle.restart.specs.Kept.{KeptStore}
 use Rattle.restart.specs.Shows.{Tracks}
 use Rattle.desk.specs.declared.answers.Reopened.{Reopened}

@@ -6,7 +6,7 @@ use Rattle.store_format.specs.Stands.{Stands, stands}
 use Rattle.outside.specs.Runs.{Leaves, held_of}
 use Rattle.redo_journal.specs.Tracks.{IsEither}
 use Rattle.redo_journal.specs.declared.keep.Kept.{Kept}
-use Rattle.restart.specs.Committed.{number_after}
+use Rattle.checkpoint.specs.Committed.{number_after}
 use Rattle.restart.specs.Kept.{KeptStore, number_of}
 use Rattle.restart.specs.Shows.{Tracks}
 use Rattle.standby.specs.Step.{Steps, put_of}

@@ -8,7 +8,7 @@ use Rattle.redo_journal.specs.declared.keep.Kept.{Kept}
 use Rattle.redo_journal.specs.declared.keep.Kept.TheVariants.{Unwritten, Doubt}
 use Rattle.restart.specs.Kept.{KeptStore, number_of}
 use Rattle.restart.specs.Shows.{Tracks}
-use Rattle.restart.specs.Committed.{roomy, number_after, IsKeptAfter}
+use Rattle.checkpoint.specs.Committed.{roomy, number_after, IsKeptAfter}
 use Rattle.desk_law.specs.Beside.{over_all}
 use Rattle.desk_law.specs.Changes.{committed_at}
 use Rattle.seats.specs.Seating.{sitter, number_in}

@@ -10,14 +10,14 @@ use Rattle.redo_journal.specs.Tracks.{Tracks, IsEither, HoldsOneOf}
 use Rattle.redo_journal.proofs.WriteLemmas.{writes_on}
 use Rattle.checkpoint.specs.Chosen.{other}
 use Rattle.checkpoint.specs.Moved.{IsCheckpointed}
-use Rattle.restart.specs.Committed.{emptied}
-use Rattle.restart.proofs.CommitLemmas.{adds_same, either_same, by_unwritten, by_doubt, by_done, no_records}
-use Rattle.restart.proofs.commit.add_behind_checkpoint.Given.{Over}
-use Rattle.restart.proofs.commit.add_behind_checkpoint.Goals as goal
-use Rattle.restart.proofs.commit.add_behind_checkpoint.Goals.{After-checkpoint, After-append}
+use Rattle.checkpoint.specs.Committed.{emptied}
+use Rattle.checkpoint.proofs.CommitLemmas.{adds_same, either_same, by_unwritten, by_doubt, by_done, no_records}
+use Rattle.checkpoint.proofs.commit.Banks.commit_behind_checkpoint.Given.{Over}
+use Rattle.checkpoint.proofs.commit.Banks.commit_behind_checkpoint.Goals as goal
+use Rattle.checkpoint.proofs.commit.Banks.commit_behind_checkpoint.Goals.{After-checkpoint, After-append}
 
 -- what stood stands while the checkpoint is made
-stood : (g : Over) (c : goal.After-checkpoint g) → Tracks g.W.Outside c.args.banks.now c.args.outside.now → Leaves g.W.Outside (λ image seen. stands image ≡ stands (held_of g.W.Outside c.args.outside.now)) c.args.outside.now c.checkpoint.new.outside
+stood : (g : Over) (c : goal.After-checkpoint g) → Tracks g.W.Outside c.args.self.now c.args.outside.now → Leaves g.W.Outside (λ image seen. stands image ≡ stands (held_of g.W.Outside c.args.outside.now)) c.args.outside.now c.checkpoint.new.outside
 stood g c tracks image seen left = (c.checkpoint.ensures.crash tracks image seen left).stood
 
 pub returns-in-Err-clause-crash : goal.returns-in-Err-clause-crash
@@ -33,11 +33,11 @@ pub returns-in-Ok-clause-only : goal.returns-in-Ok-clause-only
 returns-in-Ok-clause-only g c = writes_on g.W.Outside g.met.W.Outside.fewer_later c.args.outside.now c.checkpoint.new.outside c.append.new.outside c.checkpoint.ensures.only c.append.ensures.only
 
 -- what the append leaves, of the bank turned to
-behind : (g : Over) (c : goal.After-append g) (tracks : Tracks g.W.Outside c.args.banks.now c.args.outside.now) (made : IsCheckpointed g.W.Outside c.args.banks.now c.checkpoint.new.self c.args.outside.now c.checkpoint.new.outside) → c.checkpoint.new.self ≡ emptied c.args.banks.now
-    → Leaves g.W.Outside (IsEither (begun_of c.args.banks.now) (held_of g.W.Outside c.args.outside.now)) c.checkpoint.new.outside c.append.new.outside
+behind : (g : Over) (c : goal.After-append g) (tracks : Tracks g.W.Outside c.args.self.now c.args.outside.now) (made : IsCheckpointed g.W.Outside c.args.self.now c.checkpoint.new.self c.args.outside.now c.checkpoint.new.outside) → c.checkpoint.new.self ≡ emptied c.args.self.now
+    → Leaves g.W.Outside (IsEither (begun_of c.args.self.now) (held_of g.W.Outside c.args.outside.now)) c.checkpoint.new.outside c.append.new.outside
 behind g c tracks made kept image seen left =
     let G = g.W.Outside in
-    let old = c.args.banks.now in
+    let old = c.args.self.now in
     either_same (other old.which) old (held_of G c.args.outside.now) (held_of G c.checkpoint.new.outside) image seen made.stood
     (subst (λ (bank : KeptBank). IsEither (begun_of bank) (held_of G c.checkpoint.new.outside) image seen) kept (c.append.ensures.crash made.tracks image seen left))
 
@@ -46,7 +46,7 @@ returns-in-Ok-clause-crash g c tracks =
     let G = g.W.Outside in
     let at = goal.at.returns-in-Ok-clause-crash g c in
     leaves_on G g.met.W.Outside.fewer_later c.args.outside.now c.checkpoint.new.outside c.append.new.outside c.checkpoint.ensures.only.calls.time c.append.ensures.only.calls.time
-    (IsEither (begun_of c.args.banks.now) (held_of G c.args.outside.now))
+    (IsEither (begun_of c.args.self.now) (held_of G c.args.outside.now))
     (λ image seen left. inl (stood g at.After-checkpoint tracks image seen left))
     (behind g at.After-append tracks (c.in-Ok.ensures.done tracks) c.in-Ok.ensures.kept)
 
@@ -66,7 +66,7 @@ returns-in-Ok-clause-unwritten g c is tracks =
 pub returns-in-Ok-clause-doubt : goal.returns-in-Ok-clause-doubt
 returns-in-Ok-clause-doubt g c is tracks image seen left =
     let G = g.W.Outside in
-    let old = c.args.banks.now in
+    let old = c.args.self.now in
     let made = c.in-Ok.ensures.done tracks in
     subst (λ (bank : KeptBank). stands (slice_set image bank.gate 0xA5) ≡ one_more (begun_of bank) (stands (held_of G c.checkpoint.new.outside))) c.in-Ok.ensures.kept
     (c.append.ensures.doubt (by_doubt c.append.result c.kept_by.result c.kept_by.ensures is) made.tracks image seen left)
@@ -75,7 +75,7 @@ returns-in-Ok-clause-doubt g c is tracks image seen left =
 pub returns-in-Ok-clause-records : goal.returns-in-Ok-clause-records
 returns-in-Ok-clause-records g c tracks =
     let G = g.W.Outside in
-    let old = c.args.banks.now in
+    let old = c.args.self.now in
     let made = c.in-Ok.ensures.done tracks in
     let now = held_of G c.append.new.outside in
     let header : made.tracks.header ≡ tracks.header = sym made.tracks.store.said ∙ made.header ∙ tracks.store.said in
@@ -87,7 +87,7 @@ returns-in-Ok-clause-records g c tracks =
 pub returns-in-Ok-clause-done : goal.returns-in-Ok-clause-done
 returns-in-Ok-clause-done g c is tracks =
     let G = g.W.Outside in
-    let old = c.args.banks.now in
+    let old = c.args.self.now in
     let made = c.in-Ok.ensures.done tracks in
     let added = c.append.ensures.done (by_done c.append.result c.kept_by.result c.kept_by.ensures is) made.tracks in
     record {

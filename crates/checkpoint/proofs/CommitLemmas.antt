@@ -13,9 +13,7 @@ use Rattle.redo_journal.specs.Turned.{placed, turned}
 use Rattle.redo_journal.proofs.TurnLemmas.{one_more_placed}
 use Rattle.checkpoint.specs.Home.{home_place, store_bytes}
 use Rattle.line_geometry.specs.declared.directory.PageSize.{PageSize}
-use Rattle.restart.specs.Committed.{emptied, roomy, kept_by, number_after, IsKeptAfter, HoldsCommitted}
-use Rattle.restart.specs.Shows.{IsIntact}
-use Rattle.restart.proofs.ShowLemmas.{records_intact}
+use Rattle.checkpoint.specs.Committed.{emptied, roomy, kept_by, number_after, IsKeptAfter, HoldsCommitted}
 use Rattle.store_format.specs.Header.{Header}
 use Rattle.checkpoint.specs.Chosen.{other}
 use Rattle.redo_journal.specs.declared.bank.Appended.{Appended}
@@ -74,14 +72,6 @@ carried {W} P bank that w v same alike is = subst (λ (those : KeptBank). P thos
 pub no_records : (records : List (List RecordLine)) → length records ≡ 0 → records ≡ []
 no_records [] none = refl
 no_records (lines ∷ records) none = absurd (omega arith)
-
--- bytes that a commit leaves are intact
-one_intact : (header : Header) (which : Which) (base : ℕ) (records : List (List RecordLine)) (lines : List RecordLine) (held : List ℕ) → HoldsOneOf header which base records lines held → IsIntact header held
-one_intact header which base records lines held one = ⊎_elim (λ before. records_intact header which base records held before) (λ after. records_intact header which base (records ++ lines ∷ []) held after) one
-
-pub committed_intact : (header : Header) (bank : KeptBank) (records : List (List RecordLine)) (held : List ℕ) → HoldsCommitted header bank records held → IsIntact header held
-committed_intact header bank records held one =
-    ⊎_elim (λ here. one_intact header bank.which bank.base records (begun_of bank) held here) (λ there. one_intact header (other bank.which) (number_of bank) [] (begun_of (emptied bank)) held there) one
 
 -- the number and the records of the bank that a record is added to
 roomy_by : (P : KeptBank → Type 0) (bank : KeptBank) (full : Bool) → P (emptied bank) → P bank → P (if full then emptied bank else bank)
