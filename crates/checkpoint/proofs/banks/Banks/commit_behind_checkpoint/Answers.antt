@@ -12,9 +12,9 @@ use Rattle.checkpoint.specs.Chosen.{other}
 use Rattle.checkpoint.specs.Moved.{IsCheckpointed}
 use Rattle.checkpoint.specs.Committed.{emptied}
 use Rattle.checkpoint.proofs.CommitLemmas.{adds_same, either_same, by_unwritten, by_doubt, by_done, no_records}
-use Rattle.checkpoint.proofs.commit.Banks.commit_behind_checkpoint.Given.{Over}
-use Rattle.checkpoint.proofs.commit.Banks.commit_behind_checkpoint.Goals as goal
-use Rattle.checkpoint.proofs.commit.Banks.commit_behind_checkpoint.Goals.{After-checkpoint, After-append}
+use Rattle.checkpoint.proofs.banks.Banks.commit_behind_checkpoint.Given.{Over}
+use Rattle.checkpoint.proofs.banks.Banks.commit_behind_checkpoint.Goals as goal
+use Rattle.checkpoint.proofs.banks.Banks.commit_behind_checkpoint.Goals.{After-checkpoint, After-append}
 
 -- what stood stands while the checkpoint is made
 stood : (g : Over) (c : goal.After-checkpoint g) → Tracks g.W.Outside c.args.self.now c.args.outside.now → Leaves g.W.Outside (λ image seen. stands image ≡ stands (held_of g.W.Outside c.args.outside.now)) c.args.outside.now c.checkpoint.new.outside

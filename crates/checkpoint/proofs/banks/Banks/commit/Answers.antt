@@ -8,9 +8,9 @@ use Rattle.redo_journal.specs.Kept.{KeptBank, begun_of}
 use Rattle.redo_journal.specs.Tracks.{Tracks, IsAppended}
 use Rattle.checkpoint.specs.Committed.{emptied, HoldsCommitted}
 use Rattle.checkpoint.proofs.CommitLemmas.{carried, roomy_full, roomy_fits}
-use Rattle.checkpoint.proofs.commit.Banks.commit.Given.{Over}
-use Rattle.checkpoint.proofs.commit.Banks.commit.Goals as goal
-use Rattle.checkpoint.proofs.commit.Banks.commit.Goals.{In-Full}
+use Rattle.checkpoint.proofs.banks.Banks.commit.Given.{Over}
+use Rattle.checkpoint.proofs.banks.Banks.commit.Goals as goal
+use Rattle.checkpoint.proofs.banks.Banks.commit.Goals.{In-Full}
 
 -- a full bank was left alone
 kept : (g : Over) (c : goal.In-Full g) → c.append.new.self ≡ c.args.self.now
