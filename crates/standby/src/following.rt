@@ -176,8 +176,8 @@ fn begin(durable: &mut Durable, record: &ShipRecord)
     requires { IsFitting durable.old.header record.now }
     ensures { IsBegun durable.old durable.new (record_of (line_bytes durable.old.header.directory.page) record.now) }
 {
+    let bytes = durable.header().line_bytes();
     let page = durable.header().directory().page();
-    let bytes = usize::from(page.line_bytes());
     durable.record_start();
     for (index, line) in record.lines.iter().enumerate() {
         let at = lines_bytes(page, index as u32) as usize;

@@ -4,6 +4,8 @@ use Rattle.std.proofs.lemmas.List.{length-take-le, take_all, take_more, map-appe
 use Rattle.store_format.specs.Bank.{RecordLine, record_bytes}
 use Rattle.line_geometry.specs.Lines.{line_count}
 use Rattle.line_geometry.specs.Segments.{line_bytes}
+use Rattle.line_geometry.specs.Directory.{Layout}
+use Rattle.line_geometry.specs.declared.directory.PageSize.{PageSize}
 use Rattle.store_format.specs.Header.{Header}
 use Rattle.redo_journal.specs.Kept.{begun_of, record_bytes_of}
 use Rattle.restart.specs.Kept.{KeptStore}
@@ -72,17 +74,20 @@ loop-index-preserved c =
     let was = c.loop-index.invariant.begun in
     let now = c.loop-index.durable in
     let size = c.line_bytes-bytes.result in
+    let at = c.lines_bytes-at.result in
     let inside : i < length kept.lines.items = omega (arith, c.loop-index-test.true, ap length c.deref-line-items.ensures.value) in
     let one : RecordLine = record {
       line = get_or c.deref-line-items.result.now i 0;
       at = now.bank.gate + record_bytes_of now.bank (length (begun_of now.bank));
-      bytes = take (size * i + size - size * i) (drop (size * i) c.deref.result.now);
+      bytes = take (at + size - at) (drop at c.deref.result.now);
     } in
-    let count : size * i + size - size * i ≡ size = omega arith in
+    let sized : at + size - at ≡ line_bytes c.args.durable.now.header.directory.page = omega (arith, c.line_bytes-bytes.ensures.value, ap (λ (header : Header). line_bytes header.directory.page) c.header.ensures) in
+    let placed : at ≡ line_bytes c.args.durable.now.header.directory.page * i =
+    c.lines_bytes-at.ensures.value ∙ ap (λ (page : PageSize). line_bytes page * i) (c.page-page.ensures ∙ ap (λ (directory : Layout). directory.page) c.directory.ensures.value ∙ ap (λ (header : Header). header.directory.page) c.header-2.ensures) in
     let last : told (one ∷ []) ≡ part_at (line_bytes c.args.durable.now.header.directory.page) kept.lines.items kept.bytes.items i ∷ [] =
-    ap (λ (items : List ℕ). let it : List ShipLine = record { line = get_or items i 0; bytes = take (size * i + size - size * i) (drop (size * i) c.deref.result.now) } ∷ [] in it) c.deref-line-items.ensures.value
-    ∙ ap (λ (n : ℕ). let it : List ShipLine = record { line = get_or kept.lines.items i 0; bytes = take n (drop (size * i) c.deref.result.now) } ∷ [] in it) count
-    ∙ ap (λ (n : ℕ). let it : List ShipLine = record { line = get_or kept.lines.items i 0; bytes = take n (drop (n * i) c.deref.result.now) } ∷ [] in it) (c.line_bytes-bytes.ensures.value ∙ ap (λ (header : Header). line_bytes header.directory.page) c.header.ensures)
+    ap (λ (items : List ℕ). let it : List ShipLine = record { line = get_or items i 0; bytes = take (at + size - at) (drop at c.deref.result.now) } ∷ [] in it) c.deref-line-items.ensures.value
+    ∙ ap (λ (n : ℕ). let it : List ShipLine = record { line = get_or kept.lines.items i 0; bytes = take n (drop at c.deref.result.now) } ∷ [] in it) sized
+    ∙ ap (λ (n : ℕ). let it : List ShipLine = record { line = get_or kept.lines.items i 0; bytes = take (line_bytes c.args.durable.now.header.directory.page) (drop n c.deref.result.now) } ∷ [] in it) placed
     ∙ ap (λ (bytes : List ℕ). part_at (line_bytes c.args.durable.now.header.directory.page) kept.lines.items bytes i ∷ []) c.deref.ensures.value in
     let before : told (begun_of now.bank) ≡ take i (parted (line_bytes c.args.durable.now.header.directory.page) kept.lines.items kept.bytes.items) = ap (λ (store : KeptStore). told (begun_of store.bank)) was.now_is ∙ was.lines_are in
     record {
