@@ -26,10 +26,6 @@ abbrev pub operands_behind : List Operand → Option (List Operand) → Option (
 operands_behind read (Some others) = Some (read ++ others)
 operands_behind read None = None
 
-pub behind_nothing : (others : Option (List Operand)) → operands_behind [] others ≡ others
-behind_nothing (Some others) = refl
-behind_nothing None = refl
-
 -- no operands are read where one is still to come and no tokens are left
 pub stopped : (read : List Operand) (sorts : List Sort) (i : ℕ) (left : Option (Bor (List Token))) (whole : Option (List Operand)) → i < length sorts → left ≡ None → operands_behind read (operands_of (drop i sorts) (option_map (λ part. part.now) left)) ≡ whole → None ≡ whole
 stopped read sorts i left whole inside none so_far = rw (none, drop-cons sorts i Sort.Value) at so_far

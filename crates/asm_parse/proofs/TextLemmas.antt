@@ -42,10 +42,6 @@ abbrev pub statements_behind : List Statement → Result (List Statement) (ℕ �
 statements_behind read (Ok others) = Ok (read ++ others)
 statements_behind read (Err fault) = Err fault
 
-pub behind_nothing : (others : Result (List Statement) (ℕ × ℕ)) → statements_behind [] others ≡ others
-behind_nothing (Ok others) = refl
-behind_nothing (Err fault) = refl
-
 -- what a line's answer adds to what was read
 gained : (read more : List Statement) (number : ℕ) (answer : Result (Option Statement) ℕ) (others : Result (List Statement) (ℕ × ℕ)) → Gains read more (at_line number answer) → statements_behind more others ≡ statements_behind read (then_statements number answer others)
 gained read more number (Ok (Some statement)) (Ok others) new = ap Ok (ap (λ list. list ++ others) new ∙ append_assoc read (statement ∷ []) others)

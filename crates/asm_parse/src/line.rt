@@ -62,20 +62,7 @@ fn push_line(
     }
 }
 
-/// The statement of one line without its line feed; none where the line has neither a label nor a statement.
-///
-/// # Errors
-///
-/// [`AsmFault::Fault`] with this line's number and the kind of its fault, 1 to 4; [`AsmFault::Memory`] where there is
-/// no memory.
-pub fn parse_line(alloc: Global, number: u32, line: &[u8]) -> Result<Option<Statement>, AsmFault>
-    ensures { IsAnswer (λ statement. statement) result (at_line number (line_of number line.now)) }
-{
-    let mut room = Vec::new(alloc);
-    parse_in(&mut room, number, line)
-}
-
-/// The statement of one line, whose tokens lie in the room.
+/// The statement of one line without its line feed, whose tokens lie in the room; none where the line has neither a label nor a statement.
 fn parse_in(room: &mut Vec<Token>, number: u32, line: &[u8]) -> Result<Option<Statement>, AsmFault>
     ensures { IsAnswer (λ statement. statement) result (at_line number (line_of number line.now)) }
 {

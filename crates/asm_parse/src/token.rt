@@ -43,27 +43,13 @@ const CHARACTER: u8 = 1;
 /// A number that is none, or has more than 32 bits.
 const NUMBER: u8 = 4;
 
-/// The tokens of a line without its line feed.
+/// The tokens of a line without its line feed, in a room that is kept for one line after another. Of the tokens before
+/// nothing is left.
 ///
 /// # Errors
 ///
 /// [`LineFault::Kind`] with the kind of the first token that is bad: 1 for a byte that begins none or a word of more
 /// than 31 bytes, 4 for a number that is none or has more than 32 bits. [`LineFault::Memory`] where there is no memory.
-pub fn tokens_of(alloc: Global, line: &[u8]) -> Result<Vec<Token>, LineFault>
-    ensures { Answers (λ found. found.items) result (tokens line.now) }
-{
-    let mut found = Vec::new(alloc);
-    match tokens_into(&mut found, line) {
-        Ok(()) => Ok(found),
-        Err(fault) => Err(fault),
-    }
-}
-
-/// The same, in a room that is kept for one line after another. Of the tokens before nothing is left.
-///
-/// # Errors
-///
-/// As [`tokens_of`].
 pub fn tokens_into(found: &mut Vec<Token>, line: &[u8]) -> Result<(), LineFault>
     ensures { Answers (λ _. found.new.items) result (tokens line.now) }
 {

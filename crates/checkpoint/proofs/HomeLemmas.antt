@@ -14,7 +14,7 @@ use Rattle.store_format.specs.Bank.{RecordLine}
 use Rattle.store_format.specs.Stands.{IsStore, laid, home_of}
 use Rattle.store_format.proofs.Fronts.{shorter_front, rest_front}
 use Rattle.store_format.proofs.Stores.{area_within}
-use Rattle.store_format.proofs.Elsewhere.{store_front}
+use Rattle.store_format.proofs.Elsewhere.{store_front, behind_bytes}
 use Rattle.store_format.proofs.Widths.{lines-below}
 use Rattle.outside.specs.Bytes.{bytes_at, written, Torn}
 use Rattle.outside.proofs.Torn.{torn_by_written}
@@ -37,16 +37,6 @@ end_within B bank lines = omega arith
 -- bytes in the same front
 pub front_bytes : (page : PageSize) (old new : List ℕ) (k place : ℕ) → take k new ≡ take k old → place + line_bytes page ≤ k → bytes_at new place (line_bytes page) ≡ bytes_at old place (line_bytes page)
 front_bytes page old new k place same within = shorter_front (line_bytes page) (k - place) (drop place new) (drop place old) (rest_front place k new old same (omega arith)) (omega arith)
-
--- bytes behind what is the same
-pub behind_bytes : (old new : List ℕ) (k place : ℕ) → drop k new ≡ drop k old → k ≤ place → drop place new ≡ drop place old
-behind_bytes old new k place same behind =
-    let whole : k + (place - k) ≡ place = omega arith in
-    ap (λ (n : ℕ). drop n new) (sym whole)
-    ∙ sym (drop-drop (place - k) k new)
-    ∙ ap (λ (these : List ℕ). drop (place - k) these) same
-    ∙ drop-drop (place - k) k old
-    ∙ ap (λ (n : ℕ). drop n old) whole
 
 module _ (header : Header) (which : Which) (base gate : ℕ) (records : List (List RecordLine)) (held : List ℕ) (is : IsStore held header which base gate records) (big : 0 < header.bank_bytes) where
   abbrev bound : ℕ

@@ -9,7 +9,7 @@ use Rattle.store_format.specs.Bank.{RecordLine, area_at}
 use Rattle.store_format.specs.Stands.{IsStore, HasHeader, laid, home_of, chosen, stands}
 use Rattle.store_format.proofs.Fronts.{shorter_front, same_byte}
 use Rattle.store_format.proofs.Stores.{area_within}
-use Rattle.store_format.proofs.Elsewhere.{same_header, header_held, base_behind, store_behind, store_front, store_empty, store_big, stands_alike}
+use Rattle.store_format.proofs.Elsewhere.{same_header, header_held, base_behind, store_behind, store_front, store_empty, store_big, stands_alike, behind_bytes}
 use Rattle.line_geometry.specs.Lines.{line_count}
 use Rattle.outside.specs.Bytes.{written, Torn}
 use Rattle.outside.proofs.Torn.{torn_by_written}
@@ -20,7 +20,7 @@ use Rattle.redo_journal.proofs.GateLemmas.{drop-written}
 use Rattle.checkpoint.specs.Chosen.{other, selector_of}
 use Rattle.checkpoint.specs.Home.{IsCovered, IsHomed}
 use Rattle.checkpoint.specs.Moved.{IsSame}
-use Rattle.checkpoint.proofs.HomeLemmas.{behind_bytes, covered_store, covered_bytes, homed_bytes}
+use Rattle.checkpoint.proofs.HomeLemmas.{covered_store, covered_bytes, homed_bytes}
 
 -- an image of the same store, with the same home lines
 pub record Alike (header : Header) (which : Which) (base gate : ℕ) (records : List (List RecordLine)) (old new : List ℕ) : Type 0 where

@@ -1,5 +1,5 @@
 -- Each row on a few states, with values worked out by hand.
-use Rattle.std.specs.Prelude.{◌≡◌, refl, ℕ, Bool, true, false, Some, None, Option, List, [], ◌∷◌, ◌++◌, take, drop, replicate}
+use Rattle.std.specs.Prelude.{◌≡◌, refl, ℕ, Bool, true, false, Some, None, Option, List, [], ◌∷◌, ◌++◌, map, take, drop, replicate}
 use Rattle.std.proofs.Common.{lit<, lit≤}
 use Rattle.line_geometry.specs.Directory.{Layout}
 use Rattle.line_geometry.specs.declared.directory.PageSize.TheVariants.{Two}
@@ -52,173 +52,98 @@ state code registers cs =
 abbrev pub outcome : List ℕ → List ℕ → Cs → Outcome
 outcome code registers cs = row program directory (state code registers cs)
 
+-- rows that were worked out: the code, registers 2 and 3 and the status before, and what is seen after
+abbrev pub Worked : Type 0 → Type 0
+Worked A = List ℕ × ℕ × ℕ × Cs × A
+
+-- each comes to what was worked out
+abbrev pub AreRight : {A : Type 0} → (Outcome → A) → List (Worked A) → Type 0
+AreRight see rows = map (λ worked. see (outcome worked.0 (holding worked.1 worked.2) worked.3)) rows ≡ map (λ worked. worked.4) rows
+
+abbrev pub as_is : Outcome → Outcome
+as_is outcome = outcome
+
 -- registers 0 to 3, status and address of a state that was gone on to
 abbrev seen : Outcome → Option (List ℕ × Cs × ℕ)
 seen (On s) = Some (take 4 s.regs, s.cs, s.iar)
 seen _ = None
 
 -- cau: register 0 as base is zero; the field is shifted and a carry is lost; the status stays
-cau_zero : seen (outcome (0xD8 ∷ 0x30 ∷ 0x10 ∷ 0x00 ∷ []) (holding 0 0) all) ≡ Some (64 ∷ 1 ∷ 0 ∷ 0x10000000 ∷ [], all, 4)
+-- cal: the field has its sign; the status stays. cas: register 0 as base is zero; the status stays
+-- a: carry without overflow, overflow without carry, both. ai: the field has its sign, and register 0 has its value
+-- s: the carry is that of the sum with the complement. sis: the field itself, without a register
+sums : AreRight seen (
+    (0xD8 ∷ 0x30 ∷ 0x10 ∷ 0x00 ∷ [], 0, 0, all, Some (64 ∷ 1 ∷ 0 ∷ 0x10000000 ∷ [], all, 4))
+    ∷ (0xD8 ∷ 0x32 ∷ 0xFF ∷ 0xFF ∷ [], 0x00020000, 0, clear, Some (64 ∷ 1 ∷ 0x00020000 ∷ 0x00010000 ∷ [], clear, 4))
+    ∷ (0xC8 ∷ 0x32 ∷ 0xFF ∷ 0xFF ∷ [], 0, 0, all, Some (64 ∷ 1 ∷ 0 ∷ 0xFFFFFFFF ∷ [], all, 4))
+    ∷ (0xC8 ∷ 0x30 ∷ 0x00 ∷ 0x05 ∷ [], 0, 0, clear, Some (64 ∷ 1 ∷ 0 ∷ 5 ∷ [], clear, 4))
+    ∷ (0x63 ∷ 0x21 ∷ [], 0xFFFFFFFF, 7, all, Some (64 ∷ 1 ∷ 0xFFFFFFFF ∷ 0 ∷ [], all, 2))
+    ∷ (0x63 ∷ 0x20 ∷ [], 9, 7, clear, Some (64 ∷ 1 ∷ 9 ∷ 9 ∷ [], clear, 2))
+    ∷ (0xE1 ∷ 0x23 ∷ [], 0xFFFFFFFF, 1, clear, Some (64 ∷ 1 ∷ 0 ∷ 1 ∷ [], status false true false true false, 2))
+    ∷ (0xE1 ∷ 0x23 ∷ [], 0x7FFFFFFF, 1, clear, Some (64 ∷ 1 ∷ 0x80000000 ∷ 1 ∷ [], status true false false false true, 2))
+    ∷ (0xE1 ∷ 0x23 ∷ [], 0x80000000, 0x80000000, clear, Some (64 ∷ 1 ∷ 0 ∷ 0x80000000 ∷ [], status false true false true true, 2))
+    ∷ (0xC1 ∷ 0x32 ∷ 0xFF ∷ 0xFF ∷ [], 0, 0, all, Some (64 ∷ 1 ∷ 0 ∷ 0xFFFFFFFF ∷ [], status true false false false false, 4))
+    ∷ (0xC1 ∷ 0x30 ∷ 0x00 ∷ 0x05 ∷ [], 0, 0, clear, Some (64 ∷ 1 ∷ 0 ∷ 69 ∷ [], status false false true false false, 4))
+    ∷ (0xE2 ∷ 0x23 ∷ [], 5, 3, clear, Some (64 ∷ 1 ∷ 2 ∷ 3 ∷ [], status false false true true false, 2))
+    ∷ (0xE2 ∷ 0x23 ∷ [], 3, 5, clear, Some (64 ∷ 1 ∷ 0xFFFFFFFE ∷ 5 ∷ [], status true false false false false, 2))
+    ∷ (0xE2 ∷ 0x23 ∷ [], 0x80000000, 1, clear, Some (64 ∷ 1 ∷ 0x7FFFFFFF ∷ 1 ∷ [], status false false true true true, 2))
+    ∷ (0x92 ∷ 0x21 ∷ [], 0, 0, clear, Some (64 ∷ 1 ∷ 0xFFFFFFFF ∷ 0 ∷ [], status true false false false false, 2))
+    ∷ (0x92 ∷ 0x22 ∷ [], 2, 0, clear, Some (64 ∷ 1 ∷ 0 ∷ 0 ∷ [], status false true false true false, 2))
+    ∷ [])
 unfolding row_numbered
-cau_zero = refl
-
-cau_wraps : seen (outcome (0xD8 ∷ 0x32 ∷ 0xFF ∷ 0xFF ∷ []) (holding 0x00020000 0) clear) ≡ Some (64 ∷ 1 ∷ 0x00020000 ∷ 0x00010000 ∷ [], clear, 4)
-unfolding row_numbered
-cau_wraps = refl
-
--- cal: the field has its sign; the status stays
-cal_sign : seen (outcome (0xC8 ∷ 0x32 ∷ 0xFF ∷ 0xFF ∷ []) (holding 0 0) all) ≡ Some (64 ∷ 1 ∷ 0 ∷ 0xFFFFFFFF ∷ [], all, 4)
-unfolding row_numbered
-cal_sign = refl
-
-cal_zero : seen (outcome (0xC8 ∷ 0x30 ∷ 0x00 ∷ 0x05 ∷ []) (holding 0 0) clear) ≡ Some (64 ∷ 1 ∷ 0 ∷ 5 ∷ [], clear, 4)
-unfolding row_numbered
-cal_zero = refl
+sums = refl
 
 -- l: the two lowest bits of the address count as zero
-l_word : seen (outcome (0xCD ∷ 0x32 ∷ 0x00 ∷ 0x07 ∷ []) (holding 0x10000000 0) all) ≡ Some (64 ∷ 1 ∷ 0x10000000 ∷ 0x80556677 ∷ [], all, 4)
+words : AreRight seen (
+    (0xCD ∷ 0x32 ∷ 0x00 ∷ 0x07 ∷ [], 0x10000000, 0, all, Some (64 ∷ 1 ∷ 0x10000000 ∷ 0x80556677 ∷ [], all, 4))
+    ∷ (0xCD ∷ 0x32 ∷ 0x00 ∷ 0x00 ∷ [], 0x100007FF, 9, all, Some (64 ∷ 1 ∷ 0x100007FF ∷ 0 ∷ [], all, 4))
+    ∷ (0xCD ∷ 0x30 ∷ 0x00 ∷ 0x00 ∷ [], 0, 0, all, Some (64 ∷ 1 ∷ 0 ∷ 0xCD300000 ∷ [], all, 4))
+    ∷ [])
 unfolding row_numbered
-l_word = refl
+words = refl
 
-l_last : seen (outcome (0xCD ∷ 0x32 ∷ 0x00 ∷ 0x00 ∷ []) (holding 0x100007FF 9) all) ≡ Some (64 ∷ 1 ∷ 0x100007FF ∷ 0 ∷ [], all, 4)
+-- jb and jnb: taken and not taken, ahead and back
+jumps : AreRight seen (
+    (0x09 ∷ 0x0A ∷ [], 0, 0, status true false false false false, Some (64 ∷ 1 ∷ 0 ∷ 0 ∷ [], status true false false false false, 20))
+    ∷ (0x09 ∷ 0x0A ∷ [], 0, 0, status false true true true true, Some (64 ∷ 1 ∷ 0 ∷ 0 ∷ [], status false true true true true, 2))
+    ∷ (0x0D ∷ 0x02 ∷ [], 0, 0, status false false false false true, Some (64 ∷ 1 ∷ 0 ∷ 0 ∷ [], status false false false false true, 4))
+    ∷ (0x02 ∷ 0xFB ∷ [], 0, 0, clear, Some (64 ∷ 1 ∷ 0 ∷ 0 ∷ [], clear, 0xFFFFFFF6))
+    ∷ (0x02 ∷ 0xFB ∷ [], 0, 0, status false true false false false, Some (64 ∷ 1 ∷ 0 ∷ 0 ∷ [], status false true false false false, 2))
+    ∷ (0x00 ∷ 0x00 ∷ [], 0, 0, all, Some (64 ∷ 1 ∷ 0 ∷ 0 ∷ [], all, 0))
+    ∷ [])
 unfolding row_numbered
-l_last = refl
+jumps = refl
 
-l_private : seen (outcome (0xCD ∷ 0x30 ∷ 0x00 ∷ 0x00 ∷ []) (holding 0 0) all) ≡ Some (64 ∷ 1 ∷ 0 ∷ 0xCD300000 ∷ [], all, 4)
+-- loads past the segment, under an absent window, in an absent segment, past the private bytes; a store through a window to read, where a range
+-- past its end comes first; a field above 5 is no jump's; svc: commit, give up, no such call, no row; the fetch: nothing there, half a row of four
+-- bytes, by its high byte alone, half of no row
+checks : AreRight as_is (
+    (0xCD ∷ 0x32 ∷ 0x00 ∷ 0x00 ∷ [], 0x10000800, 0, all, Check 2)
+    ∷ (0xCD ∷ 0x32 ∷ 0x00 ∷ 0x00 ∷ [], 0x40000000, 0, all, Check 2)
+    ∷ (0xCD ∷ 0x32 ∷ 0x00 ∷ 0x00 ∷ [], 0x30000000, 0, all, Check 2)
+    ∷ (0xCD ∷ 0x32 ∷ 0x00 ∷ 0x00 ∷ [], 0x00004000, 0, all, Check 2)
+    ∷ (0xDD ∷ 0x32 ∷ 0x00 ∷ 0x00 ∷ [], 0x20000000, 0, all, Check 7)
+    ∷ (0xDD ∷ 0x32 ∷ 0x08 ∷ 0x00 ∷ [], 0x20000000, 0, all, Check 2)
+    ∷ (0x0E ∷ 0x00 ∷ [], 0, 0, all, Check 1)
+    ∷ (0xC0 ∷ 0x00 ∷ 0x00 ∷ 0x00 ∷ [], 0, 0, all, Commit)
+    ∷ (0xC0 ∷ 0x00 ∷ 0x00 ∷ 0x02 ∷ [], 0, 0, all, Check 8)
+    ∷ (0xC0 ∷ 0x00 ∷ 0x00 ∷ 0x03 ∷ [], 0, 0, all, Check 6)
+    ∷ (0xC0 ∷ 0x01 ∷ 0x00 ∷ 0x00 ∷ [], 0, 0, all, Check 1)
+    ∷ ([], 0, 0, all, Check 2)
+    ∷ (0xC0 ∷ 0x01 ∷ [], 0, 0, all, Check 2)
+    ∷ (0xFF ∷ 0x00 ∷ [], 0, 0, all, Check 1)
+    ∷ [])
 unfolding row_numbered
-l_private = refl
-
--- past the segment, under an absent window, in an absent segment, past the private bytes
-l_past : outcome (0xCD ∷ 0x32 ∷ 0x00 ∷ 0x00 ∷ []) (holding 0x10000800 0) all ≡ Check 2
-unfolding row_numbered
-l_past = refl
-
-l_no_window : outcome (0xCD ∷ 0x32 ∷ 0x00 ∷ 0x00 ∷ []) (holding 0x40000000 0) all ≡ Check 2
-unfolding row_numbered
-l_no_window = refl
-
-l_no_segment : outcome (0xCD ∷ 0x32 ∷ 0x00 ∷ 0x00 ∷ []) (holding 0x30000000 0) all ≡ Check 2
-unfolding row_numbered
-l_no_segment = refl
-
-l_past_private : outcome (0xCD ∷ 0x32 ∷ 0x00 ∷ 0x00 ∷ []) (holding 0x00004000 0) all ≡ Check 2
-unfolding row_numbered
-l_past_private = refl
+checks = refl
 
 abbrev pub stored : Outcome → Option (List ℕ)
 stored (On s) = Some (take 12 (drop 2044 s.store))
 stored _ = None
 
 -- st: the word's bytes, the highest first
-st_word :
-    stored (outcome (0xDD ∷ 0x32 ∷ 0x00 ∷ 0x04 ∷ []) (holding 0x10000000 0x01020304) all)
-    ≡ Some (0 ∷ 0 ∷ 0 ∷ 0 ∷ 0x11 ∷ 0x22 ∷ 0x33 ∷ 0x44 ∷ 1 ∷ 2 ∷ 3 ∷ 4 ∷ [])
+st_word : stored (outcome (0xDD ∷ 0x32 ∷ 0x00 ∷ 0x04 ∷ []) (holding 0x10000000 0x01020304) all) ≡ Some (0 ∷ 0 ∷ 0 ∷ 0 ∷ 0x11 ∷ 0x22 ∷ 0x33 ∷ 0x44 ∷ 1 ∷ 2 ∷ 3 ∷ 4 ∷ [])
 unfolding row_numbered
 st_word = refl
-
--- a store through a window to read; a range past its end comes first
-st_read : outcome (0xDD ∷ 0x32 ∷ 0x00 ∷ 0x00 ∷ []) (holding 0x20000000 0) all ≡ Check 7
-unfolding row_numbered
-st_read = refl
-
-st_read_past : outcome (0xDD ∷ 0x32 ∷ 0x08 ∷ 0x00 ∷ []) (holding 0x20000000 0) all ≡ Check 2
-unfolding row_numbered
-st_read_past = refl
-
--- a: carry without overflow, overflow without carry, both
-a_carry : seen (outcome (0xE1 ∷ 0x23 ∷ []) (holding 0xFFFFFFFF 1) clear) ≡ Some (64 ∷ 1 ∷ 0 ∷ 1 ∷ [], status false true false true false, 2)
-unfolding row_numbered
-a_carry = refl
-
-a_overflow :
-    seen (outcome (0xE1 ∷ 0x23 ∷ []) (holding 0x7FFFFFFF 1) clear)
-    ≡ Some (64 ∷ 1 ∷ 0x80000000 ∷ 1 ∷ [], status true false false false true, 2)
-unfolding row_numbered
-a_overflow = refl
-
-a_both :
-    seen (outcome (0xE1 ∷ 0x23 ∷ []) (holding 0x80000000 0x80000000) clear)
-    ≡ Some (64 ∷ 1 ∷ 0 ∷ 0x80000000 ∷ [], status false true false true true, 2)
-unfolding row_numbered
-a_both = refl
-
--- ai: the field has its sign, and register 0 has its value
-ai_sign :
-    seen (outcome (0xC1 ∷ 0x32 ∷ 0xFF ∷ 0xFF ∷ []) (holding 0 0) all)
-    ≡ Some (64 ∷ 1 ∷ 0 ∷ 0xFFFFFFFF ∷ [], status true false false false false, 4)
-unfolding row_numbered
-ai_sign = refl
-
-ai_value : seen (outcome (0xC1 ∷ 0x30 ∷ 0x00 ∷ 0x05 ∷ []) (holding 0 0) clear) ≡ Some (64 ∷ 1 ∷ 0 ∷ 69 ∷ [], status false false true false false, 4)
-unfolding row_numbered
-ai_value = refl
-
--- s: the carry is that of the sum with the complement
-s_carry : seen (outcome (0xE2 ∷ 0x23 ∷ []) (holding 5 3) clear) ≡ Some (64 ∷ 1 ∷ 2 ∷ 3 ∷ [], status false false true true false, 2)
-unfolding row_numbered
-s_carry = refl
-
-s_borrow : seen (outcome (0xE2 ∷ 0x23 ∷ []) (holding 3 5) clear) ≡ Some (64 ∷ 1 ∷ 0xFFFFFFFE ∷ 5 ∷ [], status true false false false false, 2)
-unfolding row_numbered
-s_borrow = refl
-
-s_overflow :
-    seen (outcome (0xE2 ∷ 0x23 ∷ []) (holding 0x80000000 1) clear)
-    ≡ Some (64 ∷ 1 ∷ 0x7FFFFFFF ∷ 1 ∷ [], status false false true true true, 2)
-unfolding row_numbered
-s_overflow = refl
-
--- cas: register 0 as base is zero; the status stays
-cas_wraps : seen (outcome (0x63 ∷ 0x21 ∷ []) (holding 0xFFFFFFFF 7) all) ≡ Some (64 ∷ 1 ∷ 0xFFFFFFFF ∷ 0 ∷ [], all, 2)
-unfolding row_numbered
-cas_wraps = refl
-
-cas_zero : seen (outcome (0x63 ∷ 0x20 ∷ []) (holding 9 7) clear) ≡ Some (64 ∷ 1 ∷ 9 ∷ 9 ∷ [], clear, 2)
-unfolding row_numbered
-cas_zero = refl
-
--- sis: the field itself, without a register
-sis_borrow : seen (outcome (0x92 ∷ 0x21 ∷ []) (holding 0 0) clear) ≡ Some (64 ∷ 1 ∷ 0xFFFFFFFF ∷ 0 ∷ [], status true false false false false, 2)
-unfolding row_numbered
-sis_borrow = refl
-
-sis_zero : seen (outcome (0x92 ∷ 0x22 ∷ []) (holding 2 0) clear) ≡ Some (64 ∷ 1 ∷ 0 ∷ 0 ∷ [], status false true false true false, 2)
-unfolding row_numbered
-sis_zero = refl
-
--- jb and jnb: taken and not taken, ahead and back; a field above 5 is no row's
-jb_taken : seen (outcome (0x09 ∷ 0x0A ∷ []) (holding 0 0) (status true false false false false)) ≡ Some (64 ∷ 1 ∷ 0 ∷ 0 ∷ [], status true false false false false, 20)
-unfolding row_numbered
-jb_taken = refl
-
-jb_not_taken : seen (outcome (0x09 ∷ 0x0A ∷ []) (holding 0 0) (status false true true true true)) ≡ Some (64 ∷ 1 ∷ 0 ∷ 0 ∷ [], status false true true true true, 2)
-unfolding row_numbered
-jb_not_taken = refl
-
-jb_overflow : seen (outcome (0x0D ∷ 0x02 ∷ []) (holding 0 0) (status false false false false true)) ≡ Some (64 ∷ 1 ∷ 0 ∷ 0 ∷ [], status false false false false true, 4)
-unfolding row_numbered
-jb_overflow = refl
-
-jnb_back : seen (outcome (0x02 ∷ 0xFB ∷ []) (holding 0 0) clear) ≡ Some (64 ∷ 1 ∷ 0 ∷ 0 ∷ [], clear, 0xFFFFFFF6)
-unfolding row_numbered
-jnb_back = refl
-
-jnb_not_taken : seen (outcome (0x02 ∷ 0xFB ∷ []) (holding 0 0) (status false true false false false)) ≡ Some (64 ∷ 1 ∷ 0 ∷ 0 ∷ [], status false true false false false, 2)
-unfolding row_numbered
-jnb_not_taken = refl
-
-jnb_always : seen (outcome (0x00 ∷ 0x00 ∷ []) (holding 0 0) all) ≡ Some (64 ∷ 1 ∷ 0 ∷ 0 ∷ [], all, 0)
-unfolding row_numbered
-jnb_always = refl
-
-jump_no_condition : outcome (0x0E ∷ 0x00 ∷ []) (holding 0 0) all ≡ Check 1
-unfolding row_numbered
-jump_no_condition = refl
-
--- svc: commit, print, give up, no such call, no row
-svc_commit : outcome (0xC0 ∷ 0x00 ∷ 0x00 ∷ 0x00 ∷ []) (holding 0 0) all ≡ Commit
-unfolding row_numbered
-svc_commit = refl
 
 abbrev printed : Outcome → Option (List ℕ)
 printed (On s) = Some s.out
@@ -240,31 +165,6 @@ svc_print_more : after_printing 4096 ≡ Check 5
 unfolding row_numbered
 svc_print_more = refl
 
-svc_gives_up : outcome (0xC0 ∷ 0x00 ∷ 0x00 ∷ 0x02 ∷ []) (holding 0 0) all ≡ Check 8
-unfolding row_numbered
-svc_gives_up = refl
-
-svc_unknown : outcome (0xC0 ∷ 0x00 ∷ 0x00 ∷ 0x03 ∷ []) (holding 0 0) all ≡ Check 6
-unfolding row_numbered
-svc_unknown = refl
-
-svc_field : outcome (0xC0 ∷ 0x01 ∷ 0x00 ∷ 0x00 ∷ []) (holding 0 0) all ≡ Check 1
-unfolding row_numbered
-svc_field = refl
-
--- the fetch: nothing there; half a row of four bytes, by its high byte alone; half of no row
-fetch_outside : outcome [] (holding 0 0) all ≡ Check 2
-unfolding row_numbered
-fetch_outside = refl
-
-fetch_half : outcome (0xC0 ∷ 0x01 ∷ []) (holding 0 0) all ≡ Check 2
-unfolding row_numbered
-fetch_half = refl
-
-fetch_no_row : outcome (0xFF ∷ 0x00 ∷ []) (holding 0 0) all ≡ Check 1
-unfolding row_numbered
-fetch_no_row = refl
-
 -- a link is written where the row goes on, after all else
 abbrev linked : Option (List ℕ × Cs × ℕ)
 linked = seen (with_link (Some (3, 12)) (outcome (0xCD ∷ 0x32 ∷ 0x00 ∷ 0x00 ∷ []) (holding 0x10000000 0) all))
@@ -278,18 +178,9 @@ unfolding row_numbered
 link_refused = refl
 
 -- the touched lines: of a load, of a store, of what is refused, of private bytes
-touched_load : touched program directory (state (0xCD ∷ 0x32 ∷ 0x00 ∷ 0x7F ∷ []) (holding 0x10000000 0) all) ≡ record { reads = 16 ∷ []; writes = [] }
+touched_lines :
+    map (λ (one : List ℕ × ℕ). touched program directory (state one.0 (holding one.1 0) all))
+    ((0xCD ∷ 0x32 ∷ 0x00 ∷ 0x7F ∷ [], 0x10000000) ∷ (0xDD ∷ 0x32 ∷ 0x07 ∷ 0xFC ∷ [], 0x10000000) ∷ (0xDD ∷ 0x32 ∷ 0x00 ∷ 0x00 ∷ [], 0x20000000) ∷ (0xDD ∷ 0x30 ∷ 0x00 ∷ 0x00 ∷ [], 0) ∷ [])
+    ≡ record { reads = 16 ∷ []; writes = [] } ∷ record { reads = []; writes = 31 ∷ [] } ∷ no_lines ∷ no_lines ∷ []
 unfolding row_numbered
-touched_load = refl
-
-touched_store : touched program directory (state (0xDD ∷ 0x32 ∷ 0x07 ∷ 0xFC ∷ []) (holding 0x10000000 0) all) ≡ record { reads = []; writes = 31 ∷ [] }
-unfolding row_numbered
-touched_store = refl
-
-touched_refused : touched program directory (state (0xDD ∷ 0x32 ∷ 0x00 ∷ 0x00 ∷ []) (holding 0x20000000 0) all) ≡ no_lines
-unfolding row_numbered
-touched_refused = refl
-
-touched_private : touched program directory (state (0xDD ∷ 0x30 ∷ 0x00 ∷ 0x00 ∷ []) (holding 0 0) all) ≡ no_lines
-unfolding row_numbered
-touched_private = refl
+touched_lines = refl

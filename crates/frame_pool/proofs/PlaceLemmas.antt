@@ -73,10 +73,6 @@ free-within p frame free split =
     let facts = p.sound.placed.is_free frame (ap (λ (xs : List ℕ). has xs frame) split ∙ has-push_last free frame) in
     omega (arith, facts.1.below, p.sound.sized.page_in, p.page_in.ok.0)
 
--- a page's frame is one of the frames
-pub frame-within : (p : StorePages) (page frame : ℕ) → place_of (places_of p) page ≡ Some frame → frame < frame_count p.page p.frames
-frame-within p page frame there = (frame-of_store (places_of p) page frame p.sound there).below
-
 -- of two pages not both are to stay
 stays-one : (keep : Option ℕ) (x y : ℕ) → has (option_to_list keep) x ≡ true → has (option_to_list keep) y ≡ true → y ≡ x
 stays-one None x y first second = absurd (cc)

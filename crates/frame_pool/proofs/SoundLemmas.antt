@@ -53,6 +53,38 @@ frame-of_store pages page frame sound there = sound.placed.in_use page frame (so
 pub page_part : (page count size : ℕ) → page < count → page * size + size ≤ count * size
 page_part page count size below = grind arith
 
+-- two lists that point at each other do so still once one pair is gone
+pair-left : (to from : List (Option ℕ)) (x y : ℕ) → x < length to → slice_index_or from y None ≡ Some x
+    → ((p f : ℕ) → slice_index_or to p None ≡ Some f → slice_index_or from f None ≡ Some p)
+    → (p f : ℕ) → slice_index_or (slice_set to x None) p None ≡ Some f → slice_index_or (slice_set from y None) f None ≡ Some p
+pair-left to from x y inside back each p f is = by_case (cases_eq p x)
+  where
+    by_case : (p ≡ x) ⊎ (p ≡ x → ⊥) → slice_index_or (slice_set from y None) f None ≡ Some p
+    by_case (inl same) =
+        absurd (let none : slice_index_or (slice_set to x None) p None ≡ None =
+        ap (λ (q : ℕ). slice_index_or (slice_set to x None) q None) same ∙ get_or-set_same to x None None inside in cc)
+    by_case (inr apart) =
+        let held : slice_index_or from f None ≡ Some p = each p f (sym (get_or-set_other to x p None None apart) ∙ is) in
+        let other : (f ≡ y → ⊥) = λ (same : f ≡ y). apart (let clash : Some p ≡ Some x = sym held ∙ ap (λ (q : ℕ). slice_index_or from q None) same ∙ back in cc) in
+        get_or-set_other from y f None None other ∙ held
+
+-- and once one came
+pair-came : (to from : List (Option ℕ)) (x y : ℕ) → x < length to → y < length from → slice_index_or from y None ≡ None
+    → ((p f : ℕ) → slice_index_or to p None ≡ Some f → slice_index_or from f None ≡ Some p)
+    → (p f : ℕ) → slice_index_or (slice_set to x (Some y)) p None ≡ Some f → slice_index_or (slice_set from y (Some x)) f None ≡ Some p
+pair-came to from x y inside also free each p f is = by_case (cases_eq p x)
+  where
+    by_case : (p ≡ x) ⊎ (p ≡ x → ⊥) → slice_index_or (slice_set from y (Some x)) f None ≡ Some p
+    by_case (inl same) =
+        let some : slice_index_or (slice_set to x (Some y)) p None ≡ Some y =
+        ap (λ (q : ℕ). slice_index_or (slice_set to x (Some y)) q None) same ∙ get_or-set_same to x (Some y) None inside in
+        let at : f ≡ y = cc in
+        ap (λ (q : ℕ). slice_index_or (slice_set from y (Some x)) q None) at ∙ get_or-set_same from y (Some x) None also ∙ ap (λ (q : ℕ). Some q) (sym same)
+    by_case (inr apart) =
+        let held : slice_index_or from f None ≡ Some p = each p f (sym (get_or-set_other to x p (Some y) None apart) ∙ is) in
+        let other : (f ≡ y → ⊥) = λ (same : f ≡ y). (let clash : Some p ≡ None = sym held ∙ ap (λ (q : ℕ). slice_index_or from q None) same ∙ free in cc) in
+        get_or-set_other from y f (Some x) None other ∙ held
+
 -- a page left: its frame is free
 pub sound-left :
     (pages : Places) (index page frame : ℕ) → IsSound pages → index < length pages.resident → slice_index pages.resident index ≡ page
@@ -103,30 +135,10 @@ sound-left pages index page frame sound below is_page in_frame = record { sized 
             ∙ ap (λ (o : Option ℕ). is_some o) (sym (get_or-set_other pages.frame_of page p None None apart))
 
     there : (p f : ℕ) → slice_index_or (slice_set pages.frame_of page None) p None ≡ Some f → slice_index_or (slice_set pages.page_in frame None) f None ≡ Some p
-    there p f is = by_case (cases_eq p page)
-      where
-        by_case : (p ≡ page) ⊎ (p ≡ page → ⊥) → slice_index_or (slice_set pages.page_in frame None) f None ≡ Some p
-        by_case (inl same) =
-            absurd (let none : slice_index_or (slice_set pages.frame_of page None) p None ≡ None =
-            ap (λ (q : ℕ). slice_index_or (slice_set pages.frame_of page None) q None) same ∙ get_or-set_same pages.frame_of page None None page_inside in cc)
-        by_case (inr apart) =
-            let was : place_of pages p ≡ Some f = sym (get_or-set_other pages.frame_of page p None None apart) ∙ is in
-            let held : page_at pages f ≡ Some p = old.there p f was in
-            let other : (f ≡ frame → ⊥) = λ (same : f ≡ frame). apart (let clash : Some p ≡ Some page = sym held ∙ ap (page_at pages) same ∙ back in cc) in
-            get_or-set_other pages.page_in frame f None None other ∙ held
+    there p f is = pair-left pages.frame_of pages.page_in page frame page_inside back old.there p f is
 
     back_again : (p f : ℕ) → slice_index_or (slice_set pages.page_in frame None) f None ≡ Some p → slice_index_or (slice_set pages.frame_of page None) p None ≡ Some f
-    back_again p f is = by_case (cases_eq f frame)
-      where
-        by_case : (f ≡ frame) ⊎ (f ≡ frame → ⊥) → slice_index_or (slice_set pages.frame_of page None) p None ≡ Some f
-        by_case (inl same) =
-            absurd (let none : slice_index_or (slice_set pages.page_in frame None) f None ≡ None =
-            ap (λ (q : ℕ). slice_index_or (slice_set pages.page_in frame None) q None) same ∙ get_or-set_same pages.page_in frame None None frame_inside in cc)
-        by_case (inr apart) =
-            let was : page_at pages f ≡ Some p = sym (get_or-set_other pages.page_in frame f None None apart) ∙ is in
-            let held : place_of pages p ≡ Some f = old.back p f was in
-            let other : (p ≡ page → ⊥) = λ (same : p ≡ page). apart (let clash : Some f ≡ Some frame = sym held ∙ ap (place_of pages) same ∙ in_frame in cc) in
-            get_or-set_other pages.frame_of page p None None other ∙ held
+    back_again p f is = pair-left pages.page_in pages.frame_of frame page frame_inside in_frame (λ f p. old.back p f) f p is
 
     in_use : (p f : ℕ) → slice_index_or (slice_set pages.page_in frame None) f None ≡ Some p → IsOfStore (left pages index page frame) f
     in_use p f is = by_case (cases_eq f frame)
@@ -232,34 +244,10 @@ sound-came pages page frame free sound absent page_inside split = record { sized
             ∙ ap (λ (o : Option ℕ). is_some o) (sym (get_or-set_other pages.frame_of page p (Some frame) None apart))
 
     there : (p f : ℕ) → slice_index_or (slice_set pages.frame_of page (Some frame)) p None ≡ Some f → slice_index_or (slice_set pages.page_in frame (Some page)) f None ≡ Some p
-    there p f is = by_case (cases_eq p page)
-      where
-        by_case : (p ≡ page) ⊎ (p ≡ page → ⊥) → slice_index_or (slice_set pages.page_in frame (Some page)) f None ≡ Some p
-        by_case (inl same) =
-            let some : slice_index_or (slice_set pages.frame_of page (Some frame)) p None ≡ Some frame =
-            ap (λ (q : ℕ). slice_index_or (slice_set pages.frame_of page (Some frame)) q None) same ∙ get_or-set_same pages.frame_of page (Some frame) None page_inside in
-            let at : f ≡ frame = cc in
-            ap (λ (q : ℕ). slice_index_or (slice_set pages.page_in frame (Some page)) q None) at ∙ get_or-set_same pages.page_in frame (Some page) None frame_inside ∙ ap (λ (q : ℕ). Some q) (sym same)
-        by_case (inr apart) =
-            let was : place_of pages p ≡ Some f = sym (get_or-set_other pages.frame_of page p (Some frame) None apart) ∙ is in
-            let held : page_at pages f ≡ Some p = old.there p f was in
-            let other : (f ≡ frame → ⊥) = λ (same : f ≡ frame). (let clash : Some p ≡ None = sym held ∙ ap (page_at pages) same ∙ was_free.0 in cc) in
-            get_or-set_other pages.page_in frame f (Some page) None other ∙ held
+    there p f is = pair-came pages.frame_of pages.page_in page frame page_inside frame_inside was_free.0 old.there p f is
 
     back_again : (p f : ℕ) → slice_index_or (slice_set pages.page_in frame (Some page)) f None ≡ Some p → slice_index_or (slice_set pages.frame_of page (Some frame)) p None ≡ Some f
-    back_again p f is = by_case (cases_eq f frame)
-      where
-        by_case : (f ≡ frame) ⊎ (f ≡ frame → ⊥) → slice_index_or (slice_set pages.frame_of page (Some frame)) p None ≡ Some f
-        by_case (inl same) =
-            let some : slice_index_or (slice_set pages.page_in frame (Some page)) f None ≡ Some page =
-            ap (λ (q : ℕ). slice_index_or (slice_set pages.page_in frame (Some page)) q None) same ∙ get_or-set_same pages.page_in frame (Some page) None frame_inside in
-            let at : p ≡ page = cc in
-            ap (λ (q : ℕ). slice_index_or (slice_set pages.frame_of page (Some frame)) q None) at ∙ get_or-set_same pages.frame_of page (Some frame) None page_inside ∙ ap (λ (q : ℕ). Some q) (sym same)
-        by_case (inr apart) =
-            let was : page_at pages f ≡ Some p = sym (get_or-set_other pages.page_in frame f (Some page) None apart) ∙ is in
-            let held : place_of pages p ≡ Some f = old.back p f was in
-            let other : (p ≡ page → ⊥) = λ (same : p ≡ page). (let clash : Some f ≡ None = sym held ∙ ap (place_of pages) same ∙ not_there in cc) in
-            get_or-set_other pages.frame_of page p (Some frame) None other ∙ held
+    back_again p f is = pair-came pages.page_in pages.frame_of frame page frame_inside page_inside not_there (λ f p. old.back p f) f p is
 
     in_use : (p f : ℕ) → slice_index_or (slice_set pages.page_in frame (Some page)) f None ≡ Some p → IsOfStore new f
     in_use p f is = by_case (cases_eq f frame)

@@ -46,43 +46,41 @@ increasing-tail x ys all k inside = omega (arith, all (k + 1) (omega arith), beh
 abbrev pub fault_by : Bool → Bool → Bool → Option DirectoryFault → Option DirectoryFault
 fault_by strange low many later = cond strange (Some Range) (cond low (Some Order) (cond many (Some TooMany) later))
 
+-- without a fault the first is in range, above the last identifier and not too long, and those behind it have none
+pub first-fine :
+    (last pages : ℕ) (segment : ℕ × ℕ) (rest : List (ℕ × ℕ)) → fault_after last pages (segment ∷ rest) ≡ None
+    → IsInRange segment × (last < segment.0) × (pages + segment.1 ≤ 1024) × (fault_after segment.0 (pages + segment.1) rest ≡ None)
+first-fine last pages segment rest fine = by_tests (is_strange segment) (nat_le segment.0 last) (nat_lt 1024 (pages + segment.1)) refl refl refl fine
+  where
+    by_tests :
+        (strange low many : Bool) → is_strange segment ≡ strange → nat_le segment.0 last ≡ low → nat_lt 1024 (pages + segment.1) ≡ many
+        → fault_by strange low many (fault_after segment.0 (pages + segment.1) rest) ≡ None
+        → IsInRange segment × (last < segment.0) × (pages + segment.1 ≤ 1024) × (fault_after segment.0 (pages + segment.1) rest ≡ None)
+    by_tests true low many is is' is'' fine = absurd (cc)
+    by_tests false true many is is' is'' fine = absurd (cc)
+    by_tests false false true is is' is'' fine = absurd (cc)
+    by_tests false false false is is' is'' fine =
+        let least : 1 ≤ segment.0 = grind (arith, nat_tests) in
+        let most : segment.0 ≤ 3839 = grind (arith, nat_tests) in
+        let fewest : 1 ≤ segment.1 = grind (arith, nat_tests) in
+        let largest : segment.1 ≤ 128 = grind (arith, nat_tests) in
+        let above : last < segment.0 = grind (arith, nat_tests) in
+        let fits : pages + segment.1 ≤ 1024 = grind (arith, nat_tests) in
+        ((least, most, fewest, largest), above, fits, fine)
+
 -- without a fault they are legal
 legal-after :
     (last pages : ℕ) (segments : List (ℕ × ℕ)) → pages ≤ 1024 → fault_after last pages segments ≡ None → IsLegalAfter last pages segments
 legal-after last pages [] few fine =
     record { in_range = All-nil IsInRange; ascending = increasing-one last; few_pages = omega (arith, few) }
 legal-after last pages (segment ∷ rest) few fine =
-    by_tests
-    (is_strange segment)
-    (nat_le segment.0 last)
-    (nat_lt 1024 (pages + segment.1))
-    refl
-    refl
-    refl
-    (legal-after segment.0 (pages + segment.1) rest)
-    fine
-  where
-    by_tests :
-        (strange low many : Bool) → is_strange segment ≡ strange → nat_le segment.0 last ≡ low → nat_lt 1024 (pages + segment.1) ≡ many
-        → (pages + segment.1 ≤ 1024 → fault_after segment.0 (pages + segment.1) rest ≡ None → IsLegalAfter segment.0 (pages + segment.1) rest)
-        → fault_by strange low many (fault_after segment.0 (pages + segment.1) rest) ≡ None
-        → IsLegalAfter last pages (segment ∷ rest)
-    by_tests true low many is is' is'' inner fine = absurd (cc)
-    by_tests false true many is is' is'' inner fine = absurd (cc)
-    by_tests false false true is is' is'' inner fine = absurd (cc)
-    by_tests false false false is is' is'' inner fine =
-        let fits : pages + segment.1 ≤ 1024 = grind (arith, nat_tests) in
-        let above : last < segment.0 = grind (arith, nat_tests) in
-        let least : 1 ≤ segment.0 = grind (arith, nat_tests) in
-        let most : segment.0 ≤ 3839 = grind (arith, nat_tests) in
-        let fewest : 1 ≤ segment.1 = grind (arith, nat_tests) in
-        let largest : segment.1 ≤ 128 = grind (arith, nat_tests) in
-        let later : IsLegalAfter segment.0 (pages + segment.1) rest = inner fits fine in
-        record {
-          in_range = All-cons IsInRange segment rest (least, most, fewest, largest) later.in_range;
-          ascending = increasing-cons last segment.0 (identifiers rest) above later.ascending;
-          few_pages = omega (arith, later.few_pages, sum_by-cons (λ segment. segment.1) segment rest);
-        }
+    let (here, above, fits, inner) = first-fine last pages segment rest fine in
+    let later = legal-after segment.0 (pages + segment.1) rest fits inner in
+    record {
+      in_range = All-cons IsInRange segment rest here later.in_range;
+      ascending = increasing-cons last segment.0 (identifiers rest) above later.ascending;
+      few_pages = omega (arith, later.few_pages, sum_by-cons (λ segment. segment.1) segment rest);
+    }
 
 -- legal segments have no fault
 fine-after :

@@ -88,10 +88,6 @@ of_page-below set is x inside =
     let both : (nat_lt x 16 && is_in set x) ≡ true = sym (is_in-where (is_in set) x) ∙ ap (λ (s : List ℕ). is_in s x) is ∙ inside in
     grind (arith, nat_tests)
 
--- two sets of lines that have the same lines are equal
-pub of_page-same : (set other : List ℕ) → IsOfPage set → IsOfPage other → ((x : ℕ) → x < 16 → is_in set x ≡ is_in other x) → set ≡ other
-of_page-same set other is other_is same = sym is ∙ where-alike (is_in set) (is_in other) same ∙ other_is
-
 counted-step : (k m : ℕ) → count_ones (m / 2) ≡ length (passing k (is_on (m / 2))) → count_ones m ≡ length (passing (suc k) (is_on m))
 unfolding passing
 counted-step k m told = by_bit (bit_at m 0 == 1) refl

@@ -133,6 +133,21 @@ page-taken pages want page within = by_page (page == want.page) refl
         inr (apart, get_or-set_other pages want.page page (together (of_page pages want.page) want) nothing apart)
 
 -- one want
+-- lines to read, or to write, of one want
+taken-lines :
+    (pages : List (List ℕ × List ℕ)) (want : Want) (part : List ℕ × List ℕ → List ℕ) (wanted set : List ℕ) → want.page < length pages → IsOfPage wanted → ((held : List ℕ × List ℕ) → part (together held want) ≡ union (part held) wanted)
+    → (page line : ℕ) → line < 16 → ((page : ℕ) → has (part (of_page pages page)) line ≡ has set (page * 16 + line))
+    → has (part (of_page (with_want pages want) page)) line ≡ has (set ++ flat_lines want.page wanted) (page * 16 + line)
+taken-lines pages want part wanted set within of_page_is joins page line below flat = elim (page-taken pages want page within) [
+  | inl here ↦
+      ap (λ held. has (part held) line) here.1
+      ∙ ap (λ lines. has lines line) (joins (of_page pages page))
+      ∙ subst (λ n. has (union (part (of_page pages n)) wanted) line ≡ has (set ++ flat_lines want.page wanted) (n * 16 + line)) (sym here.0)
+      (taken-here want.page line (part (of_page pages want.page)) wanted set below (flat want.page))
+  | inr other ↦ ap (λ held. has (part held) line) other.1 ∙ taken-there want.page page line (part (of_page pages page)) wanted set below other.0 of_page_is (flat page)
+]
+
+-- one want
 taken-one :
     (pages : List (List ℕ × List ℕ)) (lines : Lines) (want : Want) → want.page < length pages → IsFlat pages lines
     → IsOfPage want.reads → IsOfPage want.writes
@@ -141,28 +156,8 @@ taken-one :
       writes = lines.writes ++ flat_lines want.page want.writes;
     })
 taken-one pages lines want within flat reads writes = record {
-  reads = λ page line below.
-      elim (page-taken pages want page within) [
-        | inl here ↦
-            ap (λ h. has h.0 line) here.1
-            ∙ subst (λ n. has (union (of_page pages n).0 want.reads) line ≡ has (lines.reads ++ flat_lines want.page want.reads) (n * 16 + line))
-            (sym here.0)
-            (taken-here want.page line (of_page pages want.page).0 want.reads lines.reads below (flat.reads want.page line below))
-        | inr other ↦
-            ap (λ h. has h.0 line) other.1
-            ∙ taken-there want.page page line (of_page pages page).0 want.reads lines.reads below other.0 reads (flat.reads page line below)
-      ];
-  writes = λ page line below.
-      elim (page-taken pages want page within) [
-        | inl here ↦
-            ap (λ h. has h.1 line) here.1
-            ∙ subst (λ n. has (union (of_page pages n).1 want.writes) line ≡ has (lines.writes ++ flat_lines want.page want.writes) (n * 16 + line))
-            (sym here.0)
-            (taken-here want.page line (of_page pages want.page).1 want.writes lines.writes below (flat.writes want.page line below))
-        | inr other ↦
-            ap (λ h. has h.1 line) other.1
-            ∙ taken-there want.page page line (of_page pages page).1 want.writes lines.writes below other.0 writes (flat.writes page line below)
-      ];
+  reads = λ page line below. taken-lines pages want (λ held. held.0) want.reads lines.reads within reads (λ held. refl) page line below (λ page. flat.reads page line below);
+  writes = λ page line below. taken-lines pages want (λ held. held.1) want.writes lines.writes within writes (λ held. refl) page line below (λ page. flat.writes page line below);
 }
 
 -- equal flat lines

@@ -62,13 +62,6 @@ module _ {X : Type 0} (F : List X → List ℕ) (split : (xs ys : List X) → F 
   one_more : F (take (i + 1) xs) ≡ F (take i xs) ++ F (get_or xs i x ∷ [])
   one_more = ap F (take_more xs i x lt) ∙ split (take i xs) (get_or xs i x ∷ [])
 
-  pub prints_no_more : {T U V : Type 0} (old mid new : Option (List ℕ)) (first : T) (result : Result U Failed) (later : Result V Failed) → IsErr result → IsErr later → Prints old mid (F (take i xs)) (Ok first) → Prints mid new (F (get_or xs i x ∷ [])) result → Prints old new (F xs) later
-  prints_no_more old mid new first result later is so one two =
-      prints_same old new ((F (take i xs) ++ F (get_or xs i x ∷ [])) ++ F (drop (i + 1) xs)) (F xs) later
-      (ap (λ (bytes : List ℕ). bytes ++ F (drop (i + 1) xs)) (sym one_more) ∙ sym (split (take (i + 1) xs) (drop (i + 1) xs)) ∙ ap F (take-append-drop (i + 1) xs))
-      (prints_stop old new (F (take i xs) ++ F (get_or xs i x ∷ [])) (F (drop (i + 1) xs)) result later is so
-      (prints_on old mid new (F (take i xs)) (F (get_or xs i x ∷ [])) first result one two))
-
 -- puts, and then puts
 pub only_on : {W T U : Type 0} (G : Ghosts W) (fewer_later : FewerLater G) (old mid new : W) (value : T) (result : Result U Failed) → OnlyPuts G old mid (Ok value) → OnlyPuts G mid new result → OnlyPuts G old new result
 only_on G fewer_later old mid new value result first second = record {

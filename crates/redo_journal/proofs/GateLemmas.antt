@@ -61,10 +61,3 @@ module _ (gate : ℕ) (body held : List ℕ) (room : gate + 1 + length body ≤ 
 
 pub held_is : {told : Option (List ℕ)} {bytes : List ℕ} → told ≡ Some bytes → unwrap_or told [] ≡ bytes
 held_is same = ap (λ (those : Option (List ℕ)). unwrap_or those []) same
-
-more_twice : (first : Option ℕ) → option_map (λ count. count + 1) (option_map (λ count. count + 1) first) ≡ option_map (λ count. count + 2) first
-more_twice None = refl
-more_twice (Some count) = ap (λ (n : ℕ). Some n) (omega arith)
-
-pub twice : (first second third : Option ℕ) → second ≡ option_map (λ count. count + 1) first → third ≡ option_map (λ count. count + 1) second → third ≡ option_map (λ count. count + 2) first
-twice first second third one two = two ∙ ap (option_map (λ count. count + 1)) one ∙ more_twice first

@@ -110,11 +110,3 @@ first_read held first gate read shown =
 -- a read within the bytes that are held
 pub reads_within : (told : Option (List ℕ)) (n count : ℕ) → n ≤ count → ForSome told (λ bytes. count ≤ length bytes) → ForSome told (λ bytes. n ≤ length bytes)
 reads_within told n count few room bytes is = omega (arith, room bytes is)
-
--- all lines of a record are to be read at its start
-pub all_after : (page : PageSize) (count at : ℕ) (held : List ℕ) → lines_after page count 0 at held ≡ lines_from page count at (drop at held)
-all_after page count at held =
-    let none : at + entry_bytes page * 0 ≡ at = omega arith in
-    let fuel : count - 0 ≡ count = omega arith in
-    ap (λ (n : ℕ). lines_from page n (at + entry_bytes page * 0) (drop (at + entry_bytes page * 0) held)) fuel
-    ∙ ap (λ (n : ℕ). lines_from page count n (drop n held)) none

@@ -25,10 +25,6 @@ pub lines_placed : (page : PageSize) (count at from : ℕ) (bytes : List ℕ) �
 lines_placed page zero at from bytes = refl
 lines_placed page (suc count) at from bytes = ap (λ (these : List RecordLine). record { line = big_number 4 bytes; at = at; bytes = take (line_bytes page) (drop 4 bytes) } ∷ these) (lines_placed page count (at + entry_bytes page) (from + entry_bytes page) (drop (entry_bytes page) bytes))
 
-pub length-placed : (page : PageSize) (at : ℕ) (lines : List RecordLine) → length (placed page at lines) ≡ length lines
-length-placed page at [] = refl
-length-placed page at (line ∷ lines) = omega (arith, length-placed page (at + entry_bytes page) lines)
-
 -- they are in order where they were
 pub placed_order : (page : PageSize) (bound least at : ℕ) (lines : List RecordLine) → wrong_line bound least lines ≡ None → wrong_line bound least (placed page at lines) ≡ None
 placed_order page bound least at [] none = refl

@@ -10,7 +10,7 @@ use Rattle.outside.specs.Causes.{HasCause}
 use Rattle.outside.specs.Moments.{IsOneCall, Elapses, PrintsNothing, Follows}
 use Rattle.outside.specs.Runs.{OnlyAsks, FewerLater, held_of}
 use Rattle.outside.proofs.Durable.{told_some}
-use Rattle.outside.proofs.Runs.{calls_on, still_told}
+use Rattle.outside.proofs.Runs.{calls_none, calls_on, still_told}
 use Rattle.redo_journal.specs.Held.{IsMoreBy, OnlyWrites, WritesOnce}
 
 pub more_on : (a b : ℕ) (old mid new : Option ℕ) → IsMoreBy a old mid → IsMoreBy b mid new → IsMoreBy (a + b) old new
@@ -80,14 +80,7 @@ held_left G held_now now told = held_now now (held_of G now) (told_some (G.held 
 -- no call at all
 pub wrote_nothing : {W : Type 0} (G : Ghosts W) (now : W) → OnlyWrites G now now
 wrote_nothing G now = record {
-  calls = record {
-    quiet = record { same = refl; crash = λ image seen left. inl left };
-    honest = refl;
-    time = record { later = record { calls = omega arith; puts = omega arith }; nothing_else = λ t image seen earlier left. inl left; keeps = λ t image seen earlier left. left };
-    disk = omega arith;
-    put = refl;
-    puts = refl;
-  };
+  calls = calls_none G now;
   told = λ told. told;
   longer = λ count room. room;
   writes = same_fewer (G.writes now) (G.writes now) refl;

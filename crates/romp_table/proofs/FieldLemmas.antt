@@ -18,6 +18,10 @@ numbered (Inst.D op b c i) number w = omega arith
 numbered (Inst.BI op b disp) number w = let h = bits_small_20 disp w.1 in omega arith
 numbered (Inst.BA op to) number w = omega arith
 
+nibbles : (number k b c : ℕ) → k < 16 → b < 16 → c < 16
+    → let first = number * 2 ^ 12 + k * 2 ^ 8 + b * 2 ^ 4 + c in (nibble first 8 ≡ k) × (nibble first 4 ≡ b) × (nibble first 0 ≡ c)
+nibbles number k b c small also too = (omega arith, omega arith, omega arith)
+
 -- what is read from the halfwords of an instruction is the instruction
 pub read-written : (inst : Inst) (number : ℕ) → HasWidths inst → instruction_by (op_of inst) (format_of inst) (first_with number inst) (second_of inst) ≡ inst
 read-written (Inst.J op cond disp) number w =
@@ -25,18 +29,8 @@ read-written (Inst.J op cond disp) number w =
     let e : (number * 2 ^ 11 + cond * 2 ^ 8 + bits_of 8 disp) / 2 ^ 8 % 8 ≡ cond = omega arith in
     let f : (number * 2 ^ 11 + cond * 2 ^ 8 + bits_of 8 disp) % 2 ^ 8 ≡ bits_of 8 disp = omega arith in
     λ i. Inst.J op (e i) ((ap (signed 8) f ∙ signed-bits_8 disp w.1) i)
-read-written (Inst.S op k b c) number w =
-    let first = number * 2 ^ 12 + k * 2 ^ 8 + b * 2 ^ 4 + c in
-    let e : nibble first 8 ≡ k = omega arith in
-    let f : nibble first 4 ≡ b = omega arith in
-    let g : nibble first 0 ≡ c = omega arith in
-    λ i. Inst.S op (e i) (f i) (g i)
-read-written (Inst.X op k b c) number w =
-    let first = number * 2 ^ 12 + k * 2 ^ 8 + b * 2 ^ 4 + c in
-    let e : nibble first 8 ≡ k = omega arith in
-    let f : nibble first 4 ≡ b = omega arith in
-    let g : nibble first 0 ≡ c = omega arith in
-    λ i. Inst.X op (e i) (f i) (g i)
+read-written (Inst.S op k b c) number w = let three = nibbles number k b c w.0 w.1 w.2 in λ i. Inst.S op (three.0 i) (three.1 i) (three.2 i)
+read-written (Inst.X op k b c) number w = let three = nibbles number k b c w.0 w.1 w.2 in λ i. Inst.X op (three.0 i) (three.1 i) (three.2 i)
 read-written (Inst.R op b c) number w =
     let first = number * 2 ^ 8 + b * 2 ^ 4 + c in
     let f : nibble first 4 ≡ b = omega arith in

@@ -12,24 +12,25 @@ use Rattle.store_format.proofs.Walk.{sound_is, closed_gate}
 use Rattle.store_format.proofs.Sound.{sound_header}
 use Rattle.store_format.proofs.Stores.{end_of, store_same, stands_is}
 
+-- bytes behind what is the same
+pub behind_bytes : (old new : List ℕ) (k place : ℕ) → drop k new ≡ drop k old → k ≤ place → drop place new ≡ drop place old
+behind_bytes old new k place same behind =
+    let whole : k + (place - k) ≡ place = omega arith in
+    ap (λ (n : ℕ). drop n new) (sym whole)
+    ∙ sym (drop-drop (place - k) k new)
+    ∙ ap (λ (these : List ℕ). drop (place - k) these) same
+    ∙ drop-drop (place - k) k old
+    ∙ ap (λ (n : ℕ). drop n old) whole
+
 -- with the same bytes from an offset on the gates there are the same
 module _ (image new : List ℕ) (from : ℕ) (same : drop from new ≡ drop from image) where
-  later : (at : ℕ) → from ≤ at → drop at new ≡ drop at image
-  later at behind =
-      let whole : from + (at - from) ≡ at = omega arith in
-      ap (λ (n : ℕ). drop n new) (sym whole)
-      ∙ sym (drop-drop (at - from) from new)
-      ∙ ap (λ (these : List ℕ). drop (at - from) these) same
-      ∙ drop-drop (at - from) from image
-      ∙ ap (λ (n : ℕ). drop n image) whole
-
   gate_behind : (area : Area) (number gate : ℕ) → from ≤ gate → gate_at new area number gate ≡ gate_at image area number gate
   gate_behind area number gate behind =
       let here : gate + 0 ≡ gate = omega arith in
       let byte : slice_index new gate ≡ slice_index image gate =
-      ap (λ (n : ℕ). slice_index new n) (sym here) ∙ sym (get_or-drop gate new 0 0) ∙ ap (λ (these : List ℕ). slice_index these 0) (later gate behind) ∙ get_or-drop gate image 0 0 ∙ ap (λ (n : ℕ). slice_index image n) here in
+      ap (λ (n : ℕ). slice_index new n) (sym here) ∙ sym (get_or-drop gate new 0 0) ∙ ap (λ (these : List ℕ). slice_index these 0) (behind_bytes image new from gate same behind) ∙ get_or-drop gate image 0 0 ∙ ap (λ (n : ℕ). slice_index image n) here in
       ap (λ (n : ℕ). gate_if area.page (n == 0xA5) area.bound area.end ((number + 1) % 2 ^ 64) gate (drop gate new)) byte
-      ∙ ap (λ (these : List ℕ). gate_if area.page (slice_index image gate == 0xA5) area.bound area.end ((number + 1) % 2 ^ 64) gate these) (later gate behind)
+      ∙ ap (λ (these : List ℕ). gate_if area.page (slice_index image gate == 0xA5) area.bound area.end ((number + 1) % 2 ^ 64) gate these) (behind_bytes image new from gate same behind)
 
   holds_behind : (area : Area) (most number gate : ℕ) (at : Gate) → from ≤ gate → gate_at image area number gate ≡ at → holds_from new area most number at ≡ holds_from image area most number at
   unfolding holds_from

@@ -4,7 +4,7 @@ use Rattle.std.specs.Prelude.{None, Some, All, nat_lt, nat_le, ◌==◌, not, �
 use Rattle.std.proofs.lemmas.Bool.Decides.{nat_tests}
 use Rattle.std.proofs.lemmas.List.Elements.{All-nil, All-cons, All-head, All-tail}
 use Rattle.line_geometry.specs.Legal.{fault_of, fault_after, is_strange, IsLegal}
-use Rattle.line_geometry.proofs.Legal.{fault_by, legal-none, none-legal}
+use Rattle.line_geometry.proofs.Legal.{fault_by, first-fine, legal-none, none-legal}
 use Rattle.store_format.specs.Header.{Field, within, segment_fields, first_fault}
 use Rattle.store_format.proofs.Checks.{none-append}
 
@@ -49,28 +49,15 @@ fine_after (segment ∷ segments) at last pages few right =
 -- segments without a fault have right fields
 right_after : (segments : List (ℕ × ℕ)) (at last pages : ℕ) → pages ≤ 1024 → fault_after last pages segments ≡ None → All Stays (segment_fields at (last + 1) (1024 - pages) segments)
 right_after [] at last pages few fine = All-nil Stays
-right_after (segment ∷ segments) at last pages few fine = by_tests (is_strange segment) (nat_le segment.0 last) (nat_lt 1024 (pages + segment.1)) refl refl refl (right_after segments (at + 4) segment.0 (pages + segment.1)) fine
-  where
-    by_tests : (strange low many : Bool) → is_strange segment ≡ strange → nat_le segment.0 last ≡ low → nat_lt 1024 (pages + segment.1) ≡ many
-        → (pages + segment.1 ≤ 1024 → fault_after segment.0 (pages + segment.1) segments ≡ None → All Stays (segment_fields (at + 4) (segment.0 + 1) (1024 - (pages + segment.1)) segments))
-        → fault_by strange low many (fault_after segment.0 (pages + segment.1) segments) ≡ None
-        → All Stays (segment_fields at (last + 1) (1024 - pages) (segment ∷ segments))
-    by_tests true low many is is' is'' inner fine = absurd (cc)
-    by_tests false true many is is' is'' inner fine = absurd (cc)
-    by_tests false false true is is' is'' inner fine = absurd (cc)
-    by_tests false false false is is' is'' inner fine =
-        let fits : pages + segment.1 ≤ 1024 = grind (arith, nat_tests) in
-        let above : last < segment.0 = grind (arith, nat_tests) in
-        let most : segment.0 ≤ 3839 = grind (arith, nat_tests) in
-        let fewest : 1 ≤ segment.1 = grind (arith, nat_tests) in
-        let largest : segment.1 ≤ 128 = grind (arith, nat_tests) in
-        let room : 1024 - (pages + segment.1) ≡ 1024 - pages - segment.1 = omega arith in
-        let later = segment_fields (at + 4) (segment.0 + 1) (1024 - pages - segment.1) segments in
-        let first = within at 2 segment.0 (last + 1) 3839 in
-        let second = within (at + 2) 2 segment.1 1 (min (1024 - pages) 128) in
-        All-cons Stays first (second ∷ later) (within_right segment.0 (last + 1) 3839 (omega arith) most)
-        (All-cons Stays second later (within_right segment.1 1 (min (1024 - pages) 128) fewest (omega arith))
-        (subst (λ (n : ℕ). All Stays (segment_fields (at + 4) (segment.0 + 1) n segments)) room (inner fits fine)))
+right_after (segment ∷ segments) at last pages few fine =
+    let (here, above, fits, inner) = first-fine last pages segment segments fine in
+    let room : 1024 - (pages + segment.1) ≡ 1024 - pages - segment.1 = omega arith in
+    let later = segment_fields (at + 4) (segment.0 + 1) (1024 - pages - segment.1) segments in
+    let first = within at 2 segment.0 (last + 1) 3839 in
+    let second = within (at + 2) 2 segment.1 1 (min (1024 - pages) 128) in
+    All-cons Stays first (second ∷ later) (within_right segment.0 (last + 1) 3839 (omega (arith, above)) here.1)
+    (All-cons Stays second later (within_right segment.1 1 (min (1024 - pages) 128) here.2 (omega (arith, fits, here.3)))
+    (subst (λ (n : ℕ). All Stays (segment_fields (at + 4) (segment.0 + 1) n segments)) room (right_after segments (at + 4) segment.0 (pages + segment.1) fits inner)))
 
 pub segments_legal : (segments : List (ℕ × ℕ)) → 1 ≤ length segments → length segments ≤ 15 → All Stays (segment_fields 16 1 1024 segments) → IsLegal segments
 segments_legal segments some few right =

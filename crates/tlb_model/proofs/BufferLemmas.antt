@@ -16,24 +16,6 @@ use Rattle.tlb_model.specs.declared.tlb.Ways.{Ways}
 use Rattle.tlb_model.specs.Buffer.{class_of, page_of, pair_to, is_pair_of, pairs_in, remembered, after_table, after_found, with_newest, forgotten, AreApart, IsOfTable}
 use Rattle.tlb_model.specs.Ways.{pairs_of, unless_of, ways_without, AreClasses}
 
-pub without-more :
-    (frame : ℕ) (classes now : List Ways) (at : ℕ) (new other : Ways) → at < length classes → at < length now
-    → now ≡ map (ways_without frame) (take at classes) ++ drop at classes → new ≡ ways_without frame (slice_index_or now at other)
-    → slice_set now at new ≡ map (ways_without frame) (take (at + 1) classes) ++ drop (at + 1) classes
-without-more frame classes now at new other within stays so_far is =
-    let ways = slice_index_or now at other in
-    ap (slice_set now at) is
-    ∙ map_over_more (ways_without frame) classes now at ways within so_far (get_or_default now at other ways stays)
-
-pub without-all :
-    (frame : ℕ) (classes now : List Ways) (at : ℕ) → length classes ≤ at
-    → now ≡ map (ways_without frame) (take at classes) ++ drop at classes → now ≡ map (ways_without frame) classes
-without-all frame classes now at over so_far =
-    so_far
-    ∙ ap (λ (first : List Ways). map (ways_without frame) first ++ drop at classes) (take_all at classes over)
-    ∙ ap (λ (rest : List Ways). map (ways_without frame) classes ++ rest) (drop_all at classes over)
-    ∙ append-nil (map (ways_without frame) classes)
-
 -- what is left of a class
 without-pair : (frame : ℕ) (o : Option Pair) (rest : List Pair) → option_to_list (unless_of frame o) ++ filter (λ pair. not (pair.frame == frame)) rest ≡ filter (λ pair. not (pair.frame == frame)) (option_to_list o ++ rest)
 without-pair frame None rest = refl

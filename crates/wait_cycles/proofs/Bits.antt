@@ -22,11 +22,6 @@ find-first p low (suc n) k from within passes before =
       | inr not_less ↦ absurd (let same : low ≡ k = omega (arith, from, not_less) in let no : false ≡ true = sym is ∙ ap p same ∙ passes in let never : ⊥ = cc in never)
     ]
 
--- no number of a range passes a test
-pub find-none : (p : ℕ → Bool) (low n : ℕ) → ((i : ℕ) → p i ≡ false) → find p (range_with_len low n) ≡ None
-find-none p low zero none = refl
-find-none p low (suc n) none = ap (λ (here : Bool). cond here (Some low) (find p (range_with_len (low + 1) n))) (none low) ∙ find-none p (low + 1) n none
-
 -- what is found in a range is in it
 pub find-within : (p : ℕ → Bool) (low n k : ℕ) → find p (range_with_len low n) ≡ Some k → k < low + n
 find-within p low zero k found = absurd (let no : ⊥ = cc in no)
