@@ -3,6 +3,10 @@
 #![tactic(auto)]
 
 #[cfg(test)]
+mod active_tests;
+#[cfg(test)]
 mod crash_tests;
 #[cfg(test)]
 mod ending_tests;
+#[cfg(test)]
+mod running;
