@@ -14,11 +14,6 @@ const ONE_ADD: &[u8] =
 const LISTED: &[u8] =
     b"frames 2\nprogram add\n.window 1, 1, rw\ncau r6, r0, 0x1000\nl r3, 0(r6)\na r3, r2\nst r3, 0(r6)\nsvc 0\nend\nschedule\nend\n";
 
-/// Two commits with a checkpoint between them: body, gate, home line, head of a bank, selector, body and gate are written.
-const SEVEN_WRITES: &[u8] =
-    b"frames 2\nprogram add\n.window 1, 1, rw\ncau r6, r0, 0x1000\nl r3, 0(r6)\na r3, r2\nst r3, 0(r6)\nsvc 0\nend\nprogram null\nsvc 0\nend\n\
-    schedule\nbegin add 5\nturn 1 9\ncheckpoint\nbegin null\nturn 2 9\nend\n";
-
 /// Two small programs, and a begin of the second.
 const TWO_LISTED: &[u8] =
     b"frames 2\nprogram none\nend\nprogram far\n.window 3, 9, r\n.window 2, 1, rw\n.entry 2\nsvc 0\nend\nschedule\nbegin far\nend\n";
@@ -47,23 +42,11 @@ const PLAIN: Case = Case {
 };
 
 /// Words that are no form, listings and drills, on a disk that is no store.
-const UNCALLED: [Case; 10] = [
+const UNCALLED: [Case; 5] = [
     Case {
         name: "a word too many",
         words: &["try", "x"],
         status: Status::Usage,
-        ..PLAIN
-    },
-    Case {
-        name: "two words",
-        words: &["list", "try"],
-        status: Status::Usage,
-        ..PLAIN
-    },
-    Case {
-        name: "a listing",
-        text: LISTED,
-        printed: b"program add bytes 18 entry 00000000\nwindow 1 segment 1 rw\n00000000 d8601000cd360000e132dd360000c000\n00000010 0000\n",
         ..PLAIN
     },
     Case {
@@ -81,31 +64,9 @@ const UNCALLED: [Case; 10] = [
         ..PLAIN
     },
     Case {
-        name: "no job to list",
-        text: b"frames 2\nprogram p\nx: svc 0\nx: svc 0\nend\n",
-        status: Status::Job(4, 5),
-        ..PLAIN
-    },
-    Case {
-        name: "a source of a listing that fails",
-        failing_reads: &[1],
-        status: Status::SourceFault,
-        ..PLAIN
-    },
-    Case {
         name: "a drill of two writes",
         words: &["drill"],
         printed: b"stop 1 old seen 0 number 0\nstop 1 torn seen 0 number 0\nstop 2 old seen 0 number 0\nstop 2 torn seen 0 number 1\ndrill 2 number 1\n",
-        ..PLAIN
-    },
-    Case {
-        name: "a drill of seven writes",
-        words: &["drill"],
-        text: SEVEN_WRITES,
-        printed: b"stop 1 old seen 0 number 0\nstop 1 torn seen 0 number 0\nstop 2 old seen 0 number 0\nstop 2 torn seen 0 number 1\n\
-            stop 3 old seen 1 number 1\nstop 3 torn seen 1 number 1\nstop 4 old seen 1 number 1\nstop 4 torn seen 1 number 1\n\
-            stop 5 old seen 1 number 1\nstop 5 torn seen 1 number 1\nstop 6 old seen 1 number 1\nstop 6 torn seen 1 number 1\n\
-            stop 7 old seen 1 number 1\nstop 7 torn seen 1 number 2\ndrill 7 number 2\n",
         ..PLAIN
     },
     Case {
@@ -249,14 +210,7 @@ const STEP: Step = Step {
     printed: "",
 };
 
-const STEPS: [Step; 22] = [
-    Step {
-        words: &["new", "s", "4104", "1", "4"],
-        kept: false,
-        refusal: Some((Call::Length, 0, 0, 0)),
-        status: Status::DiskFault,
-        ..STEP
-    },
+const STEPS: [Step; 12] = [
     Step {
         words: &["new", "s", "4104", "1", "4"],
         kept: false,
@@ -267,21 +221,8 @@ const STEPS: [Step; 22] = [
     Step {
         words: &["new", "s", "4104", "1", "4"],
         kept: false,
-        refusal: Some((Call::Sync, 0, 0, 0)),
-        status: Status::DiskFault,
-        ..STEP
-    },
-    Step {
-        words: &["new", "s", "4104", "1", "4"],
-        kept: false,
         failing_put: Some(1),
         status: Status::PutFault,
-        ..STEP
-    },
-    Step {
-        words: &["new", "s", "4103", "1", "4", "2"],
-        kept: false,
-        status: Status::Usage,
         ..STEP
     },
     Step {
@@ -317,18 +258,8 @@ const STEPS: [Step; 22] = [
         ..STEP
     },
     Step {
-        words: &["show", "s", "1", "0", "20"],
-        printed: "00000000 0000001f000000000000000000000000\n00000010 00000000\n",
-        ..STEP
-    },
-    Step {
         words: &["show", "s", "1", "124", "20"],
         printed: "0000007c 000000000000001e0000000000000000\n0000008c 00000000\n",
-        ..STEP
-    },
-    Step {
-        words: &["show", "s", "1", "2046", "6"],
-        printed: "000007fe 00000000000f\n",
         ..STEP
     },
     Step {
@@ -345,33 +276,8 @@ const STEPS: [Step; 22] = [
         ..STEP
     },
     Step {
-        words: &["show", "s", "1", "0", "4"],
-        refusal: Some((Call::Sync, 0, 0, 0)),
-        status: Status::DiskFault,
-        ..STEP
-    },
-    Step {
-        words: &["show", "s", "1", "8192", "0"],
-        ..STEP
-    },
-    Step {
         words: &["show", "s", "1", "8191", "2"],
         status: Status::NoRange,
-        ..STEP
-    },
-    Step {
-        words: &["show", "s", "2", "0", "1"],
-        status: Status::NoRange,
-        ..STEP
-    },
-    Step {
-        words: &["show", "s", "1", "0", "65537"],
-        status: Status::Usage,
-        ..STEP
-    },
-    Step {
-        words: &["show", "s", "1", "0", "4294967296"],
-        status: Status::Usage,
         ..STEP
     },
     Step {
@@ -385,25 +291,10 @@ const STEPS: [Step; 22] = [
 ];
 
 /// The same on a store with pages of 4,096 bytes: a record of fifteen lines fits its bank, and one of sixteen doesn't.
-const LARGER: [Step; 8] = [
-    Step {
-        words: &["new2", "s", "4096", "1", "2", "f"],
-        status: Status::Usage,
-        ..STEP
-    },
-    Step {
-        words: &["new2", "s", "4096f", "1", "2"],
-        status: Status::Usage,
-        ..STEP
-    },
+const LARGER: [Step; 3] = [
     Step {
         words: &["new2", "s", "4096", "1", "2"],
         printed: "new 16656\n",
-        ..STEP
-    },
-    Step {
-        words: &["new2", "s", "4096", "1", "2"],
-        status: Status::Exists,
         ..STEP
     },
     Step {
@@ -418,30 +309,10 @@ const LARGER: [Step; 8] = [
         printed: "00000e80 00000001\n",
         ..STEP
     },
-    Step {
-        words: &["show", "s", "1", "4094", "4"],
-        printed: "00000ffe 00000000\n",
-        ..STEP
-    },
-    Step {
-        words: &["show", "s", "1", "8191", "2"],
-        status: Status::NoRange,
-        ..STEP
-    },
 ];
 
 /// The same on a store whose segment is fine: only the last store of a program finds all sixteen lines of its page held.
-const FINE: [Step; 4] = [
-    Step {
-        words: &["new", "s", "8192", "1", "2f"],
-        status: Status::Usage,
-        ..STEP
-    },
-    Step {
-        words: &["new2", "s", "8192", "1", "2ff"],
-        status: Status::Usage,
-        ..STEP
-    },
+const FINE: [Step; 2] = [
     Step {
         words: &["new2", "s", "8192", "1", "2f"],
         printed: "new 24848\n",

@@ -1,147 +1,9 @@
-//! Texts and their jobs, written and read again, and texts that are refused, with the line and the kind of the fault.
+//! Texts and their jobs, written and read again. Texts that are refused are in checks/refused.
 use super::{Job, JobFault, big_job, read_job, write_job};
 use desk::Event;
 use flat_machine::Program;
 use std::alloc::Global;
 use std::test::Fail;
-
-/// Texts that are no job, and the line and the kind of the fault.
-const REFUSED: [(&str, u32, u8); 50] = [
-    ("", 1, 10),
-    ("frames 1\n", 1, 11),
-    ("frames 1025\n", 1, 11),
-    ("frames 4294967296\n", 1, 10),
-    ("frames 2\n", 2, 10),
-    ("frames 2\nschedule\nbegin p\n", 3, 12),
-    ("frames 2\nprogram p\nend\nprogram p\n", 4, 13),
-    ("frames 2\nprogram .p\n", 2, 10),
-    ("frames 2\nprogram p q\n", 2, 10),
-    ("frames 2\nprogram p\n.space 16385\nend\n", 3, 8),
-    ("frames 2\nprogram p\n.window 16, 1, r\nend\n", 3, 9),
-    ("frames 2\nprogram p\nq r1, r2\n", 3, 2),
-    ("frames 2\nprogram p\n$\n", 3, 1),
-    ("frames 2\nprogram p\nx: svc 0\nx: svc 0\nend\n", 4, 5),
-    (
-        "frames 2\nprogram p\njb eq, far\n.space 300\nfar: svc 0\nend\n",
-        3,
-        7,
-    ),
-    ("frames 2\nprogram p\n.word 4294967296\n", 3, 4),
-    ("frames 2\nprogram p\nx: svc 0\nx: svc 0\n", 5, 10),
-    ("frames 2\nprogram p\nx: end\n", 3, 2),
-    ("frames 2\nprogram p\nend x\n", 3, 2),
-    ("frames 2\nprogram p\nsvc 0 ; end\n", 4, 10),
-    ("frames 2\nschedule\nend", 3, 10),
-    ("frames 2\nschedule\nturn 1 5\n", 3, 14),
-    ("frames 2\nschedule\nturn 0 0\n", 3, 14),
-    (
-        "frames 2\nprogram p\nend\nschedule\nbegin p\nturn 1 0\n",
-        6,
-        11,
-    ),
-    (
-        "frames 2\nprogram p\nend\nschedule\nbegin p\nturn 1 1000001\n",
-        6,
-        11,
-    ),
-    (
-        "frames 2\nprogram p\nend\nschedule\nbegin p\nturn 2 1\n",
-        6,
-        14,
-    ),
-    (
-        "frames 2\nprogram p\nend\nschedule\nbegin p\nbegin p\ndrain 5001 1\n",
-        7,
-        11,
-    ),
-    (
-        "frames 2\nprogram p\nend\nschedule\nbegin p\ndrain 10000 1\n",
-        6,
-        11,
-    ),
-    ("frames 2\nprogram p\nend\nschedule\ndrain 10001 1\n", 5, 11),
-    (
-        "frames 2\nprogram p\nend\nschedule\nbegin p 1 2 3 4 5\n",
-        5,
-        10,
-    ),
-    (
-        "frames 2\nprogram p\nend\nschedule\nbegin q 1 2 3 4 5\n",
-        5,
-        10,
-    ),
-    ("frames 2\nschedule\ncrash 1\n", 3, 10),
-    ("frames 2\nschedule\ncheckpoint x\n", 3, 10),
-    ("frames 2\nschedule\nend\nend\n", 4, 10),
-    ("frames 2\nschedule\nend\n; behind", 4, 10),
-    (
-        "frames 2\nprogram two\n.window 1, 1, rw\ncau r6, r0, 0x1000\nbali r15, put\nsvc 0\n.part\n; put\nput: st r2, 0(r6)\nbnbr pz, r15\n; last\nend\nschedule\nbegin two 9\nturn 1 9\nend\n",
-        5,
-        6,
-    ),
-    (
-        "frames 2\nprogram two\n.window 1, 1, rw\ncau r6, r0, 0x1000\nbali r15, put\nsvc 0\n.part\n.export put\nput: st r2, 0(r6)\nbnbr pz, r15\n.export get\nend\nschedule\nbegin two 9\nturn 1 9\nend\n",
-        11,
-        15,
-    ),
-    (
-        "frames 2\nprogram two\n.window 1, 1, rw\ncau r6, r0, 0x1000\nbali r15, put\nsvc 0\n.part\n.export put\nput: st r2, 0(r6)\nbnbr pz, r15\n.export put\nend\nschedule\nbegin two 9\nturn 1 9\nend\n",
-        11,
-        16,
-    ),
-    (
-        "frames 2\nprogram two\n.word x\n.part\n.export x\n.part\n.export x\nx: svc 0\nend\nschedule\nbegin two 9\nturn 1 9\nend\n",
-        3,
-        6,
-    ),
-    (
-        "frames 2\nprogram two\nx:\nx: .export y\nend\nschedule\nbegin two 9\nturn 1 9\nend\n",
-        4,
-        5,
-    ),
-    (
-        "frames 2\nprogram two\n.export y\n.part\n.word z\nend\nschedule\nbegin two 9\nturn 1 9\nend\n",
-        3,
-        15,
-    ),
-    (
-        "frames 2\nprogram two\n.entry 0\n.part\n.entry 0\nend\nschedule\nbegin two 9\nturn 1 9\nend\n",
-        5,
-        5,
-    ),
-    (
-        "frames 2\nprogram two\n.window 1, 1, r\n.part\n.window 1, 2, r\nend\nschedule\nbegin two 9\nturn 1 9\nend\n",
-        5,
-        9,
-    ),
-    (
-        "frames 2\nprogram two\n.part\n.part\n.part\n.part\n.part\n.part\n.part\n.part\n.part\n.part\n.part\n.part\n.part\n.part\n.part\n.part\nend\nschedule\nbegin two 9\nturn 1 9\nend\n",
-        18,
-        11,
-    ),
-    (
-        "frames 2\nprogram two\nx: .part\nend\nschedule\nbegin two 9\nturn 1 9\nend\n",
-        3,
-        2,
-    ),
-    (
-        "frames 2\nprogram two\n.part x\nend\nschedule\nbegin two 9\nturn 1 9\nend\n",
-        3,
-        2,
-    ),
-    (
-        "frames 2\nprogram two\n.export\nend\nschedule\nbegin two 9\nturn 1 9\nend\n",
-        3,
-        3,
-    ),
-    (
-        "frames 2\nprogram two\n.export 5\nend\nschedule\nbegin two 9\nturn 1 9\nend\n",
-        3,
-        3,
-    ),
-    ("frames 2\n.part\n", 2, 10),
-    ("schedule\n", 1, 10),
-];
 
 /// A job with comments and blank lines, an entry address, and drains over the begins before them.
 const ACCEPTED: &str =
@@ -167,14 +29,6 @@ const LINKED: [(&str, &str); 4] = [
         "frames 2\nprogram two\n.word 1\n.word 1\n.word 1\n.word 1\n.word 1\n.word 1\n.word 1\n.word 1\n.word 1\n.word 1\n.word 1\n.word 1\n.word 1\n.word 1\n.word 1\n.word 1\nend\nschedule\nend\n",
     ),
 ];
-
-/// What a text is refused for.
-fn fault_of(alloc: Global, text: &str) -> Option<JobFault> {
-    if text.len() > 4096 {
-        return None;
-    }
-    read_job(alloc, text.as_bytes()).err()
-}
 
 /// The job of a short text.
 fn read(alloc: Global, text: &str) -> Result<Job, JobFault> {
@@ -218,21 +72,8 @@ fn a_text_is_its_job(rt: HostRuntime) -> Result<(), Fail> {
         turn(2, 9),
     ];
     assert_eq!(rt; job.events.as_slice(), events.as_slice());
-    Ok(())
-}
-
-#[test]
-fn the_first_fault_is_told(rt: HostRuntime) -> Result<(), Fail> {
-    for (text, line, kind) in REFUSED {
-        assert_eq!(rt;
-            fault_of(rt.alloc(), text),
-            Some(JobFault::Fault { line, kind }),
-            "{text}"
-        );
-    }
     let full = "frames 2\nprogram p\nend\nschedule\nbegin p\ndrain 9999 1\nend\n";
-    let job = read(rt.alloc(), full)?;
-    assert_eq!(rt; job.events.len(), 10_000);
+    assert_eq!(rt; read(rt.alloc(), full)?.events.len(), 10_000);
     Ok(())
 }
 
