@@ -1,9 +1,10 @@
 //! Calls of the disk that fail while several programs are active.
-use super::running::{run_fresh, run_on};
+use super::crash_tests::{NOTHING, run, run_on};
 use call_status::Status;
-use outside::{Call, Refusal};
+use outside::{Call, MemoryDisk, Refusal};
 use std::alloc::Global;
 use std::test::Fail;
+use store_calls::try_store;
 
 /// The programs of the rows below. The offsets are in segment 1, whose pages have 2,048 bytes each, and whose lines have 128.
 const PROGRAMS: &str = "\
@@ -55,9 +56,6 @@ struct Row {
     report: &'static [&'static str],
     opens: Option<u64>,
 }
-
-/// A schedule of nothing, which tells the number that a store opens with.
-const NOTHING: &str = "frames 2\nschedule\nend\n";
 
 const ROWS: [Row; 4] = [
     Row {
@@ -121,7 +119,8 @@ fn a_call_fails_while_several_are_active(rt: HostRuntime) -> Result<(), Fail> {
                 skip
             },
         ]?;
-        let left = run_fresh(alloc, &job, refusals)?;
+        let disk = MemoryDisk::new(alloc, try_store(alloc)?, refusals);
+        let left = run_on(alloc, disk, Vec::new(alloc), &job)?;
         assert_eq!(rt; left.status, row.status, "{}", row.name);
         assert!(rt;
             left.printed.as_slice() == wanted.as_bytes(),
@@ -129,7 +128,7 @@ fn a_call_fails_while_several_are_active(rt: HostRuntime) -> Result<(), Fail> {
             row.name
         );
         if let Some(number) = row.opens {
-            let opened = run_on(alloc, NOTHING, left.held, Vec::new(alloc))?;
+            let opened = run(alloc, left.held, None, NOTHING)?;
             let told = format!(in alloc; "open {number}\nend {number}\n")?;
             assert!(rt;
                 opened.printed.as_slice() == told.as_bytes(),

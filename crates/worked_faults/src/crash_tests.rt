@@ -179,7 +179,7 @@ const STOPS: [Stop; 18] = [
 ];
 
 /// A schedule of nothing, which tells the number that a store opens with.
-const NOTHING: &str = "frames 2\nschedule\nend\n";
+pub(super) const NOTHING: &str = "frames 2\nschedule\nend\n";
 
 /// A call of the disk that fails, after so many that overlap the range; a put that fails after so many bytes; and what is left:
 /// the status, how many commits are in the order, what is printed, and the least and the greatest number with
@@ -299,15 +299,15 @@ const DAMAGES: [(usize, usize, &[u8], u64); 14] = [
 
 /// What a call left: its status, how many commits are in its order, what it printed, and the disk's bytes.
 #[derive(Drop)]
-struct Left {
-    status: Status,
-    commits: usize,
-    printed: Vec<u8>,
-    held: Vec<u8>,
+pub(super) struct Left {
+    pub(super) status: Status,
+    pub(super) commits: usize,
+    pub(super) printed: Vec<u8>,
+    pub(super) held: Vec<u8>,
 }
 
 /// The job on a disk with these bytes, which stops at a write, if it has one to stop at.
-fn run(
+pub(super) fn run(
     alloc: Global,
     held: Vec<u8>,
     stop: Option<(u32, Vec<u8>)>,
@@ -321,7 +321,7 @@ fn run(
 }
 
 /// The job on this disk, and a screen with these puts that fail.
-fn run_on(
+pub(super) fn run_on(
     alloc: Global,
     disk: MemoryDisk,
     fails: Vec<(u32, u32)>,

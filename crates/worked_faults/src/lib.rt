@@ -8,5 +8,3 @@ mod active_tests;
 mod crash_tests;
 #[cfg(test)]
 mod ending_tests;
-#[cfg(test)]
-mod running;
