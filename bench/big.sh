@@ -16,7 +16,7 @@ count=512
 
 gcc -O2 -static -Wall -Wextra -o "$scratch/once" "$here/once.c"
 
-# the job of `big N` as a text (docs/FORMATS.md, "The big job")
+# the job of `big TRANSFERS` as a text (docs/FORMATS.md, "The big job")
 job() {
     cat <<'JOB'
 frames 3

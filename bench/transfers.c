@@ -1,6 +1,6 @@
 /* transfers ENGINE PATH COUNT: COUNT transfers between 256 accounts, each a transaction of its own that is on the disk when it is
    done: with SQLite (journal_mode=WAL, synchronous=FULL) or with LMDB (as it opens: a sync for each commit). The accounts of transfer k
-   are those of `big N` (docs/FORMATS.md). Prints the microseconds of each transfer, without the opening. */
+   are those of `big TRANSFERS` (docs/FORMATS.md). Prints the microseconds of each transfer, without the opening. */
 #include <lmdb.h>
 #include <sqlite3.h>
 #include <stdio.h>

@@ -16,7 +16,7 @@ count=512
 gcc -O2 -Wall -Wextra -o "$scratch/transfers" "$here/transfers.c" -lsqlite3 -llmdb
 gcc -O2 -static -Wall -Wextra -o "$scratch/once" "$here/once.c"
 
-# job EVENTS: the programs of `big N`, the accounts funded, and these events
+# job EVENTS: the programs of `big TRANSFERS`, the accounts funded, and these events
 job() {
     cat <<'JOB'
 frames 3
@@ -54,7 +54,7 @@ JOB
 
 none() { :; }
 
-# transfer k of the job of `big N`, each begun and ended by one turn
+# transfer k of the job of `big TRANSFERS`, each begun and ended by one turn
 transfers() {
     awk -v count="$count" 'BEGIN {
         for (k = 0; k < count; k++) {

@@ -39,11 +39,11 @@ use store_calls::{Range, make_store, renew_store, show_range};
 /// `show STORE S FROM COUNT`: bytes of the disk's store are put, a row at a time. The words `new STORE BANK S P ..`: an
 /// empty disk becomes a store with nothing in it, and `new2` in place of `new` one with pages of 4,096 bytes, of which a segment is
 /// fine whose pages have an `f` behind them. The words `renew STORE BANK`: an empty disk becomes a store of version 2 with what
-/// the source's store of version 1 has. The words `ship STORE N`: the records that the disk's store keeps behind number N are put as
+/// the source's store of version 1 has. The words `ship STORE NUMBER`: the records that the disk's store keeps behind this number are put as
 /// a text. The words `follow STORE`: the records of such a text, from the source, are committed to the disk's store, with a line for
-/// each. The words `big N`: a load of N transfers, with waits and victims, runs on
+/// each. The words `big TRANSFERS`: a load of so many transfers, with waits and victims, runs on
 /// the disk's store, and one line tells what came of it. The word `audit`: the bundle of the source is checked, and one line
-/// tells its verdict. The words `trace A`: the lines that activation A of a bundle touched are put. A file that the word STORE
+/// tells its verdict. The words `trace ACTIVATION`: the lines that this activation of a bundle touched are put. A file that the word STORE
 /// names is opened by whoever makes the disk.
 pub fn console<S: Source, W: Outside>(
     alloc: Global,

@@ -1,4 +1,4 @@
--- The job of `big N`: a fund of accounts, N transfers between them in batches, and a tally.
+-- The job of `big TRANSFERS`: a fund of accounts, so many transfers between them in batches, and a tally.
 use Rattle.std.specs.Prelude.{◌≡◌, ℕ, ◌+◌, ◌-◌, ◌*◌, ◌/◌, ◌%◌, ◌==◌, min, if◌then◌else◌, List, [], ◌∷◌, ◌++◌, map, codes, Ok}
 use Rattle.std.specs.List.{flat_map, range_with_len}
 use Rattle.desk.specs.declared.event.Event.{Event}
@@ -49,7 +49,7 @@ big_events n =
     Begin 0 (1000 ∷ 256 ∷ 0 ∷ 0 ∷ []) ∷ Turn 1 1000000
     ∷ (batches n ++ Begin 2 (0 ∷ 256 ∷ 0 ∷ 0 ∷ []) ∷ Turn (n + 2) 1000000 ∷ [])
 
--- a job is that of `big N`: its frames and programs are those of the sources, and these are its events
+-- a job is that of `big TRANSFERS`: its frames and programs are those of the sources, and these are its events
 pub record IsBigJob (n : ℕ) (job : Job) : Type 0 where
   pub sources : job_of big_sources ≡ Ok (record (content_of job) { events = [] })
   pub events : job.events.items ≡ big_events n

@@ -39,7 +39,7 @@ HasSources number lines (statements ∷ next ∷ others) =
     (first : List (List ℕ)) × (mark : List ℕ) × (rest : List (List ℕ)) × (lines ≡ first ++ mark ∷ rest) × HaveNoMark first × (statements_from number first ≡ Ok statements)
     × IsOnly (codes ".part") mark × HasSources (number + length first + 1) rest (next ∷ others)
 
--- `frames C`, C from 2 to 1,024
+-- `frames FRAMES`, from 2 to 1,024
 pub record IsFramesLine (frames : ℕ) (line : List ℕ) : Type 0 where
   pub says : tokens line ≡ Ok (Word (codes "frames") ∷ Number frames ∷ [])
   pub range : (2 ≤ frames) × (frames ≤ 1024)
@@ -83,7 +83,7 @@ pub record IsBegin (names : List (List ℕ)) (found : List Token) (events : List
 abbrev pub IsLimit : ℕ → Type 0
 IsLimit limit = (1 ≤ limit) × (limit ≤ 1000000)
 
--- `turn A K`: an activation of one of so many begins before
+-- `turn ACTIVATION ROWS`: an activation of one of so many begins before
 pub record IsTurn (begins : ℕ) (found : List Token) (events : List Event) : Type 0 where
   pub activation : ℕ
   pub limit : ℕ
@@ -92,7 +92,7 @@ pub record IsTurn (begins : ℕ) (found : List Token) (events : List Event) : Ty
   pub small : IsLimit limit
   pub gives : events ≡ Turn activation limit ∷ []
 
--- `drain R K`: so many rounds of a turn for each of the begins before
+-- `drain ROUNDS ROWS`: so many rounds of a turn for each of the begins before
 pub record IsDrain (begins : ℕ) (found : List Token) (events : List Event) : Type 0 where
   pub rounds : ℕ
   pub limit : ℕ

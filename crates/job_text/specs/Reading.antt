@@ -30,7 +30,7 @@ pub record Reading : Type 0 where
 abbrev pub nothing_read : Reading
 nothing_read = record { stage = Frames; frames = 0; names = []; programs = []; sources = []; statements = []; events = []; begins = 0 }
 
--- `frames C`, C in 2..=1,024
+-- `frames FRAMES`, from 2 to 1,024
 abbrev pub frames_line : Reading → List Token → Result Reading ℕ
 frames_line reading [] = Ok reading
 frames_line reading (Word word ∷ Number count ∷ []) =
@@ -124,7 +124,7 @@ begin_line reading name None = Err 10
 abbrev pub is_limit : ℕ → Bool
 is_limit limit = nat_le 1 limit && nat_le limit 1000000
 
--- `turn A K`: 14 where A is 0 or above the begins so far, 11 where K is out of its range
+-- `turn ACTIVATION ROWS`: 14 where the activation is 0 or above the begins so far, 11 where the rows are out of their range
 abbrev pub turn_line : Reading → ℕ → ℕ → Result Reading ℕ
 turn_line reading activation limit =
     if nat_le 1 activation && nat_le activation reading.begins
@@ -141,7 +141,7 @@ unfoldable pub rounds_of : ℕ → ℕ → ℕ → List Event
 rounds_of limit n zero = []
 rounds_of limit n (suc rounds) = rounds_of limit n rounds ++ turns_to limit n
 
--- `drain R K`, written out; 11 where a number is out of its range or 10,000 events are passed
+-- `drain ROUNDS ROWS`, written out; 11 where a number is out of its range or 10,000 events are passed
 abbrev pub drain_line : Reading → ℕ → ℕ → Result Reading ℕ
 drain_line reading rounds limit =
     if nat_le 1 rounds && nat_le rounds 10000 && is_limit limit && nat_le (length reading.events + rounds * reading.begins) 10000

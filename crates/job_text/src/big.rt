@@ -1,4 +1,4 @@
-// The job of `big N` (docs/FORMATS.md, "The big job").
+// The job of `big TRANSFERS` (docs/FORMATS.md, "The big job").
 ghost use Rattle.std.specs.Prelude.{◌≡◌, ◌+◌, ◌≤◌, ℕ, [], ◌++◌, length, Ok, IfOk, OnOk};
 ghost use Rattle.std.specs.List.{flat_map, range_with_len};
 ghost use Rattle.std.specs.Prelude.{map};

@@ -123,7 +123,7 @@ impl Reader {
         }
     }
 
-    /// `frames C`.
+    /// `frames FRAMES`.
     fn frames_line(&mut self, tokens: &[Token]) -> Result<(), LineFault>
         ensures read { IsStep result self.new (frames_line (reading_of self.old) tokens.now) }
         ensures few { held self.new ≤ held self.old }
@@ -292,7 +292,7 @@ impl Reader {
         Ok(())
     }
 
-    /// `turn A K`.
+    /// `turn ACTIVATION ROWS`.
     fn turn_line(&mut self, activation: u32, limit: u32) -> Result<(), LineFault>
         ensures read { IsStep result self.new (turn_line (reading_of self.old) activation limit) }
         ensures few { held self.new ≡ held self.old }
@@ -306,7 +306,7 @@ impl Reader {
         self.add(Event::Turn { activation, limit })
     }
 
-    /// `drain R K`.
+    /// `drain ROUNDS ROWS`.
     fn drain_line(&mut self, rounds: u32, limit: u32) -> Result<(), LineFault>
         ensures read { IsStep result self.new (drain_line (reading_of self.old) rounds limit) }
         ensures few { held self.new ≡ held self.old }

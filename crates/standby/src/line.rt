@@ -4,7 +4,7 @@ ghost use Rattle.standby.specs.Text.{end_line, head_line, kept_line, line_line, 
 
 use text_line::TextLine;
 
-/// `ship W L N`.
+/// `ship WIDTH LINES NUMBER`.
 pub fn fill_head(text: &mut TextLine, line_bytes: u16, lines: u32, start: u64)
     ensures { text.new ≡ head_line line_bytes lines start }
 {
@@ -25,7 +25,7 @@ pub fn fill_record(text: &mut TextLine, number: u64, count: u32)
     text.end();
 }
 
-/// `line X HEX`.
+/// `line LINE HEX`.
 pub fn fill_line(text: &mut TextLine, line: u32, bytes: &[u8])
     requires { length bytes.now ≤ 4096 }
     ensures { text.new ≡ line_line line bytes.now }
