@@ -25,7 +25,7 @@ pub fn fill_record(text: &mut TextLine, number: u64, count: u32)
     text.end();
 }
 
-/// `line LINE HEX`.
+/// `line INDEX HEX`.
 pub fn fill_line(text: &mut TextLine, line: u32, bytes: &[u8])
     requires { length bytes.now ≤ 4096 }
     ensures { text.new ≡ line_line line bytes.now }
