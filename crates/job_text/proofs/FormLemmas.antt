@@ -543,9 +543,7 @@ last_step Ended reading number [] content at is =
     let same : content ≡ content_read reading = cc (ap (λ stage. whole stage reading number) (sym at) ∙ is) in
     record { same = same; tail = []; all = refl; blanks = tt }
 last_step Frames reading number [] content at is = absurd (cc (ap (λ stage. whole stage reading number) (sym at) ∙ is))
-last_step Programs reading number [] content at is = absurd (cc (ap (λ stage. whole stage reading number) (sym at) ∙ is))
-last_step Source reading number [] content at is = absurd (cc (ap (λ stage. whole stage reading number) (sym at) ∙ is))
-last_step Schedule reading number [] content at is = absurd (cc (ap (λ stage. whole stage reading number) (sym at) ∙ is))
+last_step _ reading number [] content at is = absurd (cc (ap (λ stage. whole stage reading number) (sym at) ∙ is))
 
 -- one line more
 module _ (number : ℕ) (line : List ℕ) (lines : List (List ℕ)) (content : Content) where

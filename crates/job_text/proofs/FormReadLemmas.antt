@@ -1,6 +1,6 @@
 -- A text that has the form of a job is read as it.
 use Rattle.std.proofs.Common.{◌≡◌, inl, inr, ℕ, ◌+◌, ◌*◌, ◌≤◌, Bool, true, false, List, [], ◌∷◌, ◌++◌, length, map, codes, Option, Some, None, Result, Ok, Err, refl, sym, ap, ◌∙◌, subst, arith, append_assoc, append-nil, length-append}
-use Rattle.std.proofs.lemmas.Bool.{le-leb, lt-ltb}
+use Rattle.std.proofs.lemmas.Bool.{le-leb, lt-ltb, false_from_ne_true}
 use Rattle.desk.specs.declared.event.Event.{Event}
 use Rattle.desk.specs.declared.event.Event.TheVariants.{Begin, Turn, Checkpoint, Crash}
 use Rattle.asm_parse.specs.declared.token.Token.{Token}
@@ -45,20 +45,14 @@ IsByTokens _ = Unit {0}
 -- a line of these tokens
 says_read : (stage : Stage) (reading new : Reading) (number : ℕ) (line : List ℕ) (found : List Token) → IsByTokens stage → tokens line ≡ Ok found → tokens_read stage reading found ≡ Ok new → line_read stage reading number line ≡ Ok new
 says_read Source reading new number line found by is read = absurd by
-says_read Frames reading new number line found by is read = rw is (ap (at_line number) read)
-says_read Programs reading new number line found by is read = rw is (ap (at_line number) read)
-says_read Schedule reading new number line found by is read = rw is (ap (at_line number) read)
-says_read Ended reading new number line found by is read = rw is (ap (at_line number) read)
+says_read _ reading new number line found by is read = rw is (ap (at_line number) read)
 
 reads_tokens : (reading new : Reading) (number : ℕ) (line : List ℕ) (lines : List (List ℕ)) (found : List Token) → AreSome lines → IsByTokens reading.stage → tokens line ≡ Ok found → tokens_read reading.stage reading found ≡ Ok new → read_from reading number (line ∷ lines) ≡ read_from new (number + 1) lines
 reads_tokens reading new number line lines found some by is read = reads_line reading new number line lines some (says_read reading.stage reading new number line found by is read)
 
 blank_read : (stage : Stage) (reading : Reading) → IsByTokens stage → tokens_read stage reading [] ≡ Ok reading
 blank_read Source reading by = absurd by
-blank_read Frames reading by = refl
-blank_read Programs reading by = refl
-blank_read Schedule reading by = refl
-blank_read Ended reading by = refl
+blank_read _ reading by = refl
 
 -- blank lines
 reads_blank : (reading : Reading) (number : ℕ) (blank lines : List (List ℕ)) → AreBlank blank → AreSome lines → IsByTokens reading.stage → read_from reading number (blank ++ lines) ≡ read_from reading (number + length blank) lines
@@ -189,18 +183,10 @@ module _ (frames : ℕ) (names : List (List ℕ)) (programs : List Parts) (sourc
   gives_line number line source statements more (Err kind) others is parsed gives = absurd (cc gives)
 
   not_end : (line : List ℕ) → (IsOnly (codes "end") line → ⊥) → is_end (tokens line) ≡ false
-  not_end line other = by_end (is_end (tokens line)) refl
-    where
-      by_end : (end : Bool) → is_end (tokens line) ≡ end → end ≡ false
-      by_end true end = absurd (other (end_is (tokens line) end))
-      by_end false end = refl
+  not_end line other = false_from_ne_true (is_end (tokens line)) (λ end. other (end_is (tokens line) end))
 
   not_part : (line : List ℕ) → (IsOnly (codes ".part") line → ⊥) → is_part (tokens line) ≡ false
-  not_part line other = by_part (is_part (tokens line)) refl
-    where
-      by_part : (part : Bool) → is_part (tokens line) ≡ part → part ≡ false
-      by_part true part = absurd (other (part_is (tokens line) part))
-      by_part false part = refl
+  not_part line other = false_from_ne_true (is_part (tokens line)) (λ part. other (part_is (tokens line) part))
 
   reads_source : (number : ℕ) (source lines : List (List ℕ)) (statements more : List Statement) → HaveNoMark source → statements_from number source ≡ Ok more → AreSome lines → read_from (in_source statements) number (source ++ lines) ≡ read_from (in_source (statements ++ more)) (number + length source) lines
   unfolding statements_from

@@ -25,10 +25,7 @@ no_fault text content fault form is = cc (form_read text content form, is)
 last_fault : (stage : Stage) (reading : Reading) (number : ℕ) (last : List ℕ) (fault : ℕ × ℕ) → reading.stage ≡ stage → last_part reading number last ≡ Err fault → fault ≡ (number, 10)
 last_fault stage reading number (byte ∷ bytes) fault at is = cc is
 last_fault Ended reading number [] fault at is = absurd (cc (ap (λ stage. whole stage reading number) (sym at) ∙ is))
-last_fault Frames reading number [] fault at is = cc (ap (λ stage. whole stage reading number) (sym at) ∙ is)
-last_fault Programs reading number [] fault at is = cc (ap (λ stage. whole stage reading number) (sym at) ∙ is)
-last_fault Source reading number [] fault at is = cc (ap (λ stage. whole stage reading number) (sym at) ∙ is)
-last_fault Schedule reading number [] fault at is = cc (ap (λ stage. whole stage reading number) (sym at) ∙ is)
+last_fault _ reading number [] fault at is = cc (ap (λ stage. whole stage reading number) (sym at) ∙ is)
 
 faults_end : (reading : Reading) (number : ℕ) (lines more : List (List ℕ)) (last next : List ℕ) (fault : ℕ × ℕ) → read_from reading number (lines ++ (last ∷ [])) ≡ Err fault → (fault ≡ (number + length lines, 10)) ⊎ (read_from reading number (lines ++ (next ∷ more)) ≡ Err fault)
 unfolding read_from

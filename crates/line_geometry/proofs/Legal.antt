@@ -56,9 +56,6 @@ first-fine last pages segment rest fine = by_tests (is_strange segment) (nat_le 
         (strange low many : Bool) → is_strange segment ≡ strange → nat_le segment.0 last ≡ low → nat_lt 1024 (pages + segment.1) ≡ many
         → fault_by strange low many (fault_after segment.0 (pages + segment.1) rest) ≡ None
         → IsInRange segment × (last < segment.0) × (pages + segment.1 ≤ 1024) × (fault_after segment.0 (pages + segment.1) rest ≡ None)
-    by_tests true low many is is' is'' fine = absurd (cc)
-    by_tests false true many is is' is'' fine = absurd (cc)
-    by_tests false false true is is' is'' fine = absurd (cc)
     by_tests false false false is is' is'' fine =
         let least : 1 ≤ segment.0 = grind (arith, nat_tests) in
         let most : segment.0 ≤ 3839 = grind (arith, nat_tests) in
@@ -67,6 +64,7 @@ first-fine last pages segment rest fine = by_tests (is_strange segment) (nat_le 
         let above : last < segment.0 = grind (arith, nat_tests) in
         let fits : pages + segment.1 ≤ 1024 = grind (arith, nat_tests) in
         ((least, most, fewest, largest), above, fits, fine)
+    by_tests _ _ _ is is' is'' fine = absurd (cc)
 
 -- without a fault they are legal
 legal-after :
@@ -123,10 +121,8 @@ fine-after last pages (segment ∷ rest) legal =
         (strange low many : Bool) → strange ≡ false → low ≡ false → many ≡ false
         → fault_after segment.0 (pages + segment.1) rest ≡ None
         → fault_by strange low many (fault_after segment.0 (pages + segment.1) rest) ≡ None
-    by_tests true low many is is' is'' fine = absurd (cc)
-    by_tests false true many is is' is'' fine = absurd (cc)
-    by_tests false false true is is' is'' fine = absurd (cc)
     by_tests false false false is is' is'' fine = fine
+    by_tests _ _ _ is is' is'' fine = absurd (cc)
 
 -- a list without a fault is legal
 pub legal-none : (segments : List (ℕ × ℕ)) → fault_of segments ≡ None → IsLegal segments

@@ -44,37 +44,20 @@ module _ (addresses : List ℕ → Option ℤ) (name : List ℕ → List ℕ) wh
   encoding_renamed at (Inst op operands) =
       ap (then_value (λ knowns. in_range (option_map (λ inst. code_bytes (encoded inst)) (inst_by op (form_of op) at knowns)))) (knowns_renamed operands.items)
   encoding_renamed at (Data count value) = ap (then_value (λ number. in_range (data_bytes count number))) (value_renamed value)
-  encoding_renamed at (Space count) = refl
-  encoding_renamed at (Window register segment write) = refl
   encoding_renamed at (Entry value) = ap (then_value (λ number. in_range (option_map (λ entry. []) (even_at_most 16382 number)))) (value_renamed value)
-  encoding_renamed at (Export word) = refl
+  encoding_renamed at _ = refl
 
   pub size_renamed : (body : Body) → size_of body ≡ size_of (renamed_body name body)
   size_renamed Nothing = refl
-  size_renamed (Inst op operands) = refl
-  size_renamed (Data count value) = refl
-  size_renamed (Space count) = refl
-  size_renamed (Window register segment write) = refl
-  size_renamed (Entry value) = refl
-  size_renamed (Export word) = refl
+  size_renamed _ = refl
 
   pub entry_renamed : (entry : Option ℕ) (body : Body) → with_entry by_name entry body ≡ with_entry addresses entry (renamed_body name body)
-  entry_renamed entry Nothing = refl
-  entry_renamed entry (Inst op operands) = refl
-  entry_renamed entry (Data count value) = refl
-  entry_renamed entry (Space count) = refl
-  entry_renamed entry (Window register segment write) = refl
   entry_renamed entry (Entry value) = ap entry_by (value_renamed value)
-  entry_renamed entry (Export word) = refl
+  entry_renamed entry _ = refl
 
   pub window_renamed : (windows : List (Option Sight)) (body : Body) → with_window windows body ≡ with_window windows (renamed_body name body)
   window_renamed windows Nothing = refl
-  window_renamed windows (Inst op operands) = refl
-  window_renamed windows (Data count value) = refl
-  window_renamed windows (Space count) = refl
-  window_renamed windows (Window register segment write) = refl
-  window_renamed windows (Entry value) = refl
-  window_renamed windows (Export word) = refl
+  window_renamed windows _ = refl
 
   fitted_renamed : (at : ℕ) (windows : List (Option Sight)) (body : Body) (reading : Result (List ℕ) ℕ) → fitted at windows body reading ≡ fitted at windows (renamed_body name body) reading
   fitted_renamed at windows body (Err kind) = refl

@@ -17,24 +17,6 @@ knowns_behind read None (Err kind) = Err kind
 knowns_behind read (Some kind) (Ok others) = Err kind
 knowns_behind read (Some kind) (Err other) = Err (min kind other)
 
-pub behind_nothing : (others : Result (List Known) ℕ) → knowns_behind [] None others ≡ others
-behind_nothing (Ok others) = refl
-behind_nothing (Err kind) = refl
-
--- one operand more that has a value
-pub behind_value : (read : List Known) (fault : Option ℕ) (known : Known) (others : Result (List Known) ℕ) → knowns_behind (read ++ known ∷ []) fault others ≡ knowns_behind read fault (known_before (Ok known) others)
-behind_value read None known (Ok others) = ap Ok (append_assoc read (known ∷ []) others)
-behind_value read None known (Err kind) = refl
-behind_value read (Some kind) known (Ok others) = refl
-behind_value read (Some kind) known (Err other) = refl
-
--- one operand more that has none
-pub behind_fault : (read : List Known) (fault : Option ℕ) (kind : ℕ) (others : Result (List Known) ℕ) → knowns_behind read (Some (least_kind fault kind)) others ≡ knowns_behind read fault (known_before (Err kind) others)
-behind_fault read None kind (Ok others) = refl
-behind_fault read None kind (Err other) = refl
-behind_fault read (Some first) kind (Ok others) = refl
-behind_fault read (Some first) kind (Err other) = ap Err (omega arith)
-
 noted_first : (first labelled : Bool) (place later : Place) (others after : Option Place) → after ≡ noted others labelled later → cond first (Some place) after ≡ noted (cond first (Some place) others) labelled later
 noted_first true labelled place later others after e = refl
 noted_first false labelled place later others after e = e

@@ -1,5 +1,7 @@
 -- How many bytes a statement makes.
 use Rattle.std.specs.Prelude.{◌≡◌, ℕ, List, sum_by}
+use Rattle.romp_table.specs.declared.inst.Inst as table
+use Rattle.romp_table.specs.Encode.{bytes_in}
 use Rattle.asm_parse.specs.declared.form.Form.{Form}
 use Rattle.asm_parse.specs.declared.statement.Statement.{Statement}
 use Rattle.asm_parse.specs.declared.statement.Body.{Body}
@@ -23,6 +25,10 @@ form_size Form.Unsigned = 4
 form_size Form.Compare = 4
 form_size Form.Trap = 4
 form_size Form.Call = 4
+
+-- an instruction has the bytes of its form
+abbrev pub HasSize : Form → table.Inst → Type 0
+HasSize form inst = bytes_in inst ≡ form_size form
 
 -- the bytes of a statement, by its mnemonic and the number of `.space` alone
 abbrev pub size_of : Body → ℕ

@@ -1,8 +1,7 @@
 ghost use Rattle.std.specs.Prelude.{◌≡◌, pos, ◌+ℤ◌, ◌≤ℤ◌, IfSome};
-ghost use Rattle.romp_table.specs.Encode.{bytes_in};
 ghost use Rattle.romp_table.specs.Legal.{IsLegal, IsSigned};
 ghost use Rattle.asm_parse.specs.Form.{form_of};
-ghost use Rattle.romp_asm.specs.Size.{form_size};
+ghost use Rattle.romp_asm.specs.Size.{HasSize};
 ghost use Rattle.romp_asm.specs.Instruction.{alone, at_place, conditional, immediate, inst_by, three_registers, to_register, trapping, two_registers, with_register};
 
 use super::field::{at_most, even_at_most, number_field, relative, short_field, signed_field};
@@ -16,7 +15,7 @@ use romp_table::{Inst, Op};
 pub(crate) fn inst_of(op: Op, at: u32, knowns: &[Known]) -> Option<Inst>
     ensures value { result ≡ inst_by op (form_of op) at knowns.now }
     ensures legal { IfSome result IsLegal }
-    ensures size { IfSome result (λ inst. bytes_in inst ≡ form_size (form_of op)) }
+    ensures size { IfSome result (HasSize (form_of op)) }
 {
     let form = form_of(op);
     match knowns {
@@ -60,7 +59,7 @@ fn conditional(op: Op, form: Form, at: u32, condition: u8, target: i64) -> Optio
     requires { form ≡ form_of op }
     ensures value { result ≡ conditional op form at condition target }
     ensures legal { IfSome result IsLegal }
-    ensures size { IfSome result (λ inst. bytes_in inst ≡ form_size form) }
+    ensures size { IfSome result (HasSize form) }
 {
     match form {
         Form::Jump => {
@@ -90,7 +89,7 @@ fn to_register(op: Op, form: Form, condition: u8, register: u8) -> Option<Inst>
     requires { form ≡ form_of op }
     ensures value { result ≡ to_register op form condition register }
     ensures legal { IfSome result IsLegal }
-    ensures size { IfSome result (λ inst. bytes_in inst ≡ form_size form) }
+    ensures size { IfSome result (HasSize form) }
 {
     match form {
         Form::BranchRegister => {
@@ -107,7 +106,7 @@ fn with_register(op: Op, form: Form, at: u32, register: u8, value: i64) -> Optio
     requires { form ≡ form_of op }
     ensures value { result ≡ with_register op form at register value }
     ensures legal { IfSome result IsLegal }
-    ensures size { IfSome result (λ inst. bytes_in inst ≡ form_size form) }
+    ensures size { IfSome result (HasSize form) }
 {
     match form {
         Form::Link => {
@@ -138,7 +137,7 @@ fn alone(op: Op, form: Form, value: i64) -> Option<Inst>
     requires { form ≡ form_of op }
     ensures value { result ≡ alone op form value }
     ensures legal { IfSome result IsLegal }
-    ensures size { IfSome result (λ inst. bytes_in inst ≡ form_size form) }
+    ensures size { IfSome result (HasSize form) }
 {
     match form {
         Form::LinkAddress => {
@@ -163,7 +162,7 @@ fn at_place(op: Op, form: Form, register: u8, displacement: i64, base: u8) -> Op
     requires { form ≡ form_of op }
     ensures value { result ≡ at_place op form register displacement base }
     ensures legal { IfSome result IsLegal }
-    ensures size { IfSome result (λ inst. bytes_in inst ≡ form_size form) }
+    ensures size { IfSome result (HasSize form) }
 {
     match form {
         Form::Short(scale) => {
@@ -187,7 +186,7 @@ fn two_registers(op: Op, form: Form, first: u8, second: u8) -> Option<Inst>
     requires { form ≡ form_of op }
     ensures value { result ≡ two_registers op form first second }
     ensures legal { IfSome result IsLegal }
-    ensures size { IfSome result (λ inst. bytes_in inst ≡ form_size form) }
+    ensures size { IfSome result (HasSize form) }
 {
     match form {
         Form::TwoRegisters => {
@@ -204,7 +203,7 @@ fn three_registers(op: Op, form: Form, first: u8, second: u8, third: u8) -> Opti
     requires { form ≡ form_of op }
     ensures value { result ≡ three_registers op form first second third }
     ensures legal { IfSome result IsLegal }
-    ensures size { IfSome result (λ inst. bytes_in inst ≡ form_size form) }
+    ensures size { IfSome result (HasSize form) }
 {
     match form {
         Form::ThreeRegisters => {
@@ -222,7 +221,7 @@ fn immediate(op: Op, form: Form, first: u8, second: u8, value: i64) -> Option<In
     requires { form ≡ form_of op }
     ensures value { result ≡ immediate op form first second value }
     ensures legal { IfSome result IsLegal }
-    ensures size { IfSome result (λ inst. bytes_in inst ≡ form_size form) }
+    ensures size { IfSome result (HasSize form) }
 {
     match form {
         Form::Signed => {
@@ -251,7 +250,7 @@ fn trapping(op: Op, form: Form, mask: i64, register: u8, value: i64) -> Option<I
     requires { form ≡ form_of op }
     ensures value { result ≡ trapping op form mask register value }
     ensures legal { IfSome result IsLegal }
-    ensures size { IfSome result (λ inst. bytes_in inst ≡ form_size form) }
+    ensures size { IfSome result (HasSize form) }
 {
     match form {
         Form::Trap => {

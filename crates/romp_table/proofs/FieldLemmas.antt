@@ -11,12 +11,8 @@ use Rattle.romp_table.proofs.SignLemmas.{bits-signed_8, bits-signed_20, bits_sma
 -- the number of a first halfword is that of its row
 pub numbered : (inst : Inst) (number : ℕ) → HasWidths inst → first_with number inst / number_unit (format_of inst) ≡ number
 numbered (Inst.J op cond disp) number w = let h = bits_small_8 disp w.1 in omega arith
-numbered (Inst.S op k b c) number w = omega arith
-numbered (Inst.X op a b c) number w = omega arith
-numbered (Inst.R op b c) number w = omega arith
-numbered (Inst.D op b c i) number w = omega arith
 numbered (Inst.BI op b disp) number w = let h = bits_small_20 disp w.1 in omega arith
-numbered (Inst.BA op to) number w = omega arith
+numbered _ number w = omega arith
 
 nibbles : (number k b c : ℕ) → k < 16 → b < 16 → c < 16
     → let first = number * 2 ^ 12 + k * 2 ^ 8 + b * 2 ^ 4 + c in (nibble first 8 ≡ k) × (nibble first 4 ≡ b) × (nibble first 0 ≡ c)
@@ -89,13 +85,10 @@ told_4 first first' second second' e =
 
 -- the first halfword is told by the bytes of an instruction
 pub first_told : (inst : Inst) (first first' second second' : ℕ) → take (bytes_in inst) (bytes_of first second) ≡ take (bytes_in inst) (bytes_of first' second') → first ≡ first'
-first_told (Inst.J op cond disp) f g s t e = told_2 f g s t e
-first_told (Inst.S op k b c) f g s t e = told_2 f g s t e
-first_told (Inst.X op k b c) f g s t e = told_2 f g s t e
-first_told (Inst.R op b c) f g s t e = told_2 f g s t e
 first_told (Inst.D op b c i) f g s t e = (told_4 f g s t e).0
 first_told (Inst.BI op b disp) f g s t e = (told_4 f g s t e).0
 first_told (Inst.BA op to) f g s t e = (told_4 f g s t e).0
+first_told _ f g s t e = told_2 f g s t e
 
 -- halfwords with the same bytes of an instruction are read alike
 pub read_alike : (inst : Inst) (op : Op) (first first' second second' : ℕ) → take (bytes_in inst) (bytes_of first second) ≡ take (bytes_in inst) (bytes_of first' second') → instruction_by op (format_of inst) first second ≡ instruction_by op (format_of inst) first' second'
@@ -109,18 +102,8 @@ read_alike (Inst.BA _ to) op f g s t e = let (d, h) = told_4 f g s t e in λ i. 
 
 pub op_kept : (op : Op) (format : Format) (first second : ℕ) → op_of (instruction_by op format first second) ≡ op
 op_kept op Format.J first second = refl
-op_kept op Format.S first second = refl
-op_kept op Format.X first second = refl
-op_kept op Format.R first second = refl
-op_kept op Format.D first second = refl
-op_kept op Format.BI first second = refl
-op_kept op Format.BA first second = refl
+op_kept op _ first second = refl
 
 pub format_kept : (op : Op) (format : Format) (first second : ℕ) → format_of (instruction_by op format first second) ≡ format
 format_kept op Format.J first second = refl
-format_kept op Format.S first second = refl
-format_kept op Format.X first second = refl
-format_kept op Format.R first second = refl
-format_kept op Format.D first second = refl
-format_kept op Format.BI first second = refl
-format_kept op Format.BA first second = refl
+format_kept op _ first second = refl

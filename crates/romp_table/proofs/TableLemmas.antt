@@ -26,12 +26,7 @@ use Rattle.romp_table.proofs.Lists.{find_passes, all_at, value_at, range_at, ran
 
 high_of : (format : Format) (first : ℕ) → first / number_unit format ≡ first / 2 ^ 8 / span format
 high_of Format.J first = omega arith
-high_of Format.S first = omega arith
-high_of Format.X first = omega arith
-high_of Format.R first = omega arith
-high_of Format.D first = omega arith
-high_of Format.BI first = omega arith
-high_of Format.BA first = omega arith
+high_of _ first = omega arith
 
 -- whether a halfword has a row's number is a matter of its high byte
 has_number_high : (first : ℕ) → has_number first ≡ has_high (first / 2 ^ 8)
@@ -76,21 +71,11 @@ op_at_place op row e = tag_one the_type tt row.op op (own_place (place_of op) ro
 
 high_split : (format : Format) (first number : ℕ) → first / number_unit format ≡ number → number * span format + first / 2 ^ 8 % span format ≡ first / 2 ^ 8
 high_split Format.J first number e = omega arith
-high_split Format.S first number e = omega arith
-high_split Format.X first number e = omega arith
-high_split Format.R first number e = omega arith
-high_split Format.D first number e = omega arith
-high_split Format.BI first number e = omega arith
-high_split Format.BA first number e = omega arith
+high_split _ first number e = omega arith
 
 low_below : (format : Format) (high : ℕ) → high % span format < span format
 low_below Format.J high = omega arith
-low_below Format.S high = omega arith
-low_below Format.X high = omega arith
-low_below Format.R high = omega arith
-low_below Format.D high = omega arith
-low_below Format.BI high = omega arith
-low_below Format.BA high = omega arith
+low_below _ high = omega arith
 
 leads : (places : List ℕ) (row : Row) → leads_back places row ≡ true → (first : ℕ) → first / number_unit row.format ≡ row.number → slice_index places (first / 2 ^ 8) ≡ place_of row.op
 leads places row back first e =

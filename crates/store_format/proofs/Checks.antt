@@ -40,10 +40,8 @@ right_number length at bytes number least most none = by_tests (nat_lt length (a
   where
     by_tests : (cut low high : Bool) → nat_lt length (at + bytes) ≡ cut → nat_le least number ≡ low → nat_le number most ≡ high
         → is_some (if cut then Some length else if not (low && high) then Some at else None) ≡ false → (at + bytes ≤ length) × (least ≤ number) × (number ≤ most)
-    by_tests true low high is is' is'' none = absurd (cc)
-    by_tests false false high is is' is'' none = absurd (cc)
-    by_tests false true false is is' is'' none = absurd (cc)
     by_tests false true true is is' is'' none = (grind (arith, nat_tests), grind (arith, nat_tests), grind (arith, nat_tests))
+    by_tests _ _ _ is is' is'' none = absurd (cc)
 
 -- the entries from one on
 abbrev pub segments_left : List ℕ → (count i : ℕ) → List (ℕ × ℕ)
