@@ -6,9 +6,6 @@ ghost use Rattle.line_geometry.specs.Segments.{page_bytes};
 ghost use Rattle.line_geometry.specs.LineSets.{between};
 ghost use Rattle.frame_pool.specs.Sizes.{private_frames, frame_count, line_place, line_size};
 
-#[cfg(test)]
-mod tests;
-
 use super::frame_bytes::FrameBytes;
 use super::pages::StorePages;
 use super::sizes::{line_at, line_bytes, line_place, page_bytes, page_place, private_frames};

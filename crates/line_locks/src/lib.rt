@@ -4,8 +4,6 @@
 mod locks;
 mod request;
 mod seat;
-#[cfg(test)]
-mod tests;
 
 pub use locks::Locks;
 pub use request::{Request, Want};

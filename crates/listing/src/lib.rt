@@ -2,7 +2,5 @@
 #![tactic(auto)]
 
 mod put;
-#[cfg(test)]
-mod tests;
 
 pub use put::{put_program, put_rows};

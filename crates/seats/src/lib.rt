@@ -4,8 +4,6 @@
 
 mod seat;
 mod seats;
-#[cfg(test)]
-mod tests;
 mod waiting;
 
 pub use seat::Seat;

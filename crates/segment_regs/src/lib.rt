@@ -2,7 +2,5 @@
 #![tactic(auto)]
 
 mod registers;
-#[cfg(test)]
-mod tests;
 
 pub use registers::{Check, SegmentRegister, SegmentRegs, Virtual, virtual_at};
