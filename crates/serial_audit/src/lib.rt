@@ -7,8 +7,6 @@ mod bundle;
 mod index;
 mod law;
 mod replay;
-#[cfg(test)]
-mod tests;
 
 pub use auditing::{KeptStore, Progress, Verdict, audit, audit_lines};
 pub use bundle::{Bundle, Span, split_bundle};

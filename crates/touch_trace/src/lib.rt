@@ -4,8 +4,6 @@
 mod answer;
 mod law;
 mod running;
-#[cfg(test)]
-mod tests;
 mod touch;
 mod tracing;
 
