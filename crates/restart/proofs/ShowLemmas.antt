@@ -27,7 +27,7 @@ use Rattle.redo_journal.specs.Tracks as journal
 use Rattle.redo_journal.specs.Tracks.{HoldsRecords}
 use Rattle.checkpoint.specs.Home.{store_bytes}
 use Rattle.restart.specs.Faults.{IsOpenFault, IsReopenFault}
-use Rattle.restart.specs.Kept.{KeptStore, Fits, number_of}
+use Rattle.restart.specs.Kept.{KeptStore, Fits, number_of, with_begun}
 use Rattle.restart.specs.Shows.{Shows, IsIntact, IsReopened, Tracks, ShownStands}
 
 -- the bank of a header is the one that such a bank's size says
@@ -188,3 +188,12 @@ reopened_holds held header store same is =
       ap (bank_of held header) is.chosen_is ∙ bank_is held header bank.which bank.page bank.bank_bytes (length bank.newest) sized bytes lines ∙ is.read.holds,
       ap (λ (n : ℕ). (bank.base + n) % 2 ^ 64) (sym is.read.count) ∙ ap (λ (n : ℕ). (n + length is.read.records) % 2 ^ 64) (sym base),
     )
+
+-- a store with a record begun shows what it did
+pub shows_begun : (store : KeptStore) (lines : List RecordLine) (held : List ℕ) → Shows held store → Shows held (with_begun store lines)
+shows_begun store lines held shows = record {
+  header = shows.header;
+  chosen_is = shows.chosen_is;
+  read = record { base = shows.read.base; records = shows.read.records; holds = shows.read.holds; count = shows.read.count; newest = shows.read.newest };
+  fits = record { page = shows.fits.page; bank_bytes = shows.fits.bank_bytes; lines = shows.fits.lines };
+}
