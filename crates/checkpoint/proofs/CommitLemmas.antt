@@ -34,10 +34,6 @@ adds_same which bank first second same =
 pub either_same : (which : Which) (bank : KeptBank) (held mid image seen : List ℕ) → stands mid ≡ stands held → IsEither (begun_of (turned which bank)) mid image seen → IsEither (begun_of bank) held image seen
 either_same which bank held mid image seen same either = ⊎_elim (λ as_was. inl (as_was ∙ same)) (λ more. inr (more ∙ adds_same which bank (stands mid) (stands held) same)) either
 
--- the store has as many bytes
-pub same_bytes : (which : Which) (bank : KeptBank) → store_bytes (turned which bank) ≡ store_bytes bank
-same_bytes which bank = ap (home_place bank) (length-replicate {A = Option ℕ} (length bank.newest) None)
-
 -- which bank the record is added to
 pub roomy_full : (bank : KeptBank) → area_end bank < needed_end bank → roomy bank ≡ emptied bank
 roomy_full bank full = let is : nat_lt (area_end bank) (needed_end bank) ≡ true = grind (arith, nat_tests) in rw is refl

@@ -28,7 +28,7 @@ use Rattle.redo_journal.specs.Tracks as journal
 use Rattle.redo_journal.specs.Tracks.{HoldsRecords, HoldsOneOf}
 use Rattle.checkpoint.specs.Home.{store_bytes}
 use Rattle.restart.specs.Faults.{IsOpenFault, IsReopenFault}
-use Rattle.restart.specs.Kept.{KeptStore, Fits, number_of}
+use Rattle.restart.specs.Kept.{KeptStore, Fits, number_of, with_begun}
 use Rattle.restart.specs.Shows.{Shows, IsIntact, IsReopened, Tracks, ShownStands}
 
 -- the bank of a header is the one that such a bank's size says
@@ -197,3 +197,12 @@ one_intact header which base records lines held one = ⊎_elim (λ before. recor
 pub committed_intact : (header : Header) (bank : KeptBank) (records : List (List RecordLine)) (held : List ℕ) → HoldsCommitted header bank records held → IsIntact header held
 committed_intact header bank records held one =
     ⊎_elim (λ here. one_intact header bank.which bank.base records (begun_of bank) held here) (λ there. one_intact header (other bank.which) (number_in bank) [] (begun_of (emptied bank)) held there) one
+
+-- a store with a record begun shows what it did
+pub shows_begun : (store : KeptStore) (lines : List RecordLine) (held : List ℕ) → Shows held store → Shows held (with_begun store lines)
+shows_begun store lines held shows = record {
+  header = shows.header;
+  chosen_is = shows.chosen_is;
+  read = record { base = shows.read.base; records = shows.read.records; holds = shows.read.holds; count = shows.read.count; newest = shows.read.newest };
+  fits = record { page = shows.fits.page; bank_bytes = shows.fits.bank_bytes; lines = shows.fits.lines };
+}

@@ -1,7 +1,8 @@
 -- A store as it is kept in memory: its header, and the chosen bank.
-use Rattle.std.specs.Prelude.{◌≡◌, ℕ, length}
+use Rattle.std.specs.Prelude.{◌≡◌, ℕ, List, Some, length}
 use Rattle.line_geometry.specs.Lines.{line_count}
 use Rattle.store_format.specs.Header.{Header}
+use Rattle.store_format.specs.Bank.{RecordLine}
 use Rattle.redo_journal.specs.Kept.{KeptBank}
 use Rattle.redo_journal.specs.Kept as bank
 
@@ -18,3 +19,7 @@ pub record Fits (header : Header) (bank : KeptBank) : Type 0 where
 -- the number of the store
 abbrev pub number_of : KeptStore → ℕ
 number_of store = bank.number_of store.bank
+
+-- the store with a record of these lines begun
+abbrev pub with_begun : KeptStore → List RecordLine → KeptStore
+with_begun store lines = record store { bank = record store.bank { begun = Some lines } }

@@ -103,20 +103,31 @@ fn images_stand_or_are_told_where_not(rt: HostRuntime) -> Result<(), Fail> {
     Ok(())
 }
 
+// One call that is refused.
+fn one_refusal(
+    alloc: Global,
+    call: Call,
+    from: u64,
+    to: u64,
+    skip: u32,
+) -> Result<Vec<Refusal>, AllocError> {
+    vec![in alloc;
+        Refusal {
+            call,
+            from,
+            to,
+            skip
+        },
+    ]
+}
+
 #[test]
 fn a_commit_is_kept_or_not(rt: HostRuntime) -> Result<(), Fail> {
     let alloc = rt.alloc();
     let mut line = [0; 128];
     line[3] = 5;
     for (call, from, to, skip, wanted) in REFUSALS {
-        let refused = vec![in alloc;
-            Refusal {
-                call,
-                from,
-                to,
-                skip
-            },
-        ]?;
+        let refused = one_refusal(alloc, call, from, to, skip)?;
         let mut disk = disk_of(alloc, fresh_store(&rt, alloc)?, refused);
         let mut store = Durable::open(alloc, &mut disk).expect(&rt, "a store");
         assert!(rt; store.header().directory().page() == PageSize::Two);
@@ -256,14 +267,7 @@ fn a_commit_makes_its_own_room(rt: HostRuntime) -> Result<(), Fail> {
 fn a_fault_while_room_is_made_is_told(rt: HostRuntime) -> Result<(), Fail> {
     let alloc = rt.alloc();
     for (call, from, to, skip, wanted, number) in FAULTS {
-        let refused = vec![in alloc;
-            Refusal {
-                call,
-                from,
-                to,
-                skip
-            },
-        ]?;
+        let refused = one_refusal(alloc, call, from, to, skip)?;
         let mut disk = disk_of(alloc, filled(&rt, alloc)?, refused);
         let mut store = Durable::open(alloc, &mut disk).expect(&rt, "a store");
         store.record_start();

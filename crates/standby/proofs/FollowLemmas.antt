@@ -85,10 +85,7 @@ module _ {W : Type 0} (G : Ghosts W) (fewer_later : FewerLater G) (printed_now :
           (prints_stop (G.printed before) (G.printed after) (kept_text number i ++ line) front.0 broken broken refl refl
           (prints_on (G.printed before) (G.printed mid) (G.printed after) (kept_text number i) line tt broken so_far.printed part));
     }
-    so_far_stopped Done steps = absurd steps.ends
-    so_far_stopped Geometry steps = absurd steps.ends
-    so_far_stopped NotKept steps = absurd steps.ends
-    so_far_stopped (Long place) steps = absurd steps.ends
+    so_far_stopped _ steps = absurd steps.ends
 
   -- all are
   pub so_far_all : (count : ℕ) (durable : KeptStore) (before now : W) → count ≡ length records → SoFar G bytes number store records count durable before now → Keeps G bytes number store records durable before now Done
@@ -149,18 +146,12 @@ module _ {W : Type 0} (G : Ghosts W) (fewer_later : FewerLater G) (printed_now :
     crash = keeps.crash;
     ends = prints_stop (G.printed before) (G.printed after) (kept_text number (length records)) (end_line (later number (length records))) broken broken refl refl keeps.ends;
   }
-  stopped_early durable before after Geometry differs keeps = absurd keeps.ends
-  stopped_early durable before after NotKept differs keeps = absurd keeps.ends
-  stopped_early durable before after (Long place) differs keeps = absurd keeps.ends
+  stopped_early durable before after _ differs keeps = absurd keeps.ends
 
 -- a fault isn't the end
 pub not_done : (why : Followed) → IsStopped why → why ≡ Done → ⊥
 not_done Done stopped is = stopped
-not_done DiskFault stopped is = cc
-not_done PutFault stopped is = cc
-not_done Geometry stopped is = cc
-not_done NotKept stopped is = cc
-not_done (Long place) stopped is = cc
+not_done _ stopped is = cc
 
 -- nothing is called
 pub follows_none : {W : Type 0} (G : Ghosts W) (fewer_later : FewerLater G) (printed_now : PrintedNow G) (bytes number : ℕ) (store : FlatStore) (records : List (List ShipLine)) (durable : KeptStore) (now : W) (how : Followed)

@@ -14,6 +14,7 @@ use Rattle.text_line.proofs.Words.{IsWord, number_word, same_number, word_cut}
 use Rattle.standby.proofs.ShipLemmas.{split_at}
 use Rattle.standby.specs.Read.{feeds}
 use Rattle.standby.specs.Text.{end_line, head_line, line_line, record_line}
+use Rattle.text_line.proofs.Bytes.{each_byte}
 
 behind_space : (byte : ℕ) → nat_lt 32 byte ≡ true → 32 < byte
 behind_space byte is = grind (arith, nat_tests)
@@ -28,11 +29,6 @@ hex_word_by (byte ∷ bytes) all = (hex_digit (byte / 16) (omega (arith, all.0))
 
 pub hex_word : (bytes : List ℕ) → All (λ byte. byte < 256) bytes → IsWord (encode_lower bytes)
 hex_word bytes all = hex_word_by bytes (recursion_from_All (λ byte. byte < 256) bytes all)
-
-each_byte : (bytes : List ℕ) → AllByRecursion (λ byte. byte < 256) bytes → (i : ℕ) → get_or bytes i 0 < 256
-each_byte [] all i = omega arith
-each_byte (byte ∷ bytes) all zero = all.0
-each_byte (byte ∷ bytes) all (suc i) = each_byte bytes all.1 i
 
 pub decodes : (bytes : List ℕ) → All (λ byte. byte < 256) bytes → decode_of (encode_lower bytes) ≡ Ok bytes
 decodes bytes all = decode_of-encode_lower bytes (each_byte bytes (recursion_from_All (λ byte. byte < 256) bytes all))

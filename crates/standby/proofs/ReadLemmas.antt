@@ -45,15 +45,6 @@ text_on text left rest lines k held is next_is =
     ∙ sym (append_assoc (lines_text lines) (line_line k held) rest)
     ∙ ap (λ (these : List ℕ). these ++ rest) (sym (one_text lines (record { line = k; bytes = held })))
 
--- a text whose length is 0 is empty
-pub empty_is : (text : List ℕ) → true ≡ (length text == 0) → text ≡ []
-empty_is [] is = refl
-empty_is (byte ∷ text) is = absurd (grind (arith, nat_tests))
-
-pub some_is : (text : List ℕ) → false ≡ (length text == 0) → text ≢ []
-some_is [] is none = cc is
-some_is (byte ∷ text) is none = cc none
-
 -- a line has bytes
 pub line_long : (k : ℕ) (held rest left : List ℕ) → left ≡ line_line k held ++ rest → length rest < length left
 line_long k held rest left is = let long = ap length (is ∙ line_parts k held rest) in grind (arith, common_steps)
@@ -62,17 +53,10 @@ pub record_long : (n count : ℕ) (rest left : List ℕ) → left ≡ record_lin
 record_long n count rest left is = let long = ap length (is ∙ record_parts n count rest) in grind (arith, common_steps)
 
 -- where no line of a record is owed none has a least number
-none_by : (bytes bound number least : ℕ) (text : List ℕ) → Tail bytes bound number 0 0 text → Tail bytes bound number 0 least text
-none_by bytes bound number least text tail = by_lines tail.lines tail.many tail.text_is
+none_at : (bytes bound number least other : ℕ) (text : List ℕ) → Tail bytes bound number 0 least text → Tail bytes bound number 0 other text
+none_at bytes bound number least other text tail = by_lines tail.lines tail.many tail.text_is
   where
-    by_lines : (lines : List ShipLine) → length lines ≡ 0 → text ≡ lines_text lines ++ (records_text number tail.records ++ end_line (later number (length tail.records))) → Tail bytes bound number 0 least text
-    by_lines [] many is = record { lines = []; records = tail.records; many = refl; are = tt; each = tail.each; text_is = is }
-    by_lines (line ∷ lines) many is = absurd (omega (arith, many))
-
-none_at : (bytes bound number least : ℕ) (text : List ℕ) → Tail bytes bound number 0 least text → Tail bytes bound number 0 0 text
-none_at bytes bound number least text tail = by_lines tail.lines tail.many tail.text_is
-  where
-    by_lines : (lines : List ShipLine) → length lines ≡ 0 → text ≡ lines_text lines ++ (records_text number tail.records ++ end_line (later number (length tail.records))) → Tail bytes bound number 0 0 text
+    by_lines : (lines : List ShipLine) → length lines ≡ 0 → text ≡ lines_text lines ++ (records_text number tail.records ++ end_line (later number (length tail.records))) → Tail bytes bound number 0 other text
     by_lines [] many is = record { lines = []; records = tail.records; many = refl; are = tt; each = tail.each; text_is = is }
     by_lines (line ∷ lines) many is = absurd (omega (arith, many))
 
@@ -80,8 +64,8 @@ pub at_none : (bytes bound : ℕ) (front : List ℕ) (read number least : ℕ) �
 at_none bytes bound front read number least is = record {
   whole = is.whole;
   lines = is.lines;
-  goes = λ behind tail. is.goes behind (none_by bytes bound number least behind tail);
-  came = λ behind goes. none_at bytes bound number least behind (is.came behind goes);
+  goes = λ behind tail. is.goes behind (none_at bytes bound number 0 least behind tail);
+  came = λ behind goes. none_at bytes bound number least 0 behind (is.came behind goes);
 }
 
 -- a record behind others

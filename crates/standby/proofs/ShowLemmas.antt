@@ -18,21 +18,6 @@ use Rattle.standby.specs.Step.{put_of}
 use Rattle.standby.specs.declared.shipping.Shipped.{Shipped}
 
 module _ {W : Type 0} (G : Ghosts W) where
-  pub asks_none : (now : W) → OnlyAsks G now now
-  asks_none now = record {
-    calls = record {
-      quiet = record { same = refl; crash = λ image seen left. inl left };
-      honest = refl;
-      time = record { later = record { calls = omega arith; puts = omega arith }; nothing_else = λ t image seen earlier left. inl left; keeps = λ t image seen earlier left. left };
-      disk = omega arith;
-      put = refl;
-      puts = refl;
-    };
-    held = refl;
-    writes = refl;
-    crash = λ told image seen left. left;
-  }
-
   pub shows_line : {T : Type 0} (bytes : List ℕ) (old new : W) (result : Result T Failed) → Puts G bytes old new result → AsksAndPuts G old new
   shows_line bytes old new result puts = shows_puts G bytes old new result puts.only puts.printed (λ image seen left. let from = puts.crash image seen left in (from.0, from.1))
 

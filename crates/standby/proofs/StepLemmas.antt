@@ -10,7 +10,7 @@ use Rattle.store_format.specs.Bank.{RecordLine}
 use Rattle.store_format.specs.Stands as format
 use Rattle.store_format.specs.Stands.{Standing, Stands, home_of, stands, one_more}
 use Rattle.store_format.proofs.Stores.{stands_is}
-use Rattle.restart.proofs.ShowLemmas.{shown_store}
+use Rattle.restart.proofs.ShowLemmas.{shown_store, shows_begun}
 use Rattle.outside.specs.declared.failed.Failed.{Failed}
 use Rattle.outside.specs.declared.world.Outside.{Ghosts}
 use Rattle.outside.specs.Bytes.{AreTold, Prints}
@@ -19,12 +19,12 @@ use Rattle.outside.specs.Runs.{CallsDisk, FewerLater, Leaves, held_of}
 use Rattle.outside.proofs.Runs.{leaves_on}
 use Rattle.redo_journal.specs.Kept.{begun_of}
 use Rattle.redo_journal.specs.Tracks.{IsEither}
-use Rattle.restart.specs.Kept.{KeptStore}
+use Rattle.restart.specs.Kept.{KeptStore, with_begun}
 use Rattle.restart.specs.Shows.{Shows, Tracks}
 use Rattle.standby.specs.Puts.{Puts, SeesPart}
 use Rattle.standby.specs.State.{laid}
 use Rattle.standby.specs.Followed.{well, broken}
-use Rattle.standby.specs.Step.{IsStep, Steps, over, put_of, with_begun}
+use Rattle.standby.specs.Step.{IsStep, Steps, over, put_of}
 use Rattle.standby.specs.declared.following.Followed.{Followed}
 use Rattle.standby.specs.declared.following.Followed.TheVariants.{DiskFault, PutFault}
 use Rattle.standby.specs.Text.{ShipLine, next, kept_line, told}
@@ -50,15 +50,6 @@ sized held kept number store shows stood =
     let same : Stands number store ≡ Stands ((kept.bank.base + length shows.read.records) % 2 ^ 64) (record { directory = kept.header.directory; bytes = fold (format.laid kept.header.directory.page) (home_of held kept.header) shows.read.records }) = sym stood ∙ is in
     let flat : store ≡ record { directory = kept.header.directory; bytes = fold (format.laid kept.header.directory.page) (home_of held kept.header) shows.read.records } = cc in
     ap (λ (that : FlatStore). line_bytes that.directory.page) (sym flat)
-
--- a store with a record begun shows what it did
-shows_begun : (store : KeptStore) (lines : List RecordLine) (held : List ℕ) → Shows held store → Shows held (with_begun store lines)
-shows_begun store lines held shows = record {
-  header = shows.header;
-  chosen_is = shows.chosen_is;
-  read = record { base = shows.read.base; records = shows.read.records; holds = shows.read.holds; count = shows.read.count; newest = shows.read.newest };
-  fits = record { page = shows.fits.page; bank_bytes = shows.fits.bank_bytes; lines = shows.fits.lines };
-}
 
 pub tracks_begun : {W : Type 0} (G : Ghosts W) (store now : KeptStore) (lines : List RecordLine) (outside : W) → now ≡ with_begun store lines → Tracks G store outside → Tracks G now outside
 tracks_begun G store now lines outside is tracks =

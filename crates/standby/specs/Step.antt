@@ -10,7 +10,7 @@ use Rattle.outside.specs.declared.world.Outside.{Ghosts}
 use Rattle.outside.specs.declared.failed.Failed.{Failed}
 use Rattle.outside.specs.Bytes.{AreTold, Prints}
 use Rattle.outside.specs.Runs.{Leaves, held_of}
-use Rattle.restart.specs.Kept.{KeptStore}
+use Rattle.restart.specs.Kept.{KeptStore, with_begun}
 use Rattle.restart.specs.Shows.{Tracks}
 use Rattle.standby.specs.Followed.{well, broken}
 use Rattle.standby.specs.Puts.{SeesPart}
@@ -25,10 +25,6 @@ pub record IsFitting (header : Header) (kept : ShipRecord) : Type 0 where
   pub packed : IsPacked (line_bytes header.directory.page) kept
   pub lines : AreLines (line_bytes header.directory.page) (line_count header.directory) 0 (record_of (line_bytes header.directory.page) kept)
   pub few : length kept.lines.items ≤ most_lines header
-
--- the store with a record of these lines begun
-abbrev pub with_begun : KeptStore → List RecordLine → KeptStore
-with_begun store lines = record store { bank = record store.bank { begun = Some lines } }
 
 -- a record of these lines is begun
 pub record IsBegun (store now : KeptStore) (lines : List ShipLine) : Type 0 where

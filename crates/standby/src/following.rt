@@ -149,20 +149,20 @@ fn keep_each<W: Outside>(
 /// Commits a record, and then puts its line.
 fn keep<W: Outside>(
     durable: &mut Durable,
-    record: &ShipRecord,
+    sent: &ShipRecord,
     text: &mut TextLine,
     outside: &mut W,
 ) -> Result<(), Followed>
-    requires fitting { IsFitting durable.old.header record.now }
+    requires fitting { IsFitting durable.old.header sent.now }
     requires room { HoldsAtLeast W.Outside (total durable.old.header) outside.old }
     ensures only { OnlyGoesOn W.Outside outside.old outside.new }
     ensures ends { EndsBy W.Outside outside.old outside.new (followed_of result) }
     ensures stopped { IfErr result IsStopped }
     ensures header { durable.new.header ≡ durable.old.header }
     ensures number { OnOk result (number_of durable.new ≡ next (number_of durable.old)) }
-    ensures steps { (store : FlatStore) → Tracks W.Outside durable.old outside.old → stands (held_of W.Outside outside.old) ≡ Stands (number_of durable.old) store → Steps W.Outside (line_bytes durable.old.header.directory.page) (number_of durable.old) store (record_of (line_bytes durable.old.header.directory.page) record.now) durable.new outside.old outside.new result }
+    ensures steps { (store : FlatStore) → Tracks W.Outside durable.old outside.old → stands (held_of W.Outside outside.old) ≡ Stands (number_of durable.old) store → Steps W.Outside (line_bytes durable.old.header.directory.page) (number_of durable.old) store (record_of (line_bytes durable.old.header.directory.page) sent.now) durable.new outside.old outside.new result }
 {
-    begin(durable, record);
+    begin(durable, sent);
     match durable.commit(outside) {
         Kept::Done => {}
         Kept::Unwritten | Kept::Doubt => return Err(Followed::DiskFault),
@@ -172,16 +172,16 @@ fn keep<W: Outside>(
 }
 
 /// Begins a record with the lines of one of a text.
-fn begin(durable: &mut Durable, record: &ShipRecord)
-    requires { IsFitting durable.old.header record.now }
-    ensures { IsBegun durable.old durable.new (record_of (line_bytes durable.old.header.directory.page) record.now) }
+fn begin(durable: &mut Durable, sent: &ShipRecord)
+    requires { IsFitting durable.old.header sent.now }
+    ensures { IsBegun durable.old durable.new (record_of (line_bytes durable.old.header.directory.page) sent.now) }
 {
     let bytes = durable.header().line_bytes();
     let page = durable.header().directory().page();
     durable.record_start();
-    for (index, line) in record.lines.iter().enumerate() {
+    for (index, line) in sent.lines.iter().enumerate() {
         let at = lines_bytes(page, index as u32) as usize;
-        durable.record_line(*line, &record.bytes[at..at + bytes]);
+        durable.record_line(*line, &sent.bytes[at..at + bytes]);
     }
 }
 

@@ -159,25 +159,25 @@ fn put_records<W: Outside>(
 fn put_record<W: Outside>(
     durable: &Durable,
     number: u64,
-    record: &Record,
+    entry: &Record,
     text: &mut TextLine,
     outside: &mut W,
 ) -> Result<(), Shipped>
     requires room { HoldsAtLeast W.Outside (total durable.now.header) outside.old }
-    requires fits { (record.now.count ≡ 0) ⊎ (record.now.place + record_bytes durable.now.header.directory.page record.now.count < durable.now.header.bank_bytes) }
+    requires fits { (entry.now.count ≡ 0) ⊎ (entry.now.place + record_bytes durable.now.header.directory.page entry.now.count < durable.now.header.bank_bytes) }
     ensures only { AsksAndPuts W.Outside outside.old outside.new }
     ensures stopped { IfErr result IsStopped }
     ensures ends { EndsBy W.Outside outside.old outside.new (shipped_of result) }
-    ensures prints { (shown : IsShown W.Outside durable.now outside.old) → (at : IsRecordAt (held_of W.Outside outside.old) durable.now.bank record.now.place) → record.now.count ≡ length at.lines → PrintsBy W.Outside (record_text number (told at.lines)) outside.old outside.new result }
-    ensures bytes { OnOk result ((shown : IsShown W.Outside durable.now outside.old) → (at : IsRecordAt (held_of W.Outside outside.old) durable.now.bank record.now.place) → record.now.count ≡ length at.lines → All (HasBytes (line_bytes durable.now.header.directory.page)) at.lines) }
+    ensures prints { (shown : IsShown W.Outside durable.now outside.old) → (at : IsRecordAt (held_of W.Outside outside.old) durable.now.bank entry.now.place) → entry.now.count ≡ length at.lines → PrintsBy W.Outside (record_text number (told at.lines)) outside.old outside.new result }
+    ensures bytes { OnOk result ((shown : IsShown W.Outside durable.now outside.old) → (at : IsRecordAt (held_of W.Outside outside.old) durable.now.bank entry.now.place) → entry.now.count ≡ length at.lines → All (HasBytes (line_bytes durable.now.header.directory.page)) at.lines) }
 {
-    fill_record(text, number, u32::from(record.count));
+    fill_record(text, number, u32::from(entry.count));
     match put_line(text.as_slice(), outside) {
         Ok(()) => {}
         Err(why) => return Err(why),
     }
-    for index in 0..record.count {
-        match put_one(durable, record, index, text, outside) {
+    for index in 0..entry.count {
+        match put_one(durable, entry, index, text, outside) {
             Ok(()) => {}
             Err(why) => return Err(why),
         }
@@ -188,23 +188,23 @@ fn put_record<W: Outside>(
 /// Puts a line of a record.
 fn put_one<W: Outside>(
     durable: &Durable,
-    record: &Record,
+    entry: &Record,
     index: u16,
     text: &mut TextLine,
     outside: &mut W,
 ) -> Result<(), Shipped>
     requires room { HoldsAtLeast W.Outside (total durable.now.header) outside.old }
-    requires fits { record.now.place + record_bytes durable.now.header.directory.page record.now.count < durable.now.header.bank_bytes }
-    requires below { index < record.now.count }
+    requires fits { entry.now.place + record_bytes durable.now.header.directory.page entry.now.count < durable.now.header.bank_bytes }
+    requires below { index < entry.now.count }
     ensures only { AsksAndPuts W.Outside outside.old outside.new }
     ensures stopped { IfErr result IsStopped }
     ensures ends { EndsBy W.Outside outside.old outside.new (shipped_of result) }
-    ensures prints { (shown : IsShown W.Outside durable.now outside.old) → (at : IsRecordAt (held_of W.Outside outside.old) durable.now.bank record.now.place) → record.now.count ≡ length at.lines → (one : RecordLine) → slice_get at.lines index ≡ Some one → PrintsBy W.Outside (line_line one.line one.bytes) outside.old outside.new result }
-    ensures bytes { OnOk result ((shown : IsShown W.Outside durable.now outside.old) → (at : IsRecordAt (held_of W.Outside outside.old) durable.now.bank record.now.place) → record.now.count ≡ length at.lines → (one : RecordLine) → slice_get at.lines index ≡ Some one → HasBytes (line_bytes durable.now.header.directory.page) one) }
+    ensures prints { (shown : IsShown W.Outside durable.now outside.old) → (at : IsRecordAt (held_of W.Outside outside.old) durable.now.bank entry.now.place) → entry.now.count ≡ length at.lines → (one : RecordLine) → slice_get at.lines index ≡ Some one → PrintsBy W.Outside (line_line one.line one.bytes) outside.old outside.new result }
+    ensures bytes { OnOk result ((shown : IsShown W.Outside durable.now outside.old) → (at : IsRecordAt (held_of W.Outside outside.old) durable.now.bank entry.now.place) → entry.now.count ≡ length at.lines → (one : RecordLine) → slice_get at.lines index ≡ Some one → HasBytes (line_bytes durable.now.header.directory.page) one) }
 {
     let mut room = [0; 256];
     let bytes = &mut room[..durable.header().line_bytes()];
-    let line = match durable.line_at(outside, record, index, bytes) {
+    let line = match durable.line_at(outside, entry, index, bytes) {
         Ok(line) => line,
         Err(Failed) => return Err(Shipped::DiskFault),
     };

@@ -1,2 +1,3 @@
 mod HexLemmas
 pub mod Words
+pub mod Bytes

@@ -8,8 +8,7 @@ use Rattle.line_geometry.specs.Directory.{Layout}
 use Rattle.line_geometry.specs.declared.directory.PageSize.{PageSize}
 use Rattle.store_format.specs.Header.{Header}
 use Rattle.redo_journal.specs.Kept.{begun_of, record_bytes_of}
-use Rattle.restart.specs.Kept.{KeptStore}
-use Rattle.standby.specs.Step.{with_begun}
+use Rattle.restart.specs.Kept.{KeptStore, with_begun}
 use Rattle.standby.specs.Text.{AreLines, ShipLine, parted, told}
 use Rattle.standby.proofs.BeginLemmas.{before_next, get_or-parted, length-parted, line_below, no_line, part_at, room_for}
 use Rattle.standby.proofs.following.begin.Goals as goal
@@ -43,7 +42,7 @@ one_told size items bytes begun i one lt is last =
 
 pub record_line-requires-clause-below : goal.record_line-requires-clause-below
 record_line-requires-clause-below c =
-    let kept = c.args.record.now in
+    let kept = c.args.sent.now in
     let bound : line_count c.args.durable.now.header.directory ≡ line_count c.loop-index.durable.header.directory = ap (λ (store : KeptStore). line_count store.header.directory) (sym c.loop-index.invariant.begun.now_is) in
     let inside : c.loop-index.index < length kept.lines.items = omega (arith, c.loop-index-test.true, ap length c.deref-line-items.ensures.value) in
     let fits = line_fits (line_bytes c.args.durable.now.header.directory.page) (line_count c.args.durable.now.header.directory) kept.lines.items kept.bytes.items c.loop-index.index c.requires.lines inside in
@@ -52,7 +51,7 @@ record_line-requires-clause-below c =
 
 pub record_line-requires-clause-ascending : goal.record_line-requires-clause-ascending
 record_line-requires-clause-ascending c =
-    let kept = c.args.record.now in
+    let kept = c.args.sent.now in
     let inside : c.loop-index.index < length kept.lines.items = omega (arith, c.loop-index-test.true, ap length c.deref-line-items.ensures.value) in
     let below = all_below (line_bytes c.args.durable.now.header.directory.page) (line_count c.args.durable.now.header.directory) kept.lines.items kept.bytes.items c.loop-index.invariant.begun.begun c.loop-index.index c.requires.lines inside c.loop-index.invariant.begun.lines_are in
     subst (λ (begun : List RecordLine). All (λ one. one.line < get_or c.deref-line-items.result.now c.loop-index.index 0) begun) (ap (λ (store : KeptStore). begun_of store.bank) (sym c.loop-index.invariant.begun.now_is))
@@ -60,7 +59,7 @@ record_line-requires-clause-ascending c =
 
 pub record_line-requires-clause-room : goal.record_line-requires-clause-room
 record_line-requires-clause-room c =
-    let kept = c.args.record.now in
+    let kept = c.args.sent.now in
     let inside : c.loop-index.index < length kept.lines.items = omega (arith, c.loop-index-test.true, ap length c.deref-line-items.ensures.value) in
     let many = as_many (line_bytes c.args.durable.now.header.directory.page) kept.lines.items kept.bytes.items c.loop-index.invariant.begun.begun c.loop-index.index inside c.loop-index.invariant.begun.lines_are in
     let header = c.args.durable.now.header in
@@ -69,7 +68,7 @@ record_line-requires-clause-room c =
 
 pub loop-index-preserved : goal.loop-index-preserved
 loop-index-preserved c =
-    let kept = c.args.record.now in
+    let kept = c.args.sent.now in
     let i = c.loop-index.index in
     let was = c.loop-index.invariant.begun in
     let now = c.loop-index.durable in
@@ -100,7 +99,7 @@ loop-index-preserved c =
 
 pub returns : goal.returns
 returns c =
-    let kept = c.args.record.now in
+    let kept = c.args.sent.now in
     let was = c.loop-index.invariant.begun in
     let all = take_all c.loop-index.index (parted (line_bytes c.args.durable.now.header.directory.page) kept.lines.items kept.bytes.items) (omega (arith, c.loop-index-test.false, ap length c.deref-line-items.ensures.value, length-parted (line_bytes c.args.durable.now.header.directory.page) kept.lines.items kept.bytes.items)) in
     record { begun = was.begun; now_is = was.now_is; lines_are = was.lines_are ∙ all }

@@ -28,9 +28,9 @@ either g c tracks =
     either_begun g.W.Outside c.args.durable.now c.begin.new.durable c.begin.ensures.begun (held_of g.W.Outside c.args.outside.now) c.args.outside.now c.commit.new.outside c.begin.ensures.now_is (c.commit.ensures.crash (tracked g c tracks))
 
 unkept : (g : Over) (c : goal.After-commit g) (store : FlatStore) → Tracks g.W.Outside c.args.durable.now c.args.outside.now → stands (held_of g.W.Outside c.args.outside.now) ≡ Stands (number_of c.args.durable.now) store
-    → Steps g.W.Outside (line_bytes c.args.durable.now.header.directory.page) (number_of c.args.durable.now) store (record_of (line_bytes c.args.durable.now.header.directory.page) c.args.record.now) c.commit.new.self c.args.outside.now c.commit.new.outside (Err DiskFault)
+    → Steps g.W.Outside (line_bytes c.args.durable.now.header.directory.page) (number_of c.args.durable.now) store (record_of (line_bytes c.args.durable.now.header.directory.page) c.args.sent.now) c.commit.new.self c.args.outside.now c.commit.new.outside (Err DiskFault)
 unkept g c store tracks stood =
-    step_unkept g.W.Outside g.met.W.Outside.fewer_later g.met.W.Outside.printed_now (number_of c.args.durable.now) (line_bytes c.args.durable.now.header.directory.page) store (record_of (line_bytes c.args.durable.now.header.directory.page) c.args.record.now) c.begin.ensures.begun c.args.outside.now c.commit.new.outside
+    step_unkept g.W.Outside g.met.W.Outside.fewer_later g.met.W.Outside.printed_now (number_of c.args.durable.now) (line_bytes c.args.durable.now.header.directory.page) store (record_of (line_bytes c.args.durable.now.header.directory.page) c.args.sent.now) c.begin.ensures.begun c.args.outside.now c.commit.new.outside
     (sized (held_of g.W.Outside c.args.outside.now) c.args.durable.now (number_of c.args.durable.now) store tracks.shows stood) c.begin.ensures.lines_are stood c.commit.ensures.only.calls (either g c tracks) c.commit.new.self
 
 pub returns-in-Unwritten : goal.returns-in-Unwritten
@@ -55,7 +55,7 @@ returns-clause-steps g c store tracks stood =
     let at = (goal.at.returns-clause-steps g c).After-commit in
     let done = c.commit.ensures.done c.in-Done.is (tracked g at tracks) in
     let number : c.number.result ≡ next (number_of c.args.durable.now) = c.number.ensures ∙ c.commit.ensures.number ∙ ap (λ (kept : Kept). number_after kept (number_of c.begin.new.durable)) c.in-Done.is ∙ ap (λ (store : KeptStore). next (number_of store)) c.begin.ensures.now_is in
-    step_kept g.W.Outside g.met.W.Outside.fewer_later g.met.W.Outside.printed_now (number_of c.args.durable.now) (line_bytes c.args.durable.now.header.directory.page) store (record_of (line_bytes c.args.durable.now.header.directory.page) c.args.record.now) c.begin.ensures.begun c.args.outside.now c.commit.new.outside
+    step_kept g.W.Outside g.met.W.Outside.fewer_later g.met.W.Outside.printed_now (number_of c.args.durable.now) (line_bytes c.args.durable.now.header.directory.page) store (record_of (line_bytes c.args.durable.now.header.directory.page) c.args.sent.now) c.begin.ensures.begun c.args.outside.now c.commit.new.outside
     (sized (held_of g.W.Outside c.args.outside.now) c.args.durable.now (number_of c.args.durable.now) store tracks.shows stood) c.begin.ensures.lines_are stood c.commit.ensures.only.calls (either g at tracks) c.commit.new.self c.put_line.new.outside c.as_slice.result.now c.put_line.result done.tracks
     (more_begun c.args.durable.now c.begin.new.durable c.begin.ensures.begun (stands (held_of g.W.Outside c.args.outside.now)) (stands (held_of g.W.Outside c.commit.new.outside)) c.begin.ensures.now_is done.stood)
     (c.as_slice.ensures ∙ c.fill_kept.ensures ∙ ap kept_line number) c.put_line.ensures.only c.put_line.ensures.puts

@@ -6,8 +6,9 @@ use Rattle.standby.specs.Read.{IsRead, IsReadFault}
 use Rattle.standby.specs.Text.{AreLines, IsPacked, ShipLine, end_line, head_line, later, next, record_line, record_of, records_text}
 use Rattle.standby.specs.declared.text.ShipRecord.{ShipRecord}
 use Rattle.standby.proofs.BeginLemmas.{length-parted}
-use Rattle.standby.proofs.ReadLemmas.{empty_is, record_long, records_step, some_is, text_more, whole_text}
+use Rattle.standby.proofs.ReadLemmas.{record_long, records_step, text_more, whole_text}
 use Rattle.standby.proofs.TailLemmas.{bad_behind, bad_here, read_count, read_head}
+use Rattle.text_line.proofs.Bytes.{empty_is, some_is}
 use Rattle.standby.proofs.read.read_records.Goals as goal
 
 pub loop-count-init : goal.loop-count-init

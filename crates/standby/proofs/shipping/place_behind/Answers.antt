@@ -1,10 +1,10 @@
 use Rattle.std.proofs.Common.{◌≡◌, ⊎_elim, ℕ, ◌+◌, ◌<◌, List, [], get_or, length, take, refl, sym, ◌∙◌, ap, arith}
 use Rattle.store_format.specs.Bank.{RecordLine}
 use Rattle.outside.specs.Runs.{held_of}
-use Rattle.outside.proofs.Runs.{asks_on}
+use Rattle.outside.proofs.Runs.{asks_none, asks_on}
 use Rattle.redo_journal.specs.Records.{area_bytes}
 use Rattle.standby.proofs.ShipLemmas.{area_more, next_is, record_there}
-use Rattle.standby.proofs.ShowLemmas.{asks_none, still_shown}
+use Rattle.standby.proofs.ShowLemmas.{still_shown}
 use Rattle.standby.proofs.shipping.place_behind.Goals as goal
 
 pub loop-index-init : goal.loop-index-init

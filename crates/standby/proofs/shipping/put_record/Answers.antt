@@ -1,12 +1,17 @@
 use Rattle.std.proofs.Common.{◌≡◌, ℕ, ◌+◌, ◌<◌, List, [], ◌++◌, length, take, drop, get_or, refl, sym, subst, ◌∙◌, ap, arith}
-use Rattle.std.specs.Prelude.{All, Option, slice_get, unwrap_or}
+use Rattle.std.specs.Prelude.{All, Option, Some, slice_get, unwrap_or}
 use Rattle.std.proofs.lemmas.List.{length-map, take_all}
 use Rattle.std.proofs.lemmas.Option.{slice_get-get_or}
 use Rattle.line_geometry.specs.Segments.{line_bytes}
 use Rattle.store_format.specs.Bank.{RecordLine}
 use Rattle.outside.specs.Bytes.{Prints}
+use Rattle.outside.specs.declared.world.Outside.{Ghosts}
 use Rattle.outside.specs.Runs.{held_of}
 use Rattle.outside.proofs.Prints.{prints_on, prints_same, prints_stop}
+use Rattle.redo_journal.specs.declared.find.Record.{Record}
+use Rattle.redo_journal.specs.Records.{IsRecordAt}
+use Rattle.restart.specs.Kept.{KeptStore}
+use Rattle.restart.specs.Shows.{IsShown}
 use Rattle.standby.specs.Followed.{well, broken}
 use Rattle.standby.specs.Shipped.{HasBytes}
 use Rattle.standby.specs.Text.{ShipLine, line_line, lines_text, record_line, told}
@@ -24,60 +29,62 @@ no_record = record { line = 0; at = 0; bytes = [] }
 
 pub returns-in-Err-clause-prints : goal.returns-in-Err-clause-prints
 returns-in-Err-clause-prints g c shown at many =
-    let text : c.as_slice.result.now ≡ record_line c.args.number (length (told at.lines)) = c.as_slice.ensures ∙ c.fill_record.ensures ∙ ap (record_line c.args.number) c.from.ensures ∙ counts c.args.number c.args.record.now.count at.lines many in
+    let text : c.as_slice.result.now ≡ record_line c.args.number (length (told at.lines)) = c.as_slice.ensures ∙ c.fill_record.ensures ∙ ap (record_line c.args.number) c.from.ensures ∙ counts c.args.number c.args.entry.now.count at.lines many in
     prints_stop (g.W.Outside.printed c.args.outside.now) (g.W.Outside.printed c.put_line.new.outside) (record_line c.args.number (length (told at.lines))) (lines_text (told at.lines)) broken broken refl refl
     (subst (λ (bytes : List ℕ). Prints (g.W.Outside.printed c.args.outside.now) (g.W.Outside.printed c.put_line.new.outside) bytes broken) text c.in-Err.ensures.puts.printed)
+
+-- what is said of each line where the record lies still is said of the next one
+said : {W : Type 0} (G : Ghosts W) (store : KeptStore) (entry : Record) (i : ℕ) (old mid : W) (shown : IsShown G store old) (at : IsRecordAt (held_of G old) store.bank entry.place) (P : RecordLine → Type 0)
+    → entry.count ≡ length at.lines → G.held mid ≡ G.held old → i < entry.count
+    → ((shown : IsShown G store mid) (at : IsRecordAt (held_of G mid) store.bank entry.place) → entry.count ≡ length at.lines → (one : RecordLine) → slice_get at.lines i ≡ Some one → P one)
+    → P (get_or at.lines i no_record)
+said G store entry i old mid shown at P many same below each =
+    let still = still_shown G store old mid shown same in
+    let that = there_still (held_of G old) (held_of G mid) store.bank entry.place (ap (λ (those : Option (List ℕ)). unwrap_or those []) same) at in
+    each still.0 that.0 (many ∙ ap (λ (these : List RecordLine). length these) (sym that.1)) (get_or at.lines i no_record)
+    (ap (λ (these : List RecordLine). slice_get these i) that.1 ∙ slice_get-get_or at.lines i no_record (omega (arith, many, below)))
 
 pub returns-in-Err-put_one-clause-only : goal.returns-in-Err-put_one-clause-only
 returns-in-Err-put_one-clause-only g c = shows_on g.W.Outside g.met.W.Outside.fewer_later c.args.outside.now c.loop-index.outside c.put_one.new.outside c.loop-index.invariant.only c.put_one.ensures.only
 
 pub returns-in-Err-put_one-clause-prints : goal.returns-in-Err-put_one-clause-prints
 returns-in-Err-put_one-clause-prints g c shown at many =
+    let G = g.W.Outside in
     let i = c.loop-index.index in
-    let old = c.args.outside.now in
-    let mid = c.loop-index.outside in
-    let still = still_shown g.W.Outside c.args.durable.now old mid shown c.loop-index.invariant.only.held in
-    let that = there_still (held_of g.W.Outside old) (held_of g.W.Outside mid) c.args.durable.now.bank c.args.record.now.place (ap (λ (those : Option (List ℕ)). unwrap_or those []) c.loop-index.invariant.only.held) at in
     let lt : i < length at.lines = omega (arith, many, c.loop-index-test.true) in
     let one = get_or at.lines i no_record in
-    let there = slice_get-get_or at.lines i no_record lt in
-    let part = c.in-Err-put_one.ensures.prints still.0 that.0 (many ∙ ap (λ (these : List RecordLine). length these) (sym that.1)) one (ap (λ (these : List RecordLine). slice_get these i) that.1 ∙ there) in
-    let head = record_line c.args.number c.args.record.now.count in
+    let part = said G c.args.durable.now c.args.entry.now i c.args.outside.now c.loop-index.outside shown at (λ (one : RecordLine). Prints (G.printed c.loop-index.outside) (G.printed c.put_one.new.outside) (line_line one.line one.bytes) broken)
+    many c.loop-index.invariant.only.held c.loop-index-test.true c.in-Err-put_one.ensures.prints in
+    let head = record_line c.args.number c.args.entry.now.count in
     let front = head ++ lines_text (take i (told at.lines)) in
-    prints_same (g.W.Outside.printed old) (g.W.Outside.printed c.put_one.new.outside) (head ++ lines_text (told at.lines)) (record_line c.args.number (length (told at.lines)) ++ lines_text (told at.lines)) broken
-    (ap (λ (first : List ℕ). first ++ lines_text (told at.lines)) (counts c.args.number c.args.record.now.count at.lines many))
-    (prints_same (g.W.Outside.printed old) (g.W.Outside.printed c.put_one.new.outside) ((front ++ line_line one.line one.bytes) ++ lines_text (drop (i + 1) (told at.lines))) (head ++ lines_text (told at.lines)) broken (text_rest head at.lines i one lt there)
-    (prints_stop (g.W.Outside.printed old) (g.W.Outside.printed c.put_one.new.outside) (front ++ line_line one.line one.bytes) (lines_text (drop (i + 1) (told at.lines))) broken broken refl refl
-    (prints_on (g.W.Outside.printed old) (g.W.Outside.printed mid) (g.W.Outside.printed c.put_one.new.outside) front (line_line one.line one.bytes) tt broken (c.loop-index.invariant.so_far shown at many) part)))
+    prints_same (G.printed c.args.outside.now) (G.printed c.put_one.new.outside) (head ++ lines_text (told at.lines)) (record_line c.args.number (length (told at.lines)) ++ lines_text (told at.lines)) broken
+    (ap (λ (first : List ℕ). first ++ lines_text (told at.lines)) (counts c.args.number c.args.entry.now.count at.lines many))
+    (prints_same (G.printed c.args.outside.now) (G.printed c.put_one.new.outside) ((front ++ line_line one.line one.bytes) ++ lines_text (drop (i + 1) (told at.lines))) (head ++ lines_text (told at.lines)) broken (text_rest head at.lines i one lt (slice_get-get_or at.lines i no_record lt))
+    (prints_stop (G.printed c.args.outside.now) (G.printed c.put_one.new.outside) (front ++ line_line one.line one.bytes) (lines_text (drop (i + 1) (told at.lines))) broken broken refl refl
+    (prints_on (G.printed c.args.outside.now) (G.printed c.loop-index.outside) (G.printed c.put_one.new.outside) front (line_line one.line one.bytes) tt broken (c.loop-index.invariant.so_far shown at many) part)))
 
 pub loop-index-preserved : goal.loop-index-preserved
-loop-index-preserved g c = record {
-  only = shows_on g.W.Outside g.met.W.Outside.fewer_later c.args.outside.now c.loop-index.outside c.put_one.new.outside c.loop-index.invariant.only c.put_one.ensures.only;
-  disk = c.in-Ok-put_one.ensures.ends.0 ∙ c.loop-index.invariant.disk;
-  put = c.in-Ok-put_one.ensures.ends.1 ∙ c.loop-index.invariant.put;
-  so_far = λ shown at many.
-      let i = c.loop-index.index in
-      let old = c.args.outside.now in
-      let mid = c.loop-index.outside in
-      let still = still_shown g.W.Outside c.args.durable.now old mid shown c.loop-index.invariant.only.held in
-      let that = there_still (held_of g.W.Outside old) (held_of g.W.Outside mid) c.args.durable.now.bank c.args.record.now.place (ap (λ (those : Option (List ℕ)). unwrap_or those []) c.loop-index.invariant.only.held) at in
-      let lt : i < length at.lines = omega (arith, many, c.loop-index-test.true) in
-      let one = get_or at.lines i no_record in
-      let there = slice_get-get_or at.lines i no_record lt in
-      let part = c.in-Ok-put_one.ensures.prints still.0 that.0 (many ∙ ap (λ (these : List RecordLine). length these) (sym that.1)) one (ap (λ (these : List RecordLine). slice_get these i) that.1 ∙ there) in
-      let head = record_line c.args.number c.args.record.now.count in
-      prints_same (g.W.Outside.printed old) (g.W.Outside.printed c.put_one.new.outside) ((head ++ lines_text (take i (told at.lines))) ++ line_line one.line one.bytes) (head ++ lines_text (take (i + 1) (told at.lines))) well (text_more head at.lines i one lt there)
-      (prints_on (g.W.Outside.printed old) (g.W.Outside.printed mid) (g.W.Outside.printed c.put_one.new.outside) (head ++ lines_text (take i (told at.lines))) (line_line one.line one.bytes) tt well (c.loop-index.invariant.so_far shown at many) part);
-  bytes = λ shown at many.
-      let i = c.loop-index.index in
-      let old = c.args.outside.now in
-      let mid = c.loop-index.outside in
-      let still = still_shown g.W.Outside c.args.durable.now old mid shown c.loop-index.invariant.only.held in
-      let that = there_still (held_of g.W.Outside old) (held_of g.W.Outside mid) c.args.durable.now.bank c.args.record.now.place (ap (λ (those : Option (List ℕ)). unwrap_or those []) c.loop-index.invariant.only.held) at in
-      let lt : i < length at.lines = omega (arith, many, c.loop-index-test.true) in
-      all_more (HasBytes (line_bytes c.args.durable.now.header.directory.page)) at.lines i no_record lt (c.loop-index.invariant.bytes shown at many)
-      (c.in-Ok-put_one.ensures.bytes still.0 that.0 (many ∙ ap (λ (these : List RecordLine). length these) (sym that.1)) (get_or at.lines i no_record) (ap (λ (these : List RecordLine). slice_get these i) that.1 ∙ slice_get-get_or at.lines i no_record lt));
-}
+loop-index-preserved g c =
+    let G = g.W.Outside in
+    let old = c.args.outside.now in
+    let mid = c.loop-index.outside in
+    let i = c.loop-index.index in
+    record {
+      only = shows_on G g.met.W.Outside.fewer_later old mid c.put_one.new.outside c.loop-index.invariant.only c.put_one.ensures.only;
+      disk = c.in-Ok-put_one.ensures.ends.0 ∙ c.loop-index.invariant.disk;
+      put = c.in-Ok-put_one.ensures.ends.1 ∙ c.loop-index.invariant.put;
+      so_far = λ shown at many.
+          let lt : i < length at.lines = omega (arith, many, c.loop-index-test.true) in
+          let one = get_or at.lines i no_record in
+          let head = record_line c.args.number c.args.entry.now.count in
+          prints_same (G.printed old) (G.printed c.put_one.new.outside) ((head ++ lines_text (take i (told at.lines))) ++ line_line one.line one.bytes) (head ++ lines_text (take (i + 1) (told at.lines))) well
+          (text_more head at.lines i one lt (slice_get-get_or at.lines i no_record lt))
+          (prints_on (G.printed old) (G.printed mid) (G.printed c.put_one.new.outside) (head ++ lines_text (take i (told at.lines))) (line_line one.line one.bytes) tt well (c.loop-index.invariant.so_far shown at many)
+          (said G c.args.durable.now c.args.entry.now i old mid shown at (λ (one : RecordLine). Prints (G.printed mid) (G.printed c.put_one.new.outside) (line_line one.line one.bytes) well) many c.loop-index.invariant.only.held c.loop-index-test.true c.in-Ok-put_one.ensures.prints));
+      bytes = λ shown at many.
+          all_more (HasBytes (line_bytes c.args.durable.now.header.directory.page)) at.lines i no_record (omega (arith, many, c.loop-index-test.true)) (c.loop-index.invariant.bytes shown at many)
+          (said G c.args.durable.now c.args.entry.now i old mid shown at (HasBytes (line_bytes c.args.durable.now.header.directory.page)) many c.loop-index.invariant.only.held c.loop-index-test.true c.in-Ok-put_one.ensures.bytes);
+    }
 
 pub returns-clause-bytes : goal.returns-clause-bytes
 returns-clause-bytes g c shown at many =
@@ -86,9 +93,9 @@ returns-clause-bytes g c shown at many =
 
 pub returns-clause-prints : goal.returns-clause-prints
 returns-clause-prints g c shown at many =
-    let head = record_line c.args.number c.args.record.now.count in
+    let head = record_line c.args.number c.args.entry.now.count in
     let bare = λ (one : RecordLine). let it : ShipLine = record { line = one.line; bytes = one.bytes } in it in
     prints_same (g.W.Outside.printed c.args.outside.now) (g.W.Outside.printed c.loop-index.outside) (head ++ lines_text (take c.loop-index.index (told at.lines))) (record_line c.args.number (length (told at.lines)) ++ lines_text (told at.lines)) well
     (ap (λ (these : List ShipLine). head ++ lines_text these) (take_all c.loop-index.index (told at.lines) (omega (arith, many, c.loop-index-test.false, length-map at.lines bare)))
-    ∙ ap (λ (first : List ℕ). first ++ lines_text (told at.lines)) (counts c.args.number c.args.record.now.count at.lines many))
+    ∙ ap (λ (first : List ℕ). first ++ lines_text (told at.lines)) (counts c.args.number c.args.entry.now.count at.lines many))
     (c.loop-index.invariant.so_far shown at many)

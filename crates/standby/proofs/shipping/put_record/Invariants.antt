@@ -16,8 +16,8 @@ invariant-loop-index g l = record {
   only : AsksAndPuts g.W.Outside l.fn.outside l.outside;
   disk : g.W.Outside.disk_faults l.outside ≡ g.W.Outside.disk_faults l.fn.outside;
   put : g.W.Outside.put_faults l.outside ≡ g.W.Outside.put_faults l.fn.outside;
-  so_far : (shown : IsShown g.W.Outside l.durable l.fn.outside) → (at : IsRecordAt (held_of g.W.Outside l.fn.outside) l.durable.bank l.record.place) → l.record.count ≡ length at.lines
-      → Prints (g.W.Outside.printed l.fn.outside) (g.W.Outside.printed l.outside) (record_line l.number l.record.count ++ lines_text (take l.index (told at.lines))) well;
-  bytes : (shown : IsShown g.W.Outside l.durable l.fn.outside) → (at : IsRecordAt (held_of g.W.Outside l.fn.outside) l.durable.bank l.record.place) → l.record.count ≡ length at.lines
+  so_far : (shown : IsShown g.W.Outside l.durable l.fn.outside) → (at : IsRecordAt (held_of g.W.Outside l.fn.outside) l.durable.bank l.entry.place) → l.entry.count ≡ length at.lines
+      → Prints (g.W.Outside.printed l.fn.outside) (g.W.Outside.printed l.outside) (record_line l.number l.entry.count ++ lines_text (take l.index (told at.lines))) well;
+  bytes : (shown : IsShown g.W.Outside l.durable l.fn.outside) → (at : IsRecordAt (held_of g.W.Outside l.fn.outside) l.durable.bank l.entry.place) → l.entry.count ≡ length at.lines
       → All (HasBytes (line_bytes l.durable.header.directory.page)) (take l.index at.lines);
 }

@@ -11,7 +11,12 @@ use Rattle.standby.specs.Text.{later, record_text, records_text, told}
 use Rattle.standby.proofs.ShipLemmas.{all_more, area_more, later_later, next_is, records_more, records_rest, records_split, there_in}
 use Rattle.outside.proofs.Prints.{prints_none, prints_unput}
 use Rattle.outside.proofs.Shows.{shows_asks, shows_none, shows_on}
+use Rattle.outside.specs.Runs.{held_of}
+use Rattle.redo_journal.specs.Records.{IsCounted, IsRecordAt, area_bytes}
+use Rattle.restart.specs.Shows.{IsShown}
+use Rattle.standby.proofs.shipping.put_records.Given.{Over}
 use Rattle.standby.proofs.shipping.put_records.Goals as goal
+use Rattle.standby.proofs.shipping.put_records.Goals.{In-Ok}
 
 pub loop-index-init : goal.loop-index-init
 loop-index-init g c =
@@ -61,37 +66,57 @@ returns-in-Err-put_record-clause-only g c =
     shows_on g.W.Outside g.met.W.Outside.fewer_later c.args.outside.now c.loop-index.outside c.put_record.new.outside c.loop-index.invariant.only
     (shows_on g.W.Outside g.met.W.Outside.fewer_later c.loop-index.outside c.record_at.new.outside c.put_record.new.outside (shows_asks g.W.Outside c.loop-index.outside c.record_at.new.outside c.record_at.ensures.asks) c.put_record.ensures.only)
 
+within : (g : Over) (c : goal.In-Ok g) (shown : IsShown g.W.Outside c.args.durable.now c.args.outside.now) → c.loop-index.index < length shown.shows.read.records
+within g c shown = omega (arith, shown.shows.read.count, c.loop-index-test.true, c.records-index-end.ensures)
+
+-- where the record at hand lay before it was read
+lay : (g : Over) (c : goal.In-Ok g) (shown : IsShown g.W.Outside c.args.durable.now c.args.outside.now) → c.loop-index.place ≡ area_bytes c.args.durable.now.bank.page (take c.loop-index.index shown.shows.read.records)
+    → (at : IsRecordAt (held_of g.W.Outside c.loop-index.outside) c.args.durable.now.bank c.loop-index.place) × ((at.lines ≡ get_or shown.shows.read.records c.loop-index.index []) × IsCounted c.args.durable.now.header.directory.page c.loop-index.place at.lines c.in-Ok.record)
+lay g c shown place =
+    let first = there_in g.W.Outside c.args.durable.now c.args.outside.now c.loop-index.outside shown c.loop-index.index c.loop-index.place c.loop-index.invariant.only.held (within g c shown) place in
+    (first.1.0, (first.1.1, c.in-Ok.ensures.read first.0.told first.1.0))
+
+-- and where it lies after that
+lies : (g : Over) (c : goal.In-Ok g) (shown : IsShown g.W.Outside c.args.durable.now c.args.outside.now) → c.loop-index.place ≡ area_bytes c.args.durable.now.bank.page (take c.loop-index.index shown.shows.read.records)
+    → (still : IsShown g.W.Outside c.args.durable.now c.record_at.new.outside)
+    × ((at : IsRecordAt (held_of g.W.Outside c.record_at.new.outside) c.args.durable.now.bank c.in-Ok.record.place) × ((at.lines ≡ get_or shown.shows.read.records c.loop-index.index []) × (c.in-Ok.record.count ≡ length at.lines)))
+lies g c shown place =
+    let first = lay g c shown place in
+    let at = there_in g.W.Outside c.args.durable.now c.args.outside.now c.record_at.new.outside shown c.loop-index.index c.in-Ok.record.place (c.record_at.ensures.asks.held ∙ c.loop-index.invariant.only.held) (within g c shown) (c.in-Ok.ensures.found.place_is ∙ place) in
+    (at.0, (at.1.0, (at.1.1, first.1.1.count ∙ ap (λ (lines : List RecordLine). length lines) (first.1.0 ∙ sym at.1.1))))
+
+-- the text of the record at hand is that of its place among those behind so many
+text_is : (base passed index number : ℕ) (records : List (List RecordLine)) (lines : List RecordLine) → passed ≤ index → number ≡ later base (index + 1) → lines ≡ get_or records index []
+    → record_text number (told lines) ≡ record_text (later (later base passed) (index - passed + 1)) (told (get_or (drop passed records) (index - passed) []))
+text_is base passed index number records lines le is same =
+    ap (λ (lines : List RecordLine). record_text number (told lines)) (same ∙ lines_at records passed index le)
+    ∙ ap (λ (n : ℕ). record_text n (told (get_or (drop passed records) (index - passed) []))) (number_is base passed index number le is)
+
 pub returns-in-Err-put_record-clause-prints : goal.returns-in-Err-put_record-clause-prints
 returns-in-Err-put_record-clause-prints g c shown is =
     let G = g.W.Outside in
     let old = c.args.outside.now in
-    let loop = c.loop-index.outside in
-    let mid = c.record_at.new.outside in
+    let here = (goal.at.returns-in-Err-put_record-clause-prints g c).In-Ok in
     let records = shown.shows.read.records in
     let index = c.loop-index.index in
     let i = index - c.args.passed in
     let number = later c.args.durable.now.bank.base c.args.passed in
     let behind = drop c.args.passed records in
     let le : c.args.passed ≤ index = omega (arith, c.loop-index.auto.index) in
-    let lt : index < length records = omega (arith, shown.shows.read.count, c.loop-index-test.true, c.records-index-end.ensures) in
-    let place = c.loop-index.invariant.place shown is in
-    let first = there_in G c.args.durable.now old loop shown index c.loop-index.place c.loop-index.invariant.only.held lt place in
-    let counted = c.in-Ok.ensures.read first.0.told first.1.0 in
-    let at = there_in G c.args.durable.now old mid shown index c.in-Ok.record.place (c.record_at.ensures.asks.held ∙ c.loop-index.invariant.only.held) lt (c.in-Ok.ensures.found.place_is ∙ place) in
-    let part = c.in-Err-put_record.ensures.prints at.0 at.1.0 (counted.count ∙ ap (λ (lines : List RecordLine). length lines) (first.1.1 ∙ sym at.1.1)) in
-    let due : (c.base.result + (c.from.result + 1)) % 2 ^ 64 ≡ later number (i + 1) = number_is c.args.durable.now.bank.base c.args.passed index ((c.base.result + (c.from.result + 1)) % 2 ^ 64) le (omega (arith, c.base.ensures, c.from.ensures)) in
-    let text = ap (λ (lines : List RecordLine). record_text ((c.base.result + (c.from.result + 1)) % 2 ^ 64) (told lines)) at.1.1 ∙ ap (λ (n : ℕ). record_text n (told (get_or records index []))) due ∙ ap (λ (lines : List RecordLine). record_text (later number (i + 1)) (told lines)) (lines_at records c.args.passed index le) in
-    let within : i < length behind = omega (arith, lt, le, length-drop c.args.passed records) in
-    let rest = records_rest number behind i within in
+    let at = lies g here shown (c.loop-index.invariant.place shown is) in
+    let text = text_is c.args.durable.now.bank.base c.args.passed index ((c.base.result + (c.from.result + 1)) % 2 ^ 64) records at.1.0.lines le (omega (arith, c.base.ensures, c.from.ensures)) at.1.1.0 in
+    let rest = records_rest number behind i (omega (arith, within g here shown, le, length-drop c.args.passed records)) in
     let line = record_text (later number (i + 1)) (told (get_or behind i [])) in
     prints_same (G.printed old) (G.printed c.put_record.new.outside) ((records_text number (take i (map told behind)) ++ line) ++ rest.0) (records_text number (map told behind)) broken rest.1
     (prints_stop (G.printed old) (G.printed c.put_record.new.outside) (records_text number (take i (map told behind)) ++ line) rest.0 broken broken refl refl
-    (prints_on (G.printed old) (G.printed loop) (G.printed c.put_record.new.outside) (records_text number (take i (map told behind))) line tt broken (c.loop-index.invariant.so_far shown is)
-    (subst (λ (printed : Option (List ℕ)). Prints printed (G.printed c.put_record.new.outside) line broken) c.record_at.ensures.asks.calls.quiet.same (subst (λ (bytes : List ℕ). Prints (G.printed mid) (G.printed c.put_record.new.outside) bytes broken) text part))))
+    (prints_on (G.printed old) (G.printed c.loop-index.outside) (G.printed c.put_record.new.outside) (records_text number (take i (map told behind))) line tt broken (c.loop-index.invariant.so_far shown is)
+    (subst (λ (printed : Option (List ℕ)). Prints printed (G.printed c.put_record.new.outside) line broken) c.record_at.ensures.asks.calls.quiet.same
+    (subst (λ (bytes : List ℕ). Prints (G.printed c.record_at.new.outside) (G.printed c.put_record.new.outside) bytes broken) text (c.in-Err-put_record.ensures.prints at.0 at.1.0 at.1.1.1)))))
 
 pub loop-index-preserved : goal.loop-index-preserved
 loop-index-preserved g c =
     let G = g.W.Outside in
+    let here = (goal.at.loop-index-preserved g c).In-Ok in
     let old = c.args.outside.now in
     let loop = c.loop-index.outside in
     let mid = c.record_at.new.outside in
@@ -99,6 +124,7 @@ loop-index-preserved g c =
     let i = index - c.args.passed in
     let number = later c.args.durable.now.bank.base c.args.passed in
     let le : c.args.passed ≤ index = omega (arith, c.loop-index.auto.index) in
+    let on : i + 1 ≡ index + 1 - c.args.passed = omega (arith, le) in
     record {
       only =
           shows_on G g.met.W.Outside.fewer_later old loop c.put_record.new.outside c.loop-index.invariant.only
@@ -108,43 +134,24 @@ loop-index-preserved g c =
       inside = ⊎_elim (λ none. omega (arith, none.1, c.requires.some)) (λ some. some.1) c.in-Ok.ensures.found.fits;
       place = λ shown is.
           let records = shown.shows.read.records in
-          let lt : index < length records = omega (arith, shown.shows.read.count, c.loop-index-test.true, c.records-index-end.ensures) in
           let place = c.loop-index.invariant.place shown is in
-          let first = there_in G c.args.durable.now old loop shown index c.loop-index.place c.loop-index.invariant.only.held lt place in
-          let counted = c.in-Ok.ensures.read first.0.told first.1.0 in
-          omega (arith, next_is c.args.durable.now.header.directory.page c.args.durable.now.bank.page c.loop-index.place first.1.0.lines (get_or records index []) c.in-Ok.record first.0.shows.fits.page first.1.1 counted, place, area_more c.args.durable.now.bank.page records index lt);
+          let first = lay g here shown place in
+          omega (arith, next_is c.args.durable.now.header.directory.page c.args.durable.now.bank.page c.loop-index.place first.0.lines (get_or records index []) c.in-Ok.record shown.shows.fits.page first.1.0 first.1.1, place, area_more c.args.durable.now.bank.page records index (within g here shown));
       so_far = λ shown is.
-          let records = shown.shows.read.records in
-          let behind = drop c.args.passed records in
-          let lt : index < length records = omega (arith, shown.shows.read.count, c.loop-index-test.true, c.records-index-end.ensures) in
-          let place = c.loop-index.invariant.place shown is in
-          let first = there_in G c.args.durable.now old loop shown index c.loop-index.place c.loop-index.invariant.only.held lt place in
-          let counted = c.in-Ok.ensures.read first.0.told first.1.0 in
-          let at = there_in G c.args.durable.now old mid shown index c.in-Ok.record.place (c.record_at.ensures.asks.held ∙ c.loop-index.invariant.only.held) lt (c.in-Ok.ensures.found.place_is ∙ place) in
-          let part = c.in-Ok-put_record.ensures.prints at.0 at.1.0 (counted.count ∙ ap (λ (lines : List RecordLine). length lines) (first.1.1 ∙ sym at.1.1)) in
-          let due : (c.base.result + (c.from.result + 1)) % 2 ^ 64 ≡ later number (i + 1) = number_is c.args.durable.now.bank.base c.args.passed index ((c.base.result + (c.from.result + 1)) % 2 ^ 64) le (omega (arith, c.base.ensures, c.from.ensures)) in
-          let text = ap (λ (lines : List RecordLine). record_text ((c.base.result + (c.from.result + 1)) % 2 ^ 64) (told lines)) at.1.1 ∙ ap (λ (n : ℕ). record_text n (told (get_or records index []))) due ∙ ap (λ (lines : List RecordLine). record_text (later number (i + 1)) (told lines)) (lines_at records c.args.passed index le) in
-          let within : i < length behind = omega (arith, lt, le, length-drop c.args.passed records) in
+          let behind = drop c.args.passed shown.shows.read.records in
+          let at = lies g here shown (c.loop-index.invariant.place shown is) in
+          let text = text_is c.args.durable.now.bank.base c.args.passed index ((c.base.result + (c.from.result + 1)) % 2 ^ 64) shown.shows.read.records at.1.0.lines le (omega (arith, c.base.ensures, c.from.ensures)) at.1.1.0 in
           let line = record_text (later number (i + 1)) (told (get_or behind i [])) in
-          let on : i + 1 ≡ index + 1 - c.args.passed = omega (arith, le) in
           prints_same (G.printed old) (G.printed c.put_record.new.outside) (records_text number (take i (map told behind)) ++ line) (records_text number (take (index + 1 - c.args.passed) (map told behind))) well
-          (records_more number behind i within ∙ ap (λ (n : ℕ). records_text number (take n (map told behind))) on)
+          (records_more number behind i (omega (arith, within g here shown, le, length-drop c.args.passed shown.shows.read.records)) ∙ ap (λ (n : ℕ). records_text number (take n (map told behind))) on)
           (prints_on (G.printed old) (G.printed loop) (G.printed c.put_record.new.outside) (records_text number (take i (map told behind))) line tt well (c.loop-index.invariant.so_far shown is)
-          (subst (λ (printed : Option (List ℕ)). Prints printed (G.printed c.put_record.new.outside) line well) c.record_at.ensures.asks.calls.quiet.same (subst (λ (bytes : List ℕ). Prints (G.printed mid) (G.printed c.put_record.new.outside) bytes well) text part)));
+          (subst (λ (printed : Option (List ℕ)). Prints printed (G.printed c.put_record.new.outside) line well) c.record_at.ensures.asks.calls.quiet.same (subst (λ (bytes : List ℕ). Prints (G.printed mid) (G.printed c.put_record.new.outside) bytes well) text (c.in-Ok-put_record.ensures.prints at.0 at.1.0 at.1.1.1))));
       bytes = λ shown is.
-          let records = shown.shows.read.records in
-          let behind = drop c.args.passed records in
-          let lt : index < length records = omega (arith, shown.shows.read.count, c.loop-index-test.true, c.records-index-end.ensures) in
-          let place = c.loop-index.invariant.place shown is in
-          let first = there_in G c.args.durable.now old loop shown index c.loop-index.place c.loop-index.invariant.only.held lt place in
-          let counted = c.in-Ok.ensures.read first.0.told first.1.0 in
-          let at = there_in G c.args.durable.now old mid shown index c.in-Ok.record.place (c.record_at.ensures.asks.held ∙ c.loop-index.invariant.only.held) lt (c.in-Ok.ensures.found.place_is ∙ place) in
-          let part = c.in-Ok-put_record.ensures.bytes at.0 at.1.0 (counted.count ∙ ap (λ (lines : List RecordLine). length lines) (first.1.1 ∙ sym at.1.1)) in
-          let within : i < length behind = omega (arith, lt, le, length-drop c.args.passed records) in
-          let on : i + 1 ≡ index + 1 - c.args.passed = omega (arith, le) in
+          let behind = drop c.args.passed shown.shows.read.records in
+          let at = lies g here shown (c.loop-index.invariant.place shown is) in
           let Each = λ (lines : List RecordLine). All (HasBytes (line_bytes c.args.durable.now.header.directory.page)) lines in
           subst (λ (n : ℕ). All Each (take n behind)) on
-          (all_more Each behind i [] within (c.loop-index.invariant.bytes shown is) (subst Each (at.1.1 ∙ lines_at records c.args.passed index le) part));
+          (all_more Each behind i [] (omega (arith, within g here shown, le, length-drop c.args.passed shown.shows.read.records)) (c.loop-index.invariant.bytes shown is) (subst Each (at.1.1.0 ∙ lines_at shown.shows.read.records c.args.passed index le) (c.in-Ok-put_record.ensures.bytes at.0 at.1.0 at.1.1.1)));
     }
 
 pub returns-clause-bytes : goal.returns-clause-bytes

@@ -20,27 +20,50 @@ use Rattle.standby.proofs.ContentLemmas.{content_is}
 use Rattle.outside.proofs.Prints.{prints_unput}
 use Rattle.outside.proofs.Shows.{shows_asks, shows_on}
 use Rattle.standby.proofs.ShowLemmas.{by_put, shows_line, still_shown}
+use Rattle.outside.specs.declared.failed.Failed.{Failed}
+use Rattle.outside.specs.Runs.{AsksAndPuts}
+use Rattle.restart.specs.Shows.{IsShown}
+use Rattle.standby.proofs.shipping.put_text.Given.{Over}
 use Rattle.standby.proofs.shipping.put_text.Goals as goal
+use Rattle.standby.proofs.shipping.put_text.Goals.{After-put_line, After-put_records}
 
 pub returns-in-Err-clause-prints : goal.returns-in-Err-clause-prints
 returns-in-Err-clause-prints g c shown =
     prints_unput (g.W.Outside.printed c.args.outside.now) (g.W.Outside.printed c.place_behind.new.outside) (text_of (shipped c.args.durable.now shown.shows.read.records c.args.from)) broken refl c.place_behind.ensures.asks.calls.quiet.same
 
-pub returns-in-Err-put_line-clause-only : goal.returns-in-Err-put_line-clause-only
-returns-in-Err-put_line-clause-only g c =
+-- asked, and then a line put
+line_only : (g : Over) (c : goal.After-put_line g) → AsksAndPuts g.W.Outside c.args.outside.now c.put_line.new.outside
+line_only g c =
     shows_on g.W.Outside g.met.W.Outside.fewer_later c.args.outside.now c.place_behind.new.outside c.put_line.new.outside (shows_asks g.W.Outside c.args.outside.now c.place_behind.new.outside c.place_behind.ensures.asks)
     (shows_line g.W.Outside c.as_slice.result.now c.place_behind.new.outside c.put_line.new.outside (put_of c.put_line.result) c.put_line.ensures.puts)
+
+-- which is the first line
+line_put : (g : Over) (c : goal.After-put_line g) (result : Result (Unit {0}) Failed) → Prints (g.W.Outside.printed c.place_behind.new.outside) (g.W.Outside.printed c.put_line.new.outside) c.as_slice.result.now result
+    → Prints (g.W.Outside.printed c.args.outside.now) (g.W.Outside.printed c.put_line.new.outside) (head_line (line_bytes c.args.durable.now.header.directory.page) (line_count c.args.durable.now.header.directory) c.args.from) result
+line_put g c result put =
+    let head = head_line (line_bytes c.args.durable.now.header.directory.page) (line_count c.args.durable.now.header.directory) c.args.from in
+    let head_is : c.as_slice.result.now ≡ head = c.as_slice.ensures ∙ c.fill_head.ensures ∙ ap (λ (n : ℕ). head_line n c.args.lines c.args.from) (c.line_bytes.ensures.value ∙ ap (λ (layout : Layout). line_bytes layout.page) (c.directory.ensures.value ∙ ap (λ (header : Header). header.directory) c.header.ensures)) ∙ ap (λ (n : ℕ). head_line (line_bytes c.args.durable.now.header.directory.page) n c.args.from) c.requires.lines in
+    subst (λ (printed : Option (List ℕ)). Prints printed (g.W.Outside.printed c.put_line.new.outside) head result) c.place_behind.ensures.asks.calls.quiet.same
+    (subst (λ (bytes : List ℕ). Prints (g.W.Outside.printed c.place_behind.new.outside) (g.W.Outside.printed c.put_line.new.outside) bytes result) head_is put)
+
+-- the store is shown still, and the first of the records is where it was
+still_there : (g : Over) (c : goal.After-put_line g) (shown : IsShown g.W.Outside c.args.durable.now c.args.outside.now)
+    → (still : IsShown g.W.Outside c.args.durable.now c.put_line.new.outside) × ((still.shows.read.records ≡ shown.shows.read.records) × (c.in-Ok.place ≡ area_bytes c.args.durable.now.bank.page (take c.args.passed still.shows.read.records)))
+still_there g c shown =
+    let still = still_shown g.W.Outside c.args.durable.now c.args.outside.now c.put_line.new.outside shown (c.put_line.ensures.puts.only.held ∙ c.place_behind.ensures.asks.held) in
+    (still.0, (still.1, c.in-Ok.ensures.place shown ∙ ap (λ (records : List (List RecordLine)). area_bytes c.args.durable.now.bank.page (take c.args.passed records)) (sym still.1)))
+
+pub returns-in-Err-put_line-clause-only : goal.returns-in-Err-put_line-clause-only
+returns-in-Err-put_line-clause-only g c = line_only g (goal.at.returns-in-Err-put_line-clause-only g c).After-put_line
 
 pub returns-in-Err-put_line-clause-prints : goal.returns-in-Err-put_line-clause-prints
 returns-in-Err-put_line-clause-prints g c shown =
     let G = g.W.Outside in
     let content = shipped c.args.durable.now shown.shows.read.records c.args.from in
     let head = head_line (line_bytes c.args.durable.now.header.directory.page) (line_count c.args.durable.now.header.directory) c.args.from in
-    let head_is : c.as_slice.result.now ≡ head = c.as_slice.ensures ∙ c.fill_head.ensures ∙ ap (λ (n : ℕ). head_line n c.args.lines c.args.from) (c.line_bytes.ensures.value ∙ ap (λ (layout : Layout). line_bytes layout.page) (c.directory.ensures.value ∙ ap (λ (header : Header). header.directory) c.header.ensures)) ∙ ap (λ (n : ℕ). head_line (line_bytes c.args.durable.now.header.directory.page) n c.args.from) c.requires.lines in
     prints_stop (G.printed c.args.outside.now) (G.printed c.put_line.new.outside) (head ++ records_text content.start content.records) (end_line (later content.start (length content.records))) broken broken refl refl
     (prints_stop (G.printed c.args.outside.now) (G.printed c.put_line.new.outside) head (records_text content.start content.records) broken broken refl refl
-    (subst (λ (printed : Option (List ℕ)). Prints printed (G.printed c.put_line.new.outside) head broken) c.place_behind.ensures.asks.calls.quiet.same
-    (subst (λ (bytes : List ℕ). Prints (G.printed c.place_behind.new.outside) (G.printed c.put_line.new.outside) bytes broken) head_is c.in-Err-put_line.ensures.puts.printed)))
+    (line_put g (goal.at.returns-in-Err-put_line-clause-prints g c).After-put_line broken c.in-Err-put_line.ensures.puts.printed))
 
 -- the records are those behind the number
 records_are : (base passed from : ℕ) (first second : List (List RecordLine)) → from ≡ later base passed → passed ≡ behind base from → second ≡ first → records_text (later base passed) (map told (drop passed second)) ≡ records_text from (map told (drop (behind base from) first))
@@ -63,70 +86,59 @@ last_is base passed from count records is many long le =
 pub returns-in-Err-put_records-clause-prints : goal.returns-in-Err-put_records-clause-prints
 returns-in-Err-put_records-clause-prints g c shown =
     let G = g.W.Outside in
+    let content = shipped c.args.durable.now shown.shows.read.records c.args.from in
+    let head = head_line (line_bytes c.args.durable.now.header.directory.page) (line_count c.args.durable.now.header.directory) c.args.from in
+    let then = (goal.at.returns-in-Err-put_records-clause-prints g c).After-put_line in
+    let still = still_there g then shown in
     let old = c.args.outside.now in
     let mid = c.put_line.new.outside in
     let new = c.put_records.new.outside in
-    let content = shipped c.args.durable.now shown.shows.read.records c.args.from in
-    let head = head_line (line_bytes c.args.durable.now.header.directory.page) (line_count c.args.durable.now.header.directory) c.args.from in
-    let head_is : c.as_slice.result.now ≡ head = c.as_slice.ensures ∙ c.fill_head.ensures ∙ ap (λ (n : ℕ). head_line n c.args.lines c.args.from) (c.line_bytes.ensures.value ∙ ap (λ (layout : Layout). line_bytes layout.page) (c.directory.ensures.value ∙ ap (λ (header : Header). header.directory) c.header.ensures)) ∙ ap (λ (n : ℕ). head_line (line_bytes c.args.durable.now.header.directory.page) n c.args.from) c.requires.lines in
-    let first = subst (λ (printed : Option (List ℕ)). Prints printed (G.printed mid) head well) c.place_behind.ensures.asks.calls.quiet.same
-    (subst (λ (bytes : List ℕ). Prints (G.printed c.place_behind.new.outside) (G.printed mid) bytes well) head_is c.in-Ok-put_line.ensures.puts.printed) in
-    let still = still_shown G c.args.durable.now old mid shown (c.put_line.ensures.puts.only.held ∙ c.place_behind.ensures.asks.held) in
-    let place = c.in-Ok.ensures.place shown ∙ ap (λ (records : List (List RecordLine)). area_bytes c.args.durable.now.bank.page (take c.args.passed records)) (sym still.1) in
-    let part = subst (λ (bytes : List ℕ). Prints (G.printed mid) (G.printed new) bytes broken) (records_are c.args.durable.now.bank.base c.args.passed c.args.from shown.shows.read.records still.0.shows.read.records c.requires.from c.requires.behind still.1)
-    (c.in-Err-put_records.ensures.prints still.0 place) in
     prints_stop (G.printed old) (G.printed new) (head ++ records_text content.start content.records) (end_line (later content.start (length content.records))) broken broken refl refl
-    (prints_on (G.printed old) (G.printed mid) (G.printed new) head (records_text content.start content.records) tt broken first part)
+    (prints_on (G.printed old) (G.printed mid) (G.printed new) head (records_text content.start content.records) tt broken (line_put g then well c.in-Ok-put_line.ensures.puts.printed)
+    (subst (λ (bytes : List ℕ). Prints (G.printed mid) (G.printed new) bytes broken) (records_are c.args.durable.now.bank.base c.args.passed c.args.from shown.shows.read.records still.0.shows.read.records c.requires.from c.requires.behind still.1.0)
+    (c.in-Err-put_records.ensures.prints still.0 still.1.1)))
 
 pub returns-clause-prints : goal.returns-clause-prints
 returns-clause-prints g c shown =
     let G = g.W.Outside in
+    let line = (goal.at.returns-clause-prints g c).After-put_line in
     let old = c.args.outside.now in
-    let mid = c.put_line.new.outside in
     let then = c.put_records.new.outside in
     let new = c.put_line-2.new.outside in
     let content = shipped c.args.durable.now shown.shows.read.records c.args.from in
     let head = head_line (line_bytes c.args.durable.now.header.directory.page) (line_count c.args.durable.now.header.directory) c.args.from in
-    let head_is : c.as_slice.result.now ≡ head = c.as_slice.ensures ∙ c.fill_head.ensures ∙ ap (λ (n : ℕ). head_line n c.args.lines c.args.from) (c.line_bytes.ensures.value ∙ ap (λ (layout : Layout). line_bytes layout.page) (c.directory.ensures.value ∙ ap (λ (header : Header). header.directory) c.header.ensures)) ∙ ap (λ (n : ℕ). head_line (line_bytes c.args.durable.now.header.directory.page) n c.args.from) c.requires.lines in
-    let first = subst (λ (printed : Option (List ℕ)). Prints printed (G.printed mid) head well) c.place_behind.ensures.asks.calls.quiet.same
-    (subst (λ (bytes : List ℕ). Prints (G.printed c.place_behind.new.outside) (G.printed mid) bytes well) head_is c.in-Ok-put_line.ensures.puts.printed) in
-    let still = still_shown G c.args.durable.now old mid shown (c.put_line.ensures.puts.only.held ∙ c.place_behind.ensures.asks.held) in
-    let place = c.in-Ok.ensures.place shown ∙ ap (λ (records : List (List RecordLine)). area_bytes c.args.durable.now.bank.page (take c.args.passed records)) (sym still.1) in
-    let part = subst (λ (bytes : List ℕ). Prints (G.printed mid) (G.printed then) bytes well) (records_are c.args.durable.now.bank.base c.args.passed c.args.from shown.shows.read.records still.0.shows.read.records c.requires.from c.requires.behind still.1)
-    (c.in-Ok-put_records.ensures.prints still.0 place) in
+    let still = still_there g line shown in
+    let part = subst (λ (bytes : List ℕ). Prints (G.printed c.put_line.new.outside) (G.printed then) bytes well) (records_are c.args.durable.now.bank.base c.args.passed c.args.from shown.shows.read.records still.0.shows.read.records c.requires.from c.requires.behind still.1.0)
+    (c.in-Ok-put_records.ensures.prints still.0 still.1.1) in
     let last : c.as_slice-2.result.now ≡ end_line (later content.start (length content.records)) =
     c.as_slice-2.ensures ∙ c.fill_end.ensures ∙ ap end_line (c.number.ensures ∙ last_is c.args.durable.now.bank.base c.args.passed c.args.from c.args.durable.now.bank.count shown.shows.read.records c.requires.from c.requires.behind shown.shows.read.count c.requires.passed) in
     by_put G (text_of content) old new c.put_line-2.result
     (prints_on (G.printed old) (G.printed then) (G.printed new) (head ++ records_text content.start content.records) (end_line (later content.start (length content.records))) tt (put_of c.put_line-2.result)
-    (prints_on (G.printed old) (G.printed mid) (G.printed then) head (records_text content.start content.records) tt well first part)
+    (prints_on (G.printed old) (G.printed c.put_line.new.outside) (G.printed then) head (records_text content.start content.records) tt well (line_put g line well c.in-Ok-put_line.ensures.puts.printed) part)
     (subst (λ (bytes : List ℕ). Prints (G.printed then) (G.printed new) bytes (put_of c.put_line-2.result)) last c.put_line-2.ensures.puts.printed))
+
+-- and the records
+records_only : (g : Over) (c : goal.After-put_records g) → AsksAndPuts g.W.Outside c.args.outside.now c.put_line.new.outside → AsksAndPuts g.W.Outside c.args.outside.now c.put_records.new.outside
+records_only g c line = shows_on g.W.Outside g.met.W.Outside.fewer_later c.args.outside.now c.put_line.new.outside c.put_records.new.outside line c.put_records.ensures.only
 
 pub returns-in-Err-put_records-clause-only : goal.returns-in-Err-put_records-clause-only
 returns-in-Err-put_records-clause-only g c =
-    shows_on g.W.Outside g.met.W.Outside.fewer_later c.args.outside.now c.put_line.new.outside c.put_records.new.outside
-    (shows_on g.W.Outside g.met.W.Outside.fewer_later c.args.outside.now c.place_behind.new.outside c.put_line.new.outside (shows_asks g.W.Outside c.args.outside.now c.place_behind.new.outside c.place_behind.ensures.asks)
-    (shows_line g.W.Outside c.as_slice.result.now c.place_behind.new.outside c.put_line.new.outside (put_of c.put_line.result) c.put_line.ensures.puts))
-    c.put_records.ensures.only
+    let at = goal.at.returns-in-Err-put_records-clause-only g c in
+    records_only g at.After-put_records (line_only g at.After-put_line)
 
 pub returns-clause-only : goal.returns-clause-only
 returns-clause-only g c =
-    shows_on g.W.Outside g.met.W.Outside.fewer_later c.args.outside.now c.put_records.new.outside c.put_line-2.new.outside
-    (shows_on g.W.Outside g.met.W.Outside.fewer_later c.args.outside.now c.put_line.new.outside c.put_records.new.outside
-    (shows_on g.W.Outside g.met.W.Outside.fewer_later c.args.outside.now c.place_behind.new.outside c.put_line.new.outside (shows_asks g.W.Outside c.args.outside.now c.place_behind.new.outside c.place_behind.ensures.asks)
-    (shows_line g.W.Outside c.as_slice.result.now c.place_behind.new.outside c.put_line.new.outside (put_of c.put_line.result) c.put_line.ensures.puts))
-    c.put_records.ensures.only)
+    let at = goal.at.returns-clause-only g c in
+    shows_on g.W.Outside g.met.W.Outside.fewer_later c.args.outside.now c.put_records.new.outside c.put_line-2.new.outside (records_only g at.After-put_records (line_only g at.After-put_line))
     (shows_line g.W.Outside c.as_slice-2.result.now c.put_records.new.outside c.put_line-2.new.outside (put_of c.put_line-2.result) c.put_line-2.ensures.puts)
 
 pub returns-clause-content : goal.returns-clause-content
 returns-clause-content g c =
     on_ok c.put_line-2.result (λ shown.
-    let G = g.W.Outside in
-    let still = still_shown G c.args.durable.now c.args.outside.now c.put_line.new.outside shown (c.put_line.ensures.puts.only.held ∙ c.place_behind.ensures.asks.held) in
-    let place = c.in-Ok.ensures.place shown ∙ ap (λ (records : List (List RecordLine)). area_bytes c.args.durable.now.bank.page (take c.args.passed records)) (sym still.1) in
-    let bytes = c.in-Ok-put_records.ensures.bytes still.0 place in
-    content_is (held_of G c.args.outside.now) c.args.durable.now shown.shows c.args.from c.ranges.from.fits (omega (arith, c.requires.lines, c.ranges.lines.fits))
+    let still = still_there g (goal.at.returns-clause-content g c).After-put_line shown in
+    content_is (held_of g.W.Outside c.args.outside.now) c.args.durable.now shown.shows c.args.from c.ranges.from.fits (omega (arith, c.requires.lines, c.ranges.lines.fits))
     (subst (λ (n : ℕ). All (λ lines. All (HasBytes (line_bytes c.args.durable.now.header.directory.page)) lines) (drop n shown.shows.read.records)) c.requires.behind
-    (subst (λ (records : List (List RecordLine)). All (λ lines. All (HasBytes (line_bytes c.args.durable.now.header.directory.page)) lines) (drop c.args.passed records)) still.1 bytes)))
+    (subst (λ (records : List (List RecordLine)). All (λ lines. All (HasBytes (line_bytes c.args.durable.now.header.directory.page)) lines) (drop c.args.passed records)) still.1.0 (c.in-Ok-put_records.ensures.bytes still.0 still.1.1))))
   where
     on_ok : {T E P : Type 0} (result : Result T E) → P → OnOk result P
     on_ok (Ok value) is = is

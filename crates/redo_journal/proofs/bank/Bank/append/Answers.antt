@@ -97,25 +97,19 @@ records g c tracks held safe =
     (one_of _ _ _ _ _ _ _ _ _ (ready g c tracks).ready held safe))
 
 pub returns-in-Unwritten-clause-crash : goal.returns-in-Unwritten-clause-crash
-returns-in-Unwritten-clause-crash g c tracks image seen was =
-    let at = goal.at.returns-in-Unwritten-clause-crash g c in
-    left g at.After-record_of tracks image seen (c.keep_body.ensures.crash (shut_gate g at.After-record_of tracks) image seen was)
+returns-in-Unwritten-clause-crash g c tracks image seen was = let at = (goal.at.returns-in-Unwritten-clause-crash g c).After-record_of in left g at tracks image seen (c.keep_body.ensures.crash (shut_gate g at tracks) image seen was)
 
 pub returns-in-Unwritten-clause-full : goal.returns-in-Unwritten-clause-full
 returns-in-Unwritten-clause-full g c = (λ is. cc, λ is. absurd (not_full g (goal.at.returns-in-Unwritten-clause-full g c).After-record_of is))
 
 pub returns-in-Doubt-clause-crash : goal.returns-in-Doubt-clause-crash
-returns-in-Doubt-clause-crash g c tracks image seen was =
-    let at = goal.at.returns-in-Doubt-clause-crash g c in
-    left g at.After-record_of tracks image seen (c.keep_body.ensures.crash (shut_gate g at.After-record_of tracks) image seen was)
+returns-in-Doubt-clause-crash g c tracks image seen was = let at = (goal.at.returns-in-Doubt-clause-crash g c).After-record_of in left g at tracks image seen (c.keep_body.ensures.crash (shut_gate g at tracks) image seen was)
 
 pub returns-in-Doubt-clause-full : goal.returns-in-Doubt-clause-full
 returns-in-Doubt-clause-full g c = (λ is. cc, λ is. absurd (not_full g (goal.at.returns-in-Doubt-clause-full g c).After-record_of is))
 
 pub returns-in-Done-clause-crash : goal.returns-in-Done-clause-crash
-returns-in-Done-clause-crash g c tracks image seen was =
-    let at = goal.at.returns-in-Done-clause-crash g c in
-    left g at.After-record_of tracks image seen (c.keep_body.ensures.crash (shut_gate g at.After-record_of tracks) image seen was)
+returns-in-Done-clause-crash g c tracks image seen was = let at = (goal.at.returns-in-Done-clause-crash g c).After-record_of in left g at tracks image seen (c.keep_body.ensures.crash (shut_gate g at tracks) image seen was)
 
 pub returns-in-Done-clause-full : goal.returns-in-Done-clause-full
 returns-in-Done-clause-full g c = (λ is. cc, λ is. absurd (not_full g (goal.at.returns-in-Done-clause-full g c).After-record_of is))
