@@ -12,6 +12,4 @@ pub use job_calls::Ended;
 pub use store_calls::try_store;
 
 #[cfg(test)]
-mod bundle_tests;
-#[cfg(test)]
 mod tests;

@@ -91,16 +91,16 @@ fn words_of(alloc: Global, listed: &[&str]) -> Result<Vec<String>, AllocError> {
 /// What a call left: its status, whether it handed on a session, what it printed, the disk's bytes, and how often the disk was
 /// called.
 #[derive(Drop)]
-pub(super) struct Left {
-    pub(super) status: Status,
-    pub(super) opened: bool,
-    pub(super) printed: Vec<u8>,
-    pub(super) held: Vec<u8>,
-    pub(super) calls: u64,
+struct Left {
+    status: Status,
+    opened: bool,
+    printed: Vec<u8>,
+    held: Vec<u8>,
+    calls: u64,
 }
 
 /// The words over this source and this disk, and a screen with these puts that fail.
-pub(super) fn call(
+fn call(
     alloc: Global,
     words: &[&str],
     mut source: MemorySource,
@@ -121,7 +121,7 @@ pub(super) fn call(
 }
 
 /// The same where nothing fails: the text of the source, and the bytes of the disk.
-pub(super) fn call_well(
+fn call_well(
     alloc: Global,
     words: &[&str],
     text: &[u8],
