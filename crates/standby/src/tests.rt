@@ -1,4 +1,4 @@
-//! A store of one commit is shipped, and another follows it; texts that are none are told at their first bad line.
+//! A store of one commit is shipped, and another follows it. Texts that are none are in checks/streams.
 ghost use Rattle.std.specs.Prelude.{◌<◌, ◌^◌, length};
 ghost use Rattle.standby.specs.Text.{IsShip};
 
@@ -223,68 +223,20 @@ fn faults_end_it(rt: HostRuntime) -> Result<(), Fail> {
     Ok(())
 }
 
-/// Texts, and the first line of each that is wrong, or how the store of `try` follows it.
-const TEXTS: [(&[u8], Result<Followed, u32>); 25] = [
-    (b"", Err(1)),
-    (b"\n", Err(1)),
-    (b"ship 128 96 0", Err(1)),
-    (b"ship 128 96 0\n", Err(2)),
-    (b"ship 0 96 0\nend 0\n", Err(1)),
-    (b"ship 65536 96 0\nend 0\n", Err(1)),
-    (b"ship 128 4294967296 0\nend 0\n", Err(1)),
-    (b"ship 128 96 18446744073709551616\nend 0\n", Err(1)),
-    (b"ship 128 96 00\nend 0\n", Err(1)),
-    (b"ship 128 96 0\nend 1\n", Err(2)),
-    (b"ship 128 96 0\nend 0\nend 0\n", Err(3)),
-    (b"ship 128 96 0\nend 0\nx", Err(3)),
-    (b"ship 128 96 0\nrecord 2 0\nend 2\n", Err(2)),
-    (b"ship 128 96 0\nrecord 1 97\n", Err(2)),
-    (
-        b"ship 2 96 0\nrecord 1 2\nline 5 0000\nline 5 0000\nend 1\n",
-        Err(4),
-    ),
-    (b"ship 2 96 0\nrecord 1 2\nline 95 0000\n", Err(3)),
-    (b"ship 2 96 0\nrecord 1 1\nline 96 0000\n", Err(3)),
-    (b"ship 2 96 0\nrecord 1 1\nline 9 00AA\nend 1\n", Err(3)),
-    (b"ship 2 96 0\nrecord 1 1\nline 9 000\nend 1\n", Err(3)),
-    (b"ship 2 96 0\nrecord 1 1\nline 9 0000\n", Err(4)),
-    (
-        b"ship 2 96 0\nrecord 1 1\nline 9 00aa\nend 1\n",
-        Ok(Followed::Geometry),
-    ),
-    (b"ship 128 95 0\nend 0\n", Ok(Followed::Geometry)),
-    (b"ship 128 96 1\nend 1\n", Ok(Followed::NotKept)),
-    (
-        b"ship 128 96 18446744073709551615\nend 18446744073709551615\n",
-        Ok(Followed::NotKept),
-    ),
-    (
-        b"ship 128 96 18446744073709551614\nrecord 18446744073709551615 0\nrecord 0 0\nrecord 1 0\nend 1\n",
-        Ok(Followed::Done),
-    ),
-];
-
-/// The first bad line of a text, or how a fresh store follows it; none where there is no memory.
-fn found(rt: &impl Abort, alloc: Global, text: &[u8]) -> Result<Result<Followed, u32>, AllocError> {
-    assert!(rt; text.len() < 65_536);
-    match read_ship(alloc, text) {
-        Ok(ship) => {
-            let image = fresh(rt, alloc, PageSize::Two)?;
-            Ok(Ok(followed(rt, alloc, &ship, image, Vec::new(alloc), Vec::new(alloc)).done))
-        }
-        Err(ShipFault::Bad(line)) => Ok(Err(line)),
-        Err(ShipFault::Memory) => Err(AllocError),
-    }
-}
+/// Records around the greatest number.
+const AROUND: &[u8] =
+    b"ship 128 96 18446744073709551614\nrecord 18446744073709551615 0\nrecord 0 0\nrecord 1 0\nend 1\n";
 
 #[test]
 fn texts_are_read_or_not(rt: HostRuntime) -> Result<(), Fail> {
     let alloc = rt.alloc();
-    for (text, wanted) in TEXTS {
-        assert_eq!(rt; found(&rt, alloc, text)?, wanted);
-    }
     let whole = wanted(alloc, 128, 0)?;
     let cut = whole.len().saturating_sub(6);
-    assert_eq!(rt; found(&rt, alloc, &whole[..cut])?, Err(4));
+    assert!(rt; cut < 65_536);
+    assert!(rt; matches!(read_ship(alloc, &whole[..cut]), Err(ShipFault::Bad(4))));
+    let text = read(&rt, alloc, AROUND);
+    let image = fresh(&rt, alloc, PageSize::Two)?;
+    let found = followed(&rt, alloc, &text, image, Vec::new(alloc), Vec::new(alloc));
+    assert_eq!(rt; found.done, Followed::Done);
     Ok(())
 }
