@@ -8,8 +8,6 @@ mod law;
 mod layout;
 mod output;
 mod size;
-#[cfg(test)]
-mod tests;
 mod value;
 
 pub use law::{a_source_has_one_answer, size_is_by_mnemonic};
