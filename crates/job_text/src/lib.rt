@@ -7,8 +7,6 @@ mod job;
 mod law;
 mod reader;
 mod stage;
-#[cfg(test)]
-mod tests;
 mod writer;
 
 pub use big::big_job;

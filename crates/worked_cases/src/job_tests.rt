@@ -1,7 +1,7 @@
 //! Texts and their jobs, written and read again. Texts that are refused are in checks/refused.
-use super::{Job, JobFault, big_job, read_job, write_job};
 use desk::Event;
 use flat_machine::Program;
+use job_text::{Job, JobFault, big_job, read_job, write_job};
 use std::alloc::Global;
 use std::test::Fail;
 

@@ -1,0 +1,12 @@
+//! Worked cases that cross crates: jobs that are written and read again, and runs that end early: of each part that fails, of disks
+//! that stop within a write, and of stores that are damaged. Tests alone; nothing stands on it.
+#![tactic(auto)]
+
+#[cfg(test)]
+mod active_tests;
+#[cfg(test)]
+mod crash_tests;
+#[cfg(test)]
+mod ending_tests;
+#[cfg(test)]
+mod job_tests;
