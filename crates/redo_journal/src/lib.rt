@@ -14,6 +14,3 @@ pub use fault::{OpenFault, ReopenFault};
 pub use find::Record;
 pub use keep::{Kept, write_once, write_sure};
 pub use law::what_no_record_has_is_nowhere;
-
-#[cfg(test)]
-mod tests;

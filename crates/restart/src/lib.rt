@@ -11,6 +11,3 @@ pub use checkpoint::{OpenFault, Record, ReopenFault};
 pub use durable::Durable;
 pub use law::what_is_shown_stands;
 pub use redo_journal::Kept;
-
-#[cfg(test)]
-mod tests;

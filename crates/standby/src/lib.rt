@@ -7,8 +7,6 @@ mod line;
 mod put;
 mod read;
 mod shipping;
-#[cfg(test)]
-mod tests;
 mod text;
 mod word;
 

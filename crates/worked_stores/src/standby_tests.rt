@@ -2,11 +2,11 @@
 ghost use Rattle.std.specs.Prelude.{◌<◌, ◌^◌, length};
 ghost use Rattle.standby.specs.Text.{IsShip};
 
-use super::{Followed, Ship, ShipFault, Shipped, follow, read_ship, ship};
 use line_geometry::{Directory, PageSize};
 use outside::{Call, Joint, MemoryDisk, MemoryScreen, Refusal};
 use redo_journal::Kept;
 use restart::Durable;
+use standby::{Followed, Ship, ShipFault, Shipped, follow, read_ship, ship};
 use std::alloc::{AllocError, Global};
 use std::process::Abort;
 use std::test::Fail;

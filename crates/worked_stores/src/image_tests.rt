@@ -4,9 +4,9 @@ ghost use Rattle.std.specs.Prelude.{◌≡◌, ◌+◌, ◌<◌, ◌≤◌, IsSo
 ghost use Rattle.line_geometry.specs.Lines.{line_count};
 ghost use Rattle.store_format.specs.Bank.{record_bytes};
 
-use super::*;
 use line_geometry::{Directory, PageSize};
 use outside::{Call, Joint, MemoryDisk, MemoryScreen, Refusal};
+use restart::{Durable, Kept, OpenFault};
 use std::alloc::{AllocError, Global};
 use std::process::Abort;
 use std::test::Fail;

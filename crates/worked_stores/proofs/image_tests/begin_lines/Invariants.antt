@@ -1,7 +1,7 @@
 use Rattle.std.proofs.Common.{◌≡◌, ◌<◌, length, IsSome}
 use Rattle.std.specs.Prelude.{All}
 use Rattle.redo_journal.specs.Kept.{begun_of}
-use Rattle.restart.proofs.tests.begin_lines.Given as goal
+use Rattle.worked_stores.proofs.image_tests.begin_lines.Given as goal
 
 abbrev pub invariant-loop-i : goal.invariant-loop-i
 invariant-loop-i l = record {

@@ -1,7 +1,7 @@
 // What no clause says: a bank is opened where there is memory, and the places are those of docs/FORMATS.md.
-use super::*;
 use line_geometry::{Directory, PageSize};
 use outside::{Joint, MemoryDisk, MemoryScreen};
+use redo_journal::{Appended, Bank};
 use std::test::Fail;
 use store_format::{Header, Which};
 

@@ -1,10 +1,10 @@
 // What no clause says: a fresh store is made and its header is read where there is memory.
-use super::*;
 use line_geometry::{Directory, PageSize};
 use outside::{Call, Joint, MemoryDisk, MemoryScreen, Refusal};
 use std::alloc::{AllocError, Global};
 use std::process::Abort;
 use std::test::Fail;
+use store_format::{Header, HeaderFault, read_header};
 
 // A change of a store's bytes: a byte is another, only so many are left, or there is one more.
 #[derive(Clone, Copy)]

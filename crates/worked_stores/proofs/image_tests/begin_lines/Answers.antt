@@ -3,7 +3,7 @@ use Rattle.store_format.specs.Header.{Header, entry_bytes}
 use Rattle.store_format.specs.Bank.{record_bytes}
 use Rattle.store_format.proofs.Widths.{entries-below}
 use Rattle.redo_journal.specs.Kept.{begun_of}
-use Rattle.restart.proofs.tests.begin_lines.Goals as goal
+use Rattle.worked_stores.proofs.image_tests.begin_lines.Goals as goal
 
 pub record_line-requires-clause-room : goal.record_line-requires-clause-room
 record_line-requires-clause-room c =
