@@ -6,8 +6,6 @@ mod line;
 mod owned;
 mod put;
 mod read;
-#[cfg(test)]
-mod tests;
 mod word;
 
 pub use line::Line;

@@ -1,4 +1,4 @@
-//! Worked cases that cross crates: jobs that are written and read again, and runs that end early: of each part that fails, of disks
+//! Worked cases: rows of the processor, jobs that are written and read again, reports that are read, and runs that end early: of each part that fails, of disks
 //! that stop within a write, and of stores that are damaged. Tests alone; nothing stands on it.
 #![tactic(auto)]
 
@@ -10,3 +10,7 @@ mod crash_tests;
 mod ending_tests;
 #[cfg(test)]
 mod job_tests;
+#[cfg(test)]
+mod report_tests;
+#[cfg(test)]
+mod row_tests;

@@ -1,4 +1,4 @@
-use super::{Code, Format, Inst, Op, by_name, decode, encode, length_of, name_of, row_of};
+use romp_table::{Code, Format, Inst, Op, by_name, decode, encode, length_of, name_of, row_of};
 use std::process::Abort;
 use std::test::Fail;
 

@@ -1,5 +1,5 @@
 //! A report that is read, and texts of which some line is none.
-use super::{LinesFault, read_lines};
+use report_text::{LinesFault, read_lines};
 use std::test::Fail;
 
 /// The report of examples/one-add.job.
