@@ -184,7 +184,8 @@ fn a_joint_is_a_disk_and_a_screen(rt: HostRuntime) -> Result<(), Fail> {
     let disk = MemoryDisk::new(alloc, b"old".to_vec(alloc)?, Vec::new(alloc));
     let mut joint = Joint::new(disk, MemoryScreen::new(alloc, Vec::new(alloc)));
     let mut into = [0; 2];
-    assert_eq!(rt; write_durably(&mut joint, 1, b"new"), Ok(()));
+    assert_eq!(rt; joint.write_at(1, b"new"), Ok(()));
+    assert_eq!(rt; joint.sync(), Ok(()));
     assert_eq!(rt; joint.put(b"written"), Ok(()));
     assert_eq!(rt; joint.length(), Ok(4));
     assert_eq!(rt; joint.read_at(0, &mut into), Ok(()));
