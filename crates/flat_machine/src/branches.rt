@@ -1,4 +1,4 @@
-ghost use Rattle.std.specs.Prelude.{◌≡◌, ◌<◌, ◌≤◌, ◌≤ℤ◌, ◌+ℤ◌, pos, ◌-ℤ◌, ◌^◌, IsTrue, IfSome};
+ghost use Rattle.std.specs.Prelude.{◌≡◌, ◌<◌, ◌≤◌, ◌≤ℤ◌, ◌+ℤ◌, pos, ◌-ℤ◌, ◌^◌, IsTrue, IfSome, None, false};
 ghost use Rattle.romp_table.specs.Legal.{HasWidths};
 ghost use Rattle.flat_machine.specs.Branches.{condition, even, target, is_register_branch, is_branch, is_taken, link_of, executes, branch_to, branch_of, may_be_subject};
 
@@ -41,7 +41,7 @@ pub fn branches(inst: &Inst) -> bool
 
 /// Whether a row of format R branches.
 #[inline(always)]
-fn branches_by_register(op: Op) -> bool
+pub fn branches_by_register(op: Op) -> bool
     ensures { result ≡ is_register_branch op }
 {
     match op {
@@ -93,6 +93,20 @@ fn takes(op: Op, cs: &Cs, field: u8) -> bool
     }
 }
 
+/// Whether a jump is taken, of those that have neither a link nor a subject.
+#[inline(always)]
+pub fn jumps(op: Op, cs: &Cs, field: u8) -> Option<bool>
+    ensures taken { IfSome result (λ taken. is_taken op cs.now field ≡ taken) }
+    ensures alone { IfSome result (λ taken. executes op ≡ false) }
+    ensures unlinked { IfSome result (λ taken. link_of op field ≡ None) }
+{
+    match op {
+        Op::Jb => Some(holds(cs, field)),
+        Op::Jnb => Some(!holds(cs, field)),
+        _ => None,
+    }
+}
+
 /// The register that gets the link, if the row has one.
 #[inline(always)]
 fn link_register(op: Op, b: u8) -> Option<u8>
@@ -134,7 +148,7 @@ fn holds(cs: &Cs, field: u8) -> bool
 }
 
 /// The address so many bytes away, its lowest bit taken as zero.
-fn target_of(address: u32, away: i32) -> u32
+pub fn target_of(address: u32, away: i32) -> u32
     requires { pos 0 ≤ℤ (away +ℤ pos (2 ^ 31)) }
     ensures { result ≡ target address away }
 {

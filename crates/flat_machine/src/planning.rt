@@ -1,17 +1,21 @@
 ghost use Rattle.std.specs.Prelude.{ℕ, List, Option, Some, ◌≡◌, ◌<◌, ◌≤◌, ◌+◌, IfOk, OnOk, IfSome, OnSome, IsTrue, length};
 ghost use Rattle.std.specs.Option.{ForSome};
 ghost use Rattle.std.specs.Result.{ForOk};
-ghost use Rattle.romp_table.specs.Decode.{decoded, row_numbered};
+ghost use Rattle.romp_table.specs.Decode.{row_numbered};
+ghost use Rattle.romp_table.specs.declared.table.Format.{Format};
 ghost use Rattle.romp_table.specs.Legal.{HasWidths};
 ghost use Rattle.flat_machine.specs.Access.{IsAccess};
 ghost use Rattle.flat_machine.specs.Pending.{planned, IsSoundPending, StaysIfPending, StaysIfWanting};
 ghost use Rattle.flat_machine.specs.declared.machine.Cs.{Cs};
-ghost use Rattle.flat_machine.specs.Row.{plan, plan_of, plan_of_pair, plan_by, goes_by, fetched, fetched_by, fetched_with};
+ghost use Rattle.flat_machine.specs.Row.{plan, plan_of, plan_of_pair, goes_by, fetched};
 
-use super::branches::{branch, branches, is_subject};
-use super::effects::effect;
+use super::branches::{branch, branches, branches_by_register, is_subject, jumps, target_of};
+use super::effects::{effect, perform};
 use super::machine::{Act, Branch, Cs, Pending};
-use romp_table::{Format, Inst, Row, decode, decode_as, length_of, row_by};
+use super::row_table::{act_s, base_of, work_d, work_r, work_x};
+use romp_table::{
+    Format, Inst, Row, decode, extended_byte, is_within, length_of, nibble_at, row_by,
+};
 
 /// What instructions are fetched from: 16,384 bytes.
 pub trait Fetch {
@@ -45,22 +49,17 @@ pub fn start_row<F: Fetch>(code: &F, regs: &mut [u32; 16], cs: &mut Cs, iar: u32
         return Pending::Fails(1);
     };
     match row.format {
-        Format::J => start_short(code, &row, Format::J, first, regs, cs, iar),
-        Format::S => start_short(code, &row, Format::S, first, regs, cs, iar),
-        Format::X => start_short(code, &row, Format::X, first, regs, cs, iar),
-        Format::R => start_short(code, &row, Format::R, first, regs, cs, iar),
-        Format::D => start_long(code, &row, Format::D, first, regs, cs, iar),
-        Format::BI => start_long(code, &row, Format::BI, first, regs, cs, iar),
-        Format::BA => start_long(code, &row, Format::BA, first, regs, cs, iar),
+        Format::J => start_jump(code, &row, first, regs, cs, iar),
+        Format::S => start_short(&row, first, regs, iar),
+        _ => start_work(code, &row, first, regs, cs, iar),
     }
 }
 
-/// The same of a row of two bytes, whose format each call names, so that it is compiled for that format alone.
+/// The same of any row; the two jumps are done here.
 #[inline(always)]
-fn start_short<F: Fetch>(
+fn start_jump<F: Fetch>(
     code: &F,
     row: &Row,
-    format: Format,
     first: u16,
     regs: &mut [u32; 16],
     cs: &mut Cs,
@@ -68,24 +67,57 @@ fn start_short<F: Fetch>(
 ) -> Pending
     requires whole { F.is_whole code.now }
     requires row { row_numbered first ≡ Some row.now }
-    requires format { format ≡ row.now.format }
+    requires first { F.halfword_at code.now iar ≡ Some first }
+    requires format { row.now.format ≡ Format.J }
     requires within { iar < 16384 }
-    ensures value { plan_by (F.halfword_at code.now) (fetched_by 2 (decoded first 0)) regs.old cs.old iar ≡ planned regs.new cs.new result }
+    ensures value { plan (F.halfword_at code.now) regs.old cs.old iar ≡ planned regs.new cs.new result }
     ensures stays { StaysIfPending result regs.old regs.new cs.old cs.new }
     ensures sound { IsSoundPending result }
 {
-    match decode_as(row, format, first, 0) {
-        None => Pending::Fails(1),
-        Some(inst) => start_instruction(code, &inst, 2, regs, cs, iar),
+    let cond = (first / 0x100 % 8) as u8;
+    if !is_within(row.b, cond) {
+        return Pending::Fails(1);
+    }
+    match jumps(row.op, cs, cond) {
+        None => start_far(code, regs, cs, iar),
+        Some(taken) => {
+            let to = target_of(iar, 2 * i32::from(extended_byte(first % 0x100)));
+            Pending::Does {
+                act: Act::Nothing,
+                next: if taken { to } else { iar + 2 },
+                link: None,
+            }
+        }
     }
 }
 
-/// The same of a row of four bytes.
+/// The same of a row of format S, which only wants an access.
 #[inline(always)]
-fn start_long<F: Fetch>(
+fn start_short(row: &Row, first: u16, regs: &[u32; 16], iar: u32) -> Pending
+    requires row { row_numbered first ≡ Some row.now }
+    requires format { row.now.format ≡ Format.S }
+    requires within { iar < 16384 }
+    ensures value { (halfword_at : ℕ → Option ℕ) (status : Cs) → halfword_at iar ≡ Some first → plan halfword_at regs.now status iar ≡ planned regs.now status result }
+    ensures stays { (status : Cs) → StaysIfPending result regs.now regs.now status status }
+    ensures sound { IsSoundPending result }
+{
+    let b = nibble_at(first, 4) as u8;
+    let c = nibble_at(first, 0) as u8;
+    if !(is_within(row.b, b) && is_within(row.c, c)) {
+        return Pending::Fails(1);
+    }
+    Pending::Does {
+        act: act_s(row.op, nibble_at(first, 8) as u8, b, base_of(regs, c)),
+        next: iar + 2,
+        link: None,
+    }
+}
+
+/// The same of any row; those of formats X, R and D that don't branch are done here.
+#[inline(always)]
+fn start_work<F: Fetch>(
     code: &F,
     row: &Row,
-    format: Format,
     first: u16,
     regs: &mut [u32; 16],
     cs: &mut Cs,
@@ -93,23 +125,73 @@ fn start_long<F: Fetch>(
 ) -> Pending
     requires whole { F.is_whole code.now }
     requires row { row_numbered first ≡ Some row.now }
-    requires format { format ≡ row.now.format }
+    requires first { F.halfword_at code.now iar ≡ Some first }
     requires within { iar < 16384 }
-    ensures value { plan_by (F.halfword_at code.now) (fetched_with first (F.halfword_at code.now (iar + 2))) regs.old cs.old iar ≡ planned regs.new cs.new result }
+    ensures value { plan (F.halfword_at code.now) regs.old cs.old iar ≡ planned regs.new cs.new result }
     ensures stays { StaysIfPending result regs.old regs.new cs.old cs.new }
     ensures sound { IsSoundPending result }
 {
-    let Some(second) = code.fetch(iar + 2) else {
-        return Pending::Fails(2);
+    let mut second = 0;
+    let mut after = iar + 2;
+    if let Format::D = row.format {
+        let Some(halfword) = code.fetch(after) else {
+            return Pending::Fails(2);
+        };
+        second = halfword;
+        after = iar + 4;
+    }
+    let b = nibble_at(first, 4) as u8;
+    let c = nibble_at(first, 0) as u8;
+    if !(is_within(row.b, b) && is_within(row.c, c)) {
+        return start_far(code, regs, cs, iar);
+    }
+    let y = regs[usize::from(c)];
+    let work = match row.format {
+        Format::D => work_d(row.op, regs, *cs, b, y, base_of(regs, c), second),
+        Format::X => {
+            let a = nibble_at(first, 8) as u8;
+            work_x(row.op, a, regs[usize::from(b)], base_of(regs, c))
+        }
+        Format::R if !branches_by_register(row.op) => {
+            work_r(row.op, b, c, regs[usize::from(b)], y, *cs)
+        }
+        _ => return start_far(code, regs, cs, iar),
     };
-    match decode_as(row, format, first, second) {
-        None => Pending::Fails(1),
-        Some(inst) => start_instruction(code, &inst, 4, regs, cs, iar),
+    let act = perform(work, regs, cs);
+    Pending::Does {
+        act,
+        next: after,
+        link: None,
+    }
+}
+
+/// The same of any row, by a call.
+#[inline(always)]
+fn start_far<F: Fetch>(code: &F, regs: &mut [u32; 16], cs: &mut Cs, iar: u32) -> Pending
+    requires { F.is_whole code.now }
+    ensures value { plan (F.halfword_at code.now) regs.old cs.old iar ≡ planned regs.new cs.new result }
+    ensures stays { StaysIfPending result regs.old regs.new cs.old cs.new }
+    ensures sound { IsSoundPending result }
+{
+    let pending = start_any(code, regs, cs, iar);
+    pending
+}
+
+/// The same of any row, whose instruction is put together.
+#[inline(never)]
+fn start_any<F: Fetch>(code: &F, regs: &mut [u32; 16], cs: &mut Cs, iar: u32) -> Pending
+    requires { F.is_whole code.now }
+    ensures value { plan (F.halfword_at code.now) regs.old cs.old iar ≡ planned regs.new cs.new result }
+    ensures stays { StaysIfPending result regs.old regs.new cs.old cs.new }
+    ensures sound { IsSoundPending result }
+{
+    match fetch_instruction(code, iar) {
+        Err(code) => Pending::Fails(code),
+        Ok((inst, bytes)) => start_instruction(code, &inst, bytes, regs, cs, iar),
     }
 }
 
 /// The same of an instruction of so many bytes.
-#[inline(always)]
 fn start_instruction<F: Fetch>(
     code: &F,
     inst: &Inst,
@@ -188,7 +270,6 @@ fn go_by(way: Branch, act: Act, after: u32) -> Pending
 }
 
 /// The instruction at an address and its bytes, or the code of a check.
-#[inline(always)]
 fn fetch_instruction<F: Fetch>(code: &F, address: u32) -> Result<(Inst, u8), u8>
     requires { F.is_whole code.now }
     ensures value { result ≡ fetched (F.halfword_at code.now) address }

@@ -1,6 +1,8 @@
 //! What each row computes, format by format.
 ghost use Rattle.std.specs.Prelude.{◌≡◌, ◌<◌, ◌≤◌, ◌+◌, ◌*◌};
 ghost use Rattle.romp_table.specs.Legal.{HasWidths};
+ghost use Rattle.flat_machine.specs.declared.work.Work.TheVariants.{Want};
+ghost use Rattle.flat_machine.specs.declared.machine.Act.TheVariants.{Load, Store};
 ghost use Rattle.flat_machine.specs.Access.{FitsFrom, IsAccess, IsSound};
 ghost use Rattle.flat_machine.specs.Words.{bit};
 ghost use Rattle.flat_machine.specs.Work.{base, half_address, word_address, loads_byte, loads_half, loads_words, stores_byte, stores_half, stores_words, traps, is_masked, called, work_with_count, work_of_r, work_of_d, work_of_s, work_of_x, work_of};
@@ -39,21 +41,61 @@ fn work_s(op: Op, k: u8, b: u8, z: u32) -> Work
     ensures value { result ≡ work_of_s op k b z }
     ensures sound { IsSound result }
 {
+    Work::Want(act_s(op, k, b, z))
+}
+
+/// What a row of format S wants.
+#[inline(always)]
+pub fn act_s(op: Op, k: u8, b: u8, z: u32) -> Act
+    requires k { k < 16 }
+    requires b { b < 16 }
+    ensures value { work_of_s op k b z ≡ Want result }
+    ensures access { IsAccess result }
+{
     let k = u32::from(k);
     match op {
-        Op::Stcs => store_byte(add(z, k, 0), b),
-        Op::Sths => store_half(add(z, k * 2, 0), b),
-        Op::Sts => store_words(add(z, k * 4, 0), 4, b),
-        Op::Lcs => load_byte(add(z, k, 0), b),
-        Op::Lhas => load_half(add(z, k * 2, 0), b, true),
-        Op::Ls => load_words(add(z, k * 4, 0), 4, b),
-        _ => Work::Want(Act::Check(1)),
+        Op::Stcs => store(add(z, k, 0), 1, b),
+        Op::Sths => store(half_at(add(z, k * 2, 0)), 2, b),
+        Op::Sts => store(word_at(add(z, k * 4, 0)), 4, b),
+        Op::Lcs => load(add(z, k, 0), 1, b, false),
+        Op::Lhas => load(half_at(add(z, k * 2, 0)), 2, b, true),
+        Op::Ls => load(word_at(add(z, k * 4, 0)), 4, b, false),
+        _ => Act::Check(1),
+    }
+}
+
+/// So many bytes are loaded.
+#[inline(always)]
+fn load(address: u32, bytes: u8, to: u8, sign: bool) -> Act
+    requires { FitsFrom bytes to }
+    ensures value { result ≡ Load address bytes to sign }
+    ensures access { IsAccess result }
+{
+    Act::Load {
+        address,
+        bytes,
+        to,
+        sign,
+    }
+}
+
+/// So many bytes are stored.
+#[inline(always)]
+fn store(address: u32, bytes: u8, from: u8) -> Act
+    requires { FitsFrom bytes from }
+    ensures value { result ≡ Store address bytes from }
+    ensures access { IsAccess result }
+{
+    Act::Store {
+        address,
+        bytes,
+        from,
     }
 }
 
 /// Format X.
 #[inline(always)]
-fn work_x(op: Op, a: u8, x: u32, z: u32) -> Work
+pub fn work_x(op: Op, a: u8, x: u32, z: u32) -> Work
     requires { a < 16 }
     ensures value { result ≡ work_of_x op a x z }
     ensures sound { IsSound result }
@@ -66,7 +108,7 @@ fn work_x(op: Op, a: u8, x: u32, z: u32) -> Work
 
 /// Format R.
 #[inline(always)]
-fn work_r(op: Op, b: u8, c: u8, x: u32, y: u32, cs: Cs) -> Work
+pub fn work_r(op: Op, b: u8, c: u8, x: u32, y: u32, cs: Cs) -> Work
     requires b { b < 16 }
     requires c { c < 16 }
     ensures value { result ≡ work_of_r op b c x y cs }
@@ -129,7 +171,7 @@ fn work_count(op: Op, b: u8, k: u8, x: u32) -> Work
 
 /// Format D.
 #[inline(always)]
-fn work_d(op: Op, regs: &[u32; 16], cs: Cs, b: u8, y: u32, z: u32, i: u16) -> Work
+pub fn work_d(op: Op, regs: &[u32; 16], cs: Cs, b: u8, y: u32, z: u32, i: u16) -> Work
     requires b { b < 16 }
     ensures value { result ≡ work_of_d op regs.now cs b y z i }
     ensures sound { IsSound result }
@@ -304,7 +346,7 @@ fn call(number: u16, regs: &[u32; 16]) -> Act
 }
 
 /// The value of a base register, where field 0 means zero.
-fn base_of(regs: &[u32; 16], c: u8) -> u32
+pub fn base_of(regs: &[u32; 16], c: u8) -> u32
     requires { c < 16 }
     ensures { result ≡ base regs.now c }
 {

@@ -21,6 +21,7 @@ pub mod AfterLemmas
 pub mod AccessLemmas
 pub mod LocatedLemmas
 pub mod OpenLemmas
+pub mod GatheredLemmas
 pub mod LeftLemmas
 pub mod RowLemmas
 pub mod BringKeeps

@@ -1,5 +1,5 @@
 // The unit as a storage.
-ghost use Rattle.std.specs.Prelude.{◌≡◌, ◌+◌, ◌*◌, ◌-◌, ◌%◌, ◌<◌, ◌≤◌, ◌^◌, ℕ, length, find, not, Ok, Some, true, false, IfOk, IfErr};
+ghost use Rattle.std.specs.Prelude.{◌≡◌, ◌+◌, ◌*◌, ◌-◌, ◌%◌, ◌<◌, ◌≤◌, ◌^◌, ℕ, length, find, not, Ok, Some, true, false, IfOk, IfErr, IfSome};
 ghost use Rattle.std.specs.List.{range_with_len};
 ghost use Rattle.segment_regs.specs.Registers.{bytes_on};
 ghost use Rattle.line_geometry.specs.Segments.{page_bytes, line_bytes};
@@ -177,6 +177,39 @@ impl Unit {
         ensures { result ≡ true → first.byte + bytes ≤ page_bytes (reach_of self.now).directory.page }
     {
         is_in_line(self.directory.page(), first.byte, bytes) || u16::from(bytes) <= self.rest(first)
+    }
+
+    /// The frame of an access whose bytes lie in one line, where the buffer has its page and the access may be made.
+    #[inline(always)]
+    fn open_frame(&self, first: Virtual, bytes: u8, store: bool) -> Option<u16>
+        requires some { 0 < bytes }
+        requires lies { Lies (reach_of self.now) first bytes }
+        ensures permitted { IfSome result (λ frame. (access : Access) → access.bytes ≡ bytes → access.store ≡ store → Probe.Permitted ≡ answered_at (reach_of self.now).directory.page (is_in_frame (reach_of self.now)) (refuses (reach_of self.now)) access (Ok first)) }
+        ensures frame { IfSome result (λ frame. look_up (table_of (reach_of self.now)).keys (key_of first) ≡ Some frame) }
+        ensures within { IfSome result (λ frame. first.byte + bytes ≤ page_bytes (reach_of self.now).directory.page) }
+    {
+        if !self.is_in_one_line(first, bytes) {
+            return None;
+        }
+        if first.segment >= PRIVATE {
+            return Some(self.private_frame(first));
+        }
+        let frame = self.known(first)?;
+        if self.is_kept_in(frame, first, 0, store) {
+            None
+        } else {
+            Some(frame)
+        }
+    }
+
+    /// Whether some bytes lie in one line.
+    #[inline(always)]
+    fn is_in_one_line(&self, first: Virtual, bytes: u8) -> bool
+        requires { first.byte < page_bytes (reach_of self.now).directory.page }
+        ensures line { result ≡ true → first.byte % line_bytes (reach_of self.now).directory.page + bytes ≤ line_bytes (reach_of self.now).directory.page }
+        ensures within { result ≡ true → first.byte + bytes ≤ page_bytes (reach_of self.now).directory.page }
+    {
+        is_in_line(self.directory.page(), first.byte, bytes)
     }
 
     /// The frame of an access whose bytes lie in one page and two lines at most, or why it can't be made now. The page of a
@@ -439,29 +472,26 @@ impl Storage for Unit {
     #[inline(always)]
     fn read(&mut self, wants: &Access, to: u8, sign: bool, regs: &mut [u32; 16]) -> Probe {
         let bytes = u32::from(wants.bytes);
-        match self.registers.locate(wants.address, bytes, wants.store) {
-            Err(Check(code)) => Probe::Check(code),
-            Ok(first) => {
-                if !self.is_in_page(first, wants.bytes) {
-                    return self.read_apart(wants, to, sign, regs);
-                }
-                self.fill_at(first, wants.bytes, to, sign, regs)
+        if let Ok(first) = self.registers.locate(wants.address, bytes, wants.store) {
+            if let Some(frame) = self.open_frame(first, wants.bytes, false) {
+                let part = self.part_in(frame, first, usize::from(wants.bytes));
+                fill(to, sign, part, regs);
+                return Probe::Permitted;
             }
         }
+        self.read_any(wants, to, sign, regs)
     }
 
     #[inline(always)]
     fn write(&mut self, wants: &Access, from: u8, regs: &[u32; 16]) -> Probe {
         let bytes = u32::from(wants.bytes);
-        match self.registers.locate(wants.address, bytes, wants.store) {
-            Err(Check(code)) => Probe::Check(code),
-            Ok(first) => {
-                if !self.is_in_page(first, wants.bytes) {
-                    return self.write_apart(wants, from, regs);
-                }
-                self.gather_at(first, wants.bytes, from, regs)
+        if let Ok(first) = self.registers.locate(wants.address, bytes, wants.store) {
+            if let Some(frame) = self.open_frame(first, wants.bytes, true) {
+                self.gather_in(frame, first, wants.bytes, from, regs);
+                return Probe::Permitted;
             }
         }
+        self.write_any(wants, from, regs)
     }
 
     #[inline(always)]
@@ -488,6 +518,47 @@ impl Storage for Unit {
 impl Unit {
     ghost use Rattle.storage_unit.specs.Reach.{byte_at, stored};
     ghost use Rattle.storage_unit.specs.View.{reach_of};
+
+    /// Fills registers with bytes, as they are probed and loaded.
+    #[inline(never)]
+    fn read_any(&mut self, wants: &Access, to: u8, sign: bool, regs: &mut [u32; 16]) -> Probe
+        requires loads { wants.now.store ≡ false }
+        requires fits { FitsFrom wants.now.bytes to }
+        ensures answer { result ≡ answer_in (λ state. state.registers) is_in_frame refuses (reach_of self.old) wants.now }
+        ensures state { reach_of self.new ≡ reach_of self.old }
+        ensures registers { regs.new ≡ if_permitted result (filled to sign (bytes_from (byte_at (reach_of self.old)) wants.now.address wants.now.bytes) regs.old) regs.old }
+    {
+        let bytes = u32::from(wants.bytes);
+        match self.registers.locate(wants.address, bytes, wants.store) {
+            Err(Check(code)) => Probe::Check(code),
+            Ok(first) => {
+                if !self.is_in_page(first, wants.bytes) {
+                    return self.read_apart(wants, to, sign, regs);
+                }
+                self.fill_at(first, wants.bytes, to, sign, regs)
+            }
+        }
+    }
+
+    /// Writes the bytes of registers, as they are probed and stored.
+    #[inline(never)]
+    fn write_any(&mut self, wants: &Access, from: u8, regs: &[u32; 16]) -> Probe
+        requires stores { wants.now.store ≡ true }
+        requires fits { FitsFrom wants.now.bytes from }
+        ensures answer { result ≡ answer_in (λ state. state.registers) is_in_frame refuses (reach_of self.old) wants.now }
+        ensures state { reach_of self.new ≡ if_permitted result (stored (reach_of self.old) wants.now.address (stored_bytes regs.now wants.now.bytes from)) (reach_of self.old) }
+    {
+        let bytes = u32::from(wants.bytes);
+        match self.registers.locate(wants.address, bytes, wants.store) {
+            Err(Check(code)) => Probe::Check(code),
+            Ok(first) => {
+                if !self.is_in_page(first, wants.bytes) {
+                    return self.write_apart(wants, from, regs);
+                }
+                self.gather_at(first, wants.bytes, from, regs)
+            }
+        }
+    }
 
     /// Fills registers with bytes of two pages, as they are probed and loaded.
     #[inline(never)]

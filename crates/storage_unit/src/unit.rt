@@ -1,5 +1,5 @@
 // The unit's parts, and that they agree.
-ghost use Rattle.std.specs.Prelude.{◌≡◌, ◌≤◌, length, IfOk};
+ghost use Rattle.std.specs.Prelude.{◌≡◌, ◌≤◌, length, IfOk, IfSome, Some};
 ghost use Rattle.line_geometry.specs.Directory.{page_count};
 ghost use Rattle.line_geometry.specs.Legal.{IsLegal};
 ghost use Rattle.frame_pool.specs.View.{pool_of};
@@ -110,5 +110,13 @@ impl Unit {
         ensures state { reach_of self.new ≡ reach_of self.old }
     {
         self.buffer.find(&self.table, at)
+    }
+
+    /// The same of the buffer alone.
+    #[inline(always)]
+    pub(crate) fn known(&self, at: Virtual) -> Option<u16>
+        ensures { IfSome result (λ frame. look_up (table_of (reach_of self.now)).keys (key_of at) ≡ Some frame) }
+    {
+        self.buffer.known(at)
     }
 }

@@ -1,0 +1,16 @@
+use Rattle.std.proofs.Common.{◌<◌, length, List, sym, ◌∙◌, ap, arith}
+use Rattle.std.specs.Prelude.{find}
+use Rattle.inverted_table.specs.Keys.{key_of}
+use Rattle.tlb_model.specs.declared.tlb.Pair.{Pair}
+use Rattle.tlb_model.specs.Buffer.{is_pair_of, pairs_in, class_of}
+use Rattle.tlb_model.proofs.BufferLemmas.{remembered-of, class-pairs}
+use Rattle.tlb_model.proofs.tlb.Tlb.known.Goals as goal
+
+pub returns-in-Some-clause-same : goal.returns-in-Some-clause-same
+returns-in-Some-clause-same c = λ keys all.
+    let wanted = key_of c.args.at in
+    let there : class_of wanted < length c.self.inside.classes = omega arith in
+    remembered-of c.args.self.now keys wanted c.in-Some.pair all
+    (ap (λ (list : List (List Pair)). find (is_pair_of wanted) (pairs_in list (class_of wanted))) (sym c.self.view_is)
+    ∙ ap (find (is_pair_of wanted)) (class-pairs c.self.inside.classes (class_of wanted) _ there)
+    ∙ sym c.find.ensures ∙ c.in-Some.is)
