@@ -111,14 +111,14 @@ fn one_refusal(
     to: u64,
     skip: u32,
 ) -> Result<Vec<Refusal>, AllocError> {
-    vec![in alloc;
+    Ok(vec![in alloc;
         Refusal {
             call,
             from,
             to,
             skip
         },
-    ]
+    ]?)
 }
 
 #[test]
