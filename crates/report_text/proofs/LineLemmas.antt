@@ -20,24 +20,7 @@ use Rattle.report_text.proofs.PartLemmas.{name_word, number_word}
 -- the bytes of a line are its words with a space between each two, and a line feed
 pub line_words : (line : Line) → line_text line ≡ join_with_byte 32 (kind_of line ∷ parts_of line) ++ 10 ∷ []
 line_words (Open number) = refl
-line_words (Begin activation name) = refl
-line_words (Busy activation name) = refl
-line_words (NoSegment activation name segment) = refl
-line_words (Idle activation) = refl
-line_words (Turn activation ran pages locks) = refl
-line_words (Cycle members) = refl
-line_words (Victim activation) = refl
-line_words (Commit activation number steps out) = refl
-line_words (Check activation code address) = refl
-line_words (Wait activation holders) = refl
-line_words (Journal activation lines limit) = refl
-line_words (Disk activation) = refl
-line_words (Doubt activation number) = refl
-line_words Closed = refl
-line_words (Stored number) = refl
-line_words (Lost activation) = refl
-line_words (Left activation) = refl
-line_words (End number) = refl
+line_words _ = refl
 
 hex_digit : (k : ℕ) → k < 16 → nat_lt 32 (get_or lower_digits k 0) ≡ true
 hex_digit k small =
@@ -117,24 +100,7 @@ parts_words (End number) is = (number_word number is.0, tt)
 
 kind_word : (line : Line) → IsOneWord (kind_of line)
 kind_word (Open number) = refl
-kind_word (Begin activation name) = refl
-kind_word (Busy activation name) = refl
-kind_word (NoSegment activation name segment) = refl
-kind_word (Idle activation) = refl
-kind_word (Turn activation ran pages locks) = refl
-kind_word (Cycle members) = refl
-kind_word (Victim activation) = refl
-kind_word (Commit activation number steps out) = refl
-kind_word (Check activation code address) = refl
-kind_word (Wait activation holders) = refl
-kind_word (Journal activation lines limit) = refl
-kind_word (Disk activation) = refl
-kind_word (Doubt activation number) = refl
-kind_word Closed = refl
-kind_word (Stored number) = refl
-kind_word (Lost activation) = refl
-kind_word (Left activation) = refl
-kind_word (End number) = refl
+kind_word _ = refl
 
 no_feed_in : (byte : ℕ) → nat_lt 32 byte ≡ true → not (byte == 10) ≡ true
 no_feed_in byte inside = grind (arith, nat_tests)

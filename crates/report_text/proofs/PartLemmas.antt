@@ -15,6 +15,7 @@ use Rattle.hex.proofs.HexLemmas.{decode_of-encode_lower, decode_of-odd, decode_s
 use Rattle.desk.specs.Lines.{printed}
 use Rattle.job_text.specs.Ready.{IsName}
 use Rattle.report_text.specs.Words.{IsOneWord}
+use Rattle.text_line.proofs.Bytes.{each_byte}
 
 digit_inside : (digit : ℕ) → digit_value digit < 10 → nat_lt 32 digit ≡ true
 digit_inside digit small = grind (arith, nat_tests)
@@ -70,11 +71,6 @@ all_listed ns numbers (todo, is, small, text) = by_todo todo is small text
     by_todo (n ∷ todo) is small text =
         absurd (joined_some (decimal n) (map decimal todo) (decimal_nonempty n (omega (arith, small.0))) (sym text))
 
-each_byte : (bytes : List ℕ) → AllByRecursion (λ byte. byte < 256) bytes → (i : ℕ) → get_or bytes i 0 < 256
-each_byte [] all i = omega arith
-each_byte (byte ∷ bytes) all zero = all.0
-each_byte (byte ∷ bytes) all (suc i) = each_byte bytes all.1 i
-
 are_bytes : (bytes : List ℕ) → All (λ byte. byte < 256) bytes → IsBytes bytes
 are_bytes bytes all = each_byte bytes (recursion_from_All (λ byte. byte < 256) bytes all)
 
@@ -91,15 +87,6 @@ undecoded word [] fault all is text = refl
 undecoded word (byte ∷ out) fault all is text =
     let whole = decode_of-encode_lower (byte ∷ out) (are_bytes (byte ∷ out) all) in
     absurd (cc (ap decode_of text))
-
--- a text whose length is 0 is empty
-pub empty_is : (text : List ℕ) → true ≡ (length text == 0) → text ≡ []
-empty_is [] is = refl
-empty_is (byte ∷ text) is = absurd (grind (arith, nat_tests))
-
-pub some_is : (text : List ℕ) → false ≡ (length text == 0) → text ≢ []
-some_is [] is none = cc is
-some_is (byte ∷ text) is none = cc none
 
 -- the address that a word is decoded to
 pub address_is : (word out : List ℕ) (n : ℕ) (P : List ℕ → Type 0) (Q : FromHexError → Type 0) → n < 2 ^ 32 → word ≡ encode_lower (big_bytes 4 n)

@@ -11,27 +11,6 @@ use byteorder::{BigEndian, ByteOrder};
 use outside::{Failed, Outside};
 use text_line::TextLine;
 
-/// Puts a line, whole and with its line feed, by one put, from a room of its own. It takes no memory.
-///
-/// # Errors
-///
-/// `Failed` where the put failed; a prefix of the line is printed then.
-pub fn put_line<W: Outside>(line: &Line, outside: &mut W) -> Result<(), Failed>
-    requires short { IsShort line.now }
-    ensures printed { Prints (W.printed outside.old) (W.printed outside.new) (line_text (line_told line.now)) result }
-    ensures held { W.held outside.new ≡ W.held outside.old }
-    ensures writes { W.writes outside.new ≡ W.writes outside.old }
-    ensures honest { W.is_honest outside.new ≡ W.is_honest outside.old }
-    ensures time { Elapses W.moment W.left_since outside.old outside.new }
-    ensures crash { Shows (line_text (line_told line.now)) W.moment W.left_since outside.old outside.new }
-    ensures cause { HasCause (W.put_faults outside.old) (W.put_faults outside.new) result }
-    ensures calls { (W.moment outside.new).calls ≡ (W.moment outside.old).calls }
-    ensures once { IsOnePut (W.printed outside.old) (W.moment outside.old) (W.moment outside.new) result }
-    ensures disk { W.disk_faults outside.new ≡ W.disk_faults outside.old }
-{
-    Reporter::new().put(line, outside)
-}
-
 /// What puts one line after another, from one room that it keeps.
 #[derive(Drop)]
 pub struct Reporter {

@@ -4,7 +4,7 @@ use Rattle.std.proofs.lemmas.List.Elements.{All-push}
 use Rattle.desk.specs.Lines.{line_text}
 use Rattle.report_text.specs.ReadLines.{IsWhole, owned_told}
 use Rattle.report_text.proofs.LineLemmas.{bytes_more, fewer}
-use Rattle.report_text.proofs.PartLemmas.{empty_is}
+use Rattle.text_line.proofs.Bytes.{empty_is}
 use Rattle.report_text.proofs.read.read_lines.Goals as goal
 
 pub loop-left-preserved : goal.loop-left-preserved
