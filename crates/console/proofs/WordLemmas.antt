@@ -43,13 +43,6 @@ last_byte front byte =
     let long : length (front ++ byte ∷ []) - 1 ≡ length front = omega (arith, length-append front (byte ∷ [])) in
     ap (slice_index (front ++ byte ∷ [])) long ∙ get_or-append_right front (byte ∷ []) (length front) (length front) 0 refl (omega arith) ∙ ap (slice_index (byte ∷ [])) (let none : length front - length front ≡ 0 = omega arith in none)
 
-pub with_mark : (word front : List ℕ) → word ≡ front ++ 102 ∷ [] → marked_of word ≡ option_map (λ number. (number, true)) (number_of front)
-with_mark word front is =
-    let ends : ends_marked word ≡ true = ap ends_marked is ∙ ap (λ (n : ℕ). n == 102) (last_byte front 102) in
-    let rest : take (length word - 1) word ≡ front =
-    ap (λ (these : List ℕ). take (length these - 1) these) is ∙ take_at front (102 ∷ []) (length (front ++ 102 ∷ []) - 1) (omega (arith, length-append front (102 ∷ []))) in
-    rw (ends, rest) refl
-
 pub without_mark : (word : List ℕ) → ((front : List ℕ) → word ≢ front ++ 102 ∷ []) → marked_of word ≡ option_map (λ number. (number, false)) (number_of word)
 without_mark word other = by_end (ends_marked word) refl
   where
@@ -299,12 +292,6 @@ one_range words one two first second =
   where
     number : {first second : List (ℕ × Bool)} (at : ℕ) → first ≡ second → (get_or first at (0, false)).0 ≡ (get_or second at (0, false)).0
     number at same = ap (λ (those : List (ℕ × Bool)). (get_or those at (0, false)).0) same
-
--- and one bank
-pub one_bank : (words : List (String Global)) (one two : ℕ) → IsForm (command.Renew one) words → IsForm (command.Renew two) words → one ≡ two
-one_bank words one two first second =
-    let same : plain (one ∷ []) ≡ plain (two ∷ []) = same_words (command.Renew one) (command.Renew two) (map string_bytes words) first.says second.says in
-    ap (λ (those : List (ℕ × Bool)). (get_or those 0 (0, false)).0) same
 
 -- a word, a store and a long number
 pub with_long : (words : List (String Global)) (word store number : String Global) (result : Option ℕ) → length words ≡ 3 → word ≡ get_or words 0 word → store ≡ get_or words 1 store → number ≡ get_or words 2 number

@@ -429,16 +429,3 @@ run-serial names programs number frames most most_lines store events taken rest 
       with_doubt = (from.with_doubt.0, ap (λ (order : List (ℕ × ℕ)). serial (begun programs events) order store) from.order ∙ from.with_doubt.1);
       lines_are = from.lines ∙ ap (λ (n : ℕ). serial_lines (begun programs events) n from.done store) same;
     }
-
--- a run that ends with the desk closed has a word that isn't fine
-pub run-closed : (programs : List Program) (frames most most_lines : ℕ) (store : FlatStore) (events : List Event) (taken : List (Event × Word)) (rest : List Event)
-    → IsRunOf programs events (opened frames most most_lines store) taken rest
-    → (run programs taken (opened frames most most_lines store)).closed ≡ true → 1 ≤ faulted taken
-run-closed programs frames most most_lines store events taken rest is shut =
-    let start = opened frames most most_lines store in
-    let all : begun programs events ≡ begun programs (map (λ (each : Event × Word). each.0) taken) ++ begun programs rest =
-    ap (begun programs) (sym is.prefix) ∙ begun-append programs (map (λ (each : Event × Word). each.0) taken) rest in
-    elim ((serial-from (begun programs events) [] programs 0 taken [] (begun programs rest) start all refl tt is.each_open).closed_by) [
-      | inl still ↦ absurd (cc (shut, still))
-      | inr some ↦ some
-    ]

@@ -32,13 +32,6 @@ begins_split xs ys = sum_by-append (λ event. cond (is_begin event) 1 0) xs ys
 turns_split : (xs ys : List Event) → turns_in (xs ++ ys) ≡ turns_in xs + turns_in ys
 turns_split xs ys = sum_by-append (λ event. cond (is_turn event) 1 0) xs ys
 
--- the first of some events have no more turns than there are events
-pub turns_few : (events : List Event) (count : ℕ) → turns_in (take count events) ≤ length events
-turns_few events count =
-    let some : turns_in (take count events) ≤ length (take count events) = count_by-le-length is_turn (take count events) in
-    let cut = length-take count events in
-    omega (arith, some, cut)
-
 -- the events before one, that one, and those behind it
 parted : (events : List Event) (i : ℕ) (event : Event) → i < length events → (take i events ++ get_or events i event ∷ []) ++ drop (i + 1) events ≡ events
 parted events i event lt = ap (λ (front : List Event). front ++ drop (i + 1) events) (sym (take_more events i event lt)) ∙ take-append-drop (i + 1) events

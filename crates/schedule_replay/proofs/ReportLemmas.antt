@@ -91,18 +91,6 @@ closing_plain number [] desk = by_test desk.closed
 closing_quiet : (number : ℕ) (desk : Desk) → commits_seen (flat_map line_text (closing_lines number [] desk)) ≡ 0
 closing_quiet number desk = let closing = closing_plain number [] desk in seen_all (closing_lines number [] desk) closing.0 ∙ closing.1
 
--- a report of a run tells of as many commits as the lines of its events
-pub report_seen : (names : List (List ℕ)) → AreNames names → (programs : List Program) (number : ℕ) (taken : List (Event × Word)) (rest : List Event) (start : Desk) → commits_seen (report names programs number taken rest start) ≡ commits_in (event_lines names programs number taken start)
-report_seen names are programs number taken rest start =
-    let lines = event_lines names programs number taken start in
-    let ends = closing_lines number rest (run programs taken start) in
-    let closing = closing_plain number rest (run programs taken start) in
-    let whole : commits_seen (report names programs number taken rest start) ≡ commits_seen (flat_map line_text (Open number ∷ (lines ++ ends))) = ap (λ (these : List Line). commits_seen (flat_map line_text (Open number ∷ these))) (lines_end programs names number taken rest start) in
-    let all = seen_all (Open number ∷ (lines ++ ends)) (tt, plain_on lines ends (run_plain programs names number are taken start) closing.0) in
-    let one = commits_on (Open number ∷ []) (lines ++ ends) in
-    let two = commits_on lines ends in
-    omega (arith, whole, all, one, two, closing.1)
-
 -- what is printed of earlier events, behind the first line and with more behind it
 earlier_behind : {T : Type 0} (old between middle new : Option (List ℕ)) (first : List ℕ) (text : List (Event × Word) → List ℕ) (taken : List (Event × Word)) (value : T)
     → Prints old between first (Ok value) → PrintsEarlier between middle text taken → BeginsWith middle new [] → PrintsEarlier old new (λ front. first ++ text front) taken

@@ -42,18 +42,6 @@ unit-sound unit = record {
 pub sound-fits : (state : Reach) → IsSound state → Fits state.directory state.pool
 sound-fits state sound = record { seen = sound.seen; size = sound.size; pages = sound.pages; marks = sound.marks }
 
--- what is seen of it once a frame that was lent has been filled
-pub lent-page :
-    (unit : Unit) (frame : ℕ) (part : List ℕ) → frame < frame_count (reach_of unit).pool.page (reach_of unit).pool.frames
-    → length part ≡ page_bytes (reach_of unit).pool.page
-    → reach_of (with_unit_part unit (frame * page_bytes (reach_of unit).pool.page) part)
-    ≡ record (reach_of unit) { pool = with_bytes (reach_of unit).pool (frame * page_bytes (reach_of unit).pool.page) part }
-lent-page unit frame part below long =
-    let pool = reach_of unit in
-    let fits = page_part frame (frame_count pool.pool.page pool.pool.frames) (page_bytes pool.pool.page) below in
-    ap (λ (p : Pool). (let now : Reach = record (reach_of unit) { pool = p } in now))
-    (lent-part unit.pool (frame * page_bytes pool.pool.page) part (omega (arith, fits, (pool-seen unit.pool).bytes, long)))
-
 -- the registers of a program may be a seat's
 pub program-reached :
     (directory : Layout) (program : Program) (seat : ℕ) → IsLegal directory.segments
