@@ -37,12 +37,6 @@ parsed {E} word result some few plain gives =
     answered (Ok number) is = as_number 10 word (Some number) some ((is.0.0.1, is.0.1), is.1) ∙ sym (short word few)
     answered (Err fault) is = as_number 10 word None some (λ told. is ((some, told.0), told.1)) ∙ sym (short word few)
 
--- a word with the mark behind it, and one without
-last_byte : (front : List ℕ) (byte : ℕ) → slice_index (front ++ byte ∷ []) (length (front ++ byte ∷ []) - 1) ≡ byte
-last_byte front byte =
-    let long : length (front ++ byte ∷ []) - 1 ≡ length front = omega (arith, length-append front (byte ∷ [])) in
-    ap (slice_index (front ++ byte ∷ [])) long ∙ get_or-append_right front (byte ∷ []) (length front) (length front) 0 refl (omega arith) ∙ ap (slice_index (byte ∷ [])) (let none : length front - length front ≡ 0 = omega arith in none)
-
 pub without_mark : (word : List ℕ) → ((front : List ℕ) → word ≢ front ++ 102 ∷ []) → marked_of word ≡ option_map (λ number. (number, false)) (number_of word)
 without_mark word other = by_end (ends_marked word) refl
   where
