@@ -7,8 +7,6 @@ mod private;
 mod serving;
 mod sizes;
 mod storage;
-#[cfg(test)]
-mod tests;
 mod unit;
 
 pub use model::Reach;

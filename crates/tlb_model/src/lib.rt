@@ -1,8 +1,6 @@
 //! The look-aside buffer: two ways of sixteen classes in front of the page table (docs/MODEL.md).
 #![tactic(auto)]
 
-#[cfg(test)]
-mod tests;
 mod tlb;
 
 pub use tlb::{Pair, Tlb};

@@ -1,7 +1,7 @@
-use super::Tlb;
 use inverted_table::Table;
 use segment_regs::Virtual;
 use std::test::Fail;
+use tlb_model::Tlb;
 
 fn at(page: u32) -> Virtual {
     Virtual {

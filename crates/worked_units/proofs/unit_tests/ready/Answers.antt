@@ -4,7 +4,7 @@ use Rattle.romp_cpu.specs.Segments.{registers_of_program}
 use Rattle.storage_unit.specs.declared.model.Reach.{Reach}
 use Rattle.storage_unit.specs.Held.{AreReached}
 use Rattle.storage_unit.proofs.UnitLemmas.{program-reached}
-use Rattle.storage_unit.proofs.tests.ready.Goals as goal
+use Rattle.worked_units.proofs.unit_tests.ready.Goals as goal
 
 pub select-requires-clause-registers : goal.select-requires-clause-registers
 select-requires-clause-registers g c =

@@ -1,6 +1,5 @@
 //! A page comes in, is loaded and stored, and leaves, as the buffer and the answers have it; and single instructions do
 //! over a unit what they do over plain bytes in memory.
-use super::Unit;
 use flat_machine::{Cs, Plain, Program, Went, Window, first_registers};
 use line_geometry::{Directory, LineSet, PageSize};
 use lockbit_rules::Authority;
@@ -10,6 +9,7 @@ use segment_regs::Virtual;
 use std::alloc::{AllocError, Global};
 use std::process::Abort;
 use std::test::Fail;
+use storage_unit::Unit;
 use store_format::Header;
 
 /// An instruction, what is in registers 2 and 3 before it, and the size of the store's pages.
