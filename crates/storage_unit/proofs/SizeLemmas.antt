@@ -77,22 +77,6 @@ pub seat-bytes : (size : PageSize) (seat index : ℕ) → (seat * seat_pages siz
 seat-bytes Two seat index = omega arith
 seat-bytes Four seat index = omega arith
 
-pub seat-whole : (size : PageSize) → seat_pages size * page_bytes size ≡ 16384
-seat-whole Two = omega arith
-seat-whole Four = omega arith
-
-pub seat-few : (size : PageSize) → seat_pages size ≤ 8
-seat-few Two = omega arith
-seat-few Four = omega arith
-
-pub seat-some : (size : PageSize) → 4 ≤ seat_pages size
-seat-some Two = omega arith
-seat-some Four = omega arith
-
-pub seats-whole : (size : PageSize) → private_frames size ≡ 16 * seat_pages size
-seats-whole Two = omega arith
-seats-whole Four = omega arith
-
 pub private-whole : (size : PageSize) → private_frames size * page_bytes size ≡ 262144
 private-whole Two = omega arith
 private-whole Four = omega arith
@@ -113,10 +97,6 @@ seat-rest Four seat index small = omega (arith, small)
 pub seat-is : (size : PageSize) (frame : ℕ) → frame / seat_pages size * seat_pages size + frame % seat_pages size ≡ frame
 seat-is Two frame = omega arith
 seat-is Four frame = omega arith
-
-pub seat-below : (size : PageSize) (frame : ℕ) → frame % seat_pages size < seat_pages size
-seat-below Two frame = omega arith
-seat-below Four frame = omega arith
 
 -- a frame of another seat's pages lies before or behind those of a seat
 pub seat-before : (size : PageSize) (seat frame : ℕ) → frame < seat * seat_pages size → frame / seat_pages size < seat
