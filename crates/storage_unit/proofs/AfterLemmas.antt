@@ -258,18 +258,6 @@ own-located state seat address bytes reached fits =
     ∙ ap (λ (test : Bool). cond {A = Result Virtual Check} test (Ok (virtual_at state.registers.page (private_segment seat) address)) (Err (record { 0 = 2 }))) inside
     ∙ ap (λ page. Ok (virtual_at page (private_segment seat) address)) reached.page
 
--- where nothing stands under any register, nothing is shown
-pub nothing-shown : (state : Reach) (address : ℕ) → state.registers ≡ record { page = state.directory.page; list = replicate 16 None } → byte_at state address ≡ 0
-nothing-shown state address none =
-    ap (λ registers. byte_of state (place_at state.directory (located_by registers address 1 false))) none
-    ∙ ap (λ r. byte_of state (place_at state.directory (located_under state.directory.page r (address % 2 ^ 28) 1 false))) (empty (address / 2 ^ 28))
-  where
-    empty : (i : ℕ) → slice_index_or (replicate 16 (let none : Option SegmentRegister = None in none)) i None ≡ None
-    empty i = elim (cases_lt i 16) [
-      | inl below ↦ get_or-replicate 16 i None None below
-      | inr past ↦ get_or_past (replicate 16 None) i None past
-    ]
-
 pub directory-after : (state : Reach) (place : Located) (bytes : List ℕ) → (put_at state place bytes).directory ≡ state.directory
 directory-after state (Private a) bytes = refl
 directory-after state (Shared a) bytes = refl

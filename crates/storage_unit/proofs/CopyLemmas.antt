@@ -1,5 +1,5 @@
 -- Bytes that are copied out of frames are those that are shown.
-use Rattle.std.proofs.Common.{◌≡◌, ℕ, ◌+◌, ◌-◌, ◌*◌, ◌/◌, ◌%◌, ◌<◌, ◌≤◌, true, false, ◌++◌, length, sym, ◌∙◌, ap, arith, Option, Some, None, inl, inr}
+use Rattle.std.proofs.Common.{◌≡◌, ℕ, ◌+◌, ◌-◌, ◌*◌, ◌/◌, ◌%◌, ◌<◌, ◌≤◌, true, false, ◌++◌, length, refl, sym, ◌∙◌, ap, arith, Option, Some, None, inl, inr}
 use Rattle.std.specs.Prelude.{slice_index, slice_range, is_some}
 use Rattle.std.specs.Option.{option_map_or}
 use Rattle.std.proofs.lemmas.List.{length-append, length-take, length-drop, get_or_append_left, get_or-append_right}
@@ -26,6 +26,10 @@ use Rattle.storage_unit.proofs.SizeLemmas.{same-page-on, rest-on, seat-bytes}
 use Rattle.storage_unit.proofs.ByteLemmas.{in-range}
 use Rattle.storage_unit.proofs.HeldLemmas.{keys-long}
 use Rattle.storage_unit.proofs.PlaceLemmas.{on-on, private-is, shared-is, finds-own, finds-shared, place-byte, there-found}
+
+pub none-of : (o : Option ℕ) → ((n : ℕ) → o ≡ Some n → ⊥) → o ≡ None
+none-of None some = refl
+none-of (Some n) some = absurd (some n refl)
 
 pub shown-long : (state : Reach) (place : Located) (n : ℕ) → length (bytes_shown state place n) ≡ n
 shown-long state place n = length-map-range_with_len (λ past. byte_of state (on place past)) 0 n

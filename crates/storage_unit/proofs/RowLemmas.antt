@@ -415,17 +415,7 @@ module _ (f : Reach) (sound : IsSound f) (p : Program) (windows : HasWindows f p
   gives (On n) (Attempt.Print byte) cpu' state whole few is goes (same, printed') left = goes-open n cpu' state (out ++ byte ∷ []) whole few is (goes n refl) same printed' left
   gives Commit Attempt.Commit cpu' state whole few is goes same left = (is, (same, left))
   gives (Check code) (Attempt.Check other) cpu' state whole few is goes (code-is, same) left = (is ∙ ap Check (sym code-is), (same, left))
-  gives (On n) Attempt.Commit cpu' state whole few is goes given left = absurd given
-  gives (On n) (Attempt.Check other) cpu' state whole few is goes given left = absurd given
-  gives (On n) (Attempt.Fault fault access) cpu' state whole few is goes given left = absurd given
-  gives Commit Attempt.Went cpu' state whole few is goes given left = absurd given
-  gives Commit (Attempt.Print byte) cpu' state whole few is goes given left = absurd given
-  gives Commit (Attempt.Check other) cpu' state whole few is goes given left = absurd given
-  gives Commit (Attempt.Fault fault access) cpu' state whole few is goes given left = absurd given
-  gives (Check code) Attempt.Went cpu' state whole few is goes given left = absurd given
-  gives (Check code) (Attempt.Print byte) cpu' state whole few is goes given left = absurd given
-  gives (Check code) Attempt.Commit cpu' state whole few is goes given left = absurd given
-  gives (Check code) (Attempt.Fault fault access) cpu' state whole few is goes given left = absurd given
+  gives _ _ cpu' state whole few is goes given left = absurd given
 
   nothing-open : (lines : Lines) → lines ≡ no_lines → IsOpen f lines
   nothing-open lines none = subst (IsOpen f) (sym none) (record { reads = λ line inside. absurd (cc); writes = λ line inside. absurd (cc) })

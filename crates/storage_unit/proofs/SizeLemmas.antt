@@ -77,10 +77,6 @@ pub seat-bytes : (size : PageSize) (seat index : ℕ) → (seat * seat_pages siz
 seat-bytes Two seat index = omega arith
 seat-bytes Four seat index = omega arith
 
-pub seat-few : (size : PageSize) → seat_pages size ≤ 8
-seat-few Two = omega arith
-seat-few Four = omega arith
-
 pub private-whole : (size : PageSize) → private_frames size * page_bytes size ≡ 262144
 private-whole Two = omega arith
 private-whole Four = omega arith

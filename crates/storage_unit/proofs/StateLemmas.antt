@@ -128,10 +128,6 @@ fold-long pool (page ∷ list) from = fold-long pool list (keys_without pool fro
     by_frame None = refl
     by_frame (Some frame) = length-set from frame None
 
-pub fold-more : (pool : Pool) (list : List ℕ) (from : List (Option Key)) (page : ℕ) → fold (keys_without pool) from (list ++ page ∷ []) ≡ keys_without pool (fold (keys_without pool) from list) page
-fold-more pool [] from page = refl
-fold-more pool (first ∷ list) from page = fold-more pool list (keys_without pool from first) page
-
 module _ (d : Layout) (legal : IsLegal d.segments) (pool : Pool) (seen : IsSeen pool) (size : pool.page ≡ d.page) (pages : length pool.frame_of ≡ page_count d) (t : ℕ → ℕ) where
   abbrev keys : List (Option Key)
   keys = keys_with d t pool.frames pool.page_in

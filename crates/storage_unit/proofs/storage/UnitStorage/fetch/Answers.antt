@@ -16,20 +16,10 @@ use Rattle.storage_unit.specs.declared.unit.Unit.{Unit}
 use Rattle.storage_unit.proofs.ByteLemmas.{in-range}
 use Rattle.storage_unit.proofs.PlaceLemmas.{Selected, selected}
 use Rattle.storage_unit.proofs.StoreLemmas.{all-private}
-use Rattle.storage_unit.proofs.AfterLemmas.{own-located, nothing-shown}
+use Rattle.storage_unit.proofs.AfterLemmas.{own-located}
 use Rattle.storage_unit.proofs.LocatedLemmas.{private-at}
 use Rattle.storage_unit.proofs.UnitLemmas.{unit-sound}
 use Rattle.storage_unit.proofs.storage.UnitStorage.fetch.Goals as goal
-
--- where no seat is selected, zeros are fetched
-zeros : (state : Reach) (sound : IsSound state) (address : ℕ) → state.runner ≡ 0 → address + 2 ≤ 16384 → Some 0 ≡ halfword_of (byte_at state) address
-zeros state sound address idle fits =
-    let none = sound.selected.none idle in
-    let inside : nat_le (address + 2) 16384 ≡ true = grind (arith, nat_tests, fits) in
-    sym
-    (ap (λ b. if b then Some (big_number 2 (bytes_from (byte_at state) address 2)) else None) inside
-    ∙ ap (λ n. Some (big_number 2 (n ∷ byte_at state (address + 1) ∷ []))) (nothing-shown state address none)
-    ∙ ap (λ n. Some (big_number 2 (0 ∷ n ∷ []))) (nothing-shown state (address + 1) none))
 
 -- else two private bytes of the seat
 own : (state : Reach) (sound : IsSound state) (address : ℕ) → 1 ≤ state.runner → address + 2 ≤ 16384

@@ -6,17 +6,10 @@ use Rattle.storage_unit.proofs.UnitLemmas.{unit-sound}
 use Rattle.storage_unit.proofs.storage.UnitStorage.load.Goals as goal
 
 pub copy-requires-clause-lies : goal.copy-requires-clause-lies
-copy-requires-clause-lies c =
-    let unit = c.args.self.now in
-    (begins (reach_of unit) (unit-sound unit) c.args.address (length c.args.into.now) false c.in-Ok.first c.requires (sym c.locate.ensures ∙ c.in-Ok.is)).lies
+copy-requires-clause-lies c = (begins (reach_of c.args.self.now) (unit-sound c.args.self.now) c.args.address (length c.args.into.now) false c.in-Ok.first c.requires (sym c.locate.ensures ∙ c.in-Ok.is)).lies
 
 pub copy-requires-clause-there : goal.copy-requires-clause-there
-copy-requires-clause-there c =
-    let unit = c.args.self.now in
-    (begins (reach_of unit) (unit-sound unit) c.args.address (length c.args.into.now) false c.in-Ok.first c.requires (sym c.locate.ensures ∙ c.in-Ok.is)).there
+copy-requires-clause-there c = (begins (reach_of c.args.self.now) (unit-sound c.args.self.now) c.args.address (length c.args.into.now) false c.in-Ok.first c.requires (sym c.locate.ensures ∙ c.in-Ok.is)).there
 
 pub returns-in-Ok : goal.returns-in-Ok
-returns-in-Ok c =
-    let unit = c.args.self.now in
-    c.copy.ensures ∙ range-shown (reach_of unit) (unit-sound unit) c.args.address (length c.args.into.now) c.in-Ok.first
-    (begins (reach_of unit) (unit-sound unit) c.args.address (length c.args.into.now) false c.in-Ok.first c.requires (sym c.locate.ensures ∙ c.in-Ok.is)).under
+returns-in-Ok c = c.copy.ensures ∙ range-shown (reach_of c.args.self.now) (unit-sound c.args.self.now) c.args.address (length c.args.into.now) c.in-Ok.first (begins (reach_of c.args.self.now) (unit-sound c.args.self.now) c.args.address (length c.args.into.now) false c.in-Ok.first c.requires (sym c.locate.ensures ∙ c.in-Ok.is)).under

@@ -11,14 +11,10 @@ use Rattle.storage_unit.proofs.UnitLemmas.{unit-sound}
 use Rattle.storage_unit.proofs.storage.UnitStorage.store.Goals as goal
 
 pub put-requires-clause-lies : goal.put-requires-clause-lies
-put-requires-clause-lies c =
-    let unit = c.args.self.now in
-    (begins (reach_of unit) (unit-sound unit) c.args.address (length c.args.from.now) true c.in-Ok.first c.requires (sym c.locate.ensures ∙ c.in-Ok.is)).lies
+put-requires-clause-lies c = (begins (reach_of c.args.self.now) (unit-sound c.args.self.now) c.args.address (length c.args.from.now) true c.in-Ok.first c.requires (sym c.locate.ensures ∙ c.in-Ok.is)).lies
 
 pub put-requires-clause-there : goal.put-requires-clause-there
-put-requires-clause-there c =
-    let unit = c.args.self.now in
-    (begins (reach_of unit) (unit-sound unit) c.args.address (length c.args.from.now) true c.in-Ok.first c.requires (sym c.locate.ensures ∙ c.in-Ok.is)).there
+put-requires-clause-there c = (begins (reach_of c.args.self.now) (unit-sound c.args.self.now) c.args.address (length c.args.from.now) true c.in-Ok.first c.requires (sym c.locate.ensures ∙ c.in-Ok.is)).there
 
 pub returns-in-Ok-clause-shows : goal.returns-in-Ok-clause-shows
 returns-in-Ok-clause-shows c =

@@ -12,11 +12,8 @@ use Rattle.storage_unit.specs.Places.{place_of, on}
 use Rattle.storage_unit.specs.Reach.{is_there, is_kept_from, is_in_frame, refuses}
 use Rattle.storage_unit.specs.View.{reach_of}
 use Rattle.storage_unit.proofs.AnswerLemmas.{answered-by}
+use Rattle.storage_unit.proofs.CopyLemmas.{none-of}
 use Rattle.storage_unit.proofs.unit.Unit.answer.Goals as goal
-
-none-of : (o : Option ℕ) → ((n : ℕ) → o ≡ Some n → ⊥) → o ≡ None
-none-of None some = refl
-none-of (Some n) some = absurd (some n refl)
 
 module _ (state : Reach) (first : Virtual) (bytes : ℕ) (store : Bool) where
   abbrev absent : Option ℕ

@@ -16,21 +16,12 @@ returns-clause-row c = λ program committed out windows long printed few.
 
 pub returns-clause-kept : goal.returns-clause-kept
 returns-clause-kept c =
-    let f = reach_of c.args.self.now in
-    let cpu = c.args.cpu.now in
-    attempt-changes f (unit-sound c.args.self.now) cpu (plan (halfword_of (byte_at f)) cpu.regs cpu.cs cpu.iar) c.attempt.ensures.whole (reach_of c.attempt.new.storage)
-    (ap (λ (t : Tried Reach). t.state) c.attempt.ensures.tried)
+    attempt-changes (reach_of c.args.self.now) (unit-sound c.args.self.now) c.args.cpu.now (plan (halfword_of (byte_at (reach_of c.args.self.now))) c.args.cpu.now.regs c.args.cpu.now.cs c.args.cpu.now.iar) c.attempt.ensures.whole (reach_of c.attempt.new.storage) (ap (λ (t : Tried Reach). t.state) c.attempt.ensures.tried)
 
 pub returns-clause-clean : goal.returns-clause-clean
 returns-clause-clean c =
-    let f = reach_of c.args.self.now in
-    let cpu = c.args.cpu.now in
-    attempt-clean f (unit-sound c.args.self.now) cpu (plan (halfword_of (byte_at f)) cpu.regs cpu.cs cpu.iar) c.attempt.ensures.whole (reach_of c.attempt.new.storage)
-    (ap (λ (t : Tried Reach). t.state) c.attempt.ensures.tried)
+    attempt-clean (reach_of c.args.self.now) (unit-sound c.args.self.now) c.args.cpu.now (plan (halfword_of (byte_at (reach_of c.args.self.now))) c.args.cpu.now.regs c.args.cpu.now.cs c.args.cpu.now.iar) c.attempt.ensures.whole (reach_of c.attempt.new.storage) (ap (λ (t : Tried Reach). t.state) c.attempt.ensures.tried)
 
 pub returns-clause-seats : goal.returns-clause-seats
 returns-clause-seats c =
-    let f = reach_of c.args.self.now in
-    let cpu = c.args.cpu.now in
-    attempt-seats f (unit-sound c.args.self.now) cpu (plan (halfword_of (byte_at f)) cpu.regs cpu.cs cpu.iar) c.attempt.ensures.whole (reach_of c.attempt.new.storage)
-    (ap (λ (t : Tried Reach). t.state) c.attempt.ensures.tried)
+    attempt-seats (reach_of c.args.self.now) (unit-sound c.args.self.now) c.args.cpu.now (plan (halfword_of (byte_at (reach_of c.args.self.now))) c.args.cpu.now.regs c.args.cpu.now.cs c.args.cpu.now.iar) c.attempt.ensures.whole (reach_of c.attempt.new.storage) (ap (λ (t : Tried Reach). t.state) c.attempt.ensures.tried)

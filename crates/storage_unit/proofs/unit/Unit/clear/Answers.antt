@@ -5,18 +5,11 @@ use Rattle.inverted_table.specs.Placed.{Placed, cleared_entry}
 use Rattle.tlb_model.specs.Buffer.{IsOfTable}
 use Rattle.storage_unit.proofs.unit.Unit.clear.Goals as goal
 
-pub invariant_of-self : goal.invariant_of-self
-invariant_of-self c =
-    let unit = c.args.self.now in
-    let new = c.clear.ensures in
-    record {
-      sixteen = unit.sixteen;
-      legal = unit.legal;
-      pool_size = unit.pool_size;
-      pages = unit.pages;
-      entries = ap (λ (table : Placed). length table.entries) new ∙ length-map unit.table.entries (cleared_entry c.args.tid) ∙ unit.entries;
-      marks = unit.marks;
-      held = ap (λ (table : Placed). table.keys) new ∙ unit.held;
-      remembered = subst (λ (keys : List (Option Key)). IsOfTable unit.buffer keys) (sym (ap (λ (table : Placed). table.keys) new)) unit.remembered;
-      selected = unit.selected;
-    }
+pub invariant_of-self-clause-entries : goal.invariant_of-self-clause-entries
+invariant_of-self-clause-entries c = ap (λ (table : Placed). length table.entries) c.clear.ensures ∙ length-map c.args.self.now.table.entries (cleared_entry c.args.tid) ∙ c.args.self.now.entries
+
+pub invariant_of-self-clause-held : goal.invariant_of-self-clause-held
+invariant_of-self-clause-held c = ap (λ (table : Placed). table.keys) c.clear.ensures ∙ c.args.self.now.held
+
+pub invariant_of-self-clause-remembered : goal.invariant_of-self-clause-remembered
+invariant_of-self-clause-remembered c = subst (λ (keys : List (Option Key)). IsOfTable c.args.self.now.buffer keys) (sym (ap (λ (table : Placed). table.keys) c.clear.ensures)) c.args.self.now.remembered

@@ -1,36 +1,33 @@
-use Rattle.std.proofs.Common.{sym, ◌∙◌, ap, arith}
+use Rattle.std.proofs.Common.{◌≡◌, sym, ◌∙◌, ap, arith}
 use Rattle.segment_regs.specs.Registers.{bytes_on}
 use Rattle.storage_unit.specs.declared.model.Reach.{Reach}
 use Rattle.storage_unit.specs.Reached.{is_absent}
 use Rattle.storage_unit.specs.View.{reach_of}
 use Rattle.storage_unit.proofs.ProbeLemmas.{absent-first, none-absent, absent-next, none-next}
 use Rattle.storage_unit.proofs.UnitLemmas.{unit-sound}
+use Rattle.storage_unit.proofs.unit.Unit.first_absent.Goals.{After-is_absent-2}
 use Rattle.storage_unit.proofs.unit.Unit.first_absent.Goals as goal
 
 pub returns-then-is_absent-clause-value : goal.returns-then-is_absent-clause-value
-returns-then-is_absent-clause-value c =
-    let unit = c.args.self.now in
-    absent-first (reach_of unit) (unit-sound unit) c.args.first c.args.bytes (omega (arith, c.if-bytes-eq0.false)) (omega (arith, c.ranges.bytes.fits)) c.requires
-    (sym c.is_absent.ensures.value ∙ c.if-is_absent.true)
+returns-then-is_absent-clause-value c = absent-first (reach_of c.args.self.now) (unit-sound c.args.self.now) c.args.first c.args.bytes (omega (arith, c.if-bytes-eq0.false)) (omega (arith, c.ranges.bytes.fits)) c.requires (sym c.is_absent.ensures.value ∙ c.if-is_absent.true)
 
 pub returns-then-from-rest-clause-value : goal.returns-then-from-rest-clause-value
 returns-then-from-rest-clause-value c =
-    let unit = c.args.self.now in
-    none-absent (reach_of unit) (unit-sound unit) c.args.first c.args.bytes (omega (arith, c.if-bytes-eq0.false)) (omega (arith, c.ranges.bytes.fits)) c.requires
-    (sym c.is_absent.ensures.value ∙ c.if-is_absent.false) (omega (arith, c.if-from-rest.true, c.from.ensures, c.rest-rest.ensures))
+    none-absent (reach_of c.args.self.now) (unit-sound c.args.self.now) c.args.first c.args.bytes (omega (arith, c.if-bytes-eq0.false)) (omega (arith, c.ranges.bytes.fits)) c.requires (sym c.is_absent.ensures.value ∙ c.if-is_absent.false) (omega (arith, c.if-from-rest.true, c.from.ensures, c.rest-rest.ensures))
+
+-- whether the page behind the first is in no frame
+past_is : (c : After-is_absent-2) → is_absent (reach_of c.args.self.now) (bytes_on c.args.self.now.directory.page c.args.first c.rest-rest.result) ≡ c.is_absent-2.result
+past_is c =
+    ap (is_absent (reach_of c.args.self.now)) (sym (c.past.ensures ∙ ap (λ (state : Reach). bytes_on state.directory.page c.args.first c.rest-rest.result) c.is_absent.ensures.state))
+    ∙ ap (λ (state : Reach). is_absent state c.past.result) (sym c.is_absent.ensures.state)
+    ∙ sym c.is_absent-2.ensures.value
 
 pub returns-then-is_absent-2-clause-value : goal.returns-then-is_absent-2-clause-value
 returns-then-is_absent-2-clause-value c =
-    let unit = c.args.self.now in
-    absent-next (reach_of unit) (unit-sound unit) c.args.first c.args.bytes (omega (arith, c.if-bytes-eq0.false)) (omega (arith, c.ranges.bytes.fits)) c.requires
-    c.rest-rest.result c.rest-rest.ensures (omega (arith, c.if-from-rest.false, c.from.ensures))
-    (sym c.is_absent.ensures.value ∙ c.if-is_absent.false)
-    (ap (is_absent (reach_of unit)) (sym (c.past.ensures ∙ ap (λ (state : Reach). bytes_on state.directory.page c.args.first c.rest-rest.result) c.is_absent.ensures.state)) ∙ ap (λ (state : Reach). is_absent state c.past.result) (sym c.is_absent.ensures.state) ∙ sym c.is_absent-2.ensures.value ∙ c.if-is_absent-2.true)
+    absent-next (reach_of c.args.self.now) (unit-sound c.args.self.now) c.args.first c.args.bytes (omega (arith, c.if-bytes-eq0.false)) (omega (arith, c.ranges.bytes.fits)) c.requires c.rest-rest.result c.rest-rest.ensures (omega (arith, c.if-from-rest.false, c.from.ensures))
+    (sym c.is_absent.ensures.value ∙ c.if-is_absent.false) (past_is (goal.at.returns-then-is_absent-2-clause-value c).After-is_absent-2 ∙ c.if-is_absent-2.true)
 
 pub returns-else-is_absent-2-clause-value : goal.returns-else-is_absent-2-clause-value
 returns-else-is_absent-2-clause-value c =
-    let unit = c.args.self.now in
-    none-next (reach_of unit) (unit-sound unit) c.args.first c.args.bytes (omega (arith, c.if-bytes-eq0.false)) (omega (arith, c.ranges.bytes.fits)) c.requires
-    c.rest-rest.result c.rest-rest.ensures (omega (arith, c.if-from-rest.false, c.from.ensures))
-    (sym c.is_absent.ensures.value ∙ c.if-is_absent.false)
-    (ap (is_absent (reach_of unit)) (sym (c.past.ensures ∙ ap (λ (state : Reach). bytes_on state.directory.page c.args.first c.rest-rest.result) c.is_absent.ensures.state)) ∙ ap (λ (state : Reach). is_absent state c.past.result) (sym c.is_absent.ensures.state) ∙ sym c.is_absent-2.ensures.value ∙ c.if-is_absent-2.false)
+    none-next (reach_of c.args.self.now) (unit-sound c.args.self.now) c.args.first c.args.bytes (omega (arith, c.if-bytes-eq0.false)) (omega (arith, c.ranges.bytes.fits)) c.requires c.rest-rest.result c.rest-rest.ensures (omega (arith, c.if-from-rest.false, c.from.ensures))
+    (sym c.is_absent.ensures.value ∙ c.if-is_absent.false) (past_is (goal.at.returns-else-is_absent-2-clause-value c).After-is_absent-2 ∙ c.if-is_absent-2.false)

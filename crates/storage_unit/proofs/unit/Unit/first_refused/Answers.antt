@@ -8,8 +8,5 @@ use Rattle.storage_unit.proofs.unit.Unit.first_refused.Goals as goal
 own : (segment : ℕ) → 3840 ≤ segment → is_private segment ≡ true
 own segment above = grind (arith, nat_tests, above)
 
-other : (segment : ℕ) → segment < 3840 → is_private segment ≡ false
-other segment below = grind (arith, nat_tests, below)
-
 pub returns-then-first-ge-PRIVATE : goal.returns-then-first-ge-PRIVATE
 returns-then-first-ge-PRIVATE c = private-kept (reach_of c.args.self.now) c.args.first c.args.bytes c.args.store (own c.args.first.segment c.if-first-ge-PRIVATE.true)

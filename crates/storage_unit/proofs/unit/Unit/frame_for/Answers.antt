@@ -17,6 +17,7 @@ use Rattle.storage_unit.proofs.AnswerLemmas.{answered-private}
 use Rattle.storage_unit.proofs.LineLemmas.{lies-one, page-fault, lock-fault, line-permitted, second-fault, lines-permitted}
 use Rattle.storage_unit.proofs.PlaceLemmas.{private-is}
 use Rattle.storage_unit.proofs.UnitLemmas.{unit-sound}
+use Rattle.storage_unit.proofs.CopyLemmas.{none-of}
 use Rattle.storage_unit.proofs.unit.Unit.frame_for.Goals as goal
 
 pub private_frame-requires-clause-lies : goal.private_frame-requires-clause-lies
@@ -27,10 +28,6 @@ returns-then-first-ge-PRIVATE-clause-answer c = λ access bytes same.
     let unit = c.args.self.now in
     let own : is_private c.args.first.segment ≡ true = grind (arith, nat_tests, c.if-first-ge-PRIVATE.true) in
     sym (answered-private (reach_of unit) c.args.first c.args.bytes access (offset_of unit.directory.page c.args.first) bytes (private-is unit.directory c.args.first own))
-
-none-of : (o : Option ℕ) → ((n : ℕ) → o ≡ Some n → ⊥) → o ≡ None
-none-of None some = refl
-none-of (Some n) some = absurd (some n refl)
 
 pub returns-in_default-clause-answer : goal.returns-in_default-clause-answer
 returns-in_default-clause-answer c = λ access bytes same.

@@ -6,7 +6,7 @@ use Rattle.frame_pool.specs.View.{pool_of}
 use Rattle.storage_unit.specs.declared.model.Reach.{Reach}
 use Rattle.storage_unit.specs.Held.{keys_of, AreOfPages}
 use Rattle.storage_unit.specs.View.{reach_of}
-use Rattle.storage_unit.proofs.CopyLemmas.{found-below, found-some}
+use Rattle.storage_unit.proofs.CopyLemmas.{found-below, found-some, none-of}
 use Rattle.storage_unit.proofs.StoreLemmas.{marked-of_pages, put-found}
 use Rattle.storage_unit.proofs.UnitLemmas.{unit-sound}
 use Rattle.storage_unit.proofs.PartLemmas.{part-long, pool-after, marked-same, marked-keys}
@@ -57,10 +57,6 @@ returns-in-Some c =
     ∙ ap (λ (part : List ℕ). (let now : Reach = record (reach_of unit) { pool = with_bytes (marked_in (pool_of unit.pool) frame lines) (frame * page_bytes unit.pool.places.page + c.from.result) part } in now)) c.copy_from_slice.ensures.after
     ∙ ap (λ b. (let now : Reach = record (reach_of unit) { pool = with_bytes (marked_in (pool_of unit.pool) frame (lines_of_part unit.pool.places.page b n)) (frame * page_bytes unit.pool.places.page + b) c.args.from.now } in now)) c.from.ensures
     ∙ put-found (reach_of unit) (unit-sound unit) c.args.first c.args.from.now c.requires.some c.requires.lies c.requires.within frame is
-
-none-of : (o : Option ℕ) → ((n : ℕ) → o ≡ Some n → ⊥) → o ≡ None
-none-of None some = refl
-none-of (Some n) some = absurd (some n refl)
 
 pub returns-in_default : goal.returns-in_default
 returns-in_default c =

@@ -5,20 +5,8 @@ use Rattle.inverted_table.specs.Keys.{key_of}
 use Rattle.tlb_model.specs.Buffer.{found, after_found}
 use Rattle.storage_unit.proofs.unit.Unit.translate.Goals as goal
 
-pub invariant_of-self : goal.invariant_of-self
-invariant_of-self c =
-    let unit = c.args.self.now in
-    record {
-      sixteen = unit.sixteen;
-      legal = unit.legal;
-      pool_size = unit.pool_size;
-      pages = unit.pages;
-      entries = unit.entries;
-      marks = unit.marks;
-      held = unit.held;
-      remembered = c.find.ensures.kept unit.remembered;
-      selected = unit.selected;
-    }
+pub invariant_of-self-clause-remembered : goal.invariant_of-self-clause-remembered
+invariant_of-self-clause-remembered c = c.find.ensures.kept c.args.self.now.remembered
 
 pub returns : goal.returns
 returns c =
