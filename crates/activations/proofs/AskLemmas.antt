@@ -10,7 +10,7 @@ use Rattle.line_locks.specs.declared.request.Want.{Want}
 use Rattle.seats.specs.declared.seat.Seat.{Seat}
 use Rattle.seats.specs.Seating.{sitter, number_in, waiting_for}
 use Rattle.seats.proofs.Kept.{taken-below}
-use Rattle.seats.proofs.Numbers.{AreOfPage}
+use Rattle.seats.specs.Waiting.{AreOfPage}
 use Rattle.activations.specs.Activity.{Activity}
 use Rattle.activations.specs.Follows.{IsSound}
 use Rattle.activations.specs.Kept.{KeepsParts, AreRowsWithin, StaysSeated}

@@ -4,7 +4,7 @@ use Rattle.std.specs.List.{range_with_len}
 use Rattle.std.specs.Option.{option_map_or}
 use Rattle.std.proofs.Common.{arith, ap, sym, ◌∙◌, subst, inl, inr}
 use Rattle.std.proofs.lemmas.Bool.{cases_lt, eq-eqb, both_ways}
-use Rattle.std.proofs.lemmas.List.{get_or-take, get_or-drop, length-take, length-drop, length-append, length-replicate}
+use Rattle.std.proofs.lemmas.List.{length-take, length-drop, length-append, length-replicate}
 use Rattle.std.proofs.lemmas.Grind.{same_number_lists}
 use Rattle.owned_list.proofs.Overlay.{length-overlaid, overlaid_before, overlaid_within, overlaid_behind}
 use Rattle.line_geometry.specs.declared.directory.PageSize.{PageSize}
@@ -18,13 +18,9 @@ use Rattle.storage_unit.specs.Bytes.{byte_in_frame, byte_over, bytes_over, priva
 use Rattle.storage_unit.specs.Laws.{Fits}
 use Rattle.storage_unit.proofs.SizeLemmas.{frame-high}
 use Rattle.activations.proofs.SizeLemmas.{private-all}
+use Rattle.storage_unit.proofs.ByteLemmas.{in-range}
 
--- a byte of a part of a list
-in-range : (xs : List ℕ) (from count k : ℕ) → k < count → slice_index (slice_range xs from (from + count)) k ≡ slice_index xs (from + k)
-in-range xs from count k below =
-    let short : k < from + count - from = omega (arith, below) in
-    get_or-take (from + count - from) (drop from xs) k 0 short ∙ get_or-drop from xs k 0
-
+-- a part of a list is as long as it says
 long-range : (xs : List ℕ) (from count : ℕ) → from + count ≤ length xs → length (slice_range xs from (from + count)) ≡ count
 long-range xs from count within =
     let same : from + count - from ≡ count = omega arith in

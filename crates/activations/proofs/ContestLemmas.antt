@@ -13,11 +13,11 @@ use Rattle.desk.specs.Desk.{Desk, Entry, Authority}
 use Rattle.desk.specs.Instruction.{Word, Counts, Attempt, Turning, Over, Victim, Waits, contest_ends}
 use Rattle.desk_law.specs.Beside.{AreAlike, by_number, kept_conflict, kept_waits}
 use Rattle.desk_law.specs.Orderly.{IsOrderly}
-use Rattle.desk_law.proofs.Contest.{KeepsPages}
-use Rattle.desk_law.proofs.ContestRounds.{with_cycle, contest, IsUnderWay}
+use Rattle.desk_law.specs.UnderWay.{KeepsPages, contest, IsUnderWay, marked}
+use Rattle.desk_law.proofs.ContestRounds.{with_cycle}
 use Rattle.desk_law.proofs.KeptTables.{alike-same}
 use Rattle.desk_law.proofs.Seats.{told-found, at-number}
-use Rattle.desk_law.proofs.ServesConflicts.{IsContesting, marked, contesting-victim, contesting-turn, contesting-loses, contesting-consistent, contesting-ready, contesting-waits, contesting-gets}
+use Rattle.desk_law.proofs.ServesConflicts.{IsContesting, contesting-victim, contesting-turn, contesting-loses, contesting-consistent, contesting-ready, contesting-waits, contesting-gets}
 use Rattle.seats.specs.Seating.{number_in, seat_of, sitter}
 use Rattle.seats.specs.Waiting.{holders, cycle_of}
 use Rattle.activations.specs.Activity.{Activity, entry_in, entries, desk_over, locks_in, request_in, state_in, shown}

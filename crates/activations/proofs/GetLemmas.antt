@@ -35,7 +35,7 @@ use Rattle.desk_law.specs.Orderly.{IsOrderly}
 use Rattle.desk_law.proofs.Endings.{granted-rolled}
 use Rattle.desk_law.proofs.Entries.{new-among, one-entry, replaced, replaced-among}
 use Rattle.desk_law.proofs.GoesOn.{due-more, grants-held, row-goes-on}
-use Rattle.desk_law.proofs.Others.{touched_of}
+use Rattle.desk_law.specs.UnderWay.{touched_of}
 use Rattle.desk_law.proofs.Seats.{seat-told}
 use Rattle.desk_law.proofs.TurnsStay.{resident-consistent}
 use Rattle.desk_law.proofs.Waiting.{any-among}

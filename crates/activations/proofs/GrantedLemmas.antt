@@ -27,7 +27,7 @@ use Rattle.desk_law.specs.Orderly.{IsOrderly}
 use Rattle.desk_law.proofs.AttemptsOnCurrent.{wanted-is}
 use Rattle.desk_law.proofs.Entries.{one-entry}
 use Rattle.desk_law.proofs.GoesOn.{grants-held, row-goes-on}
-use Rattle.desk_law.proofs.Others.{touched_of}
+use Rattle.desk_law.specs.UnderWay.{touched_of}
 use Rattle.desk_law.proofs.Seats.{seat-told}
 use Rattle.desk_law.proofs.ServedEffect.{got, served-there}
 use Rattle.desk_law.proofs.SharedBytes.{RunsOn, row-on-current}

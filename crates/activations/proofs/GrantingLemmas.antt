@@ -72,11 +72,6 @@ set-same of other (page ∷ pages) old new same (one, entry, rest) = (
   set-same of other pages (slice_set old page one) new (λ at inside. same at (or_right (page == at) (has pages at) inside)) rest,
 )
 
--- some pages and then others
-pub set-then : (of : ℕ → Entry) (pages more : List ℕ) (old mid new : List Authority) → AreSet of pages old mid → AreSet of more mid new → AreSet of (pages ++ more) old new
-set-then of [] more old mid new is rest = subst (λ (entries : List Authority). AreSet of more entries new) is rest
-set-then of (page ∷ pages) more old mid new (one, entry, is) rest = (one, entry, set-then of pages more (slice_set old page one) mid new is rest)
-
 -- grants look at what is held alone
 pub granted-same : (a other : Activity) (seat : ℕ) (wants : List Want) (pages : List ℕ) (old new : List Authority) → a.seating ≡ other.seating → a.reach.directory ≡ other.reach.directory
     → AreGranted a seat wants pages old new → AreGranted other seat wants pages old new

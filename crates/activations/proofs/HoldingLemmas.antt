@@ -1,5 +1,5 @@
 -- What a seat holds page by page, as flat lines.
-use Rattle.std.specs.Prelude.{◌≡◌, refl, ℕ, zero, suc, ◌+◌, ◌*◌, ◌<◌, ◌≤◌, ◌==◌, ◌||◌, nat_lt, Bool, true, false, List, [], length}
+use Rattle.std.specs.Prelude.{◌≡◌, ◌≢◌, refl, ℕ, zero, suc, ◌+◌, ◌*◌, ◌<◌, ◌≤◌, ◌==◌, ◌||◌, nat_lt, Bool, true, false, List, [], length}
 use Rattle.std.specs.List.{flat_map, range_with_len}
 use Rattle.std.proofs.Common.{arith, ap, sym, ◌∙◌}
 use Rattle.std.proofs.lemmas.Bool.{eqb-true, eqb-false}
@@ -15,13 +15,13 @@ use Rattle.activations.specs.Activity.{lines_held}
 use Rattle.activations.specs.Follows.{AreOfPages}
 
 -- lines of pages from a first on, none of which is this page
-pub flat-beyond : (sets : ℕ → List ℕ) (from n page line : ℕ) → ((p x : ℕ) → has (sets p) x ≡ true → x < 16) → line < 16 → page < from
+pub flat-apart : (sets : ℕ → List ℕ) (from n page line : ℕ) → ((p x : ℕ) → has (sets p) x ≡ true → x < 16) → line < 16 → ((p : ℕ) → from ≤ p → p < from + n → page ≢ p)
     → has (flat_map (λ p. flat_lines p (sets p)) (range_with_len from n)) (page * 16 + line) ≡ false
-flat-beyond sets from zero page line few below before = refl
-flat-beyond sets from (suc n) page line few below before =
+flat-apart sets from zero page line few below apart = refl
+flat-apart sets from (suc n) page line few below apart =
     has-append (flat_lines from (sets from)) (flat_map (λ p. flat_lines p (sets p)) (range_with_len (from + 1) n)) (page * 16 + line)
-    ∙ (λ i. has-other_page from page line (sets from) (λ same. absurd (omega (arith, before, same))) below (few from) i
-    || flat-beyond sets (from + 1) n page line few below (omega (arith, before)) i)
+    ∙ (λ i. has-other_page from page line (sets from) (apart from (omega arith) (omega arith)) below (few from) i
+    || flat-apart sets (from + 1) n page line few below (λ p low high. apart p (omega (arith, low)) (omega (arith, high))) i)
 
 -- and one of them
 flat-among : (sets : ℕ → List ℕ) (from n page line : ℕ) → ((p x : ℕ) → has (sets p) x ≡ true → x < 16) → line < 16 → from ≤ page → page < from + n
@@ -41,21 +41,12 @@ flat-among sets from (suc n) page line few below first last =
     by_test : (same : Bool) → (page == from) ≡ same → ((page == from) ≡ false → rest ≡ has (sets page) line) → (has (flat_lines from (sets from)) (page * 16 + line) || rest) ≡ has (sets page) line
     by_test true e later =
         let here : page ≡ from = eqb-true page from e in
-        ap (λ (b : Bool). has (flat_lines from (sets from)) (page * 16 + line) || b) (flat-beyond sets (from + 1) n page line few below (omega (arith, here)))
+        ap (λ (b : Bool). has (flat_lines from (sets from)) (page * 16 + line) || b) (flat-apart sets (from + 1) n page line few below (λ p low high same. absurd (omega (arith, here, low, same))))
         ∙ or_no (has (flat_lines from (sets from)) (page * 16 + line))
         ∙ ap (λ (p : ℕ). has (flat_lines from (sets from)) (p * 16 + line)) here
         ∙ has-page from line (sets from) ∙ ap (λ (p : ℕ). has (sets p) line) (sym here)
     by_test false e later =
         (λ i. has-other_page from page line (sets from) (eqb-false page from e) below (few from) i || rest) ∙ later e
-
--- and one behind them
-flat-out : (sets : ℕ → List ℕ) (from n page line : ℕ) → ((p x : ℕ) → has (sets p) x ≡ true → x < 16) → line < 16 → from + n ≤ page
-    → has (flat_map (λ p. flat_lines p (sets p)) (range_with_len from n)) (page * 16 + line) ≡ false
-flat-out sets from zero page line few below behind = refl
-flat-out sets from (suc n) page line few below behind =
-    has-append (flat_lines from (sets from)) (flat_map (λ p. flat_lines p (sets p)) (range_with_len (from + 1) n)) (page * 16 + line)
-    ∙ (λ i. has-other_page from page line (sets from) (λ same. absurd (omega (arith, behind, same))) below (few from) i
-    || flat-out sets (from + 1) n page line few below (omega (arith, behind)) i)
 
 -- what is held page by page is these flat lines
 pub held-flat : (pages : List (List ℕ × List ℕ)) → AreOfPages pages → IsFlat pages (lines_held pages)
@@ -74,4 +65,4 @@ held-flat pages few = record {
         by_test false e =
             ap (λ (held : List ℕ × List ℕ). has (part held) line) (get_or_past pages page nothing (grind (arith, nat_tests, e)))
             ∙ ap (λ (set : List ℕ). has set line) none
-            ∙ sym (flat-out (λ p. part (of_page pages p)) 0 (length pages) page line small below (grind (arith, nat_tests, e)))
+            ∙ sym (flat-apart (λ p. part (of_page pages p)) 0 (length pages) page line small below (λ p low high same. absurd (let out : length pages ≤ page = grind (arith, nat_tests, e) in omega (arith, out, high, same))))

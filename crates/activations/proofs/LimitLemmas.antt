@@ -16,10 +16,10 @@ use Rattle.lock_rules.proofs.Sizes.{size-alike, size-apart, size-append, size-co
 use Rattle.line_locks.specs.declared.request.Want.{Want}
 use Rattle.line_locks.specs.Held.{of_page, write_count}
 use Rattle.line_locks.specs.Flat.{flat_lines, lines_wanted}
-use Rattle.seats.proofs.Numbers.{AreOfPage}
+use Rattle.seats.specs.Waiting.{AreOfPage}
 use Rattle.activations.specs.Activity.{lines_held}
 use Rattle.activations.specs.Follows.{AreOfPages}
-use Rattle.activations.proofs.HoldingLemmas.{held-flat, flat-beyond}
+use Rattle.activations.proofs.HoldingLemmas.{flat-apart, held-flat}
 use Rattle.activations.proofs.RequestLemmas.{has-flat, has-wanted}
 
 -- numbers moved on are as many
@@ -61,7 +61,7 @@ size-blocks sets of from (suc n) =
         let here : from ≡ x / 16 = eqb-true from (page_of_line x) parts.0 in
         let whole : x / 16 * 16 + x % 16 ≡ x = omega arith in
         ap (has (flat_map (λ p. flat_lines p (sets p)) (range_with_len (from + 1) n))) (sym whole)
-        ∙ flat-beyond sets (from + 1) n (x / 16) (x % 16) (λ p y there. of_page-below (sets p) (of p) y there) (omega arith) (omega (arith, here))
+        ∙ flat-apart sets (from + 1) n (x / 16) (x % 16) (λ p y there. of_page-below (sets p) (of p) y there) (omega arith) (λ p low high same. absurd (omega (arith, here, low, same)))
 
 counted-from : (f : List ℕ × List ℕ → ℕ) (xs : List (List ℕ × List ℕ)) (g : ℕ → List ℕ × List ℕ) (from : ℕ) → ((k : ℕ) → k < length xs → g (from + k) ≡ of_page xs k)
     → sum_by (λ p. f (g p)) (range_with_len from (length xs)) ≡ sum_by f xs

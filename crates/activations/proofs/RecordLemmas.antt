@@ -14,8 +14,8 @@ use Rattle.frame_pool.specs.Pool.{line_shown}
 use Rattle.store_format.specs.Bank.{RecordLine}
 use Rattle.store_format.specs.Header.{entry_bytes, most_lines}
 use Rattle.redo_journal.specs.Kept.{begun_of, record_bytes_of, with_line}
-use Rattle.restart.specs.Kept.{KeptStore}
-use Rattle.activations.specs.Recorded.{line_told, recorded, with_begun, with_lines}
+use Rattle.restart.specs.Kept.{KeptStore, with_begun}
+use Rattle.activations.specs.Recorded.{line_told, recorded, with_lines}
 
 -- numbers ascend from a least one on, below a bound
 abbrev pub Climbs : (least : ℕ) → List ℕ → (bound : ℕ) → Type 0

@@ -18,10 +18,10 @@ use Rattle.frame_pool.specs.declared.model.Pool.{Pool}
 use Rattle.store_format.specs.Bank.{RecordLine}
 use Rattle.store_format.specs.Header.{entry_bytes, most_lines}
 use Rattle.redo_journal.specs.Kept.{begun_of, record_bytes_of}
-use Rattle.restart.specs.Kept.{KeptStore}
+use Rattle.restart.specs.Kept.{KeptStore, with_begun}
 use Rattle.activations.specs.Activity.{Activity, locks_in}
 use Rattle.activations.specs.Follows.{IsSound}
-use Rattle.activations.specs.Recorded.{line_told, recorded, with_begun, with_lines, written_of}
+use Rattle.activations.specs.Recorded.{line_told, recorded, with_lines, written_of}
 use Rattle.activations.specs.Steps.{wrote}
 use Rattle.activations.proofs.HoldingLemmas.{held-flat}
 use Rattle.activations.proofs.RecordLemmas.{Climbs, climbs-from, climbs-below, climbs-on, climbs-page, climbs-flat, climbs-once, length-recorded, recorded-append, recorded-below}

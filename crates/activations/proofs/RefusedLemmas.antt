@@ -20,7 +20,7 @@ use Rattle.desk.specs.Instruction.{Attempt, refuses, refused_pages, touched_page
 use Rattle.desk_law.specs.Consistent.{Ascend}
 use Rattle.desk_law.proofs.Identifiers.{refused-told}
 use Rattle.seats.specs.Seating.{sitter}
-use Rattle.seats.proofs.Numbers.{AreOfPage}
+use Rattle.seats.specs.Waiting.{AreOfPage}
 use Rattle.activations.specs.Activity.{Activity, authority_at, authority_under, number_under, entries, desk_over}
 use Rattle.activations.specs.Follows.{IsSound}
 use Rattle.activations.specs.Touched.{refuses_want, pages_refused, pages_wanted, IsApart}

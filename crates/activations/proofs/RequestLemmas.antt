@@ -17,7 +17,7 @@ use Rattle.line_locks.specs.declared.request.Want.{Want}
 use Rattle.line_locks.specs.Flat.{flat_lines, lines_wanted}
 use Rattle.line_locks.proofs.FlatLemmas.{has-page, has-other_page}
 use Rattle.desk_law.specs.Beside.{AreAlike}
-use Rattle.seats.proofs.Numbers.{AreOfPage}
+use Rattle.seats.specs.Waiting.{AreOfPage}
 use Rattle.activations.specs.Touched.{with_whole_page}
 
 -- a line is one of these of a page
@@ -171,19 +171,16 @@ asked-alike directory wants sets = record {
             ∙ sym (ap (λ (b : Bool). has want.reads (line % 16) || (has want.writes (line % 16) || not b)) (ap (is_fine_page directory) (sym (eqb-true want.page (page_of_line line) at)) ∙ is))
         by_tests false at none some fine is = refl
 
+    -- all but the reads is kept
+    kept : {A : Type 0} (of : Want → A) (want : Want) (reads : List ℕ) (none : Bool) → of (record want { reads = reads }) ≡ of want → of (if none then want else record want { reads = reads }) ≡ of want
+    kept of want reads true same = refl
+    kept of want reads false same = same
+
     page-same : (want : Want) → (with_whole_page directory want).page ≡ want.page
-    page-same want = by_test (length want.writes == 0)
-      where
-        by_test : (none : Bool) → (if none then want else record want { reads = if is_fine_page directory want.page then union want.reads want.writes else between 0 15 }).page ≡ want.page
-        by_test true = refl
-        by_test false = refl
+    page-same want = kept (λ (want : Want). want.page) want (if is_fine_page directory want.page then union want.reads want.writes else between 0 15) (length want.writes == 0) refl
 
     writes-same : (want : Want) → (with_whole_page directory want).writes ≡ want.writes
-    writes-same want = by_test (length want.writes == 0)
-      where
-        by_test : (none : Bool) → (if none then want else record want { reads = if is_fine_page directory want.page then union want.reads want.writes else between 0 15 }).writes ≡ want.writes
-        by_test true = refl
-        by_test false = refl
+    writes-same want = kept (λ (want : Want). want.writes) want (if is_fine_page directory want.page then union want.reads want.writes else between 0 15) (length want.writes == 0) refl
 
     each : (line : ℕ) (wants : List Want) → list_any (λ want. (want.page == page_of_line line) && has want.reads (line % 16)) (map (with_whole_page directory) wants)
         ≡ (list_any (λ want. (want.page == page_of_line line) && has want.reads (line % 16)) wants

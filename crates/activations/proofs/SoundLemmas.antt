@@ -14,7 +14,7 @@ use Rattle.romp_cpu.specs.Segments.{registers_of_program}
 use Rattle.seats.specs.declared.seat.Seat.{Seat}
 use Rattle.seats.specs.Seating.{IsSeating, sitter, number_in, with_sitter}
 use Rattle.seats.proofs.Kept.{taken-below}
-use Rattle.seats.proofs.Numbers.{AreOfPage}
+use Rattle.seats.specs.Waiting.{AreOfPage}
 use Rattle.storage_unit.specs.Places.{private_segment}
 use Rattle.activations.specs.Activity.{Activity, program_at}
 use Rattle.activations.specs.Follows.{IsSound}

@@ -20,20 +20,18 @@ use Rattle.desk_law.specs.Consistent.{IsAmong, due_to}
 use Rattle.desk_law.specs.Current.{IsCurrent}
 use Rattle.desk_law.specs.Orderly.{IsOrderly}
 use Rattle.desk_law.proofs.Contest.{rolled-consistent}
-use Rattle.desk_law.proofs.GoesOn.{IsReady}
+use Rattle.desk_law.specs.UnderWay.{IsReady, contest, IsUnderWay, served_attempt}
 use Rattle.desk_law.proofs.KeptTables.{alike-then, alike-back}
-use Rattle.desk_law.proofs.ContestRounds.{contest, IsUnderWay}
 use Rattle.desk_law.proofs.Entries.{replaced}
 use Rattle.desk_law.proofs.MarkedLines.{marked-mark}
 use Rattle.desk_law.proofs.Seats.{seat-told, told-replaced}
 use Rattle.desk_law.proofs.ServesConflicts.{IsContesting}
 use Rattle.desk_law.proofs.ServedRows.{free-gets, free-none, contest-begins}
-use Rattle.desk_law.proofs.ServesToLocks.{served_attempt, asked_for, serve-outcome, serve-journal, serve-within, serve-broken, serve-ready}
+use Rattle.desk_law.proofs.ServesToLocks.{asked_for, serve-outcome, serve-journal, serve-within, serve-broken, serve-ready}
 use Rattle.seats.specs.declared.seat.Seat.{Seat}
 use Rattle.seats.specs.Seating.{sitter}
-use Rattle.seats.specs.Waiting.{holders}
+use Rattle.seats.specs.Waiting.{holders, AreOfPage}
 use Rattle.seats.proofs.Kept.{taken-below}
-use Rattle.seats.proofs.Numbers.{AreOfPage}
 use Rattle.storage_unit.specs.Bytes.{is_line_marked}
 use Rattle.storage_unit.specs.Laws.{Keeps}
 use Rattle.storage_unit.specs.Rows.{plain_over}

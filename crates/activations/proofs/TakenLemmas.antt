@@ -26,7 +26,7 @@ use Rattle.desk_law.proofs.Identifiers.{granted-told, lowered-told}
 use Rattle.desk_law.proofs.KeptTables.{alike-then}
 use Rattle.seats.specs.Seating.{sitter}
 use Rattle.seats.proofs.Kept.{same-with}
-use Rattle.seats.proofs.Numbers.{AreOfPage}
+use Rattle.seats.specs.Waiting.{AreOfPage}
 use Rattle.activations.specs.Activity.{Activity, authority_under, number_under, locks_in}
 use Rattle.activations.specs.Follows.{IsSound, AreOfPages}
 use Rattle.activations.specs.Serving.{AreSet, AreGranted, AreLowered, entry_given, entry_to_read, is_lowered, pages_lowered, locked}

@@ -1,52 +1,26 @@
 -- One line of a page, or two neighbours, as flat lines.
-use Rattle.std.proofs.Common.{◌≡◌, ℕ, zero, suc, ◌+◌, ◌-◌, ◌*◌, ◌/◌, ◌%◌, ◌<◌, ◌≤◌, Bool, true, false, List, [], ◌∷◌, ◌++◌, refl, sym, ◌∙◌, ap, arith}
+use Rattle.std.proofs.Common.{◌≡◌, ℕ, ◌+◌, ◌-◌, ◌*◌, ◌/◌, ◌%◌, ◌<◌, ◌≤◌, Bool, true, false, List, [], ◌∷◌, ◌++◌, refl, sym, ◌∙◌, ap, arith, map, get_or}
 use Rattle.std.specs.Prelude.{◌==◌, ◌||◌, if◌then◌else◌}
 use Rattle.std.specs.List.{range_with_len}
 use Rattle.std.proofs.lemmas.Bool.Decides.{nat_tests}
 use Rattle.line_geometry.specs.LineSets.{passing, between}
 use Rattle.std.proofs.lemmas.List.{append-nil}
+use Rattle.std.proofs.lemmas.List.FromFn.{get_or-map-range_with_len}
 use Rattle.line_locks.specs.Flat.{flat_lines, lines_wanted}
 use Rattle.activations.specs.Touched.{lines_between}
 use Rattle.lock_rules.specs.Lines.{pages_of}
 
+-- two functions that are the same on the first numbers, as a table of them tells
+tabled : (f g : ℕ → List ℕ) (n i : ℕ) → map f (range_with_len 0 n) ≡ map g (range_with_len 0 n) → i < n → f i ≡ g i
+tabled f g n i same below = sym (get_or-map-range_with_len f 0 n i i [] below (omega arith)) ∙ ap (λ (values : List (List ℕ)). get_or values i []) same ∙ get_or-map-range_with_len g 0 n i i [] below (omega arith)
+
 between-one : (line : ℕ) → line < 16 → between line line ≡ line ∷ []
 unfolding passing
-between-one zero small = refl
-between-one (suc zero) small = refl
-between-one (suc (suc zero)) small = refl
-between-one (suc (suc (suc zero))) small = refl
-between-one (suc (suc (suc (suc zero)))) small = refl
-between-one (suc (suc (suc (suc (suc zero))))) small = refl
-between-one (suc (suc (suc (suc (suc (suc zero)))))) small = refl
-between-one (suc (suc (suc (suc (suc (suc (suc zero))))))) small = refl
-between-one (suc (suc (suc (suc (suc (suc (suc (suc zero)))))))) small = refl
-between-one (suc (suc (suc (suc (suc (suc (suc (suc (suc zero))))))))) small = refl
-between-one (suc (suc (suc (suc (suc (suc (suc (suc (suc (suc zero)))))))))) small = refl
-between-one (suc (suc (suc (suc (suc (suc (suc (suc (suc (suc (suc zero))))))))))) small = refl
-between-one (suc (suc (suc (suc (suc (suc (suc (suc (suc (suc (suc (suc zero)))))))))))) small = refl
-between-one (suc (suc (suc (suc (suc (suc (suc (suc (suc (suc (suc (suc (suc zero))))))))))))) small = refl
-between-one (suc (suc (suc (suc (suc (suc (suc (suc (suc (suc (suc (suc (suc (suc zero)))))))))))))) small = refl
-between-one (suc (suc (suc (suc (suc (suc (suc (suc (suc (suc (suc (suc (suc (suc (suc zero))))))))))))))) small = refl
-between-one (suc (suc (suc (suc (suc (suc (suc (suc (suc (suc (suc (suc (suc (suc (suc (suc line)))))))))))))))) small = absurd (omega (arith, small))
+between-one line small = tabled (λ line. between line line) (λ line. line ∷ []) 16 line refl small
 
 between-two : (line : ℕ) → line + 1 < 16 → between line (line + 1) ≡ line ∷ (line + 1) ∷ []
 unfolding passing
-between-two zero small = refl
-between-two (suc zero) small = refl
-between-two (suc (suc zero)) small = refl
-between-two (suc (suc (suc zero))) small = refl
-between-two (suc (suc (suc (suc zero)))) small = refl
-between-two (suc (suc (suc (suc (suc zero))))) small = refl
-between-two (suc (suc (suc (suc (suc (suc zero)))))) small = refl
-between-two (suc (suc (suc (suc (suc (suc (suc zero))))))) small = refl
-between-two (suc (suc (suc (suc (suc (suc (suc (suc zero)))))))) small = refl
-between-two (suc (suc (suc (suc (suc (suc (suc (suc (suc zero))))))))) small = refl
-between-two (suc (suc (suc (suc (suc (suc (suc (suc (suc (suc zero)))))))))) small = refl
-between-two (suc (suc (suc (suc (suc (suc (suc (suc (suc (suc (suc zero))))))))))) small = refl
-between-two (suc (suc (suc (suc (suc (suc (suc (suc (suc (suc (suc (suc zero)))))))))))) small = refl
-between-two (suc (suc (suc (suc (suc (suc (suc (suc (suc (suc (suc (suc (suc zero))))))))))))) small = refl
-between-two (suc (suc (suc (suc (suc (suc (suc (suc (suc (suc (suc (suc (suc (suc zero)))))))))))))) small = refl
-between-two (suc (suc (suc (suc (suc (suc (suc (suc (suc (suc (suc (suc (suc (suc (suc line))))))))))))))) small = absurd (omega (arith, small))
+between-two line small = tabled (λ line. between line (line + 1)) (λ line. line ∷ (line + 1) ∷ []) 15 line refl (omega (arith, small))
 
 -- one line, or two neighbours in a page, are its lines of that page
 pub flat-between : (first last : ℕ) → first ≤ last → last ≤ first + 1 → first / 16 ≡ last / 16

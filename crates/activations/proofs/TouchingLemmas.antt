@@ -41,7 +41,7 @@ use Rattle.desk.specs.Answers.{ending_told}
 use Rattle.desk.specs.Instruction.{Counts}
 use Rattle.desk_law.specs.Consistent.{AreConsistent, AreDistinct}
 use Rattle.desk_law.proofs.Entries.{filter-short}
-use Rattle.seats.proofs.Numbers.{AreOfPage}
+use Rattle.seats.specs.Waiting.{AreOfPage}
 use Rattle.storage_unit.specs.declared.model.Reach.{Reach}
 use Rattle.storage_unit.specs.Places.{private_segment, is_private, offset_of, place_at}
 use Rattle.storage_unit.proofs.PlaceLemmas.{under, offset-is}

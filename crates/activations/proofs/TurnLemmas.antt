@@ -1,10 +1,9 @@
 -- The rows of a turn, instruction by instruction.
 use Rattle.std.specs.Prelude.{◌≡◌, refl, ℕ, suc, ◌+◌, ◌-◌, ◌<◌, ◌≤◌, true, List, length}
-use Rattle.std.proofs.Common.{arith, ap, sym, ◌∙◌, subst, inl}
+use Rattle.std.proofs.Common.{arith, ap, sym, ◌∙◌, subst}
 use Rattle.std.proofs.lemmas.Bool.Decides.{nat_tests}
 use Rattle.lock_rules.specs.Sets.{has}
 use Rattle.outside.specs.declared.world.Outside.{Ghosts}
-use Rattle.outside.specs.Runs.{OnlyAsks}
 use Rattle.desk.specs.Answers.{ending_told}
 use Rattle.desk.specs.Desk.{Desk}
 use Rattle.desk.specs.Instruction.{Word, ReadFailed, Counts, Turning, Going, Ending, Limit, Disk, turns}
@@ -156,26 +155,6 @@ follows-selected a seat committed follows =
 
 pub keeps-selected : (a b : Activity) (seat more : ℕ) → KeepsParts (selected_in a seat) b more → KeepsParts a b more
 keeps-selected a b seat more keeps = record { programs = keeps.programs; most_lines = keeps.most_lines; next = keeps.next; directory = keeps.directory; fewer = keeps.fewer; rows = keeps.rows }
-
--- before any call
-pub asks-none : {W : Type 0} (G : Ghosts W) (w : W) → OnlyAsks G w w
-asks-none G w = record {
-  calls = record {
-    quiet = record { same = refl; crash = λ image seen left. inl left };
-    honest = refl;
-    time = record {
-      later = record { calls = omega arith; puts = omega arith };
-      nothing_else = λ t image seen before left. inl left;
-      keeps = λ t image seen before left. left;
-    };
-    disk = omega arith;
-    put = refl;
-    puts = refl;
-  };
-  held = refl;
-  writes = refl;
-  crash = λ told image seen left. left;
-}
 
 -- more rows of a turn with a limit were done
 pub keeps-far : (first old mid new : Activity) (limit left rows : ℕ) → rows ≤ left → left ≤ limit → KeepsParts first old (limit - left) → KeepsParts old mid 0 → KeepsParts mid new rows → KeepsParts first new (limit - (left - rows))

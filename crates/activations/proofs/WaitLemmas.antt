@@ -14,8 +14,8 @@ use Rattle.desk_law.specs.Beside.{AreAlike, by_number, kept_conflict, kept_waits
 use Rattle.desk_law.proofs.KeptTables.{alike-same, conflicts-alike, filter-alike}
 use Rattle.desk_law.proofs.Seats.{conflicts-seats, waits-seats}
 use Rattle.seats.specs.Seating.{sitter, number_in, numbers}
-use Rattle.seats.specs.Waiting.{holders, seat_waits, cycle_of}
-use Rattle.seats.proofs.Numbers.{AreOfPage, holders-flat, waits-flat, waits-none, cycle-numbers}
+use Rattle.seats.specs.Waiting.{holders, seat_waits, cycle_of, AreOfPage}
+use Rattle.seats.proofs.Numbers.{holders-flat, waits-flat, waits-none, cycle-numbers}
 use Rattle.activations.specs.Activity.{Activity, entry_in, entries, locks_in, request_in}
 use Rattle.activations.specs.Follows.{IsSound}
 use Rattle.activations.proofs.HoldingLemmas.{held-flat}

@@ -14,7 +14,7 @@ use Rattle.lockbit_rules.specs.declared.Authority.{Authority}
 use Rattle.inverted_table.specs.Placed.{unowned}
 use Rattle.line_locks.specs.declared.request.Request.{Request}
 use Rattle.seats.specs.Seating.{IsSeating, sitter, number_in}
-use Rattle.seats.proofs.Numbers.{AreOfPage}
+use Rattle.seats.specs.Waiting.{AreOfPage}
 use Rattle.storage_unit.specs.Bytes.{IsClean, is_line_marked}
 use Rattle.storage_unit.specs.Places.{private_segment}
 use Rattle.activations.specs.Activity.{Activity, live_in, program_in, entry_in, entries, store_over, desk_over, locks_in, request_in, state_in, shown}

@@ -15,7 +15,7 @@ use Rattle.line_locks.specs.Holding.{held_at}
 use Rattle.lock_rules.specs.Lines.{page_of_line}
 use Rattle.lock_rules.specs.Sets.{has}
 use Rattle.redo_journal.specs.Kept.{begun_of, record_bytes_of}
-use Rattle.restart.specs.Kept.{KeptStore}
+use Rattle.restart.specs.Kept.{KeptStore, with_begun}
 use Rattle.store_format.specs.Header.{entry_bytes}
 use Rattle.store_format.specs.Bank.{RecordLine}
 use Rattle.store_format.specs.Stands.{laid}
@@ -33,10 +33,6 @@ pub record IsRecordOf (a : Activity) (seat : ℕ) (lines : List RecordLine) : Ty
   pub ascending : AllPairs (λ first second. first.line < second.line) lines
   pub each : (line : ℕ) → has (map (λ one. one.line) lines) line ≡ has (locks_in a seat).writes line
   pub bytes : All (λ one. one.bytes ≡ line_told a.reach.pool one.line) lines
-
--- the store has these lines in the record that is begun, and is as it was else
-abbrev pub with_begun : KeptStore → List RecordLine → KeptStore
-with_begun store lines = record store { bank = record store.bank { begun = Some lines } }
 
 -- laid over what is committed, these lines leave what who sits in a seat commits
 abbrev pub LeavesCommitted : Activity → (seat : ℕ) → List RecordLine → Type 0

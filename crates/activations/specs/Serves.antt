@@ -15,10 +15,9 @@ use Rattle.frame_pool.specs.declared.model.Pool.{Pool}
 use Rattle.desk.specs.Desk.{rolled_back}
 use Rattle.desk.specs.Instruction.{Word, Counts, Attempt, Turning, Over, Fetched, Broken, Fine, Journal, Disk, fetches, touched_pages, with_grants, lowered, locks_with}
 use Rattle.desk_law.specs.Beside.{AreAlike, over_all, owners_told}
-use Rattle.desk_law.proofs.ServesToLocks.{served_attempt}
+use Rattle.desk_law.specs.UnderWay.{served_attempt}
 use Rattle.seats.specs.Seating.{sitter}
-use Rattle.seats.specs.Waiting.{holders}
-use Rattle.seats.proofs.Numbers.{AreOfPage}
+use Rattle.seats.specs.Waiting.{holders, AreOfPage}
 use Rattle.storage_unit.specs.Laws.{Keeps}
 use Rattle.activations.specs.declared.live.Live.{Live}
 use Rattle.activations.specs.Activity.{Activity, program_in, entry_in, number_under, authority_under, desk_over, lines_held, locks_in, state_in, shown}

@@ -14,10 +14,7 @@ use Rattle.desk.specs.Desk as desk
 use Rattle.desk.specs.Holdings.{conflicts_of}
 use Rattle.desk.specs.Instruction.{Word, Counts, Attempt, Turning, Over, Going, Ending, instruction, contest_ends, gets, refuses, lines_within, touched_pages}
 use Rattle.desk_law.specs.Beside.{Reads}
-use Rattle.desk_law.proofs.Contest.{KeepsPages}
-use Rattle.desk_law.proofs.ContestRounds.{contest, IsUnderWay}
-use Rattle.desk_law.proofs.GoesOn.{IsReady}
-use Rattle.desk_law.proofs.ServesConflicts.{marked}
+use Rattle.desk_law.specs.UnderWay.{KeepsPages, contest, IsUnderWay, IsReady, marked}
 use Rattle.activations.specs.Activity.{Activity, entry_in, desk_over}
 use Rattle.activations.specs.Follows.{IsKept, Follows}
 

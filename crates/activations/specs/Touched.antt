@@ -5,7 +5,7 @@ use Rattle.line_locks.specs.Held.{AreWithin}
 use Rattle.line_geometry.specs.Directory.{Layout, page_count, is_fine_page}
 use Rattle.lock_rules.specs.Lines.{pages_of}
 use Rattle.desk_law.specs.Consistent.{AreDistinct}
-use Rattle.seats.proofs.Numbers.{AreOfPage}
+use Rattle.seats.specs.Waiting.{AreOfPage}
 use Rattle.lock_rules.specs.Sets.{has}
 use Rattle.std.specs.List.{list_any, range_with_len}
 use Rattle.lockbit_rules.specs.declared.Authority.{Authority}

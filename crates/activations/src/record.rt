@@ -20,7 +20,8 @@ use restart::Durable;
 impl Activations {
     ghost use Rattle.activations.specs.Activity.{locks_in};
     ghost use Rattle.activations.specs.Follows.{IsSound, Follows};
-    ghost use Rattle.activations.specs.Recorded.{IsRecordOf, LeavesCommitted, HasWritten, with_begun};
+    ghost use Rattle.activations.specs.Recorded.{IsRecordOf, LeavesCommitted, HasWritten};
+    ghost use Rattle.restart.specs.Kept.{with_begun};
     ghost use Rattle.activations.specs.Steps.{rolled};
     ghost use Rattle.activations.specs.View.{activity_of};
 

@@ -3,7 +3,7 @@ ghost use Rattle.std.specs.Prelude.{◌≡◌, ◌+◌, ◌/◌, ◌<◌, ◌≤
 ghost use Rattle.line_geometry.specs.Directory.{Layout};
 ghost use Rattle.line_geometry.specs.Lines.{line_count};
 ghost use Rattle.line_locks.specs.Flat.{lines_wanted};
-ghost use Rattle.seats.proofs.Numbers.{AreOfPage};
+ghost use Rattle.seats.specs.Waiting.{AreOfPage};
 ghost use Rattle.activations.specs.Touched.{lines_between, wants_of, with_whole_page, AreWanted};
 
 use arrayvec::ArrayVec;

@@ -1,42 +1,18 @@
 -- What depends on sets of lines as sets alone: pages taken out, grants, and how many lines are written.
-use Rattle.std.specs.Prelude.{◌≡◌, refl, ℕ, ◌==◌, ◌&&◌, ◌||◌, not, if◌then◌else◌, Bool, true, false, List, [], ◌∷◌, ◌++◌, filter}
+use Rattle.std.specs.Prelude.{◌≡◌, refl, ℕ, ◌&&◌, ◌||◌, not, if◌then◌else◌, Bool, false, List, [], ◌∷◌, ◌++◌, filter}
 use Rattle.std.proofs.Common.{ap, sym, ◌∙◌}
 use Rattle.lock_rules.specs.Sets.{has, size}
-use Rattle.lock_rules.specs.Lines.{Lines, within_page, is_whole_page, lines_of_page, page_of_line, pages_of}
-use Rattle.lock_rules.specs.Resident.{taken_out}
-use Rattle.lock_rules.proofs.Sets.{has-append, any-some, any-at}
+use Rattle.lock_rules.specs.Lines.{Lines, within_page, is_whole_page, lines_of_page, pages_of}
+use Rattle.lock_rules.proofs.Sets.{has-append}
 use Rattle.lock_rules.proofs.Sizes.{size-alike}
-use Rattle.lock_rules.proofs.Lines.{has-pages_of}
-use Rattle.desk.specs.Desk.{Desk, Entry, Authority, written_pages}
+use Rattle.desk.specs.Desk.{Authority}
 use Rattle.desk.specs.Instruction.{Attempt, authority_by, fine_authority_by, given, with_each, granted, to_read, lowered_pages, lowered}
 use Rattle.desk_law.specs.Beside.{AreAlike}
-use Rattle.desk_law.specs.Consistent.{due_to}
 use Rattle.desk_law.proofs.EachPage.{each-same}
-use Rattle.desk_law.proofs.KeptTables.{both-imply}
 
 pub filter-same : (p q : ℕ → Bool) (xs : List ℕ) → ((x : ℕ) → p x ≡ q x) → filter p xs ≡ filter q xs
 filter-same p q [] same = refl
 filter-same p q (x ∷ xs) same = λ i. if same x i then x ∷ filter-same p q xs same i else filter-same p q xs same i
-
-pub pages-alike : (xs ys : List ℕ) → ((x : ℕ) → has xs x ≡ has ys x) → (page : ℕ) → has (pages_of xs) page ≡ has (pages_of ys) page
-pages-alike xs ys same page = both-imply (has (pages_of xs) page) (has (pages_of ys) page) there back
-  where
-    there : has (pages_of xs) page ≡ true → has (pages_of ys) page ≡ true
-    there inside =
-        let (x, among, at) = any-some (λ l. page_of_line l == page) xs (sym (has-pages_of xs page) ∙ inside) in
-        has-pages_of ys page ∙ any-at (λ l. page_of_line l == page) ys x (sym (same x) ∙ among) at
-
-    back : has (pages_of ys) page ≡ true → has (pages_of xs) page ≡ true
-    back inside =
-        let (x, among, at) = any-some (λ l. page_of_line l == page) ys (sym (has-pages_of ys page) ∙ inside) in
-        has-pages_of xs page ∙ any-at (λ l. page_of_line l == page) xs x (same x ∙ among) at
-
--- The pages that a rollback takes out are those of the kept locks.
-pub taken-alike : (locks : Lines) (desk : Desk) (entry : Entry) (resident : List ℕ) → AreAlike locks (due_to desk.committed entry)
-    → taken_out (pages_of locks.writes) resident ≡ taken_out (written_pages desk.committed entry) resident
-taken-alike locks desk entry resident alike =
-    filter-same (λ page. not (has (pages_of locks.writes) page)) (λ page. not (has (written_pages desk.committed entry) page)) resident
-    (λ page. ap not (pages-alike locks.writes (due_to desk.committed entry).writes alike.writes page))
 
 within-alike : (page : ℕ) (xs ys : List ℕ) → ((x : ℕ) → has xs x ≡ has ys x) → within_page page xs ≡ within_page page ys
 within-alike page xs ys same = filter-same (has xs) (has ys) (lines_of_page page) same

@@ -130,15 +130,12 @@ stays-event : (programs : List Program) (event : Event) (word : Word) (desk : De
 stays-event programs (Begin program args) word desk is = stays-begin program args (slice_get programs program) desk is
 stays-event programs (Turn activation limit) word desk is = stays-turn word activation limit desk is
 stays-event programs Checkpoint Failed desk is = shut-consistent desk is
-stays-event programs Checkpoint Fine desk is = is
-stays-event programs Checkpoint (ReadFailed page) desk is = is
-stays-event programs Checkpoint Unwritten desk is = is
-stays-event programs Checkpoint Doubt desk is = is
 stays-event programs Crash Failed desk is = shut-consistent (restarted desk) (stays-crash desk is)
 stays-event programs Crash Fine desk is = stays-crash desk is
 stays-event programs Crash (ReadFailed page) desk is = stays-crash desk is
 stays-event programs Crash Unwritten desk is = stays-crash desk is
 stays-event programs Crash Doubt desk is = stays-crash desk is
+stays-event programs Checkpoint _ desk is = is
 
 -- the law
 pub stays-consistent : StaysConsistent

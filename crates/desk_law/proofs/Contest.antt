@@ -5,25 +5,17 @@ use Rattle.std.proofs.lemmas.Bool.{eqb-true, eq-eqb, ne_eqb, both_ways, and_part
 use Rattle.lock_rules.specs.Sets.{has}
 use Rattle.lock_rules.specs.Waits.{leads, shown_after, shown_cycle, victim_of}
 use Rattle.lock_rules.proofs.Cycles.{after-among}
-use Rattle.line_geometry.specs.FlatStore.{IsWhole}
 use Rattle.desk.specs.Desk.{Desk, Entry, Authority, nobody, rolled_back}
 use Rattle.desk.specs.Holdings.{numbers, waits_for}
 use Rattle.desk.specs.Instruction.{Counts, Contest, Contested, Settled, Lost, breaks_cycle, breaks_cycles}
-use Rattle.desk_law.specs.Consistent.{IsAmong, AreConsistent, IsHeld, HasNoCycle}
+use Rattle.desk_law.specs.Consistent.{IsAmong}
 use Rattle.desk_law.specs.Orderly.{IsOrderly}
 use Rattle.desk_law.proofs.Entries.{among-filter, filter-among, among-found, none-found, filter-short}
-use Rattle.desk_law.proofs.Walks.{except, no-cycle-fewer, no-cycle-from, no-cycle-leaves, walk-short}
+use Rattle.desk_law.proofs.Walks.{no-cycle-fewer, no-cycle-from, no-cycle-leaves, walk-short}
+use Rattle.desk_law.specs.UnderWay.{except, IsContending, KeepsPages}
 use Rattle.desk_law.proofs.Others.{rollback-leaves}
 use Rattle.desk_law.proofs.Waiting.{number-of, has-number, fewer-numbers, rollback-waits, waits-by}
 use Rattle.desk_law.proofs.Holding.{held-but, held-others, freed, freed-at}
-
--- consistent, but for cycles through one number
-pub record IsContending (one : ℕ) (desk : Desk) : Type 0 where
-  pub whole : IsWhole desk.committed
-  pub few : length desk.active ≤ desk.most_active
-  pub active : AreConsistent desk.committed desk.most_lines desk.next desk.active
-  pub held : IsHeld desk.committed desk.active desk.authority
-  pub no_cycle : HasNoCycle (except one (waits_for desk)) (numbers desk)
 
 except-waits : (one : ℕ) (waits : ℕ → ℕ → Bool) (from to : ℕ) → except one waits from to ≡ true → waits from to ≡ true
 except-waits one waits from to both = (and_parts (not (from == one)) (waits from to) both).1
@@ -127,10 +119,6 @@ shown-none waits all first is = by_test (leads waits all (length all) first firs
     by_test : (round : Bool) → (if round then Some (first ∷ shown_after waits all (length all) first first) else None) ≡ None → round ≡ false
     by_test true is = absurd (cc)
     by_test false is = refl
-
--- a number keeps the pages that it owns
-abbrev pub KeepsPages : ℕ → (old new : List Authority) → Type 0
-KeepsPages one old new = (page : ℕ) → ((slice_index_or old page nobody).owner == one) ≡ true → slice_index_or new page nobody ≡ slice_index_or old page nobody
 
 -- pages of others are freed
 pub freed-keeps : (one gone : ℕ) (old new : List Authority) → (gone == one) ≡ false → KeepsPages one old new → KeepsPages one old (map (freed gone) new)
@@ -258,3 +246,11 @@ breaks-all (suc left) one most entry old desk counts named among is enough store
             store limit
             (freed-keeps one victim.number old.authority desk.authority (ap (λ (n : ℕ). n == one) victim_is ∙ e) keeps)
             (one_more victim found)
+
+-- what each round of a contest keeps, the contest keeps
+pub breaks-keep : (P : Contest → Type 0) (number : ℕ) → ((desk : Desk) (counts : Counts) → P (Contested desk counts) → P (breaks_cycle number (shown_cycle (waits_for desk) (numbers desk) number) desk counts))
+    → (left : ℕ) (contest : Contest) → P contest → P (breaks_cycles left number contest)
+breaks-keep P number round zero contest is = is
+breaks-keep P number round (suc left) (Settled desk counts) is = is
+breaks-keep P number round (suc left) (Lost desk counts) is = is
+breaks-keep P number round (suc left) (Contested desk counts) is = breaks-keep P number round left (breaks_cycle number (shown_cycle (waits_for desk) (numbers desk) number) desk counts) (round desk counts is)

@@ -5,18 +5,15 @@ use Rattle.std.proofs.lemmas.Bool.{eqb-true, eq-eqb, ne_eqb, both_ways, not_from
 use Rattle.lock_rules.specs.Waits.{leads, shown_cycle, victim_of}
 use Rattle.desk.specs.Desk.{Desk, Entry, with_entry, rolled_back}
 use Rattle.desk.specs.Holdings.{numbers, waits_for}
-use Rattle.desk.specs.Instruction.{Word, Counts, Attempt, Contest, Contested, Settled, Lost, breaks_cycle, breaks_cycles, contest_ends, asks}
+use Rattle.desk.specs.Instruction.{Word, Counts, Attempt, Contested, Settled, Lost, breaks_cycle, breaks_cycles, contest_ends, asks}
 use Rattle.desk_law.specs.Consistent.{IsAmong}
-use Rattle.desk_law.proofs.Contest.{IsContending, KeepsPages, contending, settled, rolled-contending, gone-consistent, freed-keeps, stays-settled, stays-lost, filter-shorter, some-active, shown-victim, shown-none, without, left_over}
+use Rattle.desk_law.proofs.Contest.{contending, settled, rolled-contending, gone-consistent, freed-keeps, stays-settled, stays-lost, filter-shorter, some-active, shown-victim, shown-none, without, left_over}
+use Rattle.desk_law.specs.UnderWay.{contest, IsUnderWay}
 use Rattle.desk_law.proofs.Entries.{among-found, none-found, filter-among, among-filter, new-among}
 use Rattle.desk_law.proofs.GoesOn.{length-replaced, marked-contending}
 use Rattle.desk_law.specs.Orderly.{IsOrderly}
 use Rattle.desk_law.proofs.Waiting.{number-of, has-number}
 use Rattle.desk_law.proofs.Walks.{walk-short}
-
--- what a contest of a number comes to from a desk
-abbrev pub contest : ℕ → Desk → Counts → Contest
-contest number desk counts = breaks_cycles (length desk.active) number (Contested desk counts)
 
 -- the counts with one cycle more
 abbrev pub with_cycle : Counts → List ℕ → Counts
@@ -127,14 +124,6 @@ pub asks-contest : (word : Word) (attempt : Attempt) (refused : List ℕ) (holde
 asks-contest word attempt refused holder holders desk counts =
     ap (λ (n : ℕ). contest_ends word attempt refused (breaks_cycles n attempt.entry.number (Contested (with_entry desk (record attempt.entry { waiting = true })) counts)))
     (sym (length-replaced (record attempt.entry { waiting = true }) desk.active))
-
--- A contest under way, of an entry that is marked: what the loop keeps beside the value of the contest.
-pub record IsUnderWay (old desk : Desk) (entry : Entry) : Type 0 where
-  pub contending : IsContending entry.number desk
-  pub here : IsAmong desk.active entry
-  pub store : desk.committed ≡ old.committed
-  pub limit : desk.most_lines ≡ old.most_lines
-  pub keeps : KeepsPages entry.number old.authority desk.authority
 
 -- as it begins
 pub under-way : (desk : Desk) (entry : Entry) → IsOrderly desk → IsAmong desk.active entry

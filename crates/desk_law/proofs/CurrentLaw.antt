@@ -14,7 +14,8 @@ use Rattle.desk_law.specs.Consistent.{IsAmong, AreConsistent}
 use Rattle.desk_law.specs.Current.{current, current_bytes}
 use Rattle.desk_law.specs.CurrentLaws.{OneListIsCurrent, HoldersSeeCurrent, RowsChangeTheirLines, RowsRunOnCurrent, CommitsChangeNoLine, RollbacksGiveBack, CommitsLeaveOthers}
 use Rattle.desk_law.proofs.Entries.{replaced}
-use Rattle.desk_law.proofs.Others.{touched_of, another-same, after-row}
+use Rattle.desk_law.proofs.Others.{another-same, after-row}
+use Rattle.desk_law.specs.UnderWay.{touched_of}
 use Rattle.desk_law.proofs.GoesOn.{gone-on-active}
 use Rattle.desk_law.proofs.CurrentLines.{current-held, row-writes, row-leaves, commit-current, rollback-written, rollback-others}
 use Rattle.desk_law.proofs.CurrentBytes.{bytes-current, one-current}

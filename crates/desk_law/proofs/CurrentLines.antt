@@ -25,7 +25,8 @@ use Rattle.desk_law.specs.Changes.{gone_on, left_by}
 use Rattle.desk_law.specs.Consistent.{IsAmong, due_to, AreConsistent}
 use Rattle.desk_law.specs.Current.{bytes_of, writer, current_of}
 use Rattle.desk_law.proofs.Entries.{among-found, none-found, among-filter, filter-among, among-replaced, replaced-among, new-among, replaced, one-entry}
-use Rattle.desk_law.proofs.Others.{touched_of, others, another-same, commit-leaves, rollback-leaves}
+use Rattle.desk_law.proofs.Others.{others, another-same, commit-leaves, rollback-leaves}
+use Rattle.desk_law.specs.UnderWay.{touched_of}
 use Rattle.desk_law.proofs.GoesOn.{apart-turned}
 
 -- where none passes, none is found

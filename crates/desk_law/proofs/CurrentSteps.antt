@@ -16,7 +16,8 @@ use Rattle.desk_law.specs.Consistent.{IsAmong, due_to, AreConsistent}
 use Rattle.desk_law.specs.Current.{IsCurrent}
 use Rattle.desk_law.proofs.CurrentLines.{somebody, current-written, current-unwritten, rollback-written, rollback-others, commit-current}
 use Rattle.desk_law.proofs.Entries.{replaced, among-replaced, replaced-among, new-among, among-push, push-among, one-entry}
-use Rattle.desk_law.proofs.Others.{touched_of, others}
+use Rattle.desk_law.proofs.Others.{others}
+use Rattle.desk_law.specs.UnderWay.{touched_of}
 
 -- the same claim entry by entry: where one wrote, the bytes are those of its state, and where none did, the committed ones
 pub record ShowsEach (store : FlatStore) (entries : List Entry) (bytes : List ℕ) : Type 0 where

@@ -15,9 +15,10 @@ use Rattle.desk_law.specs.Consistent.{IsAmong, HasNoCycle}
 use Rattle.desk_law.specs.Laws.{EndsWith, ContestedCyclesClose}
 use Rattle.desk_law.proofs.Entries.{new-among}
 use Rattle.desk_law.proofs.Orderly.{orderly}
-use Rattle.desk_law.proofs.Walks.{except, first-step, one-step, leads-more, walk-short, all-pass}
+use Rattle.desk_law.proofs.Walks.{first-step, one-step, leads-more, walk-short, all-pass}
+use Rattle.desk_law.specs.UnderWay.{except, IsContending}
 use Rattle.desk_law.proofs.SomebodyGoesOn.{reached, leads-to-fewer}
-use Rattle.desk_law.proofs.Contest.{IsContending, contending, rolled-contending, stays-settled, stays-lost, left_over}
+use Rattle.desk_law.proofs.Contest.{contending, rolled-contending, stays-settled, stays-lost, left_over}
 use Rattle.desk_law.proofs.ContestRounds.{victim-there, asker-left}
 use Rattle.desk_law.proofs.GoesOn.{marked-contending}
 use Rattle.desk_law.proofs.Waiting.{has-number}

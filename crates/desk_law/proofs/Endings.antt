@@ -23,8 +23,9 @@ use Rattle.desk_law.specs.Changes.{committed_at, gone_on, left_by}
 use Rattle.desk_law.specs.Consistent.{IsAmong, Ascend, due_to, IsLive, AreApart, AreConsistent, IsCovered, IsOwned, IsHeld}
 use Rattle.desk_law.specs.Orderly.{IsOrderly}
 use Rattle.desk_law.proofs.Entries.{among-filter, among-push, push-among, ascend-push, between, one-entry, among-replaced, replaced-among, new-among, replaced, filter-short}
-use Rattle.desk_law.proofs.Walks.{except, no-cycle-fewer, no-cycle-leaves, first-step, one-step}
-use Rattle.desk_law.proofs.Others.{touched_of, another-stays, commit-leaves, rollback-leaves}
+use Rattle.desk_law.proofs.Walks.{no-cycle-fewer, no-cycle-leaves, first-step, one-step}
+use Rattle.desk_law.specs.UnderWay.{except, touched_of}
+use Rattle.desk_law.proofs.Others.{another-stays, commit-leaves, rollback-leaves}
 use Rattle.desk_law.proofs.Waiting.{waits-by, waits-from, has-number, fewer-numbers, rollback-waits, commit-waits}
 use Rattle.desk_law.proofs.Holding.{freed, held-others, other-covers}
 use Rattle.desk_law.proofs.Contest.{gone-consistent}

@@ -14,7 +14,7 @@ use Rattle.desk_law.specs.Changes.{gone_on}
 use Rattle.desk_law.specs.Causes.{desk_of, turn_counts, ends_own, IsAccounted, EndsHaveCauses}
 use Rattle.desk_law.proofs.Entries.{among-found, filter-among, numbers-replaced}
 use Rattle.desk_law.proofs.Waiting.{number-of, has-number}
-use Rattle.desk_law.proofs.Contest.{left_over, without}
+use Rattle.desk_law.proofs.Contest.{breaks-keep, left_over, without}
 
 -- a number is active, or a victim's
 abbrev IsKept : Desk → Counts → ℕ → Type 0
@@ -71,36 +71,34 @@ has-last (one ∷ cycles) cycle other same = or_right (victim_of one == other) (
 
 -- victims
 breaks-kept : (before : List ℕ) (left number : ℕ) (contest : Contest) → ContestKept before contest → ContestKept before (breaks_cycles left number contest)
-breaks-kept before zero number contest kept = kept
-breaks-kept before (suc left) number (Settled desk counts) kept = kept
-breaks-kept before (suc left) number (Lost desk counts) kept = kept
-breaks-kept before (suc left) number (Contested desk counts) kept =
-    breaks-kept before left number (breaks_cycle number (shown_cycle (waits_for desk) (numbers desk) number) desk counts)
-    (by_cycle (shown_cycle (waits_for desk) (numbers desk) number))
+breaks-kept before left number contest kept = breaks-keep (ContestKept before) number round left contest kept
   where
-    more : (cycle : List ℕ) (victim : Option Entry) → find (λ (entry : Entry). entry.number == victim_of cycle) desk.active ≡ victim
-        → AreKept before (without desk victim) (record counts { cycles = counts.cycles ++ cycle ∷ [] })
-    more cycle None found other inside = elim (kept other inside) [
-      | inl there ↦ inl there
-      | inr lost ↦ inr (has-more counts.cycles cycle other lost)
-    ]
-    more cycle (Some victim) found other inside = elim (kept other inside) [
-      | inl there ↦ elim (left-active desk victim.number other there) [
-        | inl stays ↦ inl stays
-        | inr same ↦
-            let (at, passes) = among-found (λ (entry : Entry). entry.number == victim_of cycle) desk.active victim found in
-            inr (has-last counts.cycles cycle other (eq-eqb (victim_of cycle) other (sym (eqb-true victim.number (victim_of cycle) passes) ∙ sym (eqb-true other victim.number same))))
-      ]
-      | inr lost ↦ inr (has-more counts.cycles cycle other lost)
-    ]
+    round : (desk : Desk) (counts : Counts) → ContestKept before (Contested desk counts) → ContestKept before (breaks_cycle number (shown_cycle (waits_for desk) (numbers desk) number) desk counts)
+    round desk counts kept = by_cycle (shown_cycle (waits_for desk) (numbers desk) number)
+      where
+        more : (cycle : List ℕ) (victim : Option Entry) → find (λ (entry : Entry). entry.number == victim_of cycle) desk.active ≡ victim
+            → AreKept before (without desk victim) (record counts { cycles = counts.cycles ++ cycle ∷ [] })
+        more cycle None found other inside = elim (kept other inside) [
+          | inl there ↦ inl there
+          | inr lost ↦ inr (has-more counts.cycles cycle other lost)
+        ]
+        more cycle (Some victim) found other inside = elim (kept other inside) [
+          | inl there ↦ elim (left-active desk victim.number other there) [
+            | inl stays ↦ inl stays
+            | inr same ↦
+                let (at, passes) = among-found (λ (entry : Entry). entry.number == victim_of cycle) desk.active victim found in
+                inr (has-last counts.cycles cycle other (eq-eqb (victim_of cycle) other (sym (eqb-true victim.number (victim_of cycle) passes) ∙ sym (eqb-true other victim.number same))))
+          ]
+          | inr lost ↦ inr (has-more counts.cycles cycle other lost)
+        ]
 
-    by_lost : (cycle : List ℕ) (lost : Bool) → ContestKept before (left_over desk (record counts { cycles = counts.cycles ++ cycle ∷ [] }) (find (λ (entry : Entry). entry.number == victim_of cycle) desk.active) lost)
-    by_lost cycle true = more cycle (find (λ (entry : Entry). entry.number == victim_of cycle) desk.active) refl
-    by_lost cycle false = more cycle (find (λ (entry : Entry). entry.number == victim_of cycle) desk.active) refl
+        by_lost : (cycle : List ℕ) (lost : Bool) → ContestKept before (left_over desk (record counts { cycles = counts.cycles ++ cycle ∷ [] }) (find (λ (entry : Entry). entry.number == victim_of cycle) desk.active) lost)
+        by_lost cycle true = more cycle (find (λ (entry : Entry). entry.number == victim_of cycle) desk.active) refl
+        by_lost cycle false = more cycle (find (λ (entry : Entry). entry.number == victim_of cycle) desk.active) refl
 
-    by_cycle : (cycle : Option (List ℕ)) → ContestKept before (breaks_cycle number cycle desk counts)
-    by_cycle None = kept
-    by_cycle (Some cycle) = by_lost cycle (victim_of cycle == number)
+        by_cycle : (cycle : Option (List ℕ)) → ContestKept before (breaks_cycle number cycle desk counts)
+        by_cycle None = kept
+        by_cycle (Some cycle) = by_lost cycle (victim_of cycle == number)
 
 module _ (word : Word) (attempt : Attempt) (before : List ℕ) where
   accounts : (desk : Desk) (counts : Counts) (other : ℕ) → IsKept desk counts other → IsAccounted attempt.entry.number (Going desk counts) other

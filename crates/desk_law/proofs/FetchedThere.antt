@@ -1,12 +1,11 @@
 -- After two pages were fetched into two frames or more, both are there.
 use Rattle.std.proofs.Common.{◌≡◌, ◌≢◌, ℕ, zero, suc, ◌+◌, ◌<◌, ◌≤◌, Bool, true, false, List, [], ◌∷◌, length, refl, sym, ◌∙◌, ap, arith, get_or, Option, Some, None, ◌⊎◌, inl, inr}
-use Rattle.std.specs.Prelude.{◌==◌, ◌||◌, not, nat_lt, cond, if◌then◌else◌, remove, position, unwrap_or}
+use Rattle.std.specs.Prelude.{◌==◌, ◌||◌, not, nat_lt, cond, remove, position, unwrap_or}
 use Rattle.std.specs.List.{list_any, position_or_len}
 use Rattle.std.proofs.lemmas.Bool.Decides.{nat_tests}
 use Rattle.std.proofs.lemmas.List.Quantifiers.{position-Some}
 use Rattle.lock_rules.specs.Sets.{has}
-use Rattle.lock_rules.specs.Resident.{first_out, brought}
-use Rattle.desk.specs.Instruction.{Fetched}
+use Rattle.lock_rules.specs.Resident.{first_out}
 
 -- where no place passes, no item does
 nowhere : (p : ℕ → Bool) (xs : List ℕ) → position p xs ≡ None → list_any p xs ≡ false
@@ -84,10 +83,3 @@ module _ (kept : List ℕ) (page other : ℕ) (only : (x : ℕ) → has kept x �
         where
           differ : false ≡ true → ⊥
           differ same = cc
-
--- the pages that are there once one was fetched
-abbrev after : (frames : ℕ) (kept resident : List ℕ) (page : ℕ) → List ℕ
-after frames kept resident page = if has resident page then resident else brought frames kept resident page
-
-same-fetched : (one other : List ℕ) (n m : ℕ) → Fetched one n ≡ Fetched other m → one ≡ other
-same-fetched one other n m same = cc

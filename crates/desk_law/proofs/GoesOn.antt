@@ -21,11 +21,11 @@ use Rattle.desk_law.specs.Changes.{gone_on, row_done}
 use Rattle.desk_law.specs.Consistent.{IsAmong, due_to, IsLive, AreApart, AreConsistent, IsCovered, IsHeld, HasNoCycle}
 use Rattle.desk_law.specs.Orderly.{IsOrderly}
 use Rattle.desk_law.proofs.Entries.{replaced, among-replaced, new-among, ascend-replaced, numbers-replaced}
-use Rattle.desk_law.proofs.Walks.{except, no-cycle-fewer, no-cycle-leaves}
-use Rattle.desk_law.proofs.Others.{touched_of, others, after-row}
+use Rattle.desk_law.proofs.Walks.{no-cycle-fewer, no-cycle-leaves}
+use Rattle.desk_law.specs.UnderWay.{except, touched_of, IsContending, IsReady}
+use Rattle.desk_law.proofs.Others.{others, after-row}
 use Rattle.desk_law.proofs.Waiting.{marked-waits, gone-on}
 use Rattle.desk_law.proofs.Holding.{IsHeldBut, held-but, covered-more, held-replaced, held-granted, held-lowered}
-use Rattle.desk_law.proofs.Contest.{IsContending}
 
 -- no conflict keeps two apart
 pub apart-still : (fine : ℕ → Bool) (mine new theirs : Lines) → AreApart (with_whole_pages fine mine) theirs → conflicts (with_whole_pages fine new) theirs ≡ false
@@ -141,16 +141,6 @@ marked-contending desk entry mark here is = record {
       (no-cycle-fewer (except entry.number (waits_for (with_entry desk (record entry { waiting = mark })))) (except entry.number (waits_for desk)) (numbers desk) (numbers desk)
       (λ from to waits. marked-waits desk entry mark from to here waits) (λ x inside. inside) is.no_cycle);
 }
-
--- an attempt whose row may go on, at a desk: the entry may be marked
-pub record IsReady (attempt : Attempt) (desk : Desk) : Type 0 where
-  pub contending : IsContending attempt.entry.number desk
-  pub mark : Bool
-  pub here : IsAmong desk.active (record attempt.entry { waiting = mark })
-  pub now : after attempt.entry.runs.program attempt.entry.runs.args desk.committed attempt.entry.rows ≡ Some attempt.now
-  pub went : row attempt.entry.runs.program desk.committed.directory attempt.now ≡ attempt.outcome
-  pub lines : attempt.lines ≡ wanted desk attempt.entry
-  pub short : size ((touched_of desk.committed attempt.entry).writes ++ (wanted desk attempt.entry).writes) ≤ desk.most_lines
 
 -- It may go on at another desk too, which has the same store and limit.
 pub ready-again : (attempt : Attempt) (old desk : Desk) (mark : Bool) → IsReady attempt old → IsContending attempt.entry.number desk → IsAmong desk.active (record attempt.entry { waiting = mark })

@@ -13,7 +13,7 @@ use Rattle.desk.specs.Desk.{Authority, nobody}
 use Rattle.desk.specs.Instruction.{Attempt, authority_by, fine_authority_by, given, granted, refuses, lines_within, touched_pages}
 use Rattle.desk_law.specs.Consistent.{permitted}
 use Rattle.desk_law.specs.Laws.{ArePermitted}
-use Rattle.desk_law.proofs.Contest.{KeepsPages}
+use Rattle.desk_law.specs.UnderWay.{KeepsPages}
 use Rattle.desk_law.proofs.EachPage.{each-is, each-not}
 
 read-here : (same bit : Bool) → same ≡ true → bit ≡ true → permits same false bit false ≡ true
@@ -90,38 +90,8 @@ pub granted-permits :
     (filter (λ page. refuses (slice_index_or before page nobody) attempt.entry.number (lines_within page attempt.lines)) (touched_pages attempt)) later)
     attempt.entry.number attempt.lines
 granted-permits fine attempt locks before later keeps reads writes below = record {
-  reads = λ line inside.
-      let there : has (all_of attempt.lines) line ≡ true = has_left attempt.lines.reads attempt.lines.writes line inside in
-      elim (cases_Bool (has refused (page_of_line line))) [
-        | inl was ↦
-            ap (λ (a : Authority). permitted a attempt.entry.number line false) (each-is (given fine attempt locks) refused later (page_of_line line) (below line there) was)
-            ∙ given-reads fine attempt locks line (reads line inside)
-        | inr wasn't ↦
-            let quiet = or_parts (reads_refused line) (writes_refused line) (not_refused line there wasn't) in
-            let may : permitted (slice_index_or before (page_of_line line) nobody) attempt.entry.number line false ≡ true =
-            not-false (permitted (slice_index_or before (page_of_line line) nobody) attempt.entry.number line false)
-            (none-there (λ l. not (permitted (slice_index_or before (page_of_line line) nobody) attempt.entry.number l false)) (within_page (page_of_line line) attempt.lines.reads) line quiet.0 (inside-page attempt.lines.reads line inside)) in
-            ap (λ (a : Authority). permitted a attempt.entry.number line false)
-            (each-not (given fine attempt locks) refused later (page_of_line line) wasn't
-            ∙ keeps (page_of_line line) (owns ((slice_index_or before (page_of_line line) nobody).owner == attempt.entry.number) (slice_index_or before (page_of_line line) nobody).write (has (slice_index_or before (page_of_line line) nobody).lines line) false may))
-            ∙ may
-      ];
-  writes = λ line inside.
-      let there : has (all_of attempt.lines) line ≡ true = has_right attempt.lines.reads attempt.lines.writes line inside in
-      elim (cases_Bool (has refused (page_of_line line))) [
-        | inl was ↦
-            ap (λ (a : Authority). permitted a attempt.entry.number line true) (each-is (given fine attempt locks) refused later (page_of_line line) (below line there) was)
-            ∙ given-writes fine attempt locks line inside (writes line inside)
-        | inr wasn't ↦
-            let quiet = or_parts (reads_refused line) (writes_refused line) (not_refused line there wasn't) in
-            let may : permitted (slice_index_or before (page_of_line line) nobody) attempt.entry.number line true ≡ true =
-            not-false (permitted (slice_index_or before (page_of_line line) nobody) attempt.entry.number line true)
-            (none-there (λ l. not (permitted (slice_index_or before (page_of_line line) nobody) attempt.entry.number l true)) (within_page (page_of_line line) attempt.lines.writes) line quiet.1 (inside-page attempt.lines.writes line inside)) in
-            ap (λ (a : Authority). permitted a attempt.entry.number line true)
-            (each-not (given fine attempt locks) refused later (page_of_line line) wasn't
-            ∙ keeps (page_of_line line) (owns ((slice_index_or before (page_of_line line) nobody).owner == attempt.entry.number) (slice_index_or before (page_of_line line) nobody).write (has (slice_index_or before (page_of_line line) nobody).lines line) true may))
-            ∙ may
-      ];
+  reads = λ line inside. one line false attempt.lines.reads (has_left attempt.lines.reads attempt.lines.writes line inside) inside (given-reads fine attempt locks line (reads line inside)) (λ quiet. quiet.0);
+  writes = λ line inside. one line true attempt.lines.writes (has_right attempt.lines.reads attempt.lines.writes line inside) inside (given-writes fine attempt locks line inside (writes line inside)) (λ quiet. quiet.1);
 }
   where
     refused : List ℕ
@@ -143,3 +113,19 @@ granted-permits fine attempt locks before later keeps reads writes below = recor
         (has-filter (λ page. refuses (slice_index_or before page nobody) attempt.entry.number (lines_within page attempt.lines)) (touched_pages attempt) (page_of_line line)
         ∙ and_from (has (touched_pages attempt) (page_of_line line)) (refuses (slice_index_or before (page_of_line line) nobody) attempt.entry.number (lines_within (page_of_line line) attempt.lines))
         (pages_of-line (all_of attempt.lines) line there) refuses_it))
+
+    one : (line : ℕ) (stores : Bool) (lines : List ℕ) → has (all_of attempt.lines) line ≡ true → has lines line ≡ true → permitted (given fine attempt locks (page_of_line line)) attempt.entry.number line stores ≡ true
+        → ((reads_refused line ≡ false) × (writes_refused line ≡ false) → list_any (λ l. not (permitted (slice_index_or before (page_of_line line) nobody) attempt.entry.number l stores)) (within_page (page_of_line line) lines) ≡ false)
+        → permitted (slice_index_or (granted fine attempt locks refused later) (page_of_line line) nobody) attempt.entry.number line stores ≡ true
+    one line stores lines there inside given_here quiet_of = elim (cases_Bool (has refused (page_of_line line))) [
+      | inl was ↦ ap (λ (a : Authority). permitted a attempt.entry.number line stores) (each-is (given fine attempt locks) refused later (page_of_line line) (below line there) was) ∙ given_here
+      | inr wasn't ↦
+          let was_there = slice_index_or before (page_of_line line) nobody in
+          let may : permitted was_there attempt.entry.number line stores ≡ true =
+          not-false (permitted was_there attempt.entry.number line stores)
+          (none-there (λ l. not (permitted was_there attempt.entry.number l stores)) (within_page (page_of_line line) lines) line (quiet_of (or_parts (reads_refused line) (writes_refused line) (not_refused line there wasn't))) (inside-page lines line inside)) in
+          ap (λ (a : Authority). permitted a attempt.entry.number line stores)
+          (each-not (given fine attempt locks) refused later (page_of_line line) wasn't
+          ∙ keeps (page_of_line line) (owns (was_there.owner == attempt.entry.number) was_there.write (has was_there.lines line) stores may))
+          ∙ may
+    ]

@@ -1,5 +1,5 @@
 -- What an instruction of an entry does to the entries and to what is committed.
-use Rattle.std.specs.Prelude.{◌≡◌, refl, ℕ, zero, suc, ◌+◌, ◌==◌, not, Bool, true, false, List, [], ◌∷◌, ◌++◌, find, Option, Some, None}
+use Rattle.std.specs.Prelude.{◌≡◌, refl, ℕ, ◌+◌, ◌==◌, not, Bool, true, false, List, [], ◌∷◌, ◌++◌, find, Option, Some, None}
 use Rattle.std.proofs.Common.{ap, sym, ◌∙◌, inl, inr}
 use Rattle.std.proofs.lemmas.Bool.{eqb-true, eq-eqb, both_ways, not-true}
 use Rattle.lock_rules.specs.Waits.{shown_cycle, victim_of}
@@ -12,7 +12,7 @@ use Rattle.desk_law.specs.Changes.{row_done, left_by}
 use Rattle.desk_law.specs.Consistent.{IsAmong, AreConsistent}
 use Rattle.desk_law.proofs.Entries.{among-filter, among-found, none-found, among-replaced, one-entry}
 use Rattle.desk_law.proofs.Others.{others}
-use Rattle.desk_law.proofs.Contest.{left_over}
+use Rattle.desk_law.proofs.Contest.{breaks-keep, left_over}
 use Rattle.desk_law.proofs.GoesOn.{IsGranted}
 
 -- what is committed is as it was, and the entries of other numbers were active before
@@ -97,30 +97,28 @@ ContestDid number old (Settled desk counts) = From number old desk
 ContestDid number old (Lost desk counts) = From number old desk × HasLeft number desk
 
 pub breaks-did : (number : ℕ) (old : Desk) (left : ℕ) (contest : Contest) → ContestDid number old contest → ContestDid number old (breaks_cycles left number contest)
-breaks-did number old zero contest did = did
-breaks-did number old (suc left) (Settled desk counts) did = did
-breaks-did number old (suc left) (Lost desk counts) did = did
-breaks-did number old (suc left) (Contested desk counts) did =
-    breaks-did number old left (breaks_cycle number (shown_cycle (waits_for desk) (numbers desk) number) desk counts)
-    (by_cycle (shown_cycle (waits_for desk) (numbers desk) number))
+breaks-did number old left contest did = breaks-keep (ContestDid number old) number round left contest did
   where
-    by_victim : (counts : Counts) (cycle : List ℕ) (victim : Option Entry) → find (λ (entry : Entry). entry.number == victim_of cycle) desk.active ≡ victim
-        → (lost : Bool) → (victim_of cycle == number) ≡ lost → ContestDid number old (left_over desk counts victim lost)
-    by_victim counts cycle None found true is = (
-      did,
-      λ other among.
-          ap (λ (n : ℕ). other.number == n) (sym (eqb-true (victim_of cycle) number is)) ∙ none-found (λ (entry : Entry). entry.number == victim_of cycle) desk.active found other among,
-    )
-    by_victim counts cycle None found false is = did
-    by_victim counts cycle (Some victim) found true is = (
-      rolled-from number old desk victim did,
-      λ other among.
-          let (at, passes) = among-found (λ (entry : Entry). entry.number == victim_of cycle) desk.active victim found in
-          ap (λ (n : ℕ). other.number == n) (sym (eqb-true victim.number (victim_of cycle) passes ∙ eqb-true (victim_of cycle) number is)) ∙ rolled-left desk victim other among,
-    )
-    by_victim counts cycle (Some victim) found false is = rolled-from number old desk victim did
+    round : (desk : Desk) (counts : Counts) → ContestDid number old (Contested desk counts) → ContestDid number old (breaks_cycle number (shown_cycle (waits_for desk) (numbers desk) number) desk counts)
+    round desk counts did = by_cycle (shown_cycle (waits_for desk) (numbers desk) number)
+      where
+        by_victim : (counts : Counts) (cycle : List ℕ) (victim : Option Entry) → find (λ (entry : Entry). entry.number == victim_of cycle) desk.active ≡ victim
+            → (lost : Bool) → (victim_of cycle == number) ≡ lost → ContestDid number old (left_over desk counts victim lost)
+        by_victim counts cycle None found true is = (
+          did,
+          λ other among.
+              ap (λ (n : ℕ). other.number == n) (sym (eqb-true (victim_of cycle) number is)) ∙ none-found (λ (entry : Entry). entry.number == victim_of cycle) desk.active found other among,
+        )
+        by_victim counts cycle None found false is = did
+        by_victim counts cycle (Some victim) found true is = (
+          rolled-from number old desk victim did,
+          λ other among.
+              let (at, passes) = among-found (λ (entry : Entry). entry.number == victim_of cycle) desk.active victim found in
+              ap (λ (n : ℕ). other.number == n) (sym (eqb-true victim.number (victim_of cycle) passes ∙ eqb-true (victim_of cycle) number is)) ∙ rolled-left desk victim other among,
+        )
+        by_victim counts cycle (Some victim) found false is = rolled-from number old desk victim did
 
-    by_cycle : (cycle : Option (List ℕ)) → ContestDid number old (breaks_cycle number cycle desk counts)
-    by_cycle None = did
-    by_cycle (Some cycle) =
-        by_victim (record counts { cycles = counts.cycles ++ cycle ∷ [] }) cycle (find (λ (entry : Entry). entry.number == victim_of cycle) desk.active) refl (victim_of cycle == number) refl
+        by_cycle : (cycle : Option (List ℕ)) → ContestDid number old (breaks_cycle number cycle desk counts)
+        by_cycle None = did
+        by_cycle (Some cycle) =
+            by_victim (record counts { cycles = counts.cycles ++ cycle ∷ [] }) cycle (find (λ (entry : Entry). entry.number == victim_of cycle) desk.active) refl (victim_of cycle == number) refl

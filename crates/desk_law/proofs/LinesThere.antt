@@ -17,7 +17,7 @@ use Rattle.desk_law.proofs.Permitted.{any-none, permitted-held}
 use Rattle.desk_law.specs.Beside.{AreThere}
 use Rattle.desk_law.specs.Consistent.{IsAmong, due_to, permitted}
 use Rattle.desk_law.specs.Orderly.{IsOrderly}
-use Rattle.desk_law.proofs.Others.{touched_of}
+use Rattle.desk_law.specs.UnderWay.{touched_of}
 
 -- where none passes
 pub filter-none : (test : ℕ → Bool) (xs : List ℕ) → ((x : ℕ) → test x ≡ false) → filter test xs ≡ []

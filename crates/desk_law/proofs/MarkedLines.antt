@@ -16,7 +16,8 @@ use Rattle.desk_law.specs.Consistent.{IsAmong, due_to, AreConsistent}
 use Rattle.desk_law.proofs.CurrentLines.{within-more, wrote-held, holder-or-none}
 use Rattle.desk_law.proofs.Entries.{replaced, among-replaced, replaced-among, new-among, among-filter, filter-among, one-entry}
 use Rattle.desk_law.proofs.KeptTables.{both-imply, any-entries}
-use Rattle.desk_law.proofs.Others.{touched_of, others, another-stays}
+use Rattle.desk_law.proofs.Others.{others, another-stays}
+use Rattle.desk_law.specs.UnderWay.{touched_of}
 use Rattle.desk_law.proofs.Waiting.{any-among, among-any}
 
 module _ (store : FlatStore) (most_lines next : ℕ) (entries : List Entry) (consistent : AreConsistent store most_lines next entries) (marked : ℕ → Bool) (are : AreMarked store entries marked) where

@@ -15,7 +15,7 @@ use Rattle.desk.specs.declared.event.Event.TheVariants.{Begin, Turn, Checkpoint,
 use Rattle.desk.specs.Commits.{begun, IsSerial}
 use Rattle.desk.specs.Desk.{Desk, Entry, opened}
 use Rattle.desk.specs.Holdings.{numbers}
-use Rattle.desk.specs.Instruction.{Word, Fine, ReadFailed, Unwritten, Doubt, Failed, Counts, Turning, Going, Over, Idle, Limit, Checked, Journal, Disk, Victim, Waits, Committed, CommitUnwritten, CommitDoubted, Attempt, instruction, turns, turn_of, no_counts}
+use Rattle.desk.specs.Instruction.{Word, Fine, ReadFailed, Unwritten, Doubt, Failed, Counts, Turning, Going, Over, Idle, Committed, Attempt, instruction, turns, turn_of, no_counts}
 use Rattle.desk.specs.Report.{event_lines}
 use Rattle.desk.specs.Run.{Turned, Busy, Nothing, turned, begin_if, begins, absent_segment, restarted, event_of, step, run}
 use Rattle.desk.proofs.SerialLaw.{run-serial}
@@ -154,28 +154,11 @@ an-instruction : (old : Desk) (attempt : Attempt) (most : ℕ) (memory : Memory)
 an-instruction old attempt most memory (Going desk counts) is here at stays did of = the-row old attempt is here at desk memory stays.0 did of
 an-instruction old attempt most memory (Over desk counts (Committed steps printed)) is here at stays did of =
     (the-commit old attempt is here at desk memory steps printed did of, told old attempt is here at memory printed of did.printed_is)
-an-instruction old attempt most memory (Over desk counts Idle) is here at stays did of = no-row old attempt is here at desk memory stays.0 did of
-an-instruction old attempt most memory (Over desk counts Limit) is here at stays did of = no-row old attempt is here at desk memory stays.0 did of
-an-instruction old attempt most memory (Over desk counts (Checked code address)) is here at stays did of = no-row old attempt is here at desk memory stays.0 did of
-an-instruction old attempt most memory (Over desk counts (Journal lines limit)) is here at stays did of = no-row old attempt is here at desk memory stays.0 did of
-an-instruction old attempt most memory (Over desk counts Disk) is here at stays did of = no-row old attempt is here at desk memory stays.0 did of
-an-instruction old attempt most memory (Over desk counts Victim) is here at stays did of = no-row old attempt is here at desk memory stays.0 did of
-an-instruction old attempt most memory (Over desk counts (Waits holders)) is here at stays did of = no-row old attempt is here at desk memory stays.0 did of
-an-instruction old attempt most memory (Over desk counts CommitUnwritten) is here at stays did of = no-row old attempt is here at desk memory stays.0 did of
-an-instruction old attempt most memory (Over desk counts CommitDoubted) is here at stays did of = no-row old attempt is here at desk memory stays.0 did of
+an-instruction old attempt most memory (Over desk counts _) is here at stays did of = no-row old attempt is here at desk memory stays.0 did of
 
 memory-of-turn : (number : ℕ) (turning : Turning) (memory : Memory) → TurnMemory number turning memory → IsMemory (desk_of turning) memory
-memory-of-turn number (Going desk counts) memory of = of
 memory-of-turn number (Over desk counts (Committed steps printed)) memory of = of.0
-memory-of-turn number (Over desk counts Idle) memory of = of
-memory-of-turn number (Over desk counts Limit) memory of = of
-memory-of-turn number (Over desk counts (Checked code address)) memory of = of
-memory-of-turn number (Over desk counts (Journal lines limit)) memory of = of
-memory-of-turn number (Over desk counts Disk) memory of = of
-memory-of-turn number (Over desk counts Victim) memory of = of
-memory-of-turn number (Over desk counts (Waits holders)) memory of = of
-memory-of-turn number (Over desk counts CommitUnwritten) memory of = of
-memory-of-turn number (Over desk counts CommitDoubted) memory of = of
+memory-of-turn number _ memory of = of
 
 -- so many instructions
 memory-turns : (word : Word) (number most left : ℕ) (turning : Turning) (memory : Memory) → Stays number most turning → TurnMemory number turning memory
@@ -311,15 +294,12 @@ memory-event programs (Begin program args) word desk memory is of = memory-begin
 memory-event programs (Turn activation limit) word desk memory is of =
     memory-turn word activation limit desk memory is of (find (λ (entry : Entry). entry.number == activation) desk.active) refl
 memory-event programs Checkpoint Failed desk memory is of = shut-memory desk memory of
-memory-event programs Checkpoint Fine desk memory is of = of
-memory-event programs Checkpoint (ReadFailed page) desk memory is of = of
-memory-event programs Checkpoint Unwritten desk memory is of = of
-memory-event programs Checkpoint Doubt desk memory is of = of
 memory-event programs Crash Failed desk memory is of = shut-memory (restarted desk) (record memory { bytes = memory.committed }) (crash-memory desk memory is of)
 memory-event programs Crash Fine desk memory is of = crash-memory desk memory is of
 memory-event programs Crash (ReadFailed page) desk memory is of = crash-memory desk memory is of
 memory-event programs Crash Unwritten desk memory is of = crash-memory desk memory is of
 memory-event programs Crash Doubt desk memory is of = crash-memory desk memory is of
+memory-event programs Checkpoint _ desk memory is of = of
 
 memory-step : (programs : List Program) (event : Event) (word : Word) (desk : Desk) (memory : Memory) → IsConsistent desk → IsMemory desk memory
     → IsMemory (step programs event word desk).desk (if desk.closed then memory else after_event programs event word desk memory)
@@ -380,15 +360,7 @@ printed-by number (Over desk some (Committed s p)) memory counts steps printed o
     let same : p ≡ printed = cc in
     (of.1.0, of.1.1, of.1.2 ∙ same)
 printed-by number (Going desk some) memory counts steps printed of happened = absurd (cc)
-printed-by number (Over desk some Idle) memory counts steps printed of happened = absurd (cc)
-printed-by number (Over desk some Limit) memory counts steps printed of happened = absurd (cc)
-printed-by number (Over desk some (Checked code address)) memory counts steps printed of happened = absurd (cc)
-printed-by number (Over desk some (Journal lines limit)) memory counts steps printed of happened = absurd (cc)
-printed-by number (Over desk some Disk) memory counts steps printed of happened = absurd (cc)
-printed-by number (Over desk some Victim) memory counts steps printed of happened = absurd (cc)
-printed-by number (Over desk some (Waits holders)) memory counts steps printed of happened = absurd (cc)
-printed-by number (Over desk some CommitUnwritten) memory counts steps printed of happened = absurd (cc)
-printed-by number (Over desk some CommitDoubted) memory counts steps printed of happened = absurd (cc)
+printed-by number _ memory counts steps printed of happened = absurd (cc)
 
 -- a turn that committed
 commit-told : (programs : List Program) (desk : Desk) (memory : Memory) (number limit : ℕ) (word : Word) (counts : Counts) (steps : ℕ) (printed : List ℕ) → IsConsistent desk → IsMemory desk memory

@@ -10,13 +10,14 @@ use Rattle.lock_rules.proofs.Sets.{has-append, has_left, has_right}
 use Rattle.flat_machine.specs.declared.machine.Plain.{Plain}
 use Rattle.flat_machine.specs.After.{after, next_state}
 use Rattle.flat_machine.specs.Row.{On, row}
-use Rattle.flat_machine.specs.Due.{touched_within, touched_next}
+use Rattle.flat_machine.specs.Due.{touched_next}
 use Rattle.flat_machine.specs.Agreement.{all_of, DoesTheSame}
 use Rattle.flat_machine.proofs.Agreement.{agreement-enough, after-whole, after-kept}
 use Rattle.desk.specs.Desk.{Entry}
 use Rattle.desk_law.specs.Changes.{left_by}
 use Rattle.desk_law.specs.Consistent.{IsAmong, due_to, IsLive, AreApart, AreConsistent}
 use Rattle.desk_law.proofs.Entries.{among-filter, ascend-filter}
+use Rattle.desk_law.specs.UnderWay.{touched_of}
 
 -- the state after a row more
 pub after-row : (store : FlatStore) (entry : Entry) (now next : Plain) → after entry.runs.program entry.runs.args store entry.rows ≡ Some now
@@ -26,10 +27,6 @@ after-row store entry now next at went =
     ap (λ (rows : ℕ). after entry.runs.program entry.runs.args store rows) more
     ∙ ap (λ (state : Option Plain). option_and_then (λ (s : Plain). next_state (row entry.runs.program store.directory s)) state) at
     ∙ ap next_state went
-
--- the lines that were touched
-abbrev pub touched_of : FlatStore → Entry → Lines
-touched_of store entry = touched_within entry.runs.program entry.runs.args store entry.rows
 
 -- touched lines are held
 pub touched-held : (fine : ℕ → Bool) (lines : Lines) (line : ℕ) → has (all_of lines) line ≡ true → has (all_of (with_whole_pages fine lines)) line ≡ true

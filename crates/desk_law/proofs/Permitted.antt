@@ -17,7 +17,7 @@ use Rattle.desk_law.specs.Consistent.{IsAmong, due_to, AreApart}
 use Rattle.desk_law.specs.Laws.{ArePermitted, PermittedIsFree, FineRowsAskForTheirLines, WriteBitsHoldPages}
 use Rattle.desk_law.specs.Orderly.{IsOrderly}
 use Rattle.desk_law.proofs.Orderly.{orderly}
-use Rattle.desk_law.proofs.Others.{touched_of}
+use Rattle.desk_law.specs.UnderWay.{touched_of}
 
 -- where none passes
 pub any-none : (test : ℕ → Bool) (xs : List ℕ) → ((x : ℕ) → has xs x ≡ true → test x ≡ false) → list_any test xs ≡ false

@@ -19,9 +19,9 @@ use Rattle.flat_machine.specs.Agreement.{all_of}
 use Rattle.flat_machine.proofs.Below.{touched-below}
 use Rattle.desk.specs.Desk.{Desk, Entry, with_entry, rolled_back}
 use Rattle.desk.specs.Holdings.{wanted, conflicts_of, numbers, waits_for}
-use Rattle.desk.specs.Instruction.{Word, Fine, ReadFailed, Unwritten, Doubt, Failed, Counts, Turning, Going, Over, Attempt, Fetching, Fetched, Broken, Contest, Contested, Settled, Lost, attempts, attempts_at, instruction, turns, touched_pages, limited, is_over_limit, fetched_first, fetches_touched, asks, gets, goes_on, takes_effect, commits, contest_ends, waits_or_gets, with_grants, refused_pages, breaks_cycle, breaks_cycles}
+use Rattle.desk.specs.Instruction.{Word, Unwritten, Counts, Turning, Going, Over, Attempt, Fetching, Fetched, Broken, Contest, Contested, Settled, Lost, attempts, attempts_at, instruction, turns, touched_pages, limited, is_over_limit, fetched_first, fetches_touched, asks, gets, goes_on, takes_effect, commits, contest_ends, waits_or_gets, with_grants, refused_pages, breaks_cycle, breaks_cycles}
 use Rattle.desk_law.specs.Consistent.{AreResident}
-use Rattle.desk_law.proofs.Contest.{left_over}
+use Rattle.desk_law.proofs.Contest.{breaks-keep, left_over}
 use Rattle.desk_law.proofs.ResidentPages.{FetchFits, fetches-resident, taken-resident, none-resident}
 
 -- there are two frames, and the resident pages fit
@@ -62,22 +62,20 @@ resident-fits desk resident is are = record { frames = is.frames; resident = are
 
 -- victims
 breaks-fits : (directory : Layout) (left one : ℕ) (contest : Contest) → ContestFits directory contest → ContestFits directory (breaks_cycles left one contest)
-breaks-fits directory zero one contest is = is
-breaks-fits directory (suc left) one (Settled desk counts) is = is
-breaks-fits directory (suc left) one (Lost desk counts) is = is
-breaks-fits directory (suc left) one (Contested desk counts) is =
-    breaks-fits directory left one (breaks_cycle one (shown_cycle (waits_for desk) (numbers desk) one) desk counts)
-    (by_cycle (shown_cycle (waits_for desk) (numbers desk) one))
+breaks-fits directory left one contest is = breaks-keep (ContestFits directory) one round left contest is
   where
-    by_victim : (counts : Counts) (victim : Option Entry) (lost : Bool) → ContestFits directory (left_over desk counts victim lost)
-    by_victim counts None true = is
-    by_victim counts None false = is
-    by_victim counts (Some entry) true = (rolled-fits desk entry is.0, is.1)
-    by_victim counts (Some entry) false = (rolled-fits desk entry is.0, is.1)
+    round : (desk : Desk) (counts : Counts) → ContestFits directory (Contested desk counts) → ContestFits directory (breaks_cycle one (shown_cycle (waits_for desk) (numbers desk) one) desk counts)
+    round desk counts is = by_cycle (shown_cycle (waits_for desk) (numbers desk) one)
+      where
+        by_victim : (counts : Counts) (victim : Option Entry) (lost : Bool) → ContestFits directory (left_over desk counts victim lost)
+        by_victim counts None true = is
+        by_victim counts None false = is
+        by_victim counts (Some entry) true = (rolled-fits desk entry is.0, is.1)
+        by_victim counts (Some entry) false = (rolled-fits desk entry is.0, is.1)
 
-    by_cycle : (cycle : Option (List ℕ)) → ContestFits directory (breaks_cycle one cycle desk counts)
-    by_cycle None = is
-    by_cycle (Some cycle) = by_victim (record counts { cycles = counts.cycles ++ cycle ∷ [] }) (find (λ (entry : Entry). entry.number == victim_of cycle) desk.active) (victim_of cycle == one)
+        by_cycle : (cycle : Option (List ℕ)) → ContestFits directory (breaks_cycle one cycle desk counts)
+        by_cycle None = is
+        by_cycle (Some cycle) = by_victim (record counts { cycles = counts.cycles ++ cycle ∷ [] }) (find (λ (entry : Entry). entry.number == victim_of cycle) desk.active) (victim_of cycle == one)
 
 module _ (word : Word) (attempt : Attempt) (directory : Layout) (below : (page : ℕ) → has (touched_pages attempt) page ≡ true → page < page_count directory) where
   fits-fetched : (desk : Desk) (counts : Counts) → desk.committed.directory ≡ directory → Fits desk → FetchFits desk.frames (page_count desk.committed.directory) (fetches_touched word attempt desk counts)
@@ -87,10 +85,7 @@ module _ (word : Word) (attempt : Attempt) (directory : Layout) (below : (page :
 
   fits-commit : (word : Word) (desk : Desk) (counts : Counts) → Fits desk → TurnFits (commits word attempt desk counts)
   fits-commit Unwritten desk counts is = record { frames = is.frames; resident = is.resident }
-  fits-commit Doubt desk counts is = record { frames = is.frames; resident = is.resident }
-  fits-commit Fine desk counts is = record { frames = is.frames; resident = is.resident }
-  fits-commit (ReadFailed page) desk counts is = record { frames = is.frames; resident = is.resident }
-  fits-commit Failed desk counts is = record { frames = is.frames; resident = is.resident }
+  fits-commit _ desk counts is = record { frames = is.frames; resident = is.resident }
 
   fits-effect : (desk : Desk) (counts : Counts) (outcome : Outcome) → Fits desk → TurnFits (takes_effect word attempt outcome desk counts)
   fits-effect desk counts (On next) is = record { frames = is.frames; resident = is.resident }

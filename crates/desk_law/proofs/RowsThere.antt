@@ -22,7 +22,7 @@ use Rattle.desk_law.proofs.GoesOn.{due-more}
 use Rattle.desk_law.proofs.InstructionStages.{attempt_of, GoesOn, instruction-at, stage-check, stage-limit, stage-fetched, stage-gets, stage-on, stage-commit}
 use Rattle.desk_law.proofs.LinesThere.{filter-none, fetches-none, there-resident, there-unrefused, there-held, there-lowered}
 use Rattle.desk_law.specs.Orderly.{IsOrderly}
-use Rattle.desk_law.proofs.Others.{touched_of}
+use Rattle.desk_law.specs.UnderWay.{touched_of}
 use Rattle.desk_law.proofs.Permitted.{held-free, held-written}
 use Rattle.desk_law.proofs.Endings.{wanted-commit}
 

@@ -21,14 +21,12 @@ use Rattle.desk_law.specs.Changes.{gone_on, row_done}
 use Rattle.desk_law.specs.Current.{IsCurrent}
 use Rattle.desk_law.specs.Laws.{ArePermitted}
 use Rattle.desk_law.proofs.AttemptsOnCurrent.{shown-current}
-use Rattle.desk_law.proofs.Contest.{KeepsPages}
-use Rattle.desk_law.proofs.ContestRounds.{IsUnderWay}
+use Rattle.desk_law.specs.UnderWay.{KeepsPages, touched_of, IsUnderWay, IsReady}
 use Rattle.desk_law.proofs.Entries.{replaced}
-use Rattle.desk_law.proofs.GoesOn.{IsReady, ready-again, grants-held, row-goes-on}
+use Rattle.desk_law.proofs.GoesOn.{ready-again, grants-held, row-goes-on}
 use Rattle.desk_law.proofs.Granted.{granted-permits}
 use Rattle.desk_law.proofs.InstructionStages.{stage-gets, stage-on}
 use Rattle.desk_law.specs.Orderly.{IsOrderly}
-use Rattle.desk_law.proofs.Others.{touched_of}
 use Rattle.desk_law.proofs.SharedBytes.{row-on-current}
 use Rattle.desk_law.proofs.TurnsStay.{resident-granted}
 

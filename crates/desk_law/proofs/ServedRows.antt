@@ -1,6 +1,6 @@
 -- The stages put together: a fault that meets no conflict, and one whose contest left none, go on; and the second attempt of
 -- each finds its lines there.
-use Rattle.std.specs.Prelude.{false, nat_lt, ◌≡◌, refl, ℕ, ◌+◌, true, List, [], ◌∷◌, length, filter, map, Some, None}
+use Rattle.std.specs.Prelude.{false, nat_lt, ◌≡◌, refl, ℕ, ◌+◌, true, List, [], ◌∷◌, length, filter, map, Some}
 use Rattle.std.proofs.Common.{ap, sym, ◌∙◌, subst}
 use Rattle.line_geometry.specs.Directory.{is_fine_page}
 use Rattle.lock_rules.specs.Sets.{has}
@@ -8,28 +8,20 @@ use Rattle.lock_rules.specs.Lines.{Lines, with_whole_pages}
 use Rattle.flat_machine.specs.declared.machine.Plain.{Plain}
 use Rattle.flat_machine.specs.Row.{On, row}
 use Rattle.flat_machine.specs.After.{after}
-use Rattle.desk.specs.Desk.{Desk, Entry, Authority, with_entry}
+use Rattle.desk.specs.Desk.{Desk, Entry, with_entry}
 use Rattle.desk.specs.Holdings.{conflicts_of}
 use Rattle.desk.specs.Instruction.{Word, Fine, Counts, Turning, Going, Attempt, Fetched, fetches, instruction, lines_written, touched_pages, refused_pages, gets, asks}
 use Rattle.desk_law.specs.Beside.{AreThere, AreAlike, over_all, requested, IsTableBut, kept_conflict, AreStatesBut, IsTold, Reads}
 use Rattle.desk_law.specs.Changes.{gone_on, row_done}
 use Rattle.desk_law.specs.Consistent.{IsAmong, due_to}
 use Rattle.desk_law.proofs.AttemptsOnCurrent.{wanted-is}
-use Rattle.desk_law.proofs.Contest.{KeepsPages}
-use Rattle.desk_law.proofs.GoesOn.{IsReady}
+use Rattle.desk_law.specs.UnderWay.{IsReady, served_attempt}
 use Rattle.desk_law.proofs.KeptTables.{conflicts-kept}
 use Rattle.desk_law.specs.Orderly.{IsOrderly}
 use Rattle.desk_law.proofs.ServedEffect.{got, served-there}
-use Rattle.desk_law.proofs.ServesConflicts.{IsContesting, shows_cycle, contesting-begins, contesting-ready}
-use Rattle.desk_law.proofs.ServesToLocks.{served_attempt, asked_for, serve-asks, serve-ready, serve-ends}
+use Rattle.desk_law.proofs.ServesConflicts.{IsContesting, contesting-begins}
+use Rattle.desk_law.proofs.ServesToLocks.{asked_for, serve-asks, serve-ready, serve-ends}
 use Rattle.desk_law.proofs.ToldSteps.{HasServed, told-served}
-
--- the desk once the pages of a fault were fetched first, and what was counted then
-abbrev pub fetched_desk : Desk → List ℕ → Desk
-fetched_desk desk resident = record desk { resident = resident }
-
-abbrev pub fetched_counts : Counts → (counted refused : ℕ) → Counts
-fetched_counts counts counted refused = record counts { pages = counted; locks = counts.locks + refused }
 
 -- a row that was served: the instruction, wherever it began, goes on to a consistent desk, of which all is told
 pub record WentOn (begins : Word → Turning) (next : Desk) (more : Counts) (locks requests : ℕ → Lines) (states : ℕ → Plain) (bytes : List ℕ) : Type 0 where
@@ -121,15 +113,3 @@ module _ (desk : Desk) (counts : Counts) (entry : Entry) (now shown : Plain) (by
       here told
       (subst (λ (l : Lines). AreAlike l (requested desk.committed entry)) (sym asked_is) alike-asked)
       but
-
--- After a contest that left no holder, the second attempt finds its lines there too.
-pub contest-there :
-    (begins : Word → Turning) (attempt : Attempt) (before first desk : Desk) (counts : Counts) (locks requests : ℕ → Lines) (states : ℕ → Plain) (bytes resident : List ℕ)
-    → IsContesting begins attempt (refused_pages attempt before) first desk counts locks requests states bytes → shows_cycle locks requests desk attempt.entry.number ≡ None
-    → first.authority ≡ before.authority
-    → ((page : ℕ) → has (touched_pages attempt) page ≡ true → has resident page ≡ true)
-    → AreThere (got attempt (refused_pages attempt before) resident desk) attempt.entry.number attempt.lines
-contest-there begins attempt before first desk counts locks requests states bytes resident is shown same there =
-    served-there attempt before.authority desk resident
-    (contesting-ready begins attempt (refused_pages attempt before) first desk counts locks requests states bytes is shown)
-    (subst (λ (authority : List Authority). KeepsPages attempt.entry.number authority desk.authority) same is.under_way.keeps) there

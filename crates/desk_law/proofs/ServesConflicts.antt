@@ -10,18 +10,15 @@ use Rattle.desk.specs.Instruction.{Word, Counts, Turning, Over, Victim, Waits, A
 use Rattle.desk_law.specs.Beside.{IsLaid, AreAlike, requested, IsTableBut, kept_conflict, kept_waits, IsTold, Reads}
 use Rattle.desk_law.specs.Consistent.{IsAmong, due_to}
 use Rattle.desk_law.proofs.Contest.{contending}
-use Rattle.desk_law.proofs.ContestRounds.{contest, with_cycle, entry_with, IsUnderWay, under-way, round-under_way, round-settles, round-breaks, round-loses, asks-contest, settled-consistent, lost-consistent, victim-there}
+use Rattle.desk_law.proofs.ContestRounds.{with_cycle, entry_with, under-way, round-under_way, round-settles, round-breaks, round-loses, asks-contest, settled-consistent, lost-consistent, victim-there}
+use Rattle.desk_law.specs.UnderWay.{contest, IsUnderWay, IsReady, marked}
 use Rattle.desk_law.proofs.Entries.{among-found}
-use Rattle.desk_law.proofs.GoesOn.{IsReady, marked-contending}
+use Rattle.desk_law.proofs.GoesOn.{marked-contending}
 use Rattle.desk_law.proofs.InstructionStages.{stage-settled}
 use Rattle.desk_law.proofs.KeptTables.{conflicts-kept, cycle-kept}
 use Rattle.desk_law.specs.Orderly.{IsOrderly}
 use Rattle.desk_law.proofs.ServedEffect.{ready-settled}
 use Rattle.desk_law.proofs.ToldSteps.{told-mark, told-rollback}
-
--- the entry of an attempt, marked waiting
-abbrev pub marked : Attempt → Entry
-marked attempt = record attempt.entry { waiting = true }
 
 -- The invariant of the loop: an instruction, wherever it began, is the contest from here, and what is kept is kept of this desk.
 pub record IsContesting (begins : Word → Turning) (attempt : Attempt) (refused : List ℕ) (first desk : Desk) (counts : Counts) (locks requests : ℕ → Lines) (states : ℕ → Plain) (bytes : List ℕ) : Type 0 where

@@ -20,24 +20,13 @@ use Rattle.desk_law.proofs.AlikeSets.{written-alike}
 use Rattle.desk_law.proofs.AttemptsOnCurrent.{IsOwnRow, own-row, wanted-is}
 use Rattle.desk_law.proofs.Contest.{contending}
 use Rattle.desk_law.proofs.FetchesCounted.{fetched-for, fetched-few}
-use Rattle.desk_law.proofs.GoesOn.{IsReady}
+use Rattle.desk_law.specs.UnderWay.{IsReady, touched_of, served_attempt}
 use Rattle.desk_law.proofs.InstructionStages.{GoesOn, instruction-at, stage-limit, stage-broken, stage-fetched}
 use Rattle.desk_law.proofs.KeptTables.{conflicts-kept}
 use Rattle.desk_law.specs.Orderly.{IsOrderly}
-use Rattle.desk_law.proofs.Others.{touched_of}
 use Rattle.desk_law.proofs.ServedEffect.{got}
 use Rattle.desk_law.proofs.ToldSteps.{HasServed}
 use Rattle.desk_law.proofs.TurnsStay.{resident-consistent}
-
--- the instruction under way, with the lines that its attempt over the bytes of all touched
-abbrev pub served_attempt : Desk → Entry → Plain → List ℕ → Attempt
-served_attempt desk entry now bytes =
-    record {
-      entry = entry;
-      now = now;
-      outcome = row entry.runs.program desk.committed.directory now;
-      lines = touched entry.runs.program desk.committed.directory (over_all now bytes);
-    }
 
 -- what those lines ask for
 abbrev pub asked_for : Layout → Attempt → Lines

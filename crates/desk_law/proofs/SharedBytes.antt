@@ -25,7 +25,8 @@ use Rattle.desk_law.specs.Changes.{gone_on}
 use Rattle.desk_law.specs.Consistent.{IsAmong, AreConsistent}
 use Rattle.desk_law.specs.Current.{current_of, current, IsCurrent}
 use Rattle.desk_law.proofs.Entries.{replaced, one-entry}
-use Rattle.desk_law.proofs.Others.{touched_of, after-row}
+use Rattle.desk_law.proofs.Others.{after-row}
+use Rattle.desk_law.specs.UnderWay.{touched_of}
 use Rattle.desk_law.proofs.GoesOn.{nobody-conflicts}
 use Rattle.desk_law.proofs.CurrentLines.{current-written, current-unwritten, row-writes, row-leaves}
 

@@ -17,7 +17,8 @@ use Rattle.desk_law.specs.Changes.{left_by, gone_on, row_done}
 use Rattle.desk_law.specs.Consistent.{IsAmong, due_to, AreConsistent}
 use Rattle.desk_law.proofs.CurrentSteps.{current-rolled, current-committed, commit-laid, current-marked}
 use Rattle.desk_law.proofs.Entries.{replaced, among-replaced, among-filter}
-use Rattle.desk_law.proofs.GoesOn.{apart-turned, IsReady}
+use Rattle.desk_law.proofs.GoesOn.{apart-turned}
+use Rattle.desk_law.specs.UnderWay.{IsReady}
 use Rattle.desk_law.proofs.KeptTables.{kept-row, kept-mark, kept-rollback, kept-commit}
 use Rattle.desk_law.specs.Orderly.{IsOrderly}
 use Rattle.desk_law.proofs.Others.{others, another-same, after-row}

@@ -11,12 +11,12 @@ use Rattle.flat_machine.specs.After.{after}
 use Rattle.flat_machine.specs.Due.{touched_within, touched_next}
 use Rattle.desk.specs.Desk.{Desk, Entry, with_entry}
 use Rattle.desk.specs.Holdings.{conflicts_of, numbers, waits_for}
-use Rattle.desk.specs.Instruction.{Word, Fine, ReadFailed, Unwritten, Doubt, Failed, Counts, Turning, Going, Over, Idle, Limit, Checked, Journal, Disk, Victim, Waits, Committed, CommitUnwritten, CommitDoubted, Attempt, Fetching, Fetched, Broken, Contest, Contested, Settled, Lost, attempts, attempts_at, instruction, turns, turn_of, no_counts, can't_be_read, fetches, limited, is_over_limit, lines_written, fetched_first, fetches_touched, asks, gets, goes_on, takes_effect, commits, contest_ends, waits_or_gets, with_grants, refused_pages, breaks_cycle, breaks_cycles}
+use Rattle.desk.specs.Instruction.{Word, ReadFailed, Unwritten, Doubt, Counts, Turning, Going, Over, Idle, Limit, Checked, Journal, Disk, Victim, Waits, Committed, CommitUnwritten, CommitDoubted, Attempt, Fetching, Fetched, Broken, Contest, Contested, Settled, Lost, attempts, attempts_at, instruction, turns, turn_of, no_counts, can't_be_read, fetches, limited, is_over_limit, lines_written, fetched_first, fetches_touched, asks, gets, goes_on, takes_effect, commits, contest_ends, waits_or_gets, with_grants, refused_pages, breaks_cycle, breaks_cycles}
 use Rattle.desk_law.specs.Causes.{RowIs, lines_by, waiting_after, HasCause, IsOverFor, TurnsEndForCause, desk_of}
 use Rattle.desk_law.specs.Changes.{gone_on}
 use Rattle.desk_law.specs.Consistent.{IsAmong, IsConsistent}
 use Rattle.desk_law.proofs.Entries.{found-among, new-among}
-use Rattle.desk_law.proofs.Contest.{left_over}
+use Rattle.desk_law.proofs.Contest.{breaks-keep, left_over}
 use Rattle.desk_law.proofs.ContestRounds.{asker-left}
 use Rattle.desk_law.proofs.ConsistentLaw.{instruction-consistent}
 use Rattle.desk_law.proofs.InstructionStages.{attempt_of}
@@ -28,10 +28,7 @@ FetchCause word (Broken counted) = word ≡ ReadFailed counted
 
 unread : (word : Word) (counted : ℕ) → can't_be_read word counted ≡ true → word ≡ ReadFailed counted
 unread (ReadFailed page) counted fails = ap ReadFailed (eqb-true page counted fails)
-unread Fine counted fails = absurd (cc)
-unread Unwritten counted fails = absurd (cc)
-unread Doubt counted fails = absurd (cc)
-unread Failed counted fails = absurd (cc)
+unread _ counted fails = absurd (cc)
 
 fetch-cause : (word : Word) (frames : ℕ) (kept pages resident : List ℕ) (counted : ℕ) → FetchCause word (fetches word frames kept pages resident counted)
 fetch-cause word frames kept [] resident counted = tt
@@ -90,35 +87,31 @@ ContestComes old base entry (Settled desk counts) = Marked old base entry desk c
 ContestComes old base entry (Lost desk counts) = LastVictim entry.number counts
 
 contest-comes : (old : Desk) (base : Counts) (entry : Entry) (left : ℕ) (contest : Contest) → ContestComes old base entry contest → ContestComes old base entry (breaks_cycles left entry.number contest)
-contest-comes old base entry zero contest is = is
-contest-comes old base entry (suc left) (Settled desk counts) is = is
-contest-comes old base entry (suc left) (Lost desk counts) is = is
-contest-comes old base entry (suc left) (Contested desk counts) is =
-    contest-comes old base entry left (breaks_cycle entry.number (shown_cycle (waits_for desk) (numbers desk) entry.number) desk counts)
-    (by_cycle (shown_cycle (waits_for desk) (numbers desk) entry.number))
+contest-comes old base entry left contest is = breaks-keep (ContestComes old base entry) entry.number round left contest is
   where
-    by_victim : (cycle : List ℕ) (victim : Option Entry) → find (λ (one : Entry). one.number == victim_of cycle) desk.active ≡ victim → (lost : Bool) → (victim_of cycle == entry.number) ≡ lost
-        → ContestComes old base entry (left_over desk (record counts { cycles = counts.cycles ++ cycle ∷ [] }) victim lost)
-    by_victim cycle victim found true e = (counts.cycles, cycle, refl, eqb-true (victim_of cycle) entry.number e)
-    by_victim cycle None found false e = record { committed = is.committed; limit = is.limit; ran = is.ran; here = is.here }
-    by_victim cycle (Some victim) found false e = record {
-      committed = is.committed;
-      limit = is.limit;
-      ran = is.ran;
-      here = asker-left desk (record entry { waiting = true }) victim cycle is.here found e;
-    }
+    round : (desk : Desk) (counts : Counts) → ContestComes old base entry (Contested desk counts) → ContestComes old base entry (breaks_cycle entry.number (shown_cycle (waits_for desk) (numbers desk) entry.number) desk counts)
+    round desk counts is = by_cycle (shown_cycle (waits_for desk) (numbers desk) entry.number)
+      where
+        by_victim : (cycle : List ℕ) (victim : Option Entry) → find (λ (one : Entry). one.number == victim_of cycle) desk.active ≡ victim → (lost : Bool) → (victim_of cycle == entry.number) ≡ lost
+            → ContestComes old base entry (left_over desk (record counts { cycles = counts.cycles ++ cycle ∷ [] }) victim lost)
+        by_victim cycle victim found true e = (counts.cycles, cycle, refl, eqb-true (victim_of cycle) entry.number e)
+        by_victim cycle None found false e = record { committed = is.committed; limit = is.limit; ran = is.ran; here = is.here }
+        by_victim cycle (Some victim) found false e = record {
+          committed = is.committed;
+          limit = is.limit;
+          ran = is.ran;
+          here = asker-left desk (record entry { waiting = true }) victim cycle is.here found e;
+        }
 
-    by_cycle : (cycle : Option (List ℕ)) → ContestComes old base entry (breaks_cycle entry.number cycle desk counts)
-    by_cycle None = is
-    by_cycle (Some cycle) = by_victim cycle (find (λ (one : Entry). one.number == victim_of cycle) desk.active) refl (victim_of cycle == entry.number) refl
+        by_cycle : (cycle : Option (List ℕ)) → ContestComes old base entry (breaks_cycle entry.number cycle desk counts)
+        by_cycle None = is
+        by_cycle (Some cycle) = by_victim cycle (find (λ (one : Entry). one.number == victim_of cycle) desk.active) refl (victim_of cycle == entry.number) refl
 
 module _ (word : Word) (attempt : Attempt) (old : Desk) (base : Counts) where
   come-commit : (word : Word) (desk : Desk) (counts : Counts) → attempt.outcome ≡ Commit → Stays old base attempt.entry desk counts → Comes word attempt old base (commits word attempt desk counts)
   come-commit Unwritten desk counts went stays = (stays.ran, refl, went)
   come-commit Doubt desk counts went stays = (stays.ran, refl, went)
-  come-commit Fine desk counts went stays = (ap (λ (n : ℕ). n + 1) stays.ran, refl, went, refl)
-  come-commit (ReadFailed page) desk counts went stays = (ap (λ (n : ℕ). n + 1) stays.ran, refl, went, refl)
-  come-commit Failed desk counts went stays = (ap (λ (n : ℕ). n + 1) stays.ran, refl, went, refl)
+  come-commit _ desk counts went stays = (ap (λ (n : ℕ). n + 1) stays.ran, refl, went, refl)
 
   come-effect : (desk : Desk) (counts : Counts) (outcome : Outcome) → attempt.outcome ≡ outcome → Stays old base attempt.entry desk counts → Comes word attempt old base (takes_effect word attempt outcome desk counts)
   come-effect desk counts (On next) went stays = (

@@ -2,7 +2,7 @@
 use Rattle.std.specs.Prelude.{◌≡◌, refl, ℕ, zero, suc, ◌≤◌, ◌==◌, find, Option, Some}
 use Rattle.std.proofs.Common.{arith, ap, ◌∙◌}
 use Rattle.desk.specs.Desk.{Desk, Entry}
-use Rattle.desk.specs.Instruction.{Word, Fine, ReadFailed, Unwritten, Doubt, Failed, Counts, Turning, Going, Over, Ending, Limit, Attempt, instruction, turns, commits}
+use Rattle.desk.specs.Instruction.{Word, Fine, Counts, Turning, Going, Over, Ending, Limit, Attempt, instruction, turns, commits}
 use Rattle.desk_law.specs.Beside.{Reads}
 use Rattle.desk_law.specs.Consistent.{IsAmong}
 use Rattle.desk_law.specs.Orderly.{IsOrderly}
@@ -28,10 +28,7 @@ turns-none word number desk counts = refl
 turns-commit : (word : Word) (number left : ℕ) (attempt : Attempt) (desk : Desk) (counts : Counts) → turns word number left (commits word attempt desk counts) ≡ commits word attempt desk counts
 unfolding turns
 turns-commit Fine number left attempt desk counts = refl
-turns-commit (ReadFailed page) number left attempt desk counts = refl
-turns-commit Unwritten number left attempt desk counts = refl
-turns-commit Doubt number left attempt desk counts = refl
-turns-commit Failed number left attempt desk counts = refl
+turns-commit _ number left attempt desk counts = refl
 
 module _ (begins : Word → Turning) (left : ℕ) (desk : Desk) (counts : Counts) (entry : Entry) (is : IsOrderly desk) (here : IsAmong desk.active entry)
     (turning : IsTurning begins entry.number (suc left) desk counts) where

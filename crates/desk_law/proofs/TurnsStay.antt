@@ -10,15 +10,15 @@ use Rattle.flat_machine.specs.Row.{Outcome, On, Commit, Check, row}
 use Rattle.flat_machine.specs.After.{after}
 use Rattle.desk.specs.Desk.{Desk, Entry, with_entry, ended, rolled_back}
 use Rattle.desk.specs.Holdings.{wanted, conflicts_of}
-use Rattle.desk.specs.Instruction.{Word, Fine, ReadFailed, Unwritten, Doubt, Failed, Counts, Turning, Going, Over, Ending, Idle, Committed, Attempt, Fetching, Fetched, Broken, Contest, Contested, Settled, Lost, attempts, attempts_at, instruction, turns, limited, is_over_limit, lines_written, fetched_first, fetches_touched, asks, gets, goes_on, breaks, ordered, takes_effect, commits, contest_ends, waits_or_gets, with_grants, refused_pages}
+use Rattle.desk.specs.Instruction.{Word, Fine, Unwritten, Doubt, Counts, Turning, Going, Over, Ending, Idle, Committed, Attempt, Fetching, Fetched, Broken, Contest, Contested, Settled, Lost, attempts, attempts_at, instruction, turns, limited, is_over_limit, lines_written, fetched_first, fetches_touched, asks, gets, goes_on, breaks, ordered, takes_effect, commits, contest_ends, waits_or_gets, with_grants, refused_pages}
 use Rattle.desk_law.specs.Changes.{gone_on}
 use Rattle.desk_law.specs.Consistent.{IsAmong}
 use Rattle.desk_law.specs.Laws.{IsActive}
 use Rattle.desk_law.specs.Orderly.{IsOrderly}
 use Rattle.desk_law.proofs.Entries.{among-found, none-found, new-among}
-use Rattle.desk_law.proofs.Others.{touched_of}
+use Rattle.desk_law.specs.UnderWay.{touched_of, IsReady}
 use Rattle.desk_law.proofs.Contest.{contending, rolled-consistent, breaks-all, Came}
-use Rattle.desk_law.proofs.GoesOn.{IsReady, ready-again, IsGranted, grants-held, row-goes-on, marked-contending, length-replaced}
+use Rattle.desk_law.proofs.GoesOn.{ready-again, IsGranted, grants-held, row-goes-on, marked-contending, length-replaced}
 use Rattle.desk_law.proofs.Endings.{granted-rolled, granted-commits, granted-closes}
 use Rattle.desk_law.proofs.Instructions.{From, NoRowDone, Did, ContestDid, left-before, rolled-done, marked-before, marked-from, breaks-did}
 use Rattle.desk_law.proofs.InstructionStages.{attempt_of}
@@ -93,8 +93,7 @@ module _ (word : Word) (attempt : Attempt) (most : ℕ) (old : Desk) where
       let order = desk.order ++ (attempt.entry.number, attempt.entry.rows + 1) ∷ [] in
       ((goes-closed desk is went order, tt, omega (arith, fits)), goes-left desk order from is)
   goes-commit Fine desk counts fits from went is = goes-done desk counts fits from is
-  goes-commit (ReadFailed page) desk counts fits from went is = goes-done desk counts fits from is
-  goes-commit Failed desk counts fits from went is = goes-done desk counts fits from is
+  goes-commit _ desk counts fits from went is = goes-done desk counts fits from is
 
   goes-effect : (desk : Desk) (counts : Counts) (outcome : Outcome) → Room desk counts → From attempt.entry.number old desk → attempt.outcome ≡ outcome → IsGranted attempt desk → Goes old attempt most (takes_effect word attempt outcome desk counts)
   goes-effect desk counts (On next) fits from went is = (

@@ -14,7 +14,8 @@ use Rattle.desk.specs.Holdings.{conflicts_with, waits_for}
 use Rattle.desk_law.specs.Changes.{committed_at, left_by}
 use Rattle.desk_law.specs.Consistent.{IsAmong, AreConsistent}
 use Rattle.desk_law.proofs.Entries.{among-filter, among-replaced}
-use Rattle.desk_law.proofs.Walks.{except, Leaves}
+use Rattle.desk_law.proofs.Walks.{Leaves}
+use Rattle.desk_law.specs.UnderWay.{except}
 use Rattle.desk_law.proofs.Others.{another-stays, StaysSame}
 
 -- an entry that passes a test settles it
@@ -129,6 +130,11 @@ commit-waits desk entry now from to whole are here is waits =
           sym (λ i. not (by.other.number == by.entry.number) && conflicts (with_whole_pages (is_fine_page desk.committed.directory) (same1.wants i)) (same2.due i)) ∙ by.conflict;
     })
 
+-- a wait at another desk with the same two in it
+waits-still : (old desk : Desk) (from to : ℕ) (by : WaitsFor old from to) → IsAmong desk.active by.entry → IsAmong desk.active by.other → conflicts_with desk by.entry by.other ≡ true → waits_for desk from to ≡ true
+waits-still old desk from to by one other conflict =
+    waits-from desk from to (record { entry = by.entry; other = by.other; entry_among = one; other_among = other; is_from = by.is_from; waiting = by.waiting; is_to = by.is_to; conflict = conflict })
+
 -- one that is marked waiting adds waits of its own alone
 pub marked-waits : (desk : Desk) (entry : Entry) (mark : Bool) (from to : ℕ) → IsAmong desk.active entry
     → except entry.number (waits_for (with_entry desk (record entry { waiting = mark }))) from to ≡ true → except entry.number (waits_for desk) from to ≡ true
@@ -155,17 +161,7 @@ marked-waits desk entry mark from to here waits =
                   conflict = ap (λ (x : Entry). conflicts_with desk by.entry x) new ∙ by.conflict;
                 })
             | inr also ↦
-                waits-from desk from to
-                (record {
-                  entry = by.entry;
-                  other = by.other;
-                  entry_among = old.0;
-                  other_among = also.0;
-                  is_from = by.is_from;
-                  waiting = by.waiting;
-                  is_to = by.is_to;
-                  conflict = by.conflict;
-                })
+                waits-still (with_entry desk (record entry { waiting = mark })) desk from to by old.0 also.0 by.conflict
           ]
     ])
 
@@ -191,17 +187,7 @@ gone-on desk entry new same not_waiting = record {
                   let is_one : to ≡ entry.number = sym (eqb-true by.other.number to by.is_to) ∙ sym (ap (λ (x : Entry). x.number) it) ∙ same in
                   absurd (both_ways (to == entry.number) other (eq-eqb to entry.number is_one))
               | inr also ↦
-                  waits-from desk from to
-                  (record {
-                    entry = by.entry;
-                    other = by.other;
-                    entry_among = old.0;
-                    other_among = also.0;
-                    is_from = by.is_from;
-                    waiting = by.waiting;
-                    is_to = by.is_to;
-                    conflict = by.conflict;
-                  })
+                  waits-still (with_entry desk new) desk from to by old.0 also.0 by.conflict
             ]
       ];
 }

@@ -8,6 +8,7 @@ use Rattle.lock_rules.specs.Waits.{leads}
 use Rattle.lock_rules.proofs.Sets.{any-at, any-some}
 use Rattle.desk_law.specs.Consistent.{HasNoCycle}
 use Rattle.desk_law.proofs.Entries.{filter-short}
+use Rattle.desk_law.specs.UnderWay.{except}
 
 -- the first step of a walk
 pub record Steps (waits : ℕ → ℕ → Bool) (all : List ℕ) (steps from to : ℕ) : Type 0 where
@@ -81,10 +82,6 @@ walk-on waits all (suc steps) others from middle to one two =
             one-step waits all sum from to first.next first.there first.step (inr walk),
           )
     ]
-
--- the waits without those of one number
-abbrev pub except : ℕ → (ℕ → ℕ → Bool) → ℕ → ℕ → Bool
-except one waits from to = not (from == one) && waits from to
 
 -- a walk that goes by a number
 pub record GoesBy (waits : ℕ → ℕ → Bool) (all : List ℕ) (one from to : ℕ) : Type 0 where

@@ -7,3 +7,4 @@ pub mod CurrentLaws
 pub mod Beside
 pub mod Memory
 pub mod Causes
+pub mod UnderWay

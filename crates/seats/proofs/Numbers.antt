@@ -1,9 +1,8 @@
 -- What is said of seats, said of the numbers in them and of flat lines: holders, waits and the shown cycle.
-use Rattle.std.specs.Prelude.{◌≡◌, refl, ℕ, ◌==◌, ◌&&◌, not, cond, Bool, true, false, List, [], ◌∷◌, map, filter, All, Option, Some, None}
+use Rattle.std.specs.Prelude.{◌≡◌, refl, ℕ, ◌==◌, ◌&&◌, not, cond, Bool, true, false, List, [], ◌∷◌, map, filter, Option, Some, None}
 use Rattle.std.specs.Option.{option_map_or}
-use Rattle.std.proofs.Common.{ap, sym, ◌∙◌, get_or-set_other}
-use Rattle.std.proofs.lemmas.Bool.{eqb-true, eqb-false, eq-eqb, both_ways, or_left, or_right}
-use Rattle.line_geometry.specs.LineSets.{IsOfPage}
+use Rattle.std.proofs.Common.{ap, sym, ◌∙◌}
+use Rattle.std.proofs.lemmas.Bool.{eqb-true, eq-eqb, both_ways, or_left, or_right}
 use Rattle.lock_rules.specs.Sets.{has}
 use Rattle.lock_rules.specs.Lines.{Lines, conflicts}
 use Rattle.lock_rules.specs.Waits.{shown_cycle}
@@ -13,18 +12,9 @@ use Rattle.line_locks.specs.declared.request.Want.{Want}
 use Rattle.line_locks.specs.Holding.{of_seat, is_in_conflict}
 use Rattle.line_locks.specs.Flat.{lines_wanted, IsFlat}
 use Rattle.line_locks.proofs.FlatLemmas.{conflict-flat}
-use Rattle.seats.specs.declared.seat.Seat.{Seat}
-use Rattle.seats.specs.Seating.{Seating, IsSeating, newcomer, sitter, number_in, numbers, seat_of, with_sitter}
-use Rattle.seats.specs.Waiting.{holders, seat_waits, cycle_of}
+use Rattle.seats.specs.Seating.{Seating, IsSeating, sitter, number_in, numbers, seat_of}
+use Rattle.seats.specs.Waiting.{holders, seat_waits, cycle_of, AreOfPage}
 use Rattle.seats.proofs.Ascending.{apart}
-
-pub sitter-other : (seating : Seating) (seat other : ℕ) (who : Seat) → (other == seat) ≡ false → sitter (with_sitter seating seat who) other ≡ sitter seating other
-sitter-other seating seat other who differs = get_or-set_other seating.sitters seat other who (newcomer 0 0 []) (eqb-false other seat differs)
-
--- the lines that are wanted of a page are lines of a page
-pub record AreOfPage (wants : List Want) : Type 0 where
-  pub reads : All (λ want. IsOfPage want.reads) wants
-  pub writes : All (λ want. IsOfPage want.writes) wants
 
 module _ (seating : Seating) (is : IsSeating seating) where
   -- each number is in one seat

@@ -1,6 +1,7 @@
 -- Who waits for whom.
-use Rattle.std.specs.Prelude.{ℕ, Bool, false, List, filter, map, slice_index_or, Option}
+use Rattle.std.specs.Prelude.{ℕ, Bool, false, List, All, filter, map, slice_index_or, Option}
 use Rattle.std.specs.Option.{option_map, option_map_or}
+use Rattle.line_geometry.specs.LineSets.{IsOfPage}
 use Rattle.lock_rules.specs.Waits.{shown_cycle}
 use Rattle.line_locks.specs.declared.request.Want.{Want}
 use Rattle.line_locks.specs.Holding.{is_in_conflict}
@@ -22,3 +23,8 @@ cycle_of seating seat = option_map (map (number_in seating)) (shown_cycle (seat_
 -- the seat at a place in the order of those that are taken
 abbrev pub seat_at : Seating → (place : ℕ) → ℕ
 seat_at seating place = slice_index_or seating.taken place 0
+
+-- the lines that are wanted of a page are lines of a page
+pub record AreOfPage (wants : List Want) : Type 0 where
+  pub reads : All (λ want. IsOfPage want.reads) wants
+  pub writes : All (λ want. IsOfPage want.writes) wants

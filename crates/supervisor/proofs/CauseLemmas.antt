@@ -4,10 +4,10 @@ use Rattle.std.specs.Prelude.{true}
 use Rattle.lock_rules.specs.Sets.{has}
 use Rattle.outside.specs.declared.world.Outside.{Ghosts}
 use Rattle.outside.specs.Runs.{FewerLater, OnlyAsks}
-use Rattle.outside.proofs.Runs.{asks_on}
+use Rattle.outside.proofs.Runs.{asks_none, asks_on}
 use Rattle.redo_journal.specs.declared.keep.Kept.{Kept}
 use Rattle.redo_journal.specs.Kept.{begun_of}
-use Rattle.restart.specs.Kept.{KeptStore}
+use Rattle.restart.specs.Kept.{KeptStore, with_begun}
 use Rattle.seats.specs.Seating.{next_seat, number_in}
 use Rattle.seats.proofs.Ascending.{none-free}
 use Rattle.seats.proofs.Kept.{few-taken}
@@ -18,9 +18,8 @@ use Rattle.desk.specs.declared.answers.TurnEnd.TheVariants as end
 use Rattle.activations.specs.Activity.{Activity}
 use Rattle.activations.specs.Begins.{begins, begins_by}
 use Rattle.activations.specs.Follows as running
-use Rattle.activations.specs.Recorded.{IsRecordOf, with_begun}
+use Rattle.activations.specs.Recorded.{IsRecordOf}
 use Rattle.activations.proofs.BeginLemmas.{some-next}
-use Rattle.activations.proofs.TurnLemmas.{asks-none}
 use Rattle.supervisor.specs.declared.session.Session.{Session}
 use Rattle.supervisor.specs.Session.{activity}
 use Rattle.supervisor.specs.Causes.{IsFull, HasPlace, lacking, IsFailedCommit, ClosesInCommit, ClosesBy}
@@ -97,7 +96,7 @@ closes-now G s n seat answer store before after taken same begun recorded failed
   lines = begun_of store.bank;
   recorded = subst (λ (a : Activity). IsRecordOf a seat (begun_of store.bank)) (sym same) recorded;
   begun = before;
-  asks = asks-none G before;
+  asks = asks_none G before;
   calm = refl;
   failed = subst (λ (that : KeptStore). IsFailedCommit G answer that n.store before after) begun failed;
 }

@@ -19,8 +19,8 @@ use Rattle.store_format.specs.Bank.{RecordLine}
 use Rattle.store_format.specs.Stands.{Standing, Stands, stands, one_more, laid}
 use Rattle.redo_journal.specs.Held.{IsMoreBy}
 use Rattle.redo_journal.specs.Tracks.{IsEither}
-use Rattle.restart.specs.Kept.{KeptStore, number_of}
-use Rattle.restart.specs.Shows.{Shows, Tracks}
+use Rattle.restart.specs.Kept.{KeptStore, number_of, with_begun}
+use Rattle.restart.specs.Shows.{Tracks}
 use Rattle.desk.specs.declared.answers.Committed.{Committed}
 use Rattle.desk.specs.declared.answers.TurnEnd.TheVariants as end
 use Rattle.desk.specs.Answers.{order_told}
@@ -38,7 +38,6 @@ use Rattle.activations.specs.declared.live.Live.{Live}
 use Rattle.activations.specs.Follows as running
 use Rattle.activations.specs.Follows.{Follows}
 use Rattle.activations.specs.Kept.{AreRowsWithin}
-use Rattle.activations.specs.Recorded.{with_begun}
 use Rattle.activations.specs.Steps.{rolled}
 use Rattle.activations.specs.Turning.{counts_of}
 use Rattle.activations.specs.Turns.{commit_call}
@@ -48,6 +47,7 @@ use Rattle.supervisor.specs.declared.session.Session.{Session}
 use Rattle.supervisor.specs.Session.{IsSound, activity, order_of, desk_of}
 use Rattle.supervisor.specs.Shown.{IsOver}
 use Rattle.supervisor.specs.Went.{HasCommitted, IsEitherSide, fine_desk}
+use Rattle.restart.proofs.ShowLemmas.{shows_begun}
 
 -- a number that rises where it is told
 pub writes-more : (old new : Option ℕ) (more : ℕ) → IsMoreBy more old new → WritesMore old new more
@@ -67,15 +67,6 @@ number-more : (opened number : ℕ) (one other : Desk) (commit : ℕ × ℕ) →
 number-more opened number one other commit is more =
     let long : length other.order ≡ length one.order + 1 = ap length more ∙ length-append one.order (commit ∷ []) in
     omega arith
-
--- what a store shows, and its number, don't depend on the record that is begun
-shows-begun : (store : KeptStore) (lines : List RecordLine) (held : List ℕ) → Shows held store → Shows held (with_begun store lines)
-shows-begun store lines held shows = record {
-  header = shows.header;
-  chosen_is = shows.chosen_is;
-  read = record { base = shows.read.base; records = shows.read.records; holds = shows.read.holds; count = shows.read.count; newest = shows.read.newest };
-  fits = record { page = shows.fits.page; bank_bytes = shows.fits.bank_bytes; lines = shows.fits.lines };
-}
 
 -- who has left isn't among those that are left
 pub gone : (taken : List ℕ) (seat : ℕ) → has (filter (λ other. not (other == seat)) taken) seat ≡ false
@@ -208,7 +199,7 @@ module _ {W : Type 0} (G : Ghosts W) (s : Session) (seat : ℕ) (sound : IsSound
   -- the store with the record begun is tracked
   pub tracked : IsSure G before → (store : KeptStore) → store ≡ with_begun s.store lines → Tracks G store before
   tracked sure store is =
-      subst (λ (that : KeptStore). Tracks G that before) (sym is) (record { sure = sure; shows = shows-begun s.store lines (held_of G before) over.shows })
+      subst (λ (that : KeptStore). Tracks G that before) (sym is) (record { sure = sure; shows = shows_begun s.store lines (held_of G before) over.shows })
 
   module _ (number : ℕ) (number_is : number ≡ number_of s.store) (n : Session) (told : Committed) (activation : told.activation ≡ number_in (activity s).seating seat)
       (steps : told.steps ≡ (sitter (activity s).seating seat).rows + 1) where

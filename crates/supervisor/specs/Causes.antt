@@ -12,7 +12,7 @@ use Rattle.redo_journal.specs.Held.{OnlyWrites}
 use Rattle.redo_journal.specs.Kept.{begun_of}
 use Rattle.redo_journal.specs.Tracks.{IsEither}
 use Rattle.checkpoint.specs.Committed.{roomy, IsKeptAfter}
-use Rattle.restart.specs.Kept.{KeptStore}
+use Rattle.restart.specs.Kept.{KeptStore, with_begun}
 use Rattle.restart.specs.Shows.{Tracks}
 use Rattle.desk.specs.declared.answers.Reopened.{Reopened}
 use Rattle.desk.specs.declared.answers.Reopened.TheVariants as reopened
@@ -21,7 +21,7 @@ use Rattle.desk.specs.declared.answers.TurnEnd.TheVariants as end
 use Rattle.desk.specs.Run.{absent_segment}
 use Rattle.seats.specs.Seating.{number_in}
 use Rattle.activations.specs.Activity.{Activity, program_at}
-use Rattle.activations.specs.Recorded.{IsRecordOf, with_begun}
+use Rattle.activations.specs.Recorded.{IsRecordOf}
 use Rattle.supervisor.specs.declared.session.Session.{Session}
 use Rattle.supervisor.specs.Session.{activity, store_told}
 

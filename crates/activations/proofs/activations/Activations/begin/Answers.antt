@@ -1,4 +1,4 @@
-use Rattle.std.proofs.Common.{◌≡◌, ◌+◌, None, length, refl, sym, ap, ◌∙◌, arith, subst, slice_set, []}
+use Rattle.std.proofs.Common.{◌≡◌, ◌+◌, length, refl, sym, ap, ◌∙◌, arith, subst, slice_set, []}
 use Rattle.desk.specs.declared.answers.Begun.{Begun}
 use Rattle.desk.specs.declared.answers.Begun.TheVariants
 use Rattle.storage_unit.specs.View.{reach_of}
@@ -9,10 +9,11 @@ use Rattle.flat_machine.specs.declared.machine.Program.{Program}
 use Rattle.flat_machine.specs.After.{first_registers, clear}
 use Rattle.romp_cpu.specs.Segments.{registers_of_program}
 use Rattle.storage_unit.specs.Served.{begun}
-use Rattle.activations.specs.Begins.{begins, given, started}
+use Rattle.activations.specs.Begins.{begins, begun_in, given, started}
 use Rattle.activations.specs.Follows.{IsSound}
 use Rattle.activations.specs.View.{activity_of}
 use Rattle.activations.proofs.BeginLemmas.{begin-goes, begins-full, begins-refused, begins-started, sound-begins, is-code, is-fresh, has-room, some-next}
+use Rattle.activations.proofs.activations.Activations.begin.Goals.{In-Some-sit}
 use Rattle.activations.proofs.activations.Activations.begin.Goals as goal
 
 -- all sixteen are taken
@@ -67,13 +68,18 @@ index_mut-requires c =
     let below = (some-next (activity_of c.args.self.now) c.in-Some-sit.seat c.requires.sound (sym c.in-Some-sit.ensures.seat)).0 in
     omega (arith, below, c.from-3.ensures, c.requires.sound.live, c.args.self.now.live.ok.0)
 
+-- it begins
+goes : (c : In-Some-sit) → begins (activity_of c.args.self.now) c.args.program c.args.args ≡ (TheVariants.Started c.args.self.now.next, begun_in (activity_of c.args.self.now) c.args.program c.args.args c.in-Some-sit.seat)
+goes c =
+    begins-started (activity_of c.args.self.now) c.args.program c.args.args c.requires.sound c.in-Some-sit.seat (sym c.in-Some-sit.ensures.seat)
+    ((λ i. absent_segment (c.args.self.now.same i) (sym (is-code c.args.self.now.programs.items c.args.program c.from.result c.index-code.result.now c.requires.known c.from.ensures c.index-code.ensures) i).windows)
+    ∙ sym c.absent_segment.ensures ∙ c.in_default.is)
+
 pub returns-clause-left : goal.returns-clause-left
 returns-clause-left c =
     let a = activity_of c.args.self.now in
     let code_is : c.index-code.result.now ≡ program_at a.programs c.args.program =
     is-code a.programs c.args.program c.from.result c.index-code.result.now c.requires.known c.from.ensures c.index-code.ensures in
-    let present : absent_segment a.reach.directory (program_at a.programs c.args.program).windows ≡ None =
-    (λ i. absent_segment (c.args.self.now.same i) (sym code_is i).windows) ∙ sym c.absent_segment.ensures ∙ c.in_default.is in
     let registers_are : c.registers_of-registers.result ≡ (started a c.args.program c.args.args c.in-Some-sit.seat).registers =
     c.registers_of-registers.ensures ∙ (λ i. registers_of_program (code_is i) (sym c.args.self.now.same i) (3840 + c.from-2.ensures i)) in
     let start_is : c.start.new.self ≡ started a c.args.program c.args.args c.in-Some-sit.seat =
@@ -82,16 +88,10 @@ returns-clause-left c =
     let reach_is : reach_of c.begin.new.self ≡ begun a.reach c.in-Some-sit.seat (program_at a.programs c.args.program).image =
     c.begin.ensures ∙ ap (begun a.reach c.in-Some-sit.seat) (c.as_slice.ensures ∙ ap (λ (p : Program). p.image) code_is) in
     (λ i. record a { next = a.next + 1; seating = c.in-Some-sit.ensures.seated i; live = slice_set a.live (c.from-3.ensures i) (start_is i); reach = reach_is i })
-    ∙ sym (ap (λ (b : Begun × Activity). b.1) (begins-started a c.args.program c.args.args c.requires.sound c.in-Some-sit.seat (sym c.in-Some-sit.ensures.seat) present))
+    ∙ sym (ap (λ (b : Begun × Activity). b.1) (goes (goal.at.returns-clause-left c).In-Some-sit))
 
 pub returns-clause-answer : goal.returns-clause-answer
-returns-clause-answer c =
-    let a = activity_of c.args.self.now in
-    let code_is : c.index-code.result.now ≡ program_at a.programs c.args.program =
-    is-code a.programs c.args.program c.from.result c.index-code.result.now c.requires.known c.from.ensures c.index-code.ensures in
-    let present : absent_segment a.reach.directory (program_at a.programs c.args.program).windows ≡ None =
-    (λ i. absent_segment (c.args.self.now.same i) (sym code_is i).windows) ∙ sym c.absent_segment.ensures ∙ c.in_default.is in
-    sym (ap (λ (b : Begun × Activity). b.0) (begins-started a c.args.program c.args.args c.requires.sound c.in-Some-sit.seat (sym c.in-Some-sit.ensures.seat) present))
+returns-clause-answer c = sym (ap (λ (b : Begun × Activity). b.0) (goes (goal.at.returns-clause-answer c).In-Some-sit))
 
 pub returns-clause-sound : goal.returns-clause-sound
 returns-clause-sound c = subst IsSound (sym (returns-clause-left c)) (sound-begins (activity_of c.args.self.now) c.args.program c.args.args c.requires.sound c.requires.known)

@@ -1,6 +1,8 @@
 use Rattle.std.proofs.Common.{◌≡◌, ◌+◌, ℕ, List, sym, ap, ◌∙◌, arith, subst}
 use Rattle.lock_rules.specs.Sets.{has}
 use Rattle.frame_pool.proofs.SeenLemmas.{pool-seen}
+use Rattle.frame_pool.specs.View.{pool_of}
+use Rattle.storage_unit.specs.Laws.{Fits}
 use Rattle.storage_unit.specs.View.{reach_of}
 use Rattle.storage_unit.proofs.UnitLemmas.{unit-sound, sound-fits}
 use Rattle.activations.specs.Activity.{Activity}
@@ -9,7 +11,7 @@ use Rattle.activations.specs.Steps.{rolled, RollsBack}
 use Rattle.activations.specs.View.{activity_of}
 use Rattle.activations.proofs.EndingLemmas.{RolledSo, rolled-none, rolled-past, rolled-step, sound-emptied, deserted, restarted-left}
 use Rattle.activations.proofs.activations.Activations.forget.Goals as goal
-use Rattle.activations.proofs.activations.Activations.forget.Goals.{then-contains, else-contains}
+use Rattle.activations.proofs.activations.Activations.forget.Goals.{After-empty, then-contains, else-contains}
 
 pub loop-seat-init : goal.loop-seat-init
 loop-seat-init c = rolled-none (activity_of c.args.self.now) c.requires.sound
@@ -35,24 +37,24 @@ loop-seat-preserved c =
           (rolled-past (activity_of c.args.self.now) (activity_of c.loop-seat.self) c.loop-seat.seat-counter c.loop-seat.invariant (there ∙ w.if-contains.false))
     ]
 
+-- all seats were left by then
+all_left : (c : After-empty) → RolledSo 16 (activity_of c.args.self.now) (activity_of c.loop-seat.self)
+all_left c = subst (λ (n : ℕ). RolledSo n (activity_of c.args.self.now) (activity_of c.loop-seat.self)) (let all : c.loop-seat.seat-counter ≡ 16 = omega (arith, c.loop-seat-test.false, c.loop-seat.auto.seat-counter-end) in all) c.loop-seat.invariant
+
+left_fits : (c : After-empty) → Fits c.loop-seat.self.unit.directory (pool_of c.loop-seat.self.unit.pool)
+left_fits c = sound-fits (reach_of c.loop-seat.self.unit) (unit-sound c.loop-seat.self.unit)
+
 pub returns-clause-sound : goal.returns-clause-sound
 returns-clause-sound c =
-    sound-emptied (activity_of c.args.self.now) (activity_of c.loop-seat.self) _
-    (subst (λ (n : ℕ). RolledSo n (activity_of c.args.self.now) (activity_of c.loop-seat.self)) (let all : c.loop-seat.seat-counter ≡ 16 = omega (arith, c.loop-seat-test.false, c.loop-seat.auto.seat-counter-end) in all) c.loop-seat.invariant)
-    (sound-fits (reach_of c.loop-seat.self.unit) (unit-sound c.loop-seat.self.unit))
-    (λ i. record (activity_of c.loop-seat.self) { reach = c.empty.ensures i })
+    let at = (goal.at.returns-clause-sound c).After-empty in
+    sound-emptied (activity_of c.args.self.now) (activity_of c.loop-seat.self) _ (all_left at) (left_fits at) (λ i. record (activity_of c.loop-seat.self) { reach = c.empty.ensures i })
 
 pub returns-clause-deserted : goal.returns-clause-deserted
 returns-clause-deserted c =
-    deserted (activity_of c.args.self.now) (activity_of c.loop-seat.self) _
-    (subst (λ (n : ℕ). RolledSo n (activity_of c.args.self.now) (activity_of c.loop-seat.self)) (let all : c.loop-seat.seat-counter ≡ 16 = omega (arith, c.loop-seat-test.false, c.loop-seat.auto.seat-counter-end) in all) c.loop-seat.invariant)
-    (sound-fits (reach_of c.loop-seat.self.unit) (unit-sound c.loop-seat.self.unit))
-    (λ i. record (activity_of c.loop-seat.self) { reach = c.empty.ensures i })
+    let at = (goal.at.returns-clause-deserted c).After-empty in
+    deserted (activity_of c.args.self.now) (activity_of c.loop-seat.self) _ (all_left at) (left_fits at) (λ i. record (activity_of c.loop-seat.self) { reach = c.empty.ensures i })
 
 pub returns-clause-restarts : goal.returns-clause-restarts
 returns-clause-restarts c =
-    restarted-left (activity_of c.args.self.now) (activity_of c.loop-seat.self) _
-    (subst (λ (n : ℕ). RolledSo n (activity_of c.args.self.now) (activity_of c.loop-seat.self)) (let all : c.loop-seat.seat-counter ≡ 16 = omega (arith, c.loop-seat-test.false, c.loop-seat.auto.seat-counter-end) in all) c.loop-seat.invariant)
-    (sound-fits (reach_of c.loop-seat.self.unit) (unit-sound c.loop-seat.self.unit))
-    (λ i. record (activity_of c.loop-seat.self) { reach = c.empty.ensures i })
-    (pool-seen c.empty.new.self.pool)
+    let at = (goal.at.returns-clause-restarts c).After-empty in
+    restarted-left (activity_of c.args.self.now) (activity_of c.loop-seat.self) _ (all_left at) (left_fits at) (λ i. record (activity_of c.loop-seat.self) { reach = c.empty.ensures i }) (pool-seen c.empty.new.self.pool)

@@ -1,6 +1,6 @@
 use Rattle.std.proofs.Common.{◌≡◌, ◌+◌, ◌-◌, ◌^◌, ℕ, List, true, length, Result, Ok, refl, ap, arith, sym, ◌∙◌, subst}
 use Rattle.lock_rules.specs.Sets.{has}
-use Rattle.outside.proofs.Runs.{asks_on}
+use Rattle.outside.proofs.Runs.{asks_none, asks_on}
 use Rattle.desk.specs.Instruction.{Counts, Limit}
 use Rattle.desk.specs.declared.answers.TurnEnd.{TurnEnd}
 use Rattle.arrayvec.specs.ArrayVec.{array_vec_len}
@@ -17,7 +17,7 @@ use Rattle.activations.specs.View.{activity_of}
 use Rattle.activations.proofs.BringLemmas.{store-on}
 use Rattle.activations.proofs.KeptLemmas.{keeps-itself, stays-itself, stays-on}
 use Rattle.activations.proofs.ServeLemmas.{handed}
-use Rattle.activations.proofs.TurnLemmas.{asks-none, follows-selected, keeps-far, keeps-within, turn-begins, turn-goes, turn-commits, turn-ends, turn-limit}
+use Rattle.activations.proofs.TurnLemmas.{follows-selected, keeps-far, keeps-within, turn-begins, turn-goes, turn-commits, turn-ends, turn-limit}
 use Rattle.activations.proofs.activations.Activations.run.Goals as goal
 
 pub loop-left-init : goal.loop-left-init
@@ -29,7 +29,7 @@ loop-left-init g c =
       stays-itself a c.args.seat taken,
       c.select.ensures.selected,
       λ access none. absurd (cc (none)),
-      asks-none g.W.Outside c.args.outside.now,
+      asks_none g.W.Outside c.args.outside.now,
       refl,
       subst (KeepsParts a a) (omega arith) (keeps-itself a),
       omega (arith, same, c.requires.cycles),

@@ -6,17 +6,17 @@ use Rattle.seats.proofs.Kept.{few-taken}
 use Rattle.seats.proofs.Numbers.{seat-found}
 use Rattle.supervisor.specs.Session.{activity, order_of}
 use Rattle.supervisor.proofs.TurnLemmas.{idle, ended, committed, nothing-counted, sound-ran, over-ran, store-over}
-use Rattle.activations.proofs.TurnLemmas.{asks-none}
 use Rattle.activations.specs.Causes.{IfVictim}
 use Rattle.activations.specs.Instructed.{IfWaits}
 use Rattle.restart.specs.Kept.{number_of}
 use Rattle.supervisor.specs.Causes.{TellsNumber, EntersOrder, ClosesBy}
 use Rattle.supervisor.proofs.CauseLemmas.{closes-since}
+use Rattle.outside.proofs.Runs.{asks_none}
 use Rattle.supervisor.proofs.session.Session.end_of_turn.Goals as goal
 
 pub returns-in_default-clause-went : goal.returns-in_default-clause-went
 returns-in_default-clause-went g c sure over =
-    idle g.W.Outside g.met.W.Outside.fewer_later c.args.self.now c.requires.sound c.args.activation c.args.limit c.args.outside.now c.args.outside.now sure over (asks-none g.W.Outside c.args.outside.now)
+    idle g.W.Outside g.met.W.Outside.fewer_later c.args.self.now c.requires.sound c.args.activation c.args.limit c.args.outside.now c.args.outside.now sure over (asks_none g.W.Outside c.args.outside.now)
     c.args.tally.now (nothing-counted c.args.tally.now c.requires.tally c.requires.cycles) (sym c.seat_of.ensures ∙ c.in_default.is)
 
 pub run-requires-clause-taken : goal.run-requires-clause-taken
