@@ -1,4 +1,4 @@
-//! One job and each way in which it can end, and texts that are no job; the expected bytes are worked out by hand.
+//! One job and each way in which it can end; the expected bytes are worked out by hand.
 use call_status::Status;
 use desk::Committed;
 use job_calls::run_source;
@@ -168,28 +168,6 @@ const CASES: [Case; 13] = [
     },
 ];
 
-/// Texts that are no job: the line and the kind of the first fault of each.
-const HOSTILE: [(&[u8], u32, u8); 10] = [
-    (b"", 1, 10),
-    (b"frames 1\n", 1, 11),
-    (b"frames 2\nschedule\nbegin p\n", 3, 12),
-    (b"frames 2\nprogram p\nend\nprogram p\n", 4, 13),
-    (b"frames 2\nprogram p\n.space 16385\nend\n", 3, 8),
-    (b"frames 2\nprogram p\n.window 16, 1, r\nend\n", 3, 9),
-    (b"frames 2\nprogram p\nq r1, r2\n", 3, 2),
-    (b"frames 2\nprogram p\n\xff\n", 3, 1),
-    (
-        b"frames 2\nprogram p\nend\nschedule\nbegin p\nturn 1 0\n",
-        6,
-        11,
-    ),
-    (
-        b"frames 2\nprogram p\nend\nschedule\nbegin p\nbegin p\ndrain 5001 1\n",
-        7,
-        11,
-    ),
-];
-
 /// A source of these bytes, which fails at these reads.
 fn source_of(alloc: Global, case: &Case) -> Result<MemorySource, AllocError> {
     let bytes = match case.text {
@@ -270,22 +248,6 @@ fn assert_case(rt: &impl Abort, alloc: Global, case: &Case) -> Result<(), Fail> 
 fn a_job_ends_as_its_parts_let_it(rt: HostRuntime) -> Result<(), Fail> {
     for case in &CASES {
         assert_case(&rt, rt.alloc(), case)?;
-    }
-    Ok(())
-}
-
-#[test]
-fn a_text_that_is_no_job_is_told(rt: HostRuntime) -> Result<(), Fail> {
-    for (text, line, kind) in &HOSTILE {
-        let left = run_case(
-            rt.alloc(),
-            &Case {
-                text: Text::Bytes(text),
-                ..PLAIN
-            },
-        )?;
-        assert_eq!(rt; left.status, Status::Job(*line, *kind));
-        assert!(rt; left.printed.is_empty());
     }
     Ok(())
 }

@@ -1,34 +1,8 @@
 //! Texts and their jobs, written and read again. Texts that are refused are in checks/refused.
-use desk::Event;
 use flat_machine::Program;
 use job_text::{Job, JobFault, big_job, read_job, write_job};
 use std::alloc::Global;
 use std::test::Fail;
-
-/// A job with comments and blank lines, an entry address, and drains over the begins before them.
-const ACCEPTED: &str =
-    "; a job\n\nframes 0x3 ; frames\nprogram a\n.window 1, 1, rw\nhere: svc 0\n.entry here\nend ; of a\nprogram _b\nend\n schedule\nbegin a 1 2\ndrain 2 050\nbegin _b\nturn 2 7\ndrain 1 9\nend\n ; behind\n";
-
-/// Programs of several sources, and of one that is laid by hand as they are: an export, labels of one name that are
-/// private, one that is exported and private elsewhere, and sixteen sources.
-const LINKED: [(&str, &str); 4] = [
-    (
-        "frames 2\nprogram two\n.window 1, 1, rw\ncau r6, r0, 0x1000\nbali r15, put\nsvc 0\n.part\n.export put\nput: st r2, 0(r6)\nbnbr pz, r15\n; last\nend\nschedule\nend\n",
-        "frames 2\nprogram two\n.window 1, 1, rw\ncau r6, r0, 0x1000\nbali r15, put\nsvc 0\nput: st r2, 0(r6)\nbnbr pz, r15\nend\nschedule\nend\n",
-    ),
-    (
-        "frames 2\nprogram two\nloop: jnb eq, loop\n.export out\nout: svc 0\n.part\nloop: .byte 1\n.byte 2\njnb eq, loop\nbala out\nend\nschedule\nend\n",
-        "frames 2\nprogram two\none: jnb eq, one\nout: svc 0\ntwo: .byte 1\n.byte 2\njnb eq, two\nbala out\nend\nschedule\nend\n",
-    ),
-    (
-        "frames 2\nprogram two\n.word x\n.part\n.export x\nx: .word 7\n.part\nx: .word x\nend\nschedule\nend\n",
-        "frames 2\nprogram two\n.word one\none: .word 7\ntwo: .word two\nend\nschedule\nend\n",
-    ),
-    (
-        "frames 2\nprogram two\n.word 1\n.part\n.word 1\n.part\n.word 1\n.part\n.word 1\n.part\n.word 1\n.part\n.word 1\n.part\n.word 1\n.part\n.word 1\n.part\n.word 1\n.part\n.word 1\n.part\n.word 1\n.part\n.word 1\n.part\n.word 1\n.part\n.word 1\n.part\n.word 1\n.part\n.word 1\nend\nschedule\nend\n",
-        "frames 2\nprogram two\n.word 1\n.word 1\n.word 1\n.word 1\n.word 1\n.word 1\n.word 1\n.word 1\n.word 1\n.word 1\n.word 1\n.word 1\n.word 1\n.word 1\n.word 1\n.word 1\nend\nschedule\nend\n",
-    ),
-];
 
 /// The job of a short text.
 fn read(alloc: Global, text: &str) -> Result<Job, JobFault> {
@@ -36,45 +10,6 @@ fn read(alloc: Global, text: &str) -> Result<Job, JobFault> {
         return Err(JobFault::Memory);
     }
     read_job(alloc, text.as_bytes())
-}
-
-/// A turn of an activation.
-fn turn(activation: u32, limit: u32) -> Event {
-    Event::Turn { activation, limit }
-}
-
-#[test]
-fn a_text_is_its_job(rt: HostRuntime) -> Result<(), Fail> {
-    let job = read(rt.alloc(), ACCEPTED)?;
-    assert_eq!(rt; job.frames, 3);
-    assert_eq!(rt; job.names.len(), 2);
-    assert_eq!(rt; job.names[1].as_slice(), b"_b".as_slice());
-    assert_eq!(rt; job.programs.len(), 2);
-    assert_eq!(rt;
-        job.programs[0].image.as_slice(),
-        [0xC0, 0, 0, 0].as_slice()
-    );
-    let begin = Event::Begin {
-        program: 0,
-        args: [1, 2, 0, 0],
-    };
-    let other = Event::Begin {
-        program: 1,
-        args: [0; 4],
-    };
-    let events = [
-        begin,
-        turn(1, 50),
-        turn(1, 50),
-        other,
-        turn(2, 7),
-        turn(1, 9),
-        turn(2, 9),
-    ];
-    assert_eq!(rt; job.events.as_slice(), events.as_slice());
-    let full = "frames 2\nprogram p\nend\nschedule\nbegin p\ndrain 9999 1\nend\n";
-    assert_eq!(rt; read(rt.alloc(), full)?.events.len(), 10_000);
-    Ok(())
 }
 
 /// The job of a written text.
@@ -108,21 +43,6 @@ fn is_same(one: &Job, other: &Job) -> bool {
             .zip(other.programs.iter())
             .all(|(program, wanted)| is_same_program(program, wanted))
         && one.events.as_slice() == other.events.as_slice()
-}
-
-#[test]
-fn sources_are_linked(rt: HostRuntime) -> Result<(), Fail> {
-    for (several, one) in LINKED {
-        let linked = read(rt.alloc(), several)?;
-        let wanted = read(rt.alloc(), one)?;
-        assert_eq!(rt; linked.programs.len(), 1);
-        assert_eq!(rt; wanted.programs.len(), 1);
-        assert!(rt;
-            is_same_program(&linked.programs[0], &wanted.programs[0]),
-            "{several}"
-        );
-    }
-    Ok(())
 }
 
 /// Whether a job is written as this text, and read again from it.

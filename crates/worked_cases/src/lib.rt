@@ -1,4 +1,4 @@
-//! Worked cases: rows of the processor, jobs that are written and read again, reports that are read, and runs that end early: of each part that fails, of disks
+//! Worked cases: jobs that are written and read again, reports that are read, and runs that end early: of each part that fails, of disks
 //! that stop within a write, and of stores that are damaged. Tests alone; nothing stands on it.
 #![tactic(auto)]
 
@@ -12,5 +12,3 @@ mod ending_tests;
 mod job_tests;
 #[cfg(test)]
 mod report_tests;
-#[cfg(test)]
-mod row_tests;
