@@ -290,49 +290,6 @@ const STEPS: [Step; 12] = [
     },
 ];
 
-/// The same on a store with pages of 4,096 bytes: a record of fifteen lines fits its bank, and one of sixteen doesn't.
-const LARGER: [Step; 3] = [
-    Step {
-        words: &["new2", "s", "4096", "1", "2"],
-        printed: "new 16656\n",
-        ..STEP
-    },
-    Step {
-        words: &["run", "s"],
-        events: "begin fill 30\nturn 1 999\nbegin fill 31\nturn 2 999\n",
-        printed: "open 0\nbegin 1 fill\nturn 1 ran 122 page 1 lock 15\ncommit 1 number 1 steps 122 out -\nbegin 2 fill\n\
-            turn 2 ran 121 page 0 lock 15\njournal 2 lines 16 limit 15\nend 1\n",
-        ..STEP
-    },
-    Step {
-        words: &["show", "s", "1", "3712", "4"],
-        printed: "00000e80 00000001\n",
-        ..STEP
-    },
-];
-
-/// The same on a store whose segment is fine: only the last store of a program finds all sixteen lines of its page held.
-const FINE: [Step; 2] = [
-    Step {
-        words: &["new2", "s", "8192", "1", "2f"],
-        printed: "new 24848\n",
-        ..STEP
-    },
-    Step {
-        words: &["run", "s"],
-        events: "begin fill 32\nturn 1 999\n",
-        printed: "open 0\nbegin 1 fill\nturn 1 ran 130 page 1 lock 31\ncommit 1 number 1 steps 130 out -\nend 1\n",
-        ..STEP
-    },
-];
-
-/// A store of version 1 with an odd number of pages.
-const ODD: [Step; 1] = [Step {
-    words: &["new", "s", "4096", "1", "1", "2", "4"],
-    printed: "new 18704\n",
-    ..STEP
-}];
-
 /// A renewal of a store, or of all of it but its last byte, on an empty disk or one that isn't, and what it comes to.
 #[derive(Clone, Copy)]
 struct Renewal {
@@ -374,24 +331,6 @@ const RENEWALS: [Renewal; 4] = [
         printed: "renew 16656 at 3\n",
     },
 ];
-
-/// Of a store with one page in its first segment and four in its second.
-const RENEWED_ODD: [Renewal; 1] = [Renewal {
-    cut: false,
-    empty: true,
-    refusal: None,
-    status: Status::Done,
-    printed: "renew 20752 at 0\n",
-}];
-
-/// Of one that is of version 2 already.
-const RENEWED_AGAIN: [Renewal; 1] = [Renewal {
-    cut: false,
-    empty: true,
-    refusal: None,
-    status: Status::Store(8),
-    printed: "",
-}];
 
 /// Renews a store by each of these cases, and leaves the last one's bytes.
 fn renew(
@@ -483,15 +422,7 @@ fn walk(rt: &impl Abort, alloc: Global, steps: &[Step]) -> Result<Vec<u8>, Fail>
 fn a_store_is_made_run_on_and_shown(rt: HostRuntime) -> Result<(), Fail> {
     let held = walk(&rt, rt.alloc(), &STEPS)?;
     assert_eq!(rt; held.len(), 16_672);
-    let larger = walk(&rt, rt.alloc(), &LARGER)?;
-    assert_eq!(rt; larger.len(), 16_656);
-    let fine = walk(&rt, rt.alloc(), &FINE)?;
-    assert_eq!(rt; fine.len(), 24_848);
     let renewed = renew(&rt, rt.alloc(), &held, &RENEWALS)?;
     assert_eq!(rt; renewed.len(), 16_656);
-    renew(&rt, rt.alloc(), &renewed, &RENEWED_AGAIN)?;
-    let odd = walk(&rt, rt.alloc(), &ODD)?;
-    let even = renew(&rt, rt.alloc(), &odd, &RENEWED_ODD)?;
-    assert_eq!(rt; even.len(), 20_752);
     Ok(())
 }

@@ -4,11 +4,10 @@ ghost use Rattle.std.specs.Prelude.{◌≡◌, false, slice_index};
 ghost use Rattle.romp_cpu.specs.Answers.{answered};
 ghost use Rattle.romp_cpu.specs.Memory.{one_register};
 
-use super::{Access, Attempt, Cpu, Fault, Probe, Storage, registers_of};
-use flat_machine::{Cs, Program, Window};
-use line_geometry::{Directory, PageSize};
+use super::{Access, Attempt, Cpu, Fault, Probe, Storage};
+use flat_machine::Cs;
 use owned_list::OwnedList;
-use segment_regs::{Check, Virtual};
+use segment_regs::Virtual;
 use std::alloc::{AllocError, Global};
 use std::test::Fail;
 
@@ -162,58 +161,6 @@ fn one_refusal_changes_nothing(rt: HostRuntime) -> Result<(), Fail> {
             refusing.bytes.as_slice(),
             permitted.bytes.as_slice(),
             "{program:?}"
-        );
-    }
-    Ok(())
-}
-
-#[test]
-fn what_takes_no_effect_leaves_all(rt: HostRuntime) -> Result<(), Fail> {
-    let programs: [(&[u8], Attempt); 6] = [
-        (&[0xC0, 0, 0, 0], Attempt::Commit),
-        (&[0xFF, 0], Attempt::Check(1)),
-        (&[0x8F, 0x20, 0, 6, 0xFF, 0], Attempt::Check(1)),
-        (&[0x8F, 0x20, 0, 6, 0, 0], Attempt::Check(4)),
-        (&[0x8D, 0x20, 0, 6, 0xCD, 0x36, 0x40, 0], Attempt::Check(2)),
-        (&[0xDD, 0x36, 0x30, 0], Attempt::Check(2)),
-    ];
-    for (program, answer) in programs {
-        let mut storage = memory_with(rt.alloc(), program, true)?;
-        let mut cpu = START;
-        assert_eq!(rt; cpu.attempt(&mut storage), answer, "{program:?}");
-        assert_eq!(rt; cpu, START, "{program:?}");
-    }
-    Ok(())
-}
-
-#[test]
-fn windows_stand_under_their_registers(rt: HostRuntime) -> Result<(), Fail> {
-    let mut windows = [None; 15];
-    for (place, segment, write) in [(0, 5, true), (1, 7, true), (14, 9, false)] {
-        windows[place] = Some(Window { segment, write });
-    }
-    let program = Program {
-        image: OwnedList::from_vec(Vec::new(rt.alloc())),
-        entry: 0,
-        windows,
-    };
-    let directory = Directory::new(PageSize::Two, &[(5, 2), (9, 1)])?;
-    let registers = registers_of(&program, &directory, 3841);
-    for (address, store, place) in [
-        (0x3FFF, true, Ok((3841, 7))),
-        (0x1000_0FFF, true, Ok((5, 1))),
-        (0x1000_1000, false, Err(Check(2))),
-        (0x2000_0000, false, Err(Check(2))),
-        (0x3000_0000, false, Err(Check(2))),
-        (0xF000_07FF, false, Ok((9, 0))),
-        (0xF000_07FF, true, Err(Check(7))),
-    ] {
-        assert_eq!(rt;
-            registers
-                .locate(address, 1, store)
-                .map(|at| (at.segment, at.page)),
-            place,
-            "{address:08x} {store}"
         );
     }
     Ok(())

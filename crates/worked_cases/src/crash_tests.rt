@@ -1,5 +1,5 @@
-//! What a disk that stopped within a write holds, opened again; calls that fail; and stores that are damaged. The places and
-//! numbers are those of docs/FORMATS.md, worked out by hand.
+//! What a disk that stopped within a write holds, opened again, and calls that fail. The places and numbers are those of
+//! docs/FORMATS.md, worked out by hand.
 use call_status::Status;
 use job_calls::run_source;
 use line_geometry::{Directory, PageSize};
@@ -273,30 +273,6 @@ const DEVICES: [Device; 8] = [
     },
 ];
 
-/// Changes of the store that one add leaves, and where it doesn't stand then: its length, and bytes from an offset on.
-const DAMAGES: [(usize, usize, &[u8], u64); 14] = [
-    (0, 0, &[], 0),
-    (143_632, 0, &[0], 0),
-    (143_632, 100, &[1], 100),
-    (100, 0, &[], 100),
-    (143_631, 0, &[], 143_631),
-    (143_633, 0, &[], 143_632),
-    (143_632, 9, &[0], 8),
-    (143_632, 9, &[3], 8),
-    (143_632, 10, &[0, 0], 10),
-    (143_632, 12, &[0, 0, 15, 255], 12),
-    (143_632, 18, &[0, 0], 18),
-    (143_632, 20, &[0, 1], 20),
-    (143_632, 274, &[2], 267),
-    // two lines, both with the number 5
-    (
-        143_632,
-        264,
-        &[0xa5, 0, 2, 0, 0, 0, 0, 0, 0, 0, 1, 0, 0, 0, 5],
-        407,
-    ),
-];
-
 /// What a call left: its status, how many commits are in its order, what it printed, and the disk's bytes.
 #[derive(Drop)]
 pub(super) struct Left {
@@ -431,24 +407,6 @@ fn a_failed_call_ends_the_run(rt: HostRuntime) -> Result<(), Fail> {
     let alloc = rt.alloc();
     for (index, device) in DEVICES.iter().enumerate() {
         assert_device(&rt, alloc, index + 1, device)?;
-    }
-    Ok(())
-}
-
-#[test]
-fn a_damaged_store_is_told_and_left_alone(rt: HostRuntime) -> Result<(), Fail> {
-    let alloc = rt.alloc();
-    for (length, at, bytes, offset) in &DAMAGES {
-        let mut held = run(alloc, try_store(alloc)?, None, ONE_ADD)?.held;
-        held.resize(*length, 0)?;
-        if let Some(place) = held.as_mut_slice().get_mut(*at..at + bytes.len()) {
-            place.copy_from_slice(bytes);
-        }
-        let before = Vec::from_slice(alloc, &held)?;
-        let left = run(alloc, held, None, ONE_ADD)?;
-        assert_eq!(rt; left.status, Status::Store(*offset));
-        assert!(rt; left.printed.is_empty());
-        assert!(rt; left.held == before);
     }
     Ok(())
 }

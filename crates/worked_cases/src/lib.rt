@@ -1,5 +1,5 @@
-//! Worked cases: jobs that are written and read again, reports that are read, and runs that end early: of each part that fails, of disks
-//! that stop within a write, and of stores that are damaged. Tests alone; nothing stands on it.
+//! Worked cases: jobs that are written and read again, reports that are read, and runs that end early, of each part that fails and
+//! of disks that stop within a write. Tests alone; nothing stands on it.
 #![tactic(auto)]
 
 #[cfg(test)]
