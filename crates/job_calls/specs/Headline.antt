@@ -1,10 +1,9 @@
 -- What a call of the console did: the run of the desk that its report tells of and what a crash leaves of it, or nothing.
-use Rattle.std.specs.Prelude.{◌≡◌, ℕ, ◌≤◌, ◌+◌, ◌*◌, ◌%◌, ◌^◌, true, false, List, [], ◌∷◌, ◌++◌, length, map, take, count_by, slice_set, Option, None, Some, IsSome, Result, Ok, Err}
+use Rattle.std.specs.Prelude.{◌≡◌, ℕ, ◌+◌, ◌%◌, ◌^◌, true, false, List, [], ◌∷◌, ◌++◌, length, map, take, slice_set, Option, None, Some, IsSome, Result, Ok, Err}
 use Rattle.outside.specs.declared.world.Outside.{Ghosts}
 use Rattle.outside.specs.declared.failed.Failed.{Failed}
 use Rattle.outside.specs.Bytes.{Prints}
-use Rattle.outside.specs.Causes.{Rose, RoseBy}
-use Rattle.outside.specs.Durable.{IsSure}
+use Rattle.outside.specs.Causes.{Rose}
 use Rattle.outside.specs.Moments.{Elapses}
 use Rattle.outside.specs.Runs.{OnlyAsks, Leaves, held_of}
 use Rattle.line_geometry.specs.FlatStore.{FlatStore}
@@ -15,16 +14,15 @@ use Rattle.desk.specs.declared.event.Event.{Event}
 use Rattle.desk.specs.Desk.{Desk, opened}
 use Rattle.desk.specs.Instruction.{Word, Doubt}
 use Rattle.desk.specs.Run.{run, faulted, IsRunOf}
-use Rattle.desk.specs.Lines.{line_text, Open}
+use Rattle.desk.specs.Lines.{Line, line_text, Open}
 use Rattle.desk.specs.Report.{report, report_lines, event_lines}
-use Rattle.desk.specs.Commits.{begun, is_commit, IsSerial}
-use Rattle.desk.specs.Kept.{WritesMore, records_in, most_records, tells_fault}
+use Rattle.desk.specs.Commits.{begun, IsSerial}
 use Rattle.run_law.specs.Headline.{IsPrefix}
 use Rattle.schedule_replay.specs.Puts.{PutsTimes, shown_of}
 use Rattle.schedule_replay.specs.Ran.{PrintsEarlier, text_of}
+use Rattle.schedule_replay.specs.RanTo.{RanTo}
 use Rattle.supervisor.specs.declared.session.Session.{Session}
-use Rattle.supervisor.specs.Session.{order_of, is_closed}
-use Rattle.supervisor.specs.Shown.{Shown}
+use Rattle.supervisor.specs.contracts.supervisor.SessionSupervisor.TheImpl.{ghosts}
 use Rattle.job_text.specs.declared.job.Job.{Job}
 use Rattle.job_text.specs.Grammar.{job_of, content_of}
 use Rattle.call_status.specs.declared.status.Status.{Status}
@@ -53,54 +51,47 @@ DoubtStands G job number store order now =
     (gate : ℕ) × (left : FlatStore) × (serial (begun job.programs.items job.events.items) order store ≡ Some left)
     × Leaves G (λ image seen. stands (slice_set image gate 165) ≡ Stands ((number + length order) % 2 ^ 64) left) now now
 
--- The session that is answered ends where the run of the desk does: it has the desk's order, is closed exactly where the desk is, and
--- otherwise shows the desk over the bytes of the disk.
-pub record IsSessionAt {W : Type 0} (G : Ghosts W) (answer : Option Session) (after : W) (order : List (ℕ × ℕ)) (desk : Desk) : Type 0 where
-  pub session : Session
-  pub answered : answer ≡ Some session
-  pub ordered : order_of session ≡ order
-  pub closes : is_closed session ≡ desk.closed
-  pub shows : desk.closed ≡ false → Shown session (held_of G after) desk
-
--- One run of the desk over the first of a job's events, from the store that the disk stood for. Its order is the answered one, and its
--- report is printed: to the byte, or after a failed put a prefix of it with the first line and those of all events but the last.
-pub record HasRun {W : Type 0} (G : Ghosts W) (job : Job) (number : ℕ) (store : FlatStore) (before after : W) (order : List (ℕ × ℕ)) (session : Option Session) (status : Status) : Type 0 where
+-- One run of the desk over the first of a job's events, from the store that the disk stood for; of its lines the names of programs are these. Its order is
+-- the answered one, and it leaves the session that is answered.
+pub record RunsFrom {W : Type 0} (G : Ghosts W) (names : List (List ℕ)) (job : Job) (number : ℕ) (store : FlatStore) (before after : W) (order : List (ℕ × ℕ)) (answer : Option Session) : Type 0 where
   pub taken : List (Event × Word)
   pub rest : List Event
   pub is_run : IsRunOf job.programs.items job.events.items (job_desk job (held_of G before) store) taken rest
-  pub order_is : order ≡ (run job.programs.items taken (job_desk job (held_of G before) store)).order
-  pub ends : IsSessionAt G session after order (run job.programs.items taken (job_desk job (held_of G before) store))
-  -- at Done all events were run and the desk is open, and a disk fault closed it
-  pub all : status ≡ Status.Done → rest ≡ []
-  pub still_open : status ≡ Status.Done → (run job.programs.items taken (job_desk job (held_of G before) store)).closed ≡ false
-  pub shut : status ≡ Status.DiskFault → (run job.programs.items taken (job_desk job (held_of G before) store)).closed ≡ true
-  pub put : Result ℕ Failed
-  pub put_is : put_by status put
-  pub printed : Prints (G.printed before) (G.printed after) (report (names_of job) job.programs.items number taken rest (job_desk job (held_of G before) store)) put
-  -- each line by one put
-  pub times : PutsTimes G (length (report_lines (names_of job) job.programs.items number taken rest (job_desk job (held_of G before) store))) before after put
-  pub earlier : PrintsEarlier (G.printed before) (G.printed after) (λ front. line_text (Open number) ++ text_of (names_of job) job.programs.items number front (job_desk job (held_of G before) store)) taken
-  -- the disk's faults rose by at least the number of events whose word isn't fine, and all are fine where they didn't rise; they stay where
-  -- no line tells of one
-  pub faults : RoseBy (faulted taken) (G.disk_faults before) (G.disk_faults after)
+  pub end : Desk
+  pub end_is : end ≡ run job.programs.items taken (job_desk job (held_of G before) store)
+  pub order_is : order ≡ end.order
+  pub lines : List Line
+  pub lines_are : lines ≡ event_lines names job.programs.items number taken (job_desk job (held_of G before) store)
+  pub session : Session
+  pub answered : answer ≡ Some session
+  pub to : RanTo ghosts G end lines (faulted taken) session before after
+  -- all words are fine where the disk's faults didn't rise
   pub all_fine : (Rose (G.disk_faults before) (G.disk_faults after) → ⊥) → faulted taken ≡ 0
-  pub calm : count_by tells_fault (event_lines (names_of job) job.programs.items number taken (job_desk job (held_of G before) store)) ≡ 0 → G.disk_faults after ≡ G.disk_faults before
-  -- each commit line comes behind two writes of its own
-  pub writes : WritesMore (G.writes before) (G.writes after) (2 * count_by is_commit (event_lines (names_of job) job.programs.items number taken (job_desk job (held_of G before) store)))
   -- the commits are those of the job's activations, one after another, and so are the commit lines
-  pub serial_run : IsSerial (begun job.programs.items job.events.items) number store order (event_lines (names_of job) job.programs.items number taken (job_desk job (held_of G before) store)) (run job.programs.items taken (job_desk job (held_of G before) store)).committed (run job.programs.items taken (job_desk job (held_of G before) store)).closed
-  -- while the desk is open the disk's bytes are sure, and stand for the number of commits and the store that they leave one after another
-  pub leaves : (run job.programs.items taken (job_desk job (held_of G before) store)).closed ≡ false
-      → IsSure G after × ((left : FlatStore) × (serial (begun job.programs.items job.events.items) order store ≡ Some left) × (stands (held_of G after) ≡ Stands ((number + length order) % 2 ^ 64) left))
-  -- and their chosen bank holds no more records than the lines tell: behind the last checkpoint, as many as there are commits
-  pub records : (run job.programs.items taken (job_desk job (held_of G before) store)).closed ≡ false
-      → records_in (held_of G after) ≤ most_records (event_lines (names_of job) job.programs.items number taken (job_desk job (held_of G before) store)) (records_in (held_of G before))
+  pub serial_run : IsSerial (begun job.programs.items job.events.items) number store order lines end.committed end.closed
+  -- while the desk is open the disk's bytes stand for the number of commits and the store that they leave one after another
+  pub leaves : end.closed ≡ false → (left : FlatStore) × (serial (begun job.programs.items job.events.items) order store ≡ Some left) × (stands (held_of G after) ≡ Stands ((number + length order) % 2 ^ 64) left)
   -- a crash at any moment of the call leaves a store that the first commits leave one after another
   pub crash : Leaves G (λ image seen. IsPrefix (begun job.programs.items job.events.items) number store order [] image []) before after
-  -- and where the printed bytes are told, no fewer of them than were printed by then
-  pub seen : IsSome (G.printed before) → Leaves G (IsPrefix (begun job.programs.items job.events.items) number store order (shown_of G before)) before after
   -- and where the last event ended in doubt, the gate byte alone decides whether its commit is among them
-  pub doubt : (run job.programs.items taken (job_desk job (held_of G before) store)).closed ≡ true → (front : List (Event × Word)) (event : Event) → taken ≡ front ++ (event, Doubt) ∷ [] → DoubtStands G job number store order after
+  pub doubt : end.closed ≡ true → (front : List (Event × Word)) (event : Event) → taken ≡ front ++ (event, Doubt) ∷ [] → DoubtStands G job number store order after
+
+-- The job was run from the store that the disk stood for, and the report of the run is printed: to the byte, or after a failed put a prefix of it with
+-- the first line and those of all events but the last.
+pub record HasRun {W : Type 0} (G : Ghosts W) (job : Job) (number : ℕ) (store : FlatStore) (before after : W) (order : List (ℕ × ℕ)) (session : Option Session) (status : Status) : Type 0 where
+  pub ran : RunsFrom G (names_of job) job number store before after order session
+  -- at Done all events were run and the desk is open, and a disk fault closed it
+  pub all : status ≡ Status.Done → ran.rest ≡ []
+  pub still_open : status ≡ Status.Done → ran.end.closed ≡ false
+  pub shut : status ≡ Status.DiskFault → ran.end.closed ≡ true
+  pub put : Result ℕ Failed
+  pub put_is : put_by status put
+  pub printed : Prints (G.printed before) (G.printed after) (report (names_of job) job.programs.items number ran.taken ran.rest (job_desk job (held_of G before) store)) put
+  -- each line by one put
+  pub times : PutsTimes G (length (report_lines (names_of job) job.programs.items number ran.taken ran.rest (job_desk job (held_of G before) store))) before after put
+  pub earlier : PrintsEarlier (G.printed before) (G.printed after) (λ front. line_text (Open number) ++ text_of (names_of job) job.programs.items number front (job_desk job (held_of G before) store)) ran.taken
+  -- a crash leaves no fewer commits than were printed by then, where the printed bytes are told
+  pub seen : IsSome (G.printed before) → Leaves G (IsPrefix (begun job.programs.items job.events.items) number store order (shown_of G before)) before after
   pub honest : G.is_honest after ≡ G.is_honest before
   pub time : Elapses G.moment G.left_since before after
 
