@@ -41,6 +41,7 @@ use Rattle.job_text.proofs.BigLemmas.{events_all}
 use Rattle.call_status.specs.declared.status.Status.{Status}
 use Rattle.call_status.specs.declared.status.Status.TheVariants as status
 use Rattle.job_calls.specs.Big.{HasBigRun, IsToldBy, Loaded, LoadedBy, RanBig, big_line, last_out, line_for}
+use Rattle.call_status.specs.Call.{Call, call}
 use Rattle.call_status.specs.Statuses.{IsPastOpening}
 use Rattle.job_calls.specs.Causes.{OpensBy}
 use Rattle.call_status.specs.Printed.{put_of, PrintsBy}
@@ -79,7 +80,7 @@ module _ {W : Type 0} (G : Ghosts W) (fewer_later : FewerLater G) where
       (puts.only.time.nothing_else (G.moment start) image seen time.later left)
 
 -- bytes that are enough are, after the line was put or nothing was
-pub still-holds : {W : Type 0} (G : Ghosts W) (header : Header) (transfers : ℕ) (quiet : Quiet) (last : List ℕ) (before after : W) (now : Status) → IsToldBy G transfers quiet last before after now → HoldsStore G header before → HoldsStore G header after
+pub still-holds : {W : Type 0} (G : Ghosts W) (header : Header) (transfers : ℕ) (quiet : Quiet) (last : List ℕ) (before after : W) (now : Status) → IsToldBy G transfers quiet last (call before after [] now) → HoldsStore G header before → HoldsStore G header after
 still-holds G header transfers (quiet.Ended commits rollbacks) last before after now told holds =
     subst (λ (those : Option (List ℕ)). ForSome those (λ bytes. total header ≤ length bytes)) (sym told.1.only.held) holds
 still-holds G header transfers quiet.Closed last before after now told holds = subst (HoldsStore G header) (sym told.1) holds
@@ -115,7 +116,7 @@ module _ {W : Type 0} (G : Ghosts W) (fewer_later : FewerLater G) (printed_now :
   abbrev half : RanFrom G [] (activity desk).programs desk.opened job.events.items (first_desk G job.frames before start desk opens asks) new start after
   half = ran_until G (activity desk).programs desk.opened job.events.items (first_desk G job.frames before start desk opens asks) new start between after last quiet runs held writes disk sure doubt images
 
-  abbrev whole : RunsFrom G [] job number store before after (order_of new) (Some new)
+  abbrev whole : (now : Status) → RunsFrom G job number store (call before after (order_of new) now)
   whole = runs-from G fewer_later printed_now job before start after desk new number store standing opens asks programs_are same_opened same_honest time asks-calm [] half
 
   abbrev facts : Facts
@@ -129,14 +130,15 @@ module _ {W : Type 0} (G : Ghosts W) (fewer_later : FewerLater G) (printed_now :
 
   -- the run of a load, by its status
   pub has_big_run : (now : Status) → (IsPastOpening now → (is_shut quiet ≡ false) × PrintsBy (G.printed before) (G.printed after) (line_for transfers (event_lines [] (activity desk).programs desk.opened runs.ran.taken (first_desk G job.frames before start desk opens asks))) now) → (now ≡ Status.DiskFault → is_shut quiet ≡ true)
-      → HasBigRun G transfers job number store before after (order_of new) (Some new) now
+      → HasBigRun G transfers job number store (call before after (order_of new) now) (Some new)
   has_big_run now past shut = record {
-    ran = whole;
+    ran = whole now;
+    answered = refl;
     all = λ opened. runs.all (past opened).0;
-    still_open = λ opened. sym whole.to.closes ∙ runs.closed ∙ (past opened).0;
-    shut = λ is. sym whole.to.closes ∙ runs.closed ∙ shut is;
+    still_open = λ opened. sym (whole now).to.closes ∙ runs.closed ∙ (past opened).0;
+    shut = λ is. sym (whole now).to.closes ∙ runs.closed ∙ shut is;
     told = λ opened. subst (λ (f : Facts). PrintsBy (G.printed before) (G.printed after) (line_for transfers (event_lines [] f.programs f.number runs.ran.taken f.start)) now) facts_are (past opened).1;
-    last = λ opened. last_serial (begun job.programs.items job.events.items) number store (order_of new) _ _ _ whole.serial_run (sym whole.to.closes ∙ runs.closed ∙ (past opened).0);
+    last = λ opened. last_serial (begun job.programs.items job.events.items) number store (order_of new) _ _ _ (whole now).serial_run (sym (whole now).to.closes ∙ runs.closed ∙ (past opened).0);
   }
 
 prints_now : (now : Status) → IsPastOpening now → (old new : Option (List ℕ)) (bytes : List ℕ) → Prints old new bytes (put_of now) → PrintsBy old new bytes now
@@ -152,10 +154,10 @@ opens_past G before after now other stood = record {
   never = λ honest told standing offset same. other offset same;
 }
 
-loaded_past : {W : Type 0} (G : Ghosts W) (transfers : ℕ) (before after : W) (order : List (ℕ × ℕ)) (session : Option Session) (now : Status) → IsPastOpening now → RanBig G transfers before after order session now → PutsTimes G 1 before after (put_of now) → LoadedBy G transfers before after order session now
-loaded_past G transfers before after order session status.Done past ran times = (ran, times)
-loaded_past G transfers before after order session status.PutFault past ran times = ran
-loaded_past G transfers before after order session _ past ran times = absurd past
+loaded_past : {W : Type 0} (G : Ghosts W) (transfers : ℕ) (c : Call W) (session : Option Session) (now : Status) → IsPastOpening now → RanBig G transfers c session → PutsTimes G 1 c.before c.after (put_of now) → LoadedBy G transfers c session now
+loaded_past G transfers c session status.Done past ran times = (ran, times)
+loaded_past G transfers c session status.PutFault past ran times = ran
+loaded_past G transfers c session _ past ran times = absurd past
 
 times_since : {W T : Type 0} (G : Ghosts W) (before start between after : W) (result : Result T Failed) → OnlyAsks G before start → CallsDisk G start between → PutsTimes G 1 between after result → PutsTimes G 1 before after result
 times_since G before start between after (Ok value) asks calls times = λ told.
@@ -171,7 +173,7 @@ module _ {W : Type 0} (G : Ghosts W) (fewer_later : FewerLater G) (printed_now :
   abbrev Ran : Quiet → Type 0
   Ran quiet = (first : Desk) → IsSure G start → ghosts.shows desk (held_of G start) first → RunsQuietly ghosts G (activity desk).programs desk.opened job.events.items first new start between last quiet
 
-  pub loaded : (quiet : Quiet) → Ran quiet → (after : W) (now : Status) → IsToldBy G transfers quiet last between after now → Loaded G transfers before after (order_of new) (Some new) now
+  pub loaded : (quiet : Quiet) → Ran quiet → (after : W) (now : Status) → IsToldBy G transfers quiet last (call between after [] now) → Loaded G transfers (call before after (order_of new) now) (Some new)
   loaded (quiet.Ended commits rollbacks) runs after now (past, puts, times) =
       let later : Elapses G.moment G.left_since start after = elapses-trans G fewer_later start between after calls.time puts.only.time in
       let honest : G.is_honest after ≡ G.is_honest start = puts.only.honest ∙ calls.honest in
@@ -179,7 +181,7 @@ module _ {W : Type 0} (G : Ghosts W) (fewer_later : FewerLater G) (printed_now :
         honest = honest ∙ asks.calls.honest;
         time = elapses-trans G fewer_later before start after asks.calls.time later;
         opens = opens_past G before after now (λ offset is. subst IsPastOpening is past) (λ opened told. stood told);
-        by_status = loaded_past G transfers before after (order_of new) (Some new) now past
+        by_status = loaded_past G transfers (call before after (order_of new) now) (Some new) now past
             (record {
               job = job;
               is_load = is_load;
@@ -204,8 +206,8 @@ module _ {W : Type 0} (G : Ghosts W) (fewer_later : FewerLater G) (printed_now :
             (times_since G before start between after (put_of now) asks calls times);
       }
   loaded quiet.Closed runs after now (shut, same) =
-      subst (λ (status : Status). Loaded G transfers before after (order_of new) (Some new) status) (sym shut)
-      (subst (λ (w : W). Loaded G transfers before w (order_of new) (Some new) Status.DiskFault) (sym same) (record {
+      subst (λ (status : Status). Loaded G transfers (call before after (order_of new) status) (Some new)) (sym shut)
+      (subst (λ (w : W). Loaded G transfers (call before w (order_of new) Status.DiskFault) (Some new)) (sym same) (record {
         honest = calls.honest ∙ asks.calls.honest;
         time = elapses-trans G fewer_later before start between asks.calls.time calls.time;
         opens = opens_past G before between Status.DiskFault (λ offset is. cc) (λ opened told. stood told);

@@ -47,10 +47,11 @@ use Rattle.job_text.specs.Grammar.{job_of, content_of}
 use Rattle.call_status.specs.declared.status.Status.{Status}
 use Rattle.call_status.specs.declared.status.Status.TheVariants as status
 use Rattle.job_calls.specs.Causes.{status_of_replay}
+use Rattle.call_status.specs.Call.{Call, Given, call}
 use Rattle.call_status.specs.Opening.{StandsAt}
 use Rattle.call_status.specs.SourceText.{IsWhole}
 use Rattle.job_calls.specs.Handed.{HandedRuns}
-use Rattle.job_calls.specs.Headline.{HasRun, DoubtStands, Happened, HappenedTo, RunsFrom, put_by, names_of, job_desk}
+use Rattle.job_calls.specs.Headline.{DidBy, HasRun, HasRunFrom, DoubtStands, Happened, HappenedTo, RanJob, RunsFrom, put_by, names_of, job_desk}
 
 -- what stands for one number and store stands for no other
 same-number : (one two : ℕ) (first second : FlatStore) → Stands one first ≡ Stands two second → one ≡ two
@@ -215,18 +216,18 @@ module _ {W : Type 0} (G : Ghosts W) (fewer_later : FewerLater G) (printed_now :
           λ image seen left. doubted.1.1 image seen left ∙ whole.2 ∙ ap (λ (those : List (ℕ × ℕ)). let that : Standing = Stands ((number + length those) % 2 ^ 64) whole.0 in that) order,
         )
 
-    abbrev pub runs-from : RunsFrom G names job number store before after (order_of new) (Some new)
-    runs-from = record {
+    abbrev pub runs-from : (now : Status) → RunsFrom G job number store (call before after (order_of new) now)
+    runs-from now = record {
       taken = half.taken;
       rest = half.rest;
       is_run = is_run;
       end = ends;
       end_is = refl;
       order_is = ordered;
+      names = names;
       lines = lines;
       lines_are = refl;
       session = new;
-      answered = refl;
       to = comes-to;
       all_fine = all-fine;
       serial_run = serial_run;
@@ -271,9 +272,11 @@ module _ {W : Type 0} (G : Ghosts W) (fewer_later : FewerLater G) (printed_now :
 
     pub has_run : put_by now put → ((one two : Option (List ℕ)) (bytes : List ℕ) → Prints one two bytes result → Prints one two bytes put) → (IsErr result → IsErr put)
         → (now ≡ Status.Done → (new.closed ≡ false) × (reports.rest ≡ [])) → (now ≡ Status.DiskFault → new.closed ≡ true)
-        → HasRun G job number store before after (order_of new) (Some new) now
+        → HasRun G job number store (call before after (order_of new) now) (Some new)
     has_run put_is turns fails ended shut = record {
-      ran = runs-from names half;
+      ran = runs-from names half now;
+      named = refl;
+      answered = refl;
       all = λ is. (ended is).1;
       still_open = λ is. sym (comes-to names half).closes ∙ (ended is).0;
       shut = λ is. sym (comes-to names half).closes ∙ shut is;
@@ -298,7 +301,7 @@ module _ {W : Type 0} (G : Ghosts W) (fewer_later : FewerLater G) (printed_now :
   abbrev replayed-from : (number : ℕ) (store : FlatStore) (standing : StandsAt G before number store) → Replays ghosts G (names_of job) (activity desk).programs desk.opened job.events.items (first_desk G job.frames before start desk (opens standing.honest standing.told) asks) new start after result
   replayed-from number store standing = replays (first_desk G job.frames before start desk (opens standing.honest standing.told) asks) (has-opened G job.frames before start desk (opens standing.honest standing.told) asks)
 
-  pub happened-by : (that : Replayed) → result ≡ that → HappenedTo G job before after (order_of new) (Some new) (status_of_replay that)
+  pub happened-by : (that : Replayed) → result ≡ that → HappenedTo G job (call before after (order_of new) (status_of_replay that)) (Some new)
   happened-by replayed.Ended is = λ number store standing.
       let reports = subst (λ (those : Replayed). Replays ghosts G (names_of job) (activity desk).programs desk.opened job.events.items (first_desk G job.frames before start desk (opens standing.honest standing.told) asks) new start after those) is (replayed-from number store standing) in
       has_run G fewer_later printed_now job before start after desk new number store standing (opens standing.honest standing.told) asks programs_are same_opened same_honest time asks-calm
@@ -314,12 +317,16 @@ module _ {W : Type 0} (G : Ghosts W) (fewer_later : FewerLater G) (printed_now :
       has_run G fewer_later printed_now job before start after desk new number store standing (opens standing.honest standing.told) asks programs_are same_opened same_honest time asks-calm
       (Err failed) (Err failed) status.PutFault reports (failed, refl) (λ one two bytes prints. prints_broken {T = Bool} {U = ℕ} (Err failed) (Err failed) refl refl one two bytes prints) (λ is. is) (λ is. absurd (cc)) (λ is. absurd (cc))
 
+-- what running did, as something else that it did
+did-as : {W : Type 0} (G : Ghosts W) (ran other : Type 0) (c : Call W) (session : Option Session) (now : Status) → (ran → other) → DidBy G ran c session now → DidBy G other c session now
+did-as G ran other c session status.Done turns did = turns did
+did-as G ran other c session status.PutFault turns did = turns did
+did-as G ran other c (Some session) status.DiskFault turns did = turns did
+did-as G ran other c None status.DiskFault turns did = did
+did-as G ran other c session (status.Store offset) turns did = did
+did-as G ran other c session _ turns did = did
+
 -- what happened to the job of a text
-pub happens : {W : Type 0} (G : Ghosts W) (left left_now : Option (List ℕ)) (before after : W) (text : List ℕ) (job : Job) (order : List (ℕ × ℕ)) (session : Option Session) (now : Status)
-    → IsWhole left left_now text → job_of text ≡ Ok (content_of job) → HappenedTo G job before after order session now → HandedRuns job.programs.items session → Happened G left left_now before after order session now
-happens G left left_now before after text job order session status.Done whole means did runs = record { text = text; whole = whole; job = job; means = means; has_run = did; runs = runs }
-happens G left left_now before after text job order session status.PutFault whole means did runs = record { text = text; whole = whole; job = job; means = means; has_run = did; runs = runs }
-happens G left left_now before after text job order (Some session) status.DiskFault whole means did runs = record { text = text; whole = whole; job = job; means = means; has_run = did; runs = runs }
-happens G left left_now before after text job order None status.DiskFault whole means did runs = did
-happens G left left_now before after text job order session (status.Store offset) whole means did runs = did
-happens G left left_now before after text job order session _ whole means did runs = did
+pub happens : {W : Type 0} (G : Ghosts W) (text : List ℕ) (job : Job) (from : Given) (c : Call W) (session : Option Session) → IsWhole from.left from.left_now text → job_of text ≡ Ok (content_of job) → HappenedTo G job c session → HandedRuns job.programs.items session → Happened G from c session
+happens G text job from c session whole means did runs =
+    did-as G (HasRunFrom G job c session) (RanJob G from c session) c session c.status (λ ran. record { text = text; whole = whole; job = job; means = means; has_run = ran; runs = runs }) did

@@ -1,5 +1,5 @@
 -- What a load of transfers did: one run of the desk over its events, with one line in place of a report.
-use Rattle.std.specs.Prelude.{◌≡◌, ℕ, true, false, List, [], ◌∷◌, codes, decimal, count_by, Option}
+use Rattle.std.specs.Prelude.{◌≡◌, ℕ, true, false, List, [], ◌∷◌, codes, decimal, count_by, Option, Some}
 use Rattle.std.specs.List.{fold}
 use Rattle.outside.specs.declared.world.Outside.{Ghosts}
 use Rattle.outside.specs.Moments.{Elapses}
@@ -13,6 +13,7 @@ use Rattle.schedule_replay.specs.Quiet.{is_rollback, out_after}
 use Rattle.listing.specs.Puts.{Puts, PutsTimes}
 use Rattle.job_text.specs.declared.job.Job.{Job}
 use Rattle.job_text.specs.Big.{IsBigJob}
+use Rattle.call_status.specs.Call.{Call}
 use Rattle.call_status.specs.declared.status.Status.{Status}
 use Rattle.call_status.specs.declared.status.Status.TheVariants as status
 use Rattle.call_status.specs.Statuses.{IsPastOpening}
@@ -37,39 +38,40 @@ line_for transfers lines = big_line transfers (count_by is_commit lines) (count_
 
 -- The job of a load was run from the store that the disk stood for, with a line in place of the report. At Done and at PutFault all events were run, and its
 -- line was put, or a prefix of it; what it tells of the last commit is what the last commit prints where the programs run one after another.
-pub record HasBigRun {W : Type 0} (G : Ghosts W) (transfers : ℕ) (job : Job) (number : ℕ) (store : FlatStore) (before after : W) (order : List (ℕ × ℕ)) (session : Option Session) (status : Status) : Type 0 where
-  pub ran : RunsFrom G [] job number store before after order session
-  pub all : IsPastOpening status → ran.rest ≡ []
-  pub still_open : IsPastOpening status → ran.end.closed ≡ false
-  pub shut : status ≡ Status.DiskFault → ran.end.closed ≡ true
-  pub told : IsPastOpening status → PrintsBy (G.printed before) (G.printed after) (line_for transfers ran.lines) status
-  pub last : IsPastOpening status → last_out ran.lines ≡ last_out (serial_lines (begun job.programs.items job.events.items) number order store)
+pub record HasBigRun {W : Type 0} (G : Ghosts W) (transfers : ℕ) (job : Job) (number : ℕ) (store : FlatStore) (call : Call W) (session : Option Session) : Type 0 where
+  pub ran : RunsFrom G job number store call
+  pub answered : session ≡ Some ran.session
+  pub all : IsPastOpening call.status → ran.rest ≡ []
+  pub still_open : IsPastOpening call.status → ran.end.closed ≡ false
+  pub shut : call.status ≡ Status.DiskFault → ran.end.closed ≡ true
+  pub told : IsPastOpening call.status → PrintsBy (G.printed call.before) (G.printed call.after) (line_for transfers ran.lines) call.status
+  pub last : IsPastOpening call.status → last_out ran.lines ≡ last_out (serial_lines (begun job.programs.items job.events.items) number call.order store)
 
 -- what was put of a run of a load, by how it ended: its line, or a prefix of it, or nothing where the desk was closed
-abbrev pub IsToldBy : {W : Type 0} → Ghosts W → ℕ → Quiet → (last : List ℕ) → W → W → Status → Type 0
-IsToldBy G transfers (quiet.Ended commits rollbacks) last before after now =
-    IsPastOpening now × Puts G (big_line transfers commits rollbacks last) before after (put_of now) × PutsTimes G 1 before after (put_of now)
-IsToldBy G transfers quiet.Closed last before after now = (now ≡ Status.DiskFault) × (after ≡ before)
+abbrev pub IsToldBy : {W : Type 0} → Ghosts W → ℕ → Quiet → (last : List ℕ) → Call W → Type 0
+IsToldBy G transfers (quiet.Ended commits rollbacks) last call =
+    IsPastOpening call.status × Puts G (big_line transfers commits rollbacks last) call.before call.after (put_of call.status) × PutsTimes G 1 call.before call.after (put_of call.status)
+IsToldBy G transfers quiet.Closed last call = (call.status ≡ Status.DiskFault) × (call.after ≡ call.before)
 
 -- the events of the load were run, from whatever number and store the disk stood for; the session runs its programs
-pub record RanBig {W : Type 0} (G : Ghosts W) (transfers : ℕ) (before after : W) (order : List (ℕ × ℕ)) (session : Option Session) (status : Status) : Type 0 where
+pub record RanBig {W : Type 0} (G : Ghosts W) (transfers : ℕ) (call : Call W) (session : Option Session) : Type 0 where
   pub job : Job
   pub is_load : IsBigJob transfers job
-  pub has_run : (number : ℕ) (store : FlatStore) → StandsAt G before number store → HasBigRun G transfers job number store before after order session status
+  pub has_run : (number : ℕ) (store : FlatStore) → StandsAt G call.before number store → HasBigRun G transfers job number store call session
   pub runs : HandedRuns job.programs.items session
 
 -- what a load did, by its status; a disk fault comes in the opening or in an event, and other statuses don't come
-abbrev pub LoadedBy : {W : Type 0} → Ghosts W → ℕ → W → W → List (ℕ × ℕ) → Option Session → Status → Type 0
-LoadedBy G transfers before after order session status.Done = RanBig G transfers before after order session status.Done × PutsOnce G before after
-LoadedBy G transfers before after order session status.PutFault = RanBig G transfers before after order session status.PutFault
-LoadedBy G transfers before after order session status.DiskFault = ByOpening session (RanBig G transfers before after order session status.DiskFault) (Untouched G before after order) × (G.printed after ≡ G.printed before)
-LoadedBy G transfers before after order session (status.Store offset) = Refused G before after order
-LoadedBy G transfers before after order session status.NoMemory = Refused G before after order
-LoadedBy G transfers before after order session _ = ⊥
+abbrev pub LoadedBy : {W : Type 0} → Ghosts W → ℕ → Call W → Option Session → Status → Type 0
+LoadedBy G transfers call session status.Done = RanBig G transfers call session × PutsOnce G call.before call.after
+LoadedBy G transfers call session status.PutFault = RanBig G transfers call session
+LoadedBy G transfers call session status.DiskFault = ByOpening session (RanBig G transfers call session) (Untouched G call) × (G.printed call.after ≡ G.printed call.before)
+LoadedBy G transfers call session (status.Store offset) = Refused G call
+LoadedBy G transfers call session status.NoMemory = Refused G call
+LoadedBy G transfers call session _ = ⊥
 
 -- what a load did, and what the bytes of the disk tell of its status
-pub record Loaded {W : Type 0} (G : Ghosts W) (transfers : ℕ) (before after : W) (order : List (ℕ × ℕ)) (session : Option Session) (status : Status) : Type 0 where
-  pub honest : G.is_honest after ≡ G.is_honest before
-  pub time : Elapses G.moment G.left_since before after
-  pub opens : OpensBy G before after status
-  pub by_status : LoadedBy G transfers before after order session status
+pub record Loaded {W : Type 0} (G : Ghosts W) (transfers : ℕ) (call : Call W) (session : Option Session) : Type 0 where
+  pub honest : G.is_honest call.after ≡ G.is_honest call.before
+  pub time : Elapses G.moment G.left_since call.before call.after
+  pub opens : OpensBy G call.before call.after call.status
+  pub by_status : LoadedBy G transfers call session call.status
