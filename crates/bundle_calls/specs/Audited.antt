@@ -9,6 +9,7 @@ use Rattle.serial_audit.specs.declared.auditing.KeptStore.{KeptStore}
 use Rattle.serial_audit.specs.declared.auditing.Verdict.{Verdict}
 use Rattle.serial_audit.specs.declared.auditing.Verdict.TheVariants.{NotSerial, Serial}
 use Rattle.serial_audit.specs.declared.bundle.Bundle.{Bundle}
+use Rattle.call_status.specs.Call.{Call, Given}
 use Rattle.call_status.specs.declared.status.Status.{Status}
 use Rattle.call_status.specs.declared.status.Status.TheVariants as status
 use Rattle.bundle_calls.specs.Bundled.{HasBundle, IsBadClosing, IsNoJob, IsOpened, IsWrongPart, WithBundle, part_of}
@@ -56,9 +57,9 @@ AuditedBy G bytes before after status.PutFault = TellsVerdict G bytes before aft
 AuditedBy G bytes before after other = IsUnchecked bytes other × (after ≡ before)
 
 -- what an audit did; it has no order
-pub record Audited {W : Type 0} (G : Ghosts W) (left left_now : Option (List ℕ)) (faults faults_now : ℕ) (before after : W) (order : List (ℕ × ℕ)) (status : Status) : Type 0 where
-  pub no_order : order ≡ []
-  pub by_status : WithBundle left left_now faults faults_now (after ≡ before) (λ text. AuditedBy G text before after status) status
+pub record Audited {W : Type 0} (G : Ghosts W) (given : Given) (call : Call W) : Type 0 where
+  pub no_order : call.order ≡ []
+  pub by_status : WithBundle given (call.after ≡ call.before) (λ text. AuditedBy G text call.before call.after call.status) call.status
 
 -- The source has what an audit needs: a bundle, whose closing store stands too.
 pub record CanAudit (left : Option (List ℕ)) : Type 0 where

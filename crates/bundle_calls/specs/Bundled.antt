@@ -10,6 +10,7 @@ use Rattle.serial_audit.specs.Bundle.{IsBundle, IsWrongAt}
 use Rattle.serial_audit.specs.declared.auditing.KeptStore.{KeptStore}
 use Rattle.serial_audit.specs.declared.bundle.Bundle.{Bundle}
 use Rattle.serial_audit.specs.declared.bundle.Span.{Span}
+use Rattle.call_status.specs.Call.{Given}
 use Rattle.call_status.specs.declared.status.Status.{Status}
 use Rattle.call_status.specs.declared.status.Status.TheVariants as status
 use Rattle.store_calls.specs.Kept.{Keeps}
@@ -86,8 +87,8 @@ IsShut bytes status.NoMemory = Unit {0}
 IsShut bytes _ = ⊥
 
 -- What was done with the text of a bundle, which was read whole; or the source failed or gave a byte too many, and what is outside stays.
-abbrev pub WithBundle : (left left_now : Option (List ℕ)) (faults faults_now : ℕ) (stays : Type 0) (did : List ℕ → Type 0) → Status → Type 0
-WithBundle left left_now faults faults_now stays did status.SourceFault = stays × Rose faults faults_now
-WithBundle left left_now faults faults_now stays did status.TooBig = stays × HasRead left left_now 33554433
-WithBundle left left_now faults faults_now stays did status.NoMemory = stays
-WithBundle left left_now faults faults_now stays did _ = (text : List ℕ) × IsWholeBundle left left_now text × did text
+abbrev pub WithBundle : Given → (stays : Type 0) (did : List ℕ → Type 0) → Status → Type 0
+WithBundle given stays did status.SourceFault = stays × Rose given.faults given.faults_now
+WithBundle given stays did status.TooBig = stays × HasRead given.left given.left_now 33554433
+WithBundle given stays did status.NoMemory = stays
+WithBundle given stays did _ = (text : List ℕ) × IsWholeBundle given.left given.left_now text × did text

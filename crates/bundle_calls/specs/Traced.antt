@@ -13,6 +13,7 @@ use Rattle.touch_trace.specs.declared.answer.TraceFault.{TraceFault}
 use Rattle.touch_trace.specs.declared.answer.TraceFault.TheVariants as fault
 use Rattle.touch_trace.specs.declared.touch.Touch.{Touch}
 use Rattle.touch_trace.specs.Trace.{IsAnswer}
+use Rattle.call_status.specs.Call.{Call, Given}
 use Rattle.call_status.specs.declared.status.Status.{Status}
 use Rattle.call_status.specs.declared.status.Status.TheVariants as status
 use Rattle.bundle_calls.specs.Bundled.{HasBundle, IsNoJob, IsOpened, IsWrongPart, WithBundle}
@@ -72,9 +73,9 @@ TracedBy G bytes activation before after status.PutFault = TellsTrace G bytes ac
 TracedBy G bytes activation before after other = IsUntraced bytes activation other × (after ≡ before)
 
 -- what a trace did; it has no order
-pub record TracedFrom {W : Type 0} (G : Ghosts W) (activation : ℕ) (left left_now : Option (List ℕ)) (faults faults_now : ℕ) (before after : W) (order : List (ℕ × ℕ)) (status : Status) : Type 0 where
-  pub no_order : order ≡ []
-  pub by_status : WithBundle left left_now faults faults_now (after ≡ before) (λ text. TracedBy G text activation before after status) status
+pub record TracedFrom {W : Type 0} (G : Ghosts W) (activation : ℕ) (given : Given) (call : Call W) : Type 0 where
+  pub no_order : call.order ≡ []
+  pub by_status : WithBundle given (call.after ≡ call.before) (λ text. TracedBy G text activation call.before call.after call.status) call.status
 
 -- the status of a trace that isn't had
 abbrev pub status_of_trace : TraceFault → Status

@@ -4,6 +4,7 @@ ghost use Rattle.outside.specs.Causes.{Rose};
 ghost use Rattle.listing.specs.Puts.{Puts, PutsTimes};
 ghost use Rattle.desk.specs.Commits.{is_commit};
 ghost use Rattle.report_text.specs.ReadLines.{owned_told};
+ghost use Rattle.call_status.specs.Call.{call, given};
 ghost use Rattle.bundle_calls.specs.Audited.{Audited, AuditedBy, CanAudit, IsChecked, IsOfAudit, IsUnchecked, verdict_line};
 
 use super::bundle::{open_bundle, part, store_in};
@@ -26,7 +27,7 @@ pub struct Audit {
 
 /// Audits the bundle of a source, and prints its verdict.
 pub fn audit_source<S: Source, W: Outside>(alloc: Global, source: &mut S, outside: &mut W) -> Status
-    ensures audited { Audited W.Outside (S.left source.old) (S.left source.new) (S.faults source.old) (S.faults source.new) outside.old outside.new [] result }
+    ensures audited { Audited W.Outside (given S.Source source.old source.new) (call outside.old outside.new [] result) }
     ensures only { IsOfAudit result }
     ensures unfailed { result ≡ Status.Done → (S.faults source.new ≡ S.faults source.old) × (W.put_faults outside.new ≡ W.put_faults outside.old) }
     ensures put { result ≡ Status.PutFault → Rose (W.put_faults outside.old) (W.put_faults outside.new) }

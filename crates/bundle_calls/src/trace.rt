@@ -3,6 +3,7 @@ ghost use Rattle.std.specs.Prelude.{◌≡◌, ◌⊎◌, ◌+◌, ◌≤◌, []
 ghost use Rattle.std.specs.List.{flat_map};
 ghost use Rattle.outside.specs.Causes.{Rose};
 ghost use Rattle.listing.specs.Puts.{Puts, PutsTimes};
+ghost use Rattle.call_status.specs.Call.{call, given};
 ghost use Rattle.bundle_calls.specs.Traced.{CanTrace, IsOfTrace, IsTraced, IsUntraced, TracedBy, TracedFrom, status_of_trace, steps_line, touch_line, trace_lines};
 
 use super::bundle::open_bundle;
@@ -19,7 +20,7 @@ pub fn trace_source<S: Source, W: Outside>(
     activation: u32,
     outside: &mut W,
 ) -> Status
-    ensures traced { TracedFrom W.Outside activation (S.left source.old) (S.left source.new) (S.faults source.old) (S.faults source.new) outside.old outside.new [] result }
+    ensures traced { TracedFrom W.Outside activation (given S.Source source.old source.new) (call outside.old outside.new [] result) }
     ensures only { IsOfTrace result }
     ensures unfailed { result ≡ Status.Done → (S.faults source.new ≡ S.faults source.old) × (W.put_faults outside.new ≡ W.put_faults outside.old) }
     ensures put { result ≡ Status.PutFault → Rose (W.put_faults outside.old) (W.put_faults outside.new) }

@@ -1,4 +1,5 @@
 pub mod Statuses
+pub mod Call
 pub mod SourceText
 pub mod Reading
 pub mod Opening

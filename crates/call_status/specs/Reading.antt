@@ -1,8 +1,9 @@
 -- What the text of a job tells of the status with which it was read.
-use Rattle.std.specs.Prelude.{◌≡◌, ℕ, List, Option, Ok, Err}
+use Rattle.std.specs.Prelude.{◌≡◌, ℕ, List, Ok, Err}
 use Rattle.outside.specs.Causes.{Rose}
 use Rattle.job_text.specs.Grammar.{Content, job_of}
 use Rattle.call_status.specs.declared.status.Status.{Status}
+use Rattle.call_status.specs.Call.{Given}
 use Rattle.call_status.specs.SourceText.{HasRead, IsWhole}
 use Rattle.call_status.specs.Statuses.{IsPastJob, IsPastText}
 
@@ -10,10 +11,10 @@ use Rattle.call_status.specs.Statuses.{IsPastJob, IsPastText}
 abbrev pub IsSomeJob : List ℕ → Type 0
 IsSomeJob text = (content : Content) × (job_of text ≡ Ok content)
 
--- what the bytes and the faults of a source tell of the status with which its job was read
-pub record ReadsBy (left left_now : Option (List ℕ)) (faults faults_now : ℕ) (status : Status) : Type 0 where
-  pub source : status ≡ Status.SourceFault → Rose faults faults_now
-  pub big : status ≡ Status.TooBig → HasRead left left_now 1048577
-  pub text : IsPastText status → (text : List ℕ) × IsWhole left left_now text
-  pub no_job : (line kind : ℕ) → status ≡ Status.Job line kind → (text : List ℕ) × IsWhole left left_now text × (job_of text ≡ Err (line, kind))
-  pub job : IsPastJob status → (text : List ℕ) × IsWhole left left_now text × IsSomeJob text
+-- what a source that was read to a job tells of the status with which that went
+pub record ReadsBy (given : Given) (status : Status) : Type 0 where
+  pub source : status ≡ Status.SourceFault → Rose given.faults given.faults_now
+  pub big : status ≡ Status.TooBig → HasRead given.left given.left_now 1048577
+  pub text : IsPastText status → (text : List ℕ) × IsWhole given.left given.left_now text
+  pub no_job : (line kind : ℕ) → status ≡ Status.Job line kind → (text : List ℕ) × IsWhole given.left given.left_now text × (job_of text ≡ Err (line, kind))
+  pub job : IsPastJob status → (text : List ℕ) × IsWhole given.left given.left_now text × IsSomeJob text

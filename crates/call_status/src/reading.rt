@@ -2,6 +2,7 @@
 ghost use Rattle.std.specs.Prelude.{◌≡◌, ℕ, List, IfErr, IfOk, OnOk, Ok};
 ghost use Rattle.job_text.specs.Grammar.{job_of, content_of};
 ghost use Rattle.job_text.specs.Ready.{IsReady};
+ghost use Rattle.call_status.specs.Call.{given};
 ghost use Rattle.call_status.specs.Reading.{ReadsBy};
 ghost use Rattle.call_status.specs.SourceText.{IsWhole};
 ghost use Rattle.call_status.specs.Statuses.{IsOfReading, status_of};
@@ -18,7 +19,7 @@ use std::alloc::Global;
 ///
 /// The status with which a call ends that finds no job there.
 pub fn job_from<S: Source>(alloc: Global, source: &mut S) -> Result<Job, Status>
-    ensures read { ReadsBy (S.left source.old) (S.left source.new) (S.faults source.old) (S.faults source.new) (status_of result) }
+    ensures read { ReadsBy (given S.Source source.old source.new) (status_of result) }
     ensures unfailed { OnOk result (S.faults source.new ≡ S.faults source.old) }
     ensures only { IfErr result IsOfReading }
     ensures means { IfOk result (λ job. (text : List ℕ) × IsWhole (S.left source.old) (S.left source.new) text × (job_of text ≡ Ok (content_of job))) }

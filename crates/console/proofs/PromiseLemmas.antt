@@ -14,6 +14,7 @@ use Rattle.standby.specs.State.{IsFirstLong, due}
 use Rattle.standby.specs.Text.{Content, IsContent, ShipLine, text_of}
 use Rattle.standby_calls.specs.Followed.{FollowedBy, FollowedFrom, IsNoText, IsOfFollow, OnStore}
 use Rattle.standby_calls.specs.Shipped.{IsOfShip, ShippedFrom}
+use Rattle.call_status.specs.Call.{Given, call}
 use Rattle.call_status.specs.Opening.{IsFaultAt, IsStanding}
 use Rattle.bundle_calls.specs.Audited.{CanAudit}
 use Rattle.bundle_calls.specs.Traced.{CanTrace}
@@ -123,8 +124,8 @@ module _ {W : Type 0} (G : Ghosts W) (left : Option (List ℕ)) (outside : W) wh
 -- a renewal
 module _ {W : Type 0} (G : Ghosts W) where
   -- it ends well where nothing fails
-  module _ (left left_now : Option (List ℕ)) (faults faults_now : ℕ) (before after : W) (order : List (ℕ × ℕ)) (has : HasOldStore left) (empty : G.held before ≡ Some []) (calm : Rose faults faults_now → ⊥) where
-    renewal_ends : (bank : ℕ) (status : Status) → Renewed G bank left left_now faults faults_now before after order status → IsOfRenew status
+  module _ (from : Given) (before after : W) (order : List (ℕ × ℕ)) (has : HasOldStore from.left) (empty : G.held before ≡ Some []) (calm : Rose from.faults from.faults_now → ⊥) where
+    renewal_ends : (bank : ℕ) (status : Status) → Renewed G bank from (call before after order status) → IsOfRenew status
         → (status ≡ Status.DiskFault → ⊥) → (status ≡ Status.PutFault → ⊥) → (status ≡ Status.Done) ⊎ (status ≡ Status.NoMemory)
     renewal_ends bank status.Done did of disk put = inl refl
     renewal_ends bank status.NoMemory did of disk put = inr refl
@@ -133,10 +134,10 @@ module _ {W : Type 0} (G : Ghosts W) where
     renewal_ends bank status.SourceFault did of disk put = absurd (calm did.by_status.1)
     renewal_ends bank status.TooBig did of disk put =
         let (front, many, all) = did.by_status.1 in
-        absurd (too_much left left_now has.text front 4194304 has.has_text has.few many all)
+        absurd (too_much from.left from.left_now has.text front 4194304 has.has_text has.few many all)
     renewal_ends bank (status.Store offset) did of disk put =
         let (text, whole, wrong) = did.by_status.1 in
-        let same = read_whole left left_now has.text text has.has_text whole.all whole.none in
+        let same = read_whole from.left from.left_now has.text text has.has_text whole.all whole.none in
         absurd (clash offset (subst (λ (those : List ℕ). IsNotOne those offset) same wrong))
       where
         clash : (offset : ℕ) → IsNotOne has.text offset → ⊥
@@ -149,12 +150,12 @@ module _ {W : Type 0} (G : Ghosts W) where
         absurd (omega (arith, some, none))
     renewal_ends bank _ did of disk put = absurd of
 
-  pub renewal_promise : (words : List (String Global)) (bank : ℕ) → IsForm (command.Renew bank) words → (left left_now : Option (List ℕ)) (faults faults_now : ℕ) (before after : W) (order : List (ℕ × ℕ)) (status : Status)
-      → Renewed G bank left left_now faults faults_now before after order status → IsOfRenew status → IsComplete G words left before → (Rose faults faults_now → ⊥)
+  pub renewal_promise : (words : List (String Global)) (bank : ℕ) → IsForm (command.Renew bank) words → (from : Given) (before after : W) (order : List (ℕ × ℕ)) (status : Status)
+      → Renewed G bank from (call before after order status) → IsOfRenew status → IsComplete G words from.left before → (Rose from.faults from.faults_now → ⊥)
       → (status ≡ Status.DiskFault → ⊥) → (status ≡ Status.PutFault → ⊥) → (status ≡ Status.Done) ⊎ (status ≡ Status.NoMemory)
-  renewal_promise words bank asked left left_now faults faults_now before after order status did of complete calm disk put =
-      let needs = renews G left before words complete bank asked in
-      renewal_ends left left_now faults faults_now before after order needs.0 needs.1 calm bank status did of disk put
+  renewal_promise words bank asked from before after order status did of complete calm disk put =
+      let needs = renews G from.left before words complete bank asked in
+      renewal_ends from before after order needs.0 needs.1 calm bank status did of disk put
 
 -- a store that is shipped or follows
 module _ {W : Type 0} (G : Ghosts W) (left : Option (List ℕ)) (outside : W) where
@@ -164,7 +165,7 @@ module _ {W : Type 0} (G : Ghosts W) (left : Option (List ℕ)) (outside : W) wh
   no_fault offset stood (inr is) = let those = stood.2 in cc
 
   module _ (after : W) (order : List (ℕ × ℕ)) where
-    ship_ends : (from : ℕ) (now : Status) → CanShip G from outside → ShippedFrom G from outside after order now → IsOfShip now → (now ≡ Status.DiskFault → ⊥) → (now ≡ Status.PutFault → ⊥) → (now ≡ Status.Done) ⊎ (now ≡ Status.NoMemory)
+    ship_ends : (from : ℕ) (now : Status) → CanShip G from outside → ShippedFrom G from (call outside after order now) → IsOfShip now → (now ≡ Status.DiskFault → ⊥) → (now ≡ Status.PutFault → ⊥) → (now ≡ Status.Done) ⊎ (now ≡ Status.NoMemory)
     ship_ends from status.Done can did of disk put = inl refl
     ship_ends from status.NoMemory can did of disk put = inr refl
     ship_ends from status.DiskFault can did of disk put = absurd (disk refl)
@@ -177,7 +178,7 @@ module _ {W : Type 0} (G : Ghosts W) (left : Option (List ℕ)) (outside : W) wh
         absurd (omega (arith, keeps, all))
     ship_ends from _ can did of disk put = absurd of
 
-    pub ship_promise : (words : List (String Global)) (from : ℕ) → IsForm (command.Ship from) words → (now : Status) → ShippedFrom G from outside after order now → IsOfShip now → IsComplete G words left outside
+    pub ship_promise : (words : List (String Global)) (from : ℕ) → IsForm (command.Ship from) words → (now : Status) → ShippedFrom G from (call outside after order now) → IsOfShip now → IsComplete G words left outside
         → (now ≡ Status.DiskFault → ⊥) → (now ≡ Status.PutFault → ⊥) → (now ≡ Status.Done) ⊎ (now ≡ Status.NoMemory)
     ship_promise words from asked now did of complete disk put =
         ship_ends from now (ships G left outside words complete from asked) did of disk put
@@ -213,7 +214,7 @@ module _ {W : Type 0} (G : Ghosts W) (left : Option (List ℕ)) (outside : W) wh
           absurd (why.due_on.3 among)
       on_store held is means _ did of disk put = absurd did
 
-      no_text : (now : Status) → IsNoText left left_now faults faults_now now → (now ≡ Status.Done) ⊎ (now ≡ Status.NoMemory)
+      no_text : (now : Status) → IsNoText (record { left = left; left_now = left_now; faults = faults; faults_now = faults_now }) now → (now ≡ Status.Done) ⊎ (now ≡ Status.NoMemory)
       no_text status.NoMemory why = inr refl
       no_text status.SourceFault why = absurd (calm why)
       no_text status.TooBig why = absurd (too_much left left_now can.text why.0 1048576 can.has_text can.few why.1 why.2)
@@ -222,12 +223,12 @@ module _ {W : Type 0} (G : Ghosts W) (left : Option (List ℕ)) (outside : W) wh
           absurd (bad.none can.content can.is_content (read_whole left left_now can.text text can.has_text whole.all whole.none ∙ can.means))
       no_text _ why = absurd why
 
-      follow_ends : (now : Status) → FollowedBy G left left_now faults faults_now outside after now → IsOfFollow now → (now ≡ Status.DiskFault → ⊥) → (now ≡ Status.PutFault → ⊥) → (now ≡ Status.Done) ⊎ (now ≡ Status.NoMemory)
+      follow_ends : (now : Status) → FollowedBy G (record { left = left; left_now = left_now; faults = faults; faults_now = faults_now }) outside after now → IsOfFollow now → (now ≡ Status.DiskFault → ⊥) → (now ≡ Status.PutFault → ⊥) → (now ≡ Status.Done) ⊎ (now ≡ Status.NoMemory)
       follow_ends now (inl (same, why)) of disk put = no_text now why
       follow_ends now (inr (held, has, did)) of disk put =
           on_store held has.is_content (sym (read_whole left left_now can.text has.text can.has_text has.whole.all has.whole.none) ∙ has.means) now did of disk put
 
-    pub follow_promise : (words : List (String Global)) → IsForm command.Follow words → (left_now : Option (List ℕ)) (faults faults_now : ℕ) (now : Status) → FollowedFrom G left left_now faults faults_now outside after order now → IsOfFollow now
+    pub follow_promise : (words : List (String Global)) → IsForm command.Follow words → (left_now : Option (List ℕ)) (faults faults_now : ℕ) (now : Status) → FollowedFrom G (record { left = left; left_now = left_now; faults = faults; faults_now = faults_now }) (call outside after order now) → IsOfFollow now
         → IsComplete G words left outside → (Rose faults faults_now → ⊥) → (now ≡ Status.DiskFault → ⊥) → (now ≡ Status.PutFault → ⊥) → (now ≡ Status.Done) ⊎ (now ≡ Status.NoMemory)
     follow_promise words asked left_now faults faults_now now did of complete calm disk put =
         follow_ends left_now faults faults_now (follows G left outside words complete asked) calm now did.by_status of disk put

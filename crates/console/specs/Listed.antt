@@ -1,10 +1,11 @@
 -- What a listing of a job's programs did.
-use Rattle.std.specs.Prelude.{◌≡◌, ℕ, List, [], Option, Ok}
+use Rattle.std.specs.Prelude.{◌≡◌, ℕ, List, [], Ok}
 use Rattle.std.specs.List.{flat_map, zip, sum_by}
 use Rattle.outside.specs.declared.world.Outside.{Ghosts}
 use Rattle.listing.specs.Listing.{listing_of, lines_in}
 use Rattle.listing.specs.Puts.{Puts, PutsTimes}
 use Rattle.job_text.specs.Grammar.{Content, job_of}
+use Rattle.call_status.specs.Call.{Call, Given}
 use Rattle.call_status.specs.declared.status.Status.{Status}
 use Rattle.call_status.specs.declared.status.Status.TheVariants as status
 use Rattle.call_status.specs.Printed.{put_of}
@@ -19,25 +20,25 @@ abbrev pub lines_listed : Content → ℕ
 lines_listed content = sum_by (λ parts. lines_in parts.image parts.windows) content.programs
 
 -- the text was had whole and means a job; the listings of its programs are put, each line by one put, and the disk is left alone
-pub record ListsJob {W : Type 0} (G : Ghosts W) (left left_now : Option (List ℕ)) (before after : W) (status : Status) : Type 0 where
+pub record ListsJob {W : Type 0} (G : Ghosts W) (given : Given) (call : Call W) : Type 0 where
   pub text : List ℕ
-  pub whole : IsWhole left left_now text
+  pub whole : IsWhole given.left given.left_now text
   pub content : Content
   pub means : job_of text ≡ Ok content
-  pub puts : Puts G (listings_of content) before after (put_of status)
-  pub times : PutsTimes G (lines_listed content) before after (put_of status)
+  pub puts : Puts G (listings_of content) call.before call.after (put_of call.status)
+  pub times : PutsTimes G (lines_listed content) call.before call.after (put_of call.status)
 
 -- what a listing did, by its status: the programs are listed or a put failed, or nothing outside was called; other statuses don't come
-abbrev pub ListedBy : {W : Type 0} → Ghosts W → Option (List ℕ) → Option (List ℕ) → W → W → Status → Type 0
-ListedBy G left left_now before after status.Done = ListsJob G left left_now before after status.Done
-ListedBy G left left_now before after status.PutFault = ListsJob G left left_now before after status.PutFault
-ListedBy G left left_now before after (status.Job line kind) = after ≡ before
-ListedBy G left left_now before after status.SourceFault = after ≡ before
-ListedBy G left left_now before after status.TooBig = after ≡ before
-ListedBy G left left_now before after status.NoMemory = after ≡ before
-ListedBy G left left_now before after _ = ⊥
+abbrev pub ListedBy : {W : Type 0} → Ghosts W → Given → Call W → Status → Type 0
+ListedBy G given call status.Done = ListsJob G given call
+ListedBy G given call status.PutFault = ListsJob G given call
+ListedBy G given call (status.Job line kind) = call.after ≡ call.before
+ListedBy G given call status.SourceFault = call.after ≡ call.before
+ListedBy G given call status.TooBig = call.after ≡ call.before
+ListedBy G given call status.NoMemory = call.after ≡ call.before
+ListedBy G given call _ = ⊥
 
 -- what a listing did; it has no order
-pub record Listed {W : Type 0} (G : Ghosts W) (left left_now : Option (List ℕ)) (before after : W) (order : List (ℕ × ℕ)) (status : Status) : Type 0 where
-  pub no_order : order ≡ []
-  pub by_status : ListedBy G left left_now before after status
+pub record Listed {W : Type 0} (G : Ghosts W) (given : Given) (call : Call W) : Type 0 where
+  pub no_order : call.order ≡ []
+  pub by_status : ListedBy G given call call.status

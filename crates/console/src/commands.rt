@@ -2,6 +2,7 @@ ghost use Rattle.std.specs.Prelude.{◌≡◌, ◌⊎◌, ◌↔◌, ℕ, [], No
 ghost use Rattle.outside.specs.Causes.{Rose};
 ghost use Rattle.desk.specs.Answers.{order_told};
 ghost use Rattle.store_format.specs.Header.{Header};
+ghost use Rattle.call_status.specs.Call.{call, given};
 ghost use Rattle.call_status.specs.Reading.{ReadsBy};
 ghost use Rattle.store_calls.specs.New.{Made};
 ghost use Rattle.store_calls.specs.Renewed.{Renewed};
@@ -54,26 +55,26 @@ pub fn console<S: Source, W: Outside>(
     ensures usage { result.status ≡ Status.Usage ↔ IsNoForm words.now }
     ensures unasked { result.status ≡ Status.Usage → (job.new ≡ job.old) × (outside.new ≡ outside.old) × (order_told result.order.items ≡ []) }
     ensures only { (form : Command) → IsForm form words.now → IsOf form result.status }
-    ensures read { ReadsJob words.now → ReadsBy (S.left job.old) (S.left job.new) (S.faults job.old) (S.faults job.new) result.status }
+    ensures read { ReadsJob words.now → ReadsBy (given S.Source job.old job.new) result.status }
     ensures unread { (ReadsJob words.now ⊎ ReadsBundle words.now ⊎ ReadsStore words.now ⊎ ReadsText words.now → ⊥) → job.new ≡ job.old }
     ensures unfailed { result.status ≡ Status.Done → (S.faults job.new ≡ S.faults job.old) × (W.put_faults outside.new ≡ W.put_faults outside.old) }
     ensures opened { RunsJob words.now → OpensBy W.Outside outside.old outside.new result.status }
     ensures put { result.status ≡ Status.PutFault → Rose (W.put_faults outside.old) (W.put_faults outside.new) }
     ensures disk { result.status ≡ Status.DiskFault → Rose (W.disk_faults outside.old) (W.disk_faults outside.new) }
-    ensures happened { RunsJob words.now → Happened W.Outside (S.left job.old) (S.left job.new) outside.old outside.new (order_told result.order.items) result.session result.status }
+    ensures happened { RunsJob words.now → Happened W.Outside (given S.Source job.old job.new) (call outside.old outside.new (order_told result.order.items) result.status) result.session }
     ensures handed { OpensSession words.now → HandsOn (order_told result.order.items) result.session result.status }
     ensures fits { HandedFits W.Outside outside.new result.session }
     ensures no_session { (OpensSession words.now → ⊥) → result.session ≡ None }
-    ensures listed { IsForm Command.List words.now → Listed W.Outside (S.left job.old) (S.left job.new) outside.old outside.new (order_told result.order.items) result.status }
-    ensures drilled { IsForm Command.Drill words.now → Drilled W.Outside (S.left job.old) (S.left job.new) outside.old outside.new (order_told result.order.items) result.status }
-    ensures shown { (range : Range) → IsForm (Command.Show range) words.now → Shown W.Outside range outside.old outside.new (order_told result.order.items) result.status }
-    ensures made { (header : Header) → IsForm (Command.New header) words.now → Made W.Outside header outside.old outside.new (order_told result.order.items) result.status }
-    ensures renewed { (bank : ℕ) → IsForm (Command.Renew bank) words.now → Renewed W.Outside bank (S.left job.old) (S.left job.new) (S.faults job.old) (S.faults job.new) outside.old outside.new (order_told result.order.items) result.status }
-    ensures shipped { (from : ℕ) → IsForm (Command.Ship from) words.now → ShippedFrom W.Outside from outside.old outside.new (order_told result.order.items) result.status }
-    ensures followed { IsForm Command.Follow words.now → FollowedFrom W.Outside (S.left job.old) (S.left job.new) (S.faults job.old) (S.faults job.new) outside.old outside.new (order_told result.order.items) result.status }
-    ensures loaded { (transfers : ℕ) → IsForm (Command.Big transfers) words.now → Loaded W.Outside transfers outside.old outside.new (order_told result.order.items) result.session result.status }
-    ensures audited { IsForm Command.Audit words.now → Audited W.Outside (S.left job.old) (S.left job.new) (S.faults job.old) (S.faults job.new) outside.old outside.new (order_told result.order.items) result.status }
-    ensures traced { (activation : ℕ) → IsForm (Command.Trace activation) words.now → TracedFrom W.Outside activation (S.left job.old) (S.left job.new) (S.faults job.old) (S.faults job.new) outside.old outside.new (order_told result.order.items) result.status }
+    ensures listed { IsForm Command.List words.now → Listed W.Outside (given S.Source job.old job.new) (call outside.old outside.new (order_told result.order.items) result.status) }
+    ensures drilled { IsForm Command.Drill words.now → Drilled W.Outside (given S.Source job.old job.new) (call outside.old outside.new (order_told result.order.items) result.status) }
+    ensures shown { (range : Range) → IsForm (Command.Show range) words.now → Shown W.Outside range (call outside.old outside.new (order_told result.order.items) result.status) }
+    ensures made { (header : Header) → IsForm (Command.New header) words.now → Made W.Outside header (call outside.old outside.new (order_told result.order.items) result.status) }
+    ensures renewed { (bank : ℕ) → IsForm (Command.Renew bank) words.now → Renewed W.Outside bank (given S.Source job.old job.new) (call outside.old outside.new (order_told result.order.items) result.status) }
+    ensures shipped { (from : ℕ) → IsForm (Command.Ship from) words.now → ShippedFrom W.Outside from (call outside.old outside.new (order_told result.order.items) result.status) }
+    ensures followed { IsForm Command.Follow words.now → FollowedFrom W.Outside (given S.Source job.old job.new) (call outside.old outside.new (order_told result.order.items) result.status) }
+    ensures loaded { (transfers : ℕ) → IsForm (Command.Big transfers) words.now → Loaded W.Outside transfers (call outside.old outside.new (order_told result.order.items) result.status) result.session }
+    ensures audited { IsForm Command.Audit words.now → Audited W.Outside (given S.Source job.old job.new) (call outside.old outside.new (order_told result.order.items) result.status) }
+    ensures traced { (activation : ℕ) → IsForm (Command.Trace activation) words.now → TracedFrom W.Outside activation (given S.Source job.old job.new) (call outside.old outside.new (order_told result.order.items) result.status) }
     ensures complete { IsComplete W.Outside words.now (S.left job.old) outside.old → (Rose (S.faults job.old) (S.faults job.new) → ⊥) → (Rose (W.disk_faults outside.old) (W.disk_faults outside.new) → ⊥) → (Rose (W.put_faults outside.old) (W.put_faults outside.new) → ⊥) → (result.status ≡ Status.Done) ⊎ (result.status ≡ Status.NoMemory) }
 {
     let Some(command) = command_of(words) else {

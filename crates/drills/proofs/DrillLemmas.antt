@@ -25,6 +25,7 @@ use Rattle.outside.specs.Causes.{Rose}
 use Rattle.std.specs.Prelude.{Option}
 use Rattle.job_text.specs.Grammar.{content_of, job_of}
 use Rattle.call_status.specs.Statuses.{IsOfReading}
+use Rattle.call_status.specs.Call.{Given}
 use Rattle.call_status.specs.SourceText.{IsWhole}
 use Rattle.drills.specs.Drilled.{DrilledBy, DrilledTo, IsPair, PutsFirst, PutsStops, PutsWhole, broken, last_line, pair_lines, stop_lines, try_flat, try_order, well}
 use Rattle.call_status.specs.Opening.{IsStanding}
@@ -180,16 +181,16 @@ module _ {W : Type 0} (G : Ghosts W) (job : Job) (before after : W) where
   drill-same _ did is = absurd did
 
   -- of a text that means the job
-  pub drilled-text : (left left_now : Option (List ℕ)) (text : List ℕ) (status : Status) → IsWhole left left_now text → job_of text ≡ Ok (content_of job) → DrilledTo G job before after status → DrilledBy G left left_now before after status
-  drilled-text left left_now text status.Done whole means did = record { text = text; whole = whole; job = job; means = means; did = did }
-  drilled-text left left_now text status.PutFault whole means did = record { text = text; whole = whole; job = job; means = means; did = did }
-  drilled-text left left_now text status.NoMemory whole means did = did
-  drilled-text left left_now text _ whole means did = absurd did
+  pub drilled-text : (given : Given) (text : List ℕ) (status : Status) → IsWhole given.left given.left_now text → job_of text ≡ Ok (content_of job) → DrilledTo G job before after status → DrilledBy G given before after status
+  drilled-text given text status.Done whole means did = record { text = text; whole = whole; job = job; means = means; did = did }
+  drilled-text given text status.PutFault whole means did = record { text = text; whole = whole; job = job; means = means; did = did }
+  drilled-text given text status.NoMemory whole means did = did
+  drilled-text given text _ whole means did = absurd did
 
 -- nothing was put of a job that wasn't read
-pub drilled-unread : {W : Type 0} (G : Ghosts W) (left left_now : Option (List ℕ)) (w : W) (status : Status) → IsPut G w w 0 → IsOfReading status → DrilledBy G left left_now w w status
-drilled-unread G left left_now w (status.Job line kind) none is = refl
-drilled-unread G left left_now w status.SourceFault none is = refl
-drilled-unread G left left_now w status.TooBig none is = refl
-drilled-unread G left left_now w status.NoMemory none is = as-first G w w 0 (omega arith) none
-drilled-unread G left left_now w _ none is = absurd is
+pub drilled-unread : {W : Type 0} (G : Ghosts W) (given : Given) (w : W) (status : Status) → IsPut G w w 0 → IsOfReading status → DrilledBy G given w w status
+drilled-unread G given w (status.Job line kind) none is = refl
+drilled-unread G given w status.SourceFault none is = refl
+drilled-unread G given w status.TooBig none is = refl
+drilled-unread G given w status.NoMemory none is = as-first G w w 0 (omega arith) none
+drilled-unread G given w _ none is = absurd is

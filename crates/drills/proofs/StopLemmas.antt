@@ -23,12 +23,11 @@ use Rattle.store_format.specs.Stands.{Standing, Stands, NotAStore, stands, stand
 use Rattle.desk.specs.declared.event.Event.{Event}
 use Rattle.desk.specs.declared.answers.Committed.{Committed}
 use Rattle.desk.specs.Answers.{order_told}
-use Rattle.desk.specs.Desk.{opened}
+use Rattle.desk.specs.Desk.{Desk, opened}
 use Rattle.desk.specs.Commits.{IsSerial, begun, is_commit, line_before, serial_lines}
 use Rattle.desk.specs.Instruction.{Word, Fine, ReadFailed, Unwritten, Doubt, Failed}
 use Rattle.desk.specs.Kept.{WritesMore}
 use Rattle.desk.specs.Lines.{Line}
-use Rattle.desk.specs.Report.{event_lines}
 use Rattle.desk.specs.Run.{run, faulted, is_fine}
 use Rattle.desk.specs.Seen.{commits_seen}
 use Rattle.run_law.specs.Headline.{IsPrefix}
@@ -39,7 +38,8 @@ use Rattle.call_status.specs.declared.status.Status.{Status}
 use Rattle.call_status.specs.declared.status.Status.TheVariants as status
 use Rattle.drills.specs.declared.stops.Stop.{Stop}
 use Rattle.drills.specs.Drill.{IsLeft, IsStop, all_fine, fine_order}
-use Rattle.job_calls.specs.Headline.{ByOpening, HasRun, HasRunFrom, HappenedTo, Refused, StoodForNone, Untouched, job_desk, names_of}
+use Rattle.job_calls.specs.Headline.{ByOpening, HasRun, HasRunFrom, HappenedTo, Refused, StoodForNone, Untouched, job_desk}
+use Rattle.call_status.specs.Call.{call}
 use Rattle.call_status.specs.Opening.{StandsAt}
 
 -- a crash now may leave what is held
@@ -113,7 +113,7 @@ module _ {W : Type 0} (G : Ghosts W) (job : Job) (number : ℕ) (store : FlatSto
   commits = begun job.programs.items job.events.items
 
   -- a run leaves the first commits
-  first-left : (status : Status) → FewerLater G → PrintedNow G → HeldNow G → HasRun G job number store before after order session status
+  first-left : (status : Status) → FewerLater G → PrintedNow G → HeldNow G → HasRun G job number store (call before after order status) session
       → (image seen : List ℕ) → G.held after ≡ Some image → G.printed before ≡ Some [] → G.printed after ≡ Some seen → IsPrefix commits number store order [] image seen
   first-left status fewer_later printed_now held_now ran image printed holds nothing prints =
       let (seen, left) = held_now after image holds in
@@ -124,32 +124,32 @@ module _ {W : Type 0} (G : Ghosts W) (job : Job) (number : ℕ) (store : FlatSto
       (ran.seen told image seen (fewer_later after (G.moment before) (G.moment after) image seen ran.time.later left)))
 
   -- where nothing failed all events were fine
-  order-fine : (status : Status) → HasRun G job number store before after order session status → status ≡ Status.Done → (Rose (G.disk_faults before) (G.disk_faults after) → ⊥) → order ≡ fine_order job (held_of G before) store
+  order-fine : (status : Status) → HasRun G job number store (call before after order status) session → status ≡ Status.Done → (Rose (G.disk_faults before) (G.disk_faults after) → ⊥) → order ≡ fine_order job (held_of G before) store
   order-fine status ran done calm =
-      let none : faulted ran.taken ≡ 0 = ran.all_fine calm in
-      let all : map (λ event. event.0) ran.taken ≡ job.events.items =
-      sym (append-nil (map (λ event. event.0) ran.taken)) ∙ ap (λ (rest : List Event). map (λ event. event.0) ran.taken ++ rest) (sym (ran.all done)) ∙ ran.is_run.prefix in
-      let taken : ran.taken ≡ all_fine job.events.items = fine-taken ran.taken none ∙ ap all_fine all in
-      ran.order_is ∙ ap (λ (events : List (Event × Word)). (run job.programs.items events (job_desk job (held_of G before) store)).order) taken
+      let taken = ran.ran.taken in
+      let none : faulted taken ≡ 0 = ran.ran.all_fine calm in
+      let all : map (λ event. event.0) taken ≡ job.events.items =
+      sym (append-nil (map (λ event. event.0) taken)) ∙ ap (λ (rest : List Event). map (λ event. event.0) taken ++ rest) (sym (ran.all done)) ∙ ran.ran.is_run.prefix in
+      let are : taken ≡ all_fine job.events.items = fine-taken taken none ∙ ap all_fine all in
+      ran.ran.order_is ∙ ap (λ (desk : Desk). desk.order) ran.ran.end_is ∙ ap (λ (events : List (Event × Word)). (run job.programs.items events (job_desk job (held_of G before) store)).order) are
 
   -- and two writes were made for each commit
-  writes-made : (status : Status) → HasRun G job number store before after order session status → status ≡ Status.Done → WritesMore (G.writes before) (G.writes after) (2 * length order)
+  writes-made : (status : Status) → HasRun G job number store (call before after order status) session → status ≡ Status.Done → WritesMore (G.writes before) (G.writes after) (2 * length order)
   writes-made status ran done =
-      let lines = event_lines (names_of job) job.programs.items number ran.taken (job_desk job (held_of G before) store) in
-      let each : length order ≡ count_by is_commit lines = lines-of-commits commits number store order lines _ _ (ran.still_open done) ran.serial_run in
-      subst (λ (n : ℕ). WritesMore (G.writes before) (G.writes after) (2 * n)) (sym each) ran.writes
+      let each : length order ≡ count_by is_commit ran.ran.lines = lines-of-commits commits number store order ran.ran.lines _ _ (ran.still_open done) ran.ran.serial_run in
+      subst (λ (n : ℕ). WritesMore (G.writes before) (G.writes after) (2 * n)) (sym each) ran.ran.to.writes
 
   -- what ran
-  left-by : (status : Status) → FewerLater G → PrintedNow G → HeldNow G → HasRun G job number store before after order session status → IsLeft G job number store before after order status
+  left-by : (status : Status) → FewerLater G → PrintedNow G → HeldNow G → HasRun G job number store (call before after order status) session → IsLeft G job number store (call before after order status)
   left-by status fewer_later printed_now held_now ran = record {
     first = first-left status fewer_later printed_now held_now ran;
-    all = λ done. (ran.leaves (ran.still_open done)).1;
+    all = λ done. ran.ran.leaves (ran.still_open done);
     writes = writes-made status ran;
     fine = order-fine status ran;
   }
 
   -- a disk on which nothing ran holds what it held
-  untouched-left : (status : Status) → (status ≡ Status.Done → ⊥) → Untouched G before after order → StandsAt G before number store → IsLeft G job number store before after order status
+  untouched-left : (status : Status) → (status ≡ Status.Done → ⊥) → Untouched G (call before after order status) → StandsAt G before number store → IsLeft G job number store (call before after order status)
   untouched-left status undone untouched standing = record {
     first = λ image seen holds nothing prints.
         let kept : Some image ≡ G.held before = sym holds ∙ untouched.asks.held in
@@ -172,17 +172,17 @@ module _ {W : Type 0} (G : Ghosts W) (job : Job) (number : ℕ) (store : FlatSto
   }
 
   -- whatever happened
-  pub happened-left : (status : Status) → FewerLater G → PrintedNow G → HeldNow G → StandsAt G before number store → HappenedTo G job before after order session status → IsLeft G job number store before after order status
+  pub happened-left : (status : Status) → FewerLater G → PrintedNow G → HeldNow G → StandsAt G before number store → HappenedTo G job (call before after order status) session → IsLeft G job number store (call before after order status)
   happened-left status.Done fewer_later printed_now held_now standing ran = left-by status.Done fewer_later printed_now held_now (ran number store standing)
   happened-left status.PutFault fewer_later printed_now held_now standing ran = left-by status.PutFault fewer_later printed_now held_now (ran number store standing)
   happened-left status.DiskFault fewer_later printed_now held_now standing did =
       by-opening session
-      (λ (ran : HasRunFrom G job before after order session status.DiskFault). left-by status.DiskFault fewer_later printed_now held_now (ran number store standing))
-      (λ (untouched : Untouched G before after order). untouched-left status.DiskFault (λ is. cc) untouched standing) did
+      (λ (ran : HasRunFrom G job (call before after order status.DiskFault) session). left-by status.DiskFault fewer_later printed_now held_now (ran number store standing))
+      (λ (untouched : Untouched G (call before after order status.DiskFault)). untouched-left status.DiskFault (λ is. cc) untouched standing) did
   happened-left (status.Store offset) fewer_later printed_now held_now standing did =
       by-opening session
-      (λ (none : StoodForNone G before). let that : IsLeft G job number store before after order (status.Store offset) = absurd (none number store standing) in that)
-      (λ (refused : Refused G before after order). untouched-left (status.Store offset) (λ is. cc) refused.untouched standing) did
+      (λ (none : StoodForNone G before). let that : IsLeft G job number store (call before after order (status.Store offset)) = absurd (none number store standing) in that)
+      (λ (refused : Refused G (call before after order (status.Store offset))). untouched-left (status.Store offset) (λ is. cc) refused.untouched standing) did
   happened-left other fewer_later printed_now held_now standing refused = untouched-left other (λ is. cc) refused.untouched standing
 
 -- the same of a job that says as much
@@ -192,7 +192,7 @@ record Parts : Type 0 where
   events : List Event
 
 pub left-same : {W : Type 0} (G : Ghosts W) (copy job : Job) (number : ℕ) (store : FlatStore) (before after : W) (order : List (ℕ × ℕ)) (status : Status) → copy.frames ≡ job.frames → copy.programs.items ≡ job.programs.items → copy.events.items ≡ job.events.items
-    → IsLeft G copy number store before after order status → IsLeft G job number store before after order status
+    → IsLeft G copy number store (call before after order status) → IsLeft G job number store (call before after order status)
 left-same G copy job number store before after order status frames programs events left =
     let of_job : Job → Parts = λ job. record { frames = job.frames; programs = job.programs.items; events = job.events.items } in
     let same : of_job copy ≡ of_job job = λ i. record { frames = frames i; programs = programs i; events = events i } in

@@ -16,6 +16,7 @@ use Rattle.run_law.specs.Headline.{IsPrefix}
 use Rattle.job_text.specs.declared.job.Job.{Job}
 use Rattle.drills.specs.declared.stops.Stop.{Stop}
 use Rattle.job_calls.specs.Headline.{job_desk}
+use Rattle.call_status.specs.Call.{Call}
 use Rattle.call_status.specs.declared.status.Status.{Status}
 
 -- events that all go well
@@ -29,11 +30,11 @@ fine_order job held store = (run job.programs.items (all_fine job.events.items) 
 -- What a run of a job left of the number and the store for which the disk stood. What is held now stands for the first commits, run one
 -- after another, and no fewer than are seen in what was printed, where nothing was before. At Done it stands for all of them, two writes
 -- were made for each, and all events went well where no fault was counted.
-pub record IsLeft {W : Type 0} (G : Ghosts W) (job : Job) (number : ℕ) (store : FlatStore) (before after : W) (order : List (ℕ × ℕ)) (status : Status) : Type 0 where
-  pub first : (image seen : List ℕ) → G.held after ≡ Some image → G.printed before ≡ Some [] → G.printed after ≡ Some seen → IsPrefix (begun job.programs.items job.events.items) number store order [] image seen
-  pub all : status ≡ Status.Done → (left : FlatStore) × (serial (begun job.programs.items job.events.items) order store ≡ Some left) × (stands (held_of G after) ≡ Stands ((number + length order) % 2 ^ 64) left)
-  pub writes : status ≡ Status.Done → WritesMore (G.writes before) (G.writes after) (2 * length order)
-  pub fine : status ≡ Status.Done → (Rose (G.disk_faults before) (G.disk_faults after) → ⊥) → order ≡ fine_order job (held_of G before) store
+pub record IsLeft {W : Type 0} (G : Ghosts W) (job : Job) (number : ℕ) (store : FlatStore) (call : Call W) : Type 0 where
+  pub first : (image seen : List ℕ) → G.held call.after ≡ Some image → G.printed call.before ≡ Some [] → G.printed call.after ≡ Some seen → IsPrefix (begun job.programs.items job.events.items) number store call.order [] image seen
+  pub all : call.status ≡ Status.Done → (left : FlatStore) × (serial (begun job.programs.items job.events.items) call.order store ≡ Some left) × (stands (held_of G call.after) ≡ Stands ((number + length call.order) % 2 ^ 64) left)
+  pub writes : call.status ≡ Status.Done → WritesMore (G.writes call.before) (G.writes call.after) (2 * length call.order)
+  pub fine : call.status ≡ Status.Done → (Rose (G.disk_faults call.before) (G.disk_faults call.after) → ⊥) → call.order ≡ fine_order job (held_of G call.before) store
 
 -- A stop's image stands for the first commits of its order, run one after another on the store before, and no fewer than were
 -- seen. Where the write wasn't reached all events went well, and it stands for all commits.

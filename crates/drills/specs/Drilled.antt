@@ -1,5 +1,5 @@
 -- What a drill did: a job was stopped at each of its writes in turn, each time on a store of its own.
-use Rattle.std.specs.Prelude.{◌≡◌, ℕ, ◌+◌, ◌*◌, ◌≤◌, min, ◌⊎◌, List, [], ◌∷◌, ◌++◌, codes, decimal, length, replicate, All, Option, Result, Ok, Err}
+use Rattle.std.specs.Prelude.{◌≡◌, ℕ, ◌+◌, ◌*◌, ◌≤◌, min, ◌⊎◌, List, [], ◌∷◌, ◌++◌, codes, decimal, length, replicate, All, Result, Ok, Err}
 use Rattle.outside.specs.declared.world.Outside.{Ghosts}
 use Rattle.outside.specs.declared.failed.Failed.{Failed}
 use Rattle.line_geometry.specs.Directory.{byte_count}
@@ -10,6 +10,7 @@ use Rattle.job_text.specs.declared.job.Job.{Job}
 use Rattle.job_text.specs.Grammar.{job_of, content_of}
 use Rattle.drills.specs.declared.drill.Found.{Found}
 use Rattle.drills.specs.declared.drill.Pair.{Pair}
+use Rattle.call_status.specs.Call.{Call, Given}
 use Rattle.call_status.specs.declared.status.Status.{Status}
 use Rattle.call_status.specs.declared.status.Status.TheVariants as status
 use Rattle.drills.specs.Drill.{fine_order}
@@ -96,24 +97,24 @@ DrilledTo G job before after status.NoMemory = PutsFirst G before after well
 DrilledTo G job before after _ = ⊥
 
 -- the text was had whole and means a job, which was drilled
-pub record DrillsJob {W : Type 0} (G : Ghosts W) (left left_now : Option (List ℕ)) (before after : W) (status : Status) : Type 0 where
+pub record DrillsJob {W : Type 0} (G : Ghosts W) (given : Given) (before after : W) (status : Status) : Type 0 where
   pub text : List ℕ
-  pub whole : IsWhole left left_now text
+  pub whole : IsWhole given.left given.left_now text
   pub job : Job
   pub means : job_of text ≡ Ok (content_of job)
   pub did : DrilledTo G job before after status
 
 -- what a drill did, by its status: the lines are put or a put failed, or memory was wanting, or nothing outside was called
-abbrev pub DrilledBy : {W : Type 0} → Ghosts W → Option (List ℕ) → Option (List ℕ) → W → W → Status → Type 0
-DrilledBy G left left_now before after status.Done = DrillsJob G left left_now before after status.Done
-DrilledBy G left left_now before after status.PutFault = DrillsJob G left left_now before after status.PutFault
-DrilledBy G left left_now before after status.NoMemory = PutsFirst G before after well
-DrilledBy G left left_now before after (status.Job line kind) = after ≡ before
-DrilledBy G left left_now before after status.SourceFault = after ≡ before
-DrilledBy G left left_now before after status.TooBig = after ≡ before
-DrilledBy G left left_now before after _ = ⊥
+abbrev pub DrilledBy : {W : Type 0} → Ghosts W → Given → W → W → Status → Type 0
+DrilledBy G given before after status.Done = DrillsJob G given before after status.Done
+DrilledBy G given before after status.PutFault = DrillsJob G given before after status.PutFault
+DrilledBy G given before after status.NoMemory = PutsFirst G before after well
+DrilledBy G given before after (status.Job line kind) = after ≡ before
+DrilledBy G given before after status.SourceFault = after ≡ before
+DrilledBy G given before after status.TooBig = after ≡ before
+DrilledBy G given before after _ = ⊥
 
 -- what a drill did; it has no order
-pub record Drilled {W : Type 0} (G : Ghosts W) (left left_now : Option (List ℕ)) (before after : W) (order : List (ℕ × ℕ)) (status : Status) : Type 0 where
-  pub no_order : order ≡ []
-  pub by_status : DrilledBy G left left_now before after status
+pub record Drilled {W : Type 0} (G : Ghosts W) (given : Given) (call : Call W) : Type 0 where
+  pub no_order : call.order ≡ []
+  pub by_status : DrilledBy G given call.before call.after call.status

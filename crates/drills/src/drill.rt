@@ -6,6 +6,7 @@ ghost use Rattle.store_format.specs.Stands.{Stands, stands};
 ghost use Rattle.listing.specs.Puts.{Puts, PutsTimes};
 ghost use Rattle.job_text.specs.Ready.{IsReady};
 ghost use Rattle.drills.specs.Drilled.{Drilled, DrilledTo, IsFound, IsPair, PutsStops, try_order, stop_line, pair_lines, last_line};
+ghost use Rattle.call_status.specs.Call.{call, given};
 ghost use Rattle.call_status.specs.Opening.{IsStanding};
 ghost use Rattle.call_status.specs.Reading.{ReadsBy};
 ghost use Rattle.call_status.specs.Statuses.{IsOfLines};
@@ -42,8 +43,8 @@ pub struct Pair {
 /// Stops the job of a source at each of its writes in turn, each time on a store of `try` in memory of its own, and puts a line
 /// for each stop and one for the run that isn't stopped (docs/FORMATS.md, "Drill"). The disk that is handed in isn't called.
 pub fn drill_source<S: Source, W: Outside>(alloc: Global, source: &mut S, outside: &mut W) -> Status
-    ensures read { ReadsBy (S.left source.old) (S.left source.new) (S.faults source.old) (S.faults source.new) result }
-    ensures drilled { Drilled W.Outside (S.left source.old) (S.left source.new) outside.old outside.new [] result }
+    ensures read { ReadsBy (given S.Source source.old source.new) result }
+    ensures drilled { Drilled W.Outside (given S.Source source.old source.new) (call outside.old outside.new [] result) }
     ensures unfailed { result ≡ Status.Done → (S.faults source.new ≡ S.faults source.old) × (W.put_faults outside.new ≡ W.put_faults outside.old) }
     ensures put { result ≡ Status.PutFault → Rose (W.put_faults outside.old) (W.put_faults outside.new) }
     ensures only { IsOfLines result }

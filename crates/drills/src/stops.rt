@@ -9,6 +9,7 @@ ghost use Rattle.desk.specs.Seen.{commits_seen};
 ghost use Rattle.job_text.specs.Ready.{IsReady};
 ghost use Rattle.desk.specs.Answers.{order_told};
 ghost use Rattle.drills.specs.Drill.{IsLeft, IsStop, fine_order};
+ghost use Rattle.call_status.specs.Call.{call};
 ghost use Rattle.call_status.specs.Opening.{IsStanding, StandsAt};
 
 use super::job_copy::copy_of;
@@ -62,7 +63,7 @@ pub fn drill_stop(
 /// Runs a job, and keeps it.
 fn run_copy<W: Outside>(alloc: Global, job: &Job, outside: &mut W) -> Result<Ended, AllocError>
     requires { IsReady job.now }
-    ensures left { (number : ℕ) (store : FlatStore) → StandsAt W.Outside outside.old number store → IfOk result (λ ended. IsLeft W.Outside job.now number store outside.old outside.new (order_told ended.order.items) ended.status) }
+    ensures left { (number : ℕ) (store : FlatStore) → StandsAt W.Outside outside.old number store → IfOk result (λ ended. IsLeft W.Outside job.now number store (call outside.old outside.new (order_told ended.order.items) ended.status)) }
     ensures disk { IfOk result (λ ended. ended.status ≡ Status.DiskFault → Rose (W.disk_faults outside.old) (W.disk_faults outside.new)) }
 {
     Ok(try_job(alloc, copy_of(alloc, job)?, outside))

@@ -1,15 +1,14 @@
 -- A load on the store that a disk stands for.
-use Rattle.std.proofs.Common.{◌≡◌, ℕ, ◌*◌, ◌≤◌, ⊎_elim, true, false, List, [], ◌∷◌, ◌++◌, length, take, refl, sym, ◌∙◌, ap, subst, arith, append-nil, append_assoc, Option}
+use Rattle.std.proofs.Common.{◌≡◌, ℕ, ◌≤◌, ⊎_elim, true, false, List, [], ◌∷◌, ◌++◌, length, take, refl, sym, ◌∙◌, ap, subst, arith, append-nil, append_assoc, Option}
 use Rattle.std.specs.Prelude.{codes, decimal, All, Bool, Some, Result, Ok, Err, IsSome, IsTrue, unwrap_or, count_by}
 use Rattle.std.specs.List.{fold}
 use Rattle.std.specs.Option.{ForSome}
 use Rattle.outside.specs.declared.world.Outside.{Ghosts}
 use Rattle.outside.specs.declared.failed.Failed.{Failed}
 use Rattle.outside.specs.Bytes.{AreTold, Prints}
-use Rattle.outside.specs.Causes.{RoseBy}
 use Rattle.outside.specs.Durable.{IsSure}
 use Rattle.outside.specs.Moments.{Elapses}
-use Rattle.outside.specs.Runs.{CallsDisk, FewerLater, Leaves, OnlyAsks, held_of}
+use Rattle.outside.specs.Runs.{CallsDisk, FewerLater, OnlyAsks, held_of}
 use Rattle.outside.proofs.Runs.{elapses-trans}
 use Rattle.line_geometry.specs.FlatStore.{FlatStore}
 use Rattle.flat_machine.specs.declared.machine.Program.{Program}
@@ -22,10 +21,9 @@ use Rattle.desk.specs.Lines.{Line, printed, spaced}
 use Rattle.hex.specs.Hex.{encode_lower}
 use Rattle.desk.specs.Lines as line
 use Rattle.desk.specs.Report.{event_lines}
-use Rattle.desk.specs.Run.{run, faulted, IsRunOf}
+use Rattle.desk.specs.Run.{run, faulted}
 use Rattle.store_format.specs.Header.{Header, total}
-use Rattle.desk.specs.Kept.{HoldsStore, WritesMore, records_in, most_records}
-use Rattle.run_law.specs.Headline.{IsPrefix}
+use Rattle.desk.specs.Kept.{HoldsStore}
 use Rattle.supervisor.specs.Opened.{IsOpened}
 use Rattle.supervisor.specs.Session.{activity, order_of}
 use Rattle.supervisor.specs.declared.session.Session.{Session}
@@ -35,6 +33,7 @@ use Rattle.schedule_replay.specs.declared.quietly.Quiet.TheVariants as quiet
 use Rattle.schedule_replay.specs.Quiet.{IsLasting, RunsQuietly, Tells, is_rollback, is_shut, out_after}
 use Rattle.schedule_replay.specs.Ran.{InDoubt}
 use Rattle.schedule_replay.proofs.PutsLemmas.{PrintedNow}
+use Rattle.schedule_replay.proofs.RanToLemmas.{to_later}
 use Rattle.listing.specs.Puts.{Puts, PutsTimes}
 use Rattle.job_text.specs.declared.job.Job.{Job}
 use Rattle.job_text.specs.Big.{IsBigJob, big_events}
@@ -42,12 +41,13 @@ use Rattle.job_text.proofs.BigLemmas.{events_all}
 use Rattle.call_status.specs.declared.status.Status.{Status}
 use Rattle.call_status.specs.declared.status.Status.TheVariants as status
 use Rattle.job_calls.specs.Big.{HasBigRun, IsToldBy, Loaded, LoadedBy, RanBig, big_line, last_out, line_for}
+use Rattle.call_status.specs.Call.{Call, call}
 use Rattle.call_status.specs.Statuses.{IsPastOpening}
 use Rattle.job_calls.specs.Causes.{OpensBy}
 use Rattle.call_status.specs.Printed.{put_of, PrintsBy}
-use Rattle.job_calls.specs.Headline.{job_desk}
+use Rattle.job_calls.specs.Headline.{RunsFrom}
 use Rattle.call_status.specs.Opening.{IsStanding, StandsAt}
-use Rattle.job_calls.proofs.RunLemmas.{RanFrom, Facts, crash-any, first_desk, has-opened, given, wanted, these, is_run, ordered, closes, serial_run, rose, all-fine, calm-now, writes-now, leaves-now, records-now, shown-now, doubt-leaves}
+use Rattle.job_calls.proofs.RunLemmas.{RanFrom, Facts, first_desk, has-opened, given, wanted, these, runs-from}
 
 -- only the commit lines tell what was printed last
 out_filtered : (last : List ℕ) (lines : List Line) → fold out_after last lines ≡ fold out_after last (commit_lines lines)
@@ -80,7 +80,7 @@ module _ {W : Type 0} (G : Ghosts W) (fewer_later : FewerLater G) where
       (puts.only.time.nothing_else (G.moment start) image seen time.later left)
 
 -- bytes that are enough are, after the line was put or nothing was
-pub still-holds : {W : Type 0} (G : Ghosts W) (header : Header) (transfers : ℕ) (quiet : Quiet) (last : List ℕ) (before after : W) (now : Status) → IsToldBy G transfers quiet last before after now → HoldsStore G header before → HoldsStore G header after
+pub still-holds : {W : Type 0} (G : Ghosts W) (header : Header) (transfers : ℕ) (quiet : Quiet) (last : List ℕ) (before after : W) (now : Status) → IsToldBy G transfers quiet last (call before after [] now) → HoldsStore G header before → HoldsStore G header after
 still-holds G header transfers (quiet.Ended commits rollbacks) last before after now told holds =
     subst (λ (those : Option (List ℕ)). ForSome those (λ bytes. total header ≤ length bytes)) (sym told.1.only.held) holds
 still-holds G header transfers quiet.Closed last before after now told holds = subst (HoldsStore G header) (sym told.1) holds
@@ -96,21 +96,14 @@ line_told transfers commits rollbacks last lines tells =
 abbrev ran_until : {W : Type 0} (G : Ghosts W) (programs : List Program) (number : ℕ) (events : List Event) (first : Desk) (new : Session) (start between after : W) (last : List ℕ) (quiet : Quiet)
     → RunsQuietly ghosts G programs number events first new start between last quiet → G.held after ≡ G.held between → G.writes after ≡ G.writes between → G.disk_faults after ≡ G.disk_faults between → (IsSure G between → IsSure G after)
     → (new.closed ≡ true → (front : List (Event × Word)) (event : Event) → InDoubt G programs number first front event between → InDoubt G programs number first front event after)
-    → RanFrom G [] programs number events first new start after
-ran_until G programs number events first new start between after last quiet runs held writes disk sure doubt = record {
+    → ((image seen : List ℕ) → G.left_since after (G.moment start) image seen → (other : List ℕ) × G.left_since between (G.moment start) image other) → RanFrom G [] programs number events first new start after
+ran_until G programs number events first new start between after last quiet runs held writes disk sure doubt images = record {
   taken = runs.ran.taken;
   rest = runs.rest;
   is_run = record { prefix = ap (λ (front : List Event). front ++ runs.rest) runs.ran.events_taken ∙ runs.whole; each_open = runs.ran.each_open };
-  closes = runs.ran.closes;
-  ordered = runs.ran.ordered;
-  still = λ still.
-      let kept = runs.ran.still still in
-      (sure kept.0, subst (λ (those : Option (List ℕ)). ghosts.shows new (unwrap_or those []) (run programs runs.ran.taken first)) (sym held) kept.1);
-  records = λ still. subst (λ (those : Option (List ℕ)). records_in (unwrap_or those []) ≤ most_records (event_lines [] programs number runs.ran.taken first) (records_in (held_of G start))) (sym held) (runs.ran.records still);
-  faults = subst (λ (n : ℕ). RoseBy (faulted runs.ran.taken) (G.disk_faults start) n) (sym disk) runs.ran.faults;
-  calm = λ none. disk ∙ runs.ran.calm none;
-  writes = subst (λ (told : Option ℕ). WritesMore (G.writes start) told (2 * count_by is_commit (event_lines [] programs number runs.ran.taken first))) (sym writes) runs.ran.writes;
-  doubt = λ shut front event is. doubt (runs.ran.closes ∙ shut) front event (runs.ran.doubt shut front event is);
+  to = to_later ghosts G (run programs runs.ran.taken first) (event_lines [] programs number runs.ran.taken first) (faulted runs.ran.taken) new start between after held disk writes sure runs.ran.to;
+  images = λ image seen left. let other = images image seen left in runs.ran.images image other.0 other.1;
+  doubt = λ shut front event is. doubt (runs.ran.to.closes ∙ shut) front event (runs.ran.doubt shut front event is);
 }
 
 module _ {W : Type 0} (G : Ghosts W) (fewer_later : FewerLater G) (printed_now : PrintedNow G) (transfers : ℕ) (job : Job) (before start between after : W) (desk new : Session) (number : ℕ) (store : FlatStore)
@@ -121,19 +114,10 @@ module _ {W : Type 0} (G : Ghosts W) (fewer_later : FewerLater G) (printed_now :
     (doubt : new.closed ≡ true → (front : List (Event × Word)) (event : Event) → InDoubt G (activity desk).programs desk.opened (first_desk G job.frames before start desk opens asks) front event between → InDoubt G (activity desk).programs desk.opened (first_desk G job.frames before start desk opens asks) front event after)
     (images : (image seen : List ℕ) → G.left_since after (G.moment start) image seen → (other : List ℕ) × G.left_since between (G.moment start) image other) where
   abbrev half : RanFrom G [] (activity desk).programs desk.opened job.events.items (first_desk G job.frames before start desk opens asks) new start after
-  half = ran_until G (activity desk).programs desk.opened job.events.items (first_desk G job.frames before start desk opens asks) new start between after last quiet runs held writes disk sure doubt
+  half = ran_until G (activity desk).programs desk.opened job.events.items (first_desk G job.frames before start desk opens asks) new start between after last quiet runs held writes disk sure doubt images
 
-  abbrev first : Desk
-  first = job_desk job (held_of G before) store
-
-  runs_are : IsRunOf job.programs.items job.events.items first runs.ran.taken runs.rest
-  runs_are = is_run G fewer_later printed_now job before start after desk new number store standing opens asks programs_are same_opened same_honest time asks-calm [] half
-
-  orders_are : order_of new ≡ (run job.programs.items runs.ran.taken first).order
-  orders_are = ordered G fewer_later printed_now job before start after desk new number store standing opens asks programs_are same_opened same_honest time asks-calm [] half
-
-  abbrev activations : List Activation
-  activations = begun job.programs.items job.events.items
+  abbrev whole : (now : Status) → RunsFrom G job number store (call before after (order_of new) now)
+  whole = runs-from G fewer_later printed_now job before start after desk new number store standing opens asks programs_are same_opened same_honest time asks-calm [] half
 
   abbrev facts : Facts
   facts = given G fewer_later printed_now job before start after desk new number store standing opens asks programs_are same_opened same_honest time asks-calm
@@ -144,46 +128,17 @@ module _ {W : Type 0} (G : Ghosts W) (fewer_later : FewerLater G) (printed_now :
   facts_are : facts ≡ wants
   facts_are = these G fewer_later printed_now job before start after desk new number store standing opens asks programs_are same_opened same_honest time asks-calm
 
-  serial_is : IsSerial activations number store (order_of new) (event_lines [] job.programs.items number runs.ran.taken first) (run job.programs.items runs.ran.taken first).committed (run job.programs.items runs.ran.taken first).closed
-  serial_is = serial_run G fewer_later printed_now job before start after desk new number store standing opens asks programs_are same_opened same_honest time asks-calm [] half
-
-  closes_are : new.closed ≡ (run job.programs.items runs.ran.taken first).closed
-  closes_are = closes G fewer_later printed_now job before start after desk new number store standing opens asks programs_are same_opened same_honest time asks-calm [] half
-
-  crash_all : Leaves G (λ image seen. IsPrefix activations number store (order_of new) [] image []) before after
-  crash_all =
-      crash-any G fewer_later printed_now job before start after desk new number store standing opens asks programs_are same_opened same_honest time asks-calm (order_of new) runs.ran.taken runs.rest runs_are orders_are
-      (λ image seen left. let other = images image seen left in runs.ran.left image other.0 other.1)
-
   -- the run of a load, by its status
   pub has_big_run : (now : Status) → (IsPastOpening now → (is_shut quiet ≡ false) × PrintsBy (G.printed before) (G.printed after) (line_for transfers (event_lines [] (activity desk).programs desk.opened runs.ran.taken (first_desk G job.frames before start desk opens asks))) now) → (now ≡ Status.DiskFault → is_shut quiet ≡ true)
-      → HasBigRun G transfers job number store before after (order_of new) (Some new) now
+      → HasBigRun G transfers job number store (call before after (order_of new) now) (Some new)
   has_big_run now past shut = record {
-    taken = runs.ran.taken;
-    rest = runs.rest;
-    is_run = runs_are;
-    order_is = orders_are;
-    ends = record {
-      session = new;
-      answered = refl;
-      ordered = refl;
-      closes = closes_are;
-      shows = λ still. (shown-now G fewer_later printed_now job before start after desk new number store standing opens asks programs_are same_opened same_honest time asks-calm [] half still).1;
-    };
+    ran = whole now;
+    answered = refl;
     all = λ opened. runs.all (past opened).0;
-    still_open = λ opened. sym closes_are ∙ runs.closed ∙ (past opened).0;
-    shut = λ is. sym closes_are ∙ runs.closed ∙ shut is;
+    still_open = λ opened. sym (whole now).to.closes ∙ runs.closed ∙ (past opened).0;
+    shut = λ is. sym (whole now).to.closes ∙ runs.closed ∙ shut is;
     told = λ opened. subst (λ (f : Facts). PrintsBy (G.printed before) (G.printed after) (line_for transfers (event_lines [] f.programs f.number runs.ran.taken f.start)) now) facts_are (past opened).1;
-    last = λ opened. last_serial activations number store (order_of new) _ _ _ serial_is (sym closes_are ∙ runs.closed ∙ (past opened).0);
-    faults = rose G fewer_later printed_now job before start after desk new number store standing opens asks programs_are same_opened same_honest time asks-calm [] half;
-    all_fine = all-fine G fewer_later printed_now job before start after desk new number store standing opens asks programs_are same_opened same_honest time asks-calm [] half;
-    calm = calm-now G fewer_later printed_now job before start after desk new number store standing opens asks programs_are same_opened same_honest time asks-calm [] half;
-    writes = writes-now G fewer_later printed_now job before start after desk new number store standing opens asks programs_are same_opened same_honest time asks-calm [] half;
-    serial_run = serial_is;
-    leaves = leaves-now G fewer_later printed_now job before start after desk new number store standing opens asks programs_are same_opened same_honest time asks-calm [] half;
-    records = records-now G fewer_later printed_now job before start after desk new number store standing opens asks programs_are same_opened same_honest time asks-calm [] half;
-    crash = crash_all;
-    doubt = doubt-leaves G fewer_later printed_now job before start after desk new number store standing opens asks programs_are same_opened same_honest time asks-calm [] half;
+    last = λ opened. last_serial (begun job.programs.items job.events.items) number store (order_of new) _ _ _ (whole now).serial_run (sym (whole now).to.closes ∙ runs.closed ∙ (past opened).0);
   }
 
 prints_now : (now : Status) → IsPastOpening now → (old new : Option (List ℕ)) (bytes : List ℕ) → Prints old new bytes (put_of now) → PrintsBy old new bytes now
@@ -199,10 +154,10 @@ opens_past G before after now other stood = record {
   never = λ honest told standing offset same. other offset same;
 }
 
-loaded_past : {W : Type 0} (G : Ghosts W) (transfers : ℕ) (before after : W) (order : List (ℕ × ℕ)) (session : Option Session) (now : Status) → IsPastOpening now → RanBig G transfers before after order session now → PutsTimes G 1 before after (put_of now) → LoadedBy G transfers before after order session now
-loaded_past G transfers before after order session status.Done past ran times = (ran, times)
-loaded_past G transfers before after order session status.PutFault past ran times = ran
-loaded_past G transfers before after order session _ past ran times = absurd past
+loaded_past : {W : Type 0} (G : Ghosts W) (transfers : ℕ) (c : Call W) (session : Option Session) (now : Status) → IsPastOpening now → RanBig G transfers c session → PutsTimes G 1 c.before c.after (put_of now) → LoadedBy G transfers c session now
+loaded_past G transfers c session status.Done past ran times = (ran, times)
+loaded_past G transfers c session status.PutFault past ran times = ran
+loaded_past G transfers c session _ past ran times = absurd past
 
 times_since : {W T : Type 0} (G : Ghosts W) (before start between after : W) (result : Result T Failed) → OnlyAsks G before start → CallsDisk G start between → PutsTimes G 1 between after result → PutsTimes G 1 before after result
 times_since G before start between after (Ok value) asks calls times = λ told.
@@ -218,7 +173,7 @@ module _ {W : Type 0} (G : Ghosts W) (fewer_later : FewerLater G) (printed_now :
   abbrev Ran : Quiet → Type 0
   Ran quiet = (first : Desk) → IsSure G start → ghosts.shows desk (held_of G start) first → RunsQuietly ghosts G (activity desk).programs desk.opened job.events.items first new start between last quiet
 
-  pub loaded : (quiet : Quiet) → Ran quiet → (after : W) (now : Status) → IsToldBy G transfers quiet last between after now → Loaded G transfers before after (order_of new) (Some new) now
+  pub loaded : (quiet : Quiet) → Ran quiet → (after : W) (now : Status) → IsToldBy G transfers quiet last (call between after [] now) → Loaded G transfers (call before after (order_of new) now) (Some new)
   loaded (quiet.Ended commits rollbacks) runs after now (past, puts, times) =
       let later : Elapses G.moment G.left_since start after = elapses-trans G fewer_later start between after calls.time puts.only.time in
       let honest : G.is_honest after ≡ G.is_honest start = puts.only.honest ∙ calls.honest in
@@ -226,7 +181,7 @@ module _ {W : Type 0} (G : Ghosts W) (fewer_later : FewerLater G) (printed_now :
         honest = honest ∙ asks.calls.honest;
         time = elapses-trans G fewer_later before start after asks.calls.time later;
         opens = opens_past G before after now (λ offset is. subst IsPastOpening is past) (λ opened told. stood told);
-        by_status = loaded_past G transfers before after (order_of new) (Some new) now past
+        by_status = loaded_past G transfers (call before after (order_of new) now) (Some new) now past
             (record {
               job = job;
               is_load = is_load;
@@ -251,8 +206,8 @@ module _ {W : Type 0} (G : Ghosts W) (fewer_later : FewerLater G) (printed_now :
             (times_since G before start between after (put_of now) asks calls times);
       }
   loaded quiet.Closed runs after now (shut, same) =
-      subst (λ (status : Status). Loaded G transfers before after (order_of new) (Some new) status) (sym shut)
-      (subst (λ (w : W). Loaded G transfers before w (order_of new) (Some new) Status.DiskFault) (sym same) (record {
+      subst (λ (status : Status). Loaded G transfers (call before after (order_of new) status) (Some new)) (sym shut)
+      (subst (λ (w : W). Loaded G transfers (call before w (order_of new) Status.DiskFault) (Some new)) (sym same) (record {
         honest = calls.honest ∙ asks.calls.honest;
         time = elapses-trans G fewer_later before start between asks.calls.time calls.time;
         opens = opens_past G before between Status.DiskFault (λ offset is. cc) (λ opened told. stood told);

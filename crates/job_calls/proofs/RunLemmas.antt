@@ -1,12 +1,11 @@
 -- What runs on the store that a disk stands for.
-use Rattle.std.proofs.Common.{◌≡◌, ℕ, ◌+◌, ◌*◌, ◌%◌, ◌^◌, ◌≤◌, inl, inr, Bool, true, false, List, [], ◌∷◌, ◌++◌, length, take, refl, sym, ◌∙◌, ap, subst, arith, append-nil, Option, Some, None}
-use Rattle.std.specs.Prelude.{Result, Ok, Err, IsErr, IsSome, IsTrue, unwrap_or, count_by}
+use Rattle.std.proofs.Common.{◌≡◌, ℕ, ◌+◌, ◌%◌, ◌^◌, inl, inr, Bool, true, false, List, [], ◌∷◌, ◌++◌, length, take, refl, sym, ◌∙◌, ap, subst, arith, append-nil, Option, Some, None}
+use Rattle.std.specs.Prelude.{Result, Ok, Err, IsErr, IsSome, IsTrue, unwrap_or}
 use Rattle.std.proofs.lemmas.Bool.{cases_lt}
 use Rattle.outside.specs.declared.world.Outside.{Ghosts}
 use Rattle.outside.specs.declared.failed.Failed.{Failed}
 use Rattle.outside.specs.Bytes.{AreTold, Prints}
-use Rattle.outside.specs.Causes.{Rose, RoseBy}
-use Rattle.outside.specs.Durable.{IsSure}
+use Rattle.outside.specs.Causes.{Rose}
 use Rattle.outside.specs.Moments.{Elapses}
 use Rattle.outside.specs.Runs.{OnlyAsks, FewerLater, Leaves, held_of}
 use Rattle.outside.proofs.Prints.{prints_well, prints_broken}
@@ -21,18 +20,16 @@ use Rattle.desk.specs.declared.event.Event.{Event}
 use Rattle.desk.specs.Crash.{standing_of}
 use Rattle.desk.specs.Desk.{Desk, opened}
 use Rattle.desk.specs.Instruction.{Word, Doubt}
-use Rattle.desk.specs.Kept.{WritesMore, records_in, most_records, tells_fault}
 use Rattle.desk.specs.Run.{run, faulted, IsRunOf}
-use Rattle.desk.specs.Lines.{line_text, Open}
+use Rattle.desk.specs.Lines.{Line, line_text, Open}
 use Rattle.desk.specs.Report.{report, report_lines, event_lines, number_after}
-use Rattle.desk.specs.Commits.{begun, is_commit, IsSerial}
+use Rattle.desk.specs.Commits.{begun, IsSerial}
 use Rattle.desk.proofs.SerialLaw.{run-serial}
 use Rattle.run_law.specs.Headline.{IsPrefix}
 use Rattle.run_law.specs.Left.{IsLeft}
 use Rattle.run_law.proofs.HeadlineLemmas.{left_is_prefix, doubt_is_whole}
 use Rattle.supervisor.specs.Opened.{IsOpened}
 use Rattle.supervisor.specs.Session.{activity, desk_of, order_of}
-use Rattle.supervisor.specs.Shown.{Shown}
 use Rattle.supervisor.specs.ShownLaws.{shown-stands}
 use Rattle.supervisor.specs.declared.session.Session.{Session}
 use Rattle.supervisor.specs.contracts.supervisor.SessionSupervisor.TheImpl.{ghosts}
@@ -40,18 +37,21 @@ use Rattle.schedule_replay.specs.declared.events.Replayed.{Replayed}
 use Rattle.schedule_replay.specs.declared.events.Replayed.TheVariants as replayed
 use Rattle.schedule_replay.specs.Puts.{PutsTimes, shown_of}
 use Rattle.schedule_replay.specs.Ran.{PrintsEarlier, HasOpened, InDoubt, text_of}
+use Rattle.schedule_replay.specs.RanTo.{RanTo}
 use Rattle.schedule_replay.specs.Replays.{Reports, Replays}
 use Rattle.schedule_replay.proofs.CountLemmas.{on_ok_as}
 use Rattle.schedule_replay.proofs.PutsLemmas.{PrintedNow}
+use Rattle.schedule_replay.proofs.RanToLemmas.{to_since}
 use Rattle.job_text.specs.declared.job.Job.{Job}
 use Rattle.job_text.specs.Grammar.{job_of, content_of}
 use Rattle.call_status.specs.declared.status.Status.{Status}
 use Rattle.call_status.specs.declared.status.Status.TheVariants as status
 use Rattle.job_calls.specs.Causes.{status_of_replay}
+use Rattle.call_status.specs.Call.{Call, Given, call}
 use Rattle.call_status.specs.Opening.{StandsAt}
 use Rattle.call_status.specs.SourceText.{IsWhole}
 use Rattle.job_calls.specs.Handed.{HandedRuns}
-use Rattle.job_calls.specs.Headline.{HasRun, DoubtStands, Happened, HappenedTo, put_by, names_of, job_desk}
+use Rattle.job_calls.specs.Headline.{DidBy, HasRun, HasRunFrom, DoubtStands, Happened, HappenedTo, RanJob, RunsFrom, put_by, names_of, job_desk}
 
 -- what stands for one number and store stands for no other
 same-number : (one two : ℕ) (first second : FlatStore) → Stands one first ≡ Stands two second → one ≡ two
@@ -86,13 +86,8 @@ pub record RanFrom {W : Type 0} (G : Ghosts W) (names : List (List ℕ)) (progra
   pub taken : List (Event × Word)
   pub rest : List Event
   pub is_run : IsRunOf programs events first taken rest
-  pub closes : new.closed ≡ (run programs taken first).closed
-  pub ordered : order_of new ≡ (run programs taken first).order
-  pub still : (run programs taken first).closed ≡ false → IsSure G after × ghosts.shows new (held_of G after) (run programs taken first)
-  pub records : (run programs taken first).closed ≡ false → records_in (held_of G after) ≤ most_records (event_lines names programs number taken first) (records_in (held_of G start))
-  pub faults : RoseBy (faulted taken) (G.disk_faults start) (G.disk_faults after)
-  pub calm : count_by tells_fault (event_lines names programs number taken first) ≡ 0 → G.disk_faults after ≡ G.disk_faults start
-  pub writes : WritesMore (G.writes start) (G.writes after) (2 * count_by is_commit (event_lines names programs number taken first))
+  pub to : RanTo ghosts G (run programs taken first) (event_lines names programs number taken first) (faulted taken) new start after
+  pub images : Leaves G (λ image seen. IsLeft programs number first taken [] [] image []) start after
   pub doubt : (run programs taken first).closed ≡ true → (front : List (Event × Word)) (event : Event) → taken ≡ front ++ (event, Doubt) ∷ [] → InDoubt G programs number first front event after
 
 -- what a run begins with
@@ -167,49 +162,45 @@ module _ {W : Type 0} (G : Ghosts W) (fewer_later : FewerLater G) (printed_now :
     abbrev pub ends : Desk
     ends = run job.programs.items half.taken begins_with
 
-    pub closes : new.closed ≡ ends.closed
-    closes = subst (λ (f : Facts). new.closed ≡ (run f.programs half.taken f.start).closed) these half.closes
+    abbrev pub lines : List Line
+    lines = event_lines names job.programs.items number half.taken begins_with
+
+    pub comes-to : RanTo ghosts G ends lines (faulted half.taken) new before after
+    comes-to =
+        to_since ghosts G ends lines (faulted half.taken) new before start after asks.held asks-calm asks.writes
+        (subst (λ (f : Facts). RanTo ghosts G (run f.programs half.taken f.start) (event_lines names f.programs f.number half.taken f.start) (faulted half.taken) new start after) these half.to)
 
     pub ordered : (order_of new) ≡ ends.order
-    ordered = subst (λ (f : Facts). (order_of new) ≡ (run f.programs half.taken f.start).order) these half.ordered
+    ordered = comes-to.ordered
 
     abbrev pub commits : List Activation
     commits = begun job.programs.items job.events.items
 
-    pub serial_run : IsSerial commits number store (order_of new) (event_lines names job.programs.items number half.taken begins_with) ends.committed ends.closed
+    pub serial_run : IsSerial commits number store (order_of new) lines ends.committed ends.closed
     serial_run =
-        subst (λ (order : List (ℕ × ℕ)). IsSerial commits number store order (event_lines names job.programs.items number half.taken begins_with) ends.committed ends.closed)
+        subst (λ (order : List (ℕ × ℕ)). IsSerial commits number store order lines ends.committed ends.closed)
         (sym ordered)
         (run-serial names job.programs.items number job.frames 16 (most_lines (header_of (take 128 (held_of G before)))) store job.events.items half.taken half.rest is_run)
-
-    pub rose : RoseBy (faulted half.taken) (G.disk_faults before) (G.disk_faults after)
-    rose = omega (arith, asks.calls.disk, half.faults)
 
     pub all-fine : (Rose (G.disk_faults before) (G.disk_faults after) → ⊥) → faulted half.taken ≡ 0
     all-fine none =
         elim (cases_lt 0 (faulted half.taken)) [
-          | inl some ↦ absurd (none (omega (arith, some, rose)))
+          | inl some ↦ absurd (none (omega (arith, some, comes-to.faults)))
           | inr none_more ↦ omega arith
         ]
 
-    pub shown-now : ends.closed ≡ false → IsSure G after × Shown new (held_of G after) ends
-    shown-now still = subst (λ (f : Facts). (run f.programs half.taken f.start).closed ≡ false → IsSure G after × ghosts.shows new (held_of G after) (run f.programs half.taken f.start)) these half.still still
-
     -- while the desk is open
-    pub leaves-now : ends.closed ≡ false → IsSure G after × ((left : FlatStore) × (serial commits (order_of new) store ≡ Some left) × (stands (held_of G after) ≡ Stands ((number + length (order_of new)) % 2 ^ 64) left))
+    pub leaves-now : ends.closed ≡ false → (left : FlatStore) × (serial commits (order_of new) store ≡ Some left) × (stands (held_of G after) ≡ Stands ((number + length (order_of new)) % 2 ^ 64) left)
     leaves-now still =
-        let shown = shown-now still in
+        let shown = comes-to.still still in
         let none : serial_run.doubt ≡ [] = serial_run.none_open still in
         let all : (order_of new) ≡ serial_run.done = serial_run.order_is ∙ ap (λ (behind : List (ℕ × ℕ)). serial_run.done ++ behind) none ∙ append-nil serial_run.done in
         let stood : stands (held_of G after) ≡ standing_of new.opened ends = shown-stands new (held_of G after) ends shown.1 in (
-          shown.0,
-          (
-            ends.committed,
-            ap (λ (order : List (ℕ × ℕ)). serial commits order store) all ∙ serial_run.leaves,
-            stood
-                ∙ ap (λ (n : ℕ). standing_of n ends) (same_opened ∙ number-is)
-                ∙ ap (λ (order : List (ℕ × ℕ)). let that : Standing = Stands ((number + length order) % 2 ^ 64) ends.committed in that) (sym ordered),
-          ),
+          ends.committed,
+          ap (λ (order : List (ℕ × ℕ)). serial commits order store) all ∙ serial_run.leaves,
+          stood
+              ∙ ap (λ (n : ℕ). standing_of n ends) (same_opened ∙ number-is)
+              ∙ ap (λ (order : List (ℕ × ℕ)). let that : Standing = Stands ((number + length order) % 2 ^ 64) ends.committed in that) (sym ordered),
         )
 
     -- a doubt
@@ -225,18 +216,25 @@ module _ {W : Type 0} (G : Ghosts W) (fewer_later : FewerLater G) (printed_now :
           λ image seen left. doubted.1.1 image seen left ∙ whole.2 ∙ ap (λ (those : List (ℕ × ℕ)). let that : Standing = Stands ((number + length those) % 2 ^ 64) whole.0 in that) order,
         )
 
-    pub calm-now : count_by tells_fault (event_lines names job.programs.items number half.taken begins_with) ≡ 0 → G.disk_faults after ≡ G.disk_faults before
-    calm-now none = subst (λ (f : Facts). count_by tells_fault (event_lines names f.programs f.number half.taken f.start) ≡ 0 → G.disk_faults after ≡ G.disk_faults start) these half.calm none ∙ asks-calm
-
-    pub writes-now : WritesMore (G.writes before) (G.writes after) (2 * count_by is_commit (event_lines names job.programs.items number half.taken begins_with))
-    writes-now =
-        subst (λ (told : Option ℕ). WritesMore told (G.writes after) (2 * count_by is_commit (event_lines names job.programs.items number half.taken begins_with))) asks.writes
-        (subst (λ (f : Facts). WritesMore (G.writes start) (G.writes after) (2 * count_by is_commit (event_lines names f.programs f.number half.taken f.start))) these half.writes)
-
-    pub records-now : ends.closed ≡ false → records_in (held_of G after) ≤ most_records (event_lines names job.programs.items number half.taken begins_with) (records_in (held_of G before))
-    records-now still =
-        subst (λ (those : Option (List ℕ)). records_in (held_of G after) ≤ most_records (event_lines names job.programs.items number half.taken begins_with) (records_in (unwrap_or those []))) asks.held
-        (subst (λ (f : Facts). (run f.programs half.taken f.start).closed ≡ false → records_in (held_of G after) ≤ most_records (event_lines names f.programs f.number half.taken f.start) (records_in (held_of G start))) these half.records still)
+    abbrev pub runs-from : (now : Status) → RunsFrom G job number store (call before after (order_of new) now)
+    runs-from now = record {
+      taken = half.taken;
+      rest = half.rest;
+      is_run = is_run;
+      end = ends;
+      end_is = refl;
+      order_is = ordered;
+      names = names;
+      lines = lines;
+      lines_are = refl;
+      session = new;
+      to = comes-to;
+      all_fine = all-fine;
+      serial_run = serial_run;
+      leaves = leaves-now;
+      crash = crash-any (order_of new) half.taken half.rest is_run ordered half.images;
+      doubt = doubt-leaves;
+    }
 
   module _ (result : Result Bool Failed) (put : Result ℕ Failed) (now : Status) (reports : Reports ghosts G (names_of job) (activity desk).programs desk.opened job.events.items (first_desk G job.frames before start desk opens asks) new start after (λ closed. closed) result) where
     abbrev half : RanFrom G (names_of job) (activity desk).programs desk.opened job.events.items (first_desk G job.frames before start desk opens asks) new start after
@@ -244,13 +242,8 @@ module _ {W : Type 0} (G : Ghosts W) (fewer_later : FewerLater G) (printed_now :
       taken = reports.taken;
       rest = reports.rest;
       is_run = reports.is_run;
-      closes = reports.closes;
-      ordered = reports.ordered;
-      still = reports.still;
-      records = reports.records;
-      faults = reports.faults;
-      calm = reports.calm;
-      writes = reports.writes;
+      to = reports.to;
+      images = reports.images;
       doubt = reports.doubt;
     }
 
@@ -279,16 +272,14 @@ module _ {W : Type 0} (G : Ghosts W) (fewer_later : FewerLater G) (printed_now :
 
     pub has_run : put_by now put → ((one two : Option (List ℕ)) (bytes : List ℕ) → Prints one two bytes result → Prints one two bytes put) → (IsErr result → IsErr put)
         → (now ≡ Status.Done → (new.closed ≡ false) × (reports.rest ≡ [])) → (now ≡ Status.DiskFault → new.closed ≡ true)
-        → HasRun G job number store before after (order_of new) (Some new) now
+        → HasRun G job number store (call before after (order_of new) now) (Some new)
     has_run put_is turns fails ended shut = record {
-      taken = reports.taken;
-      rest = reports.rest;
-      is_run = is_run names half;
-      order_is = ordered names half;
-      ends = record { session = new; answered = refl; ordered = refl; closes = closes names half; shows = λ still. (shown-now names half still).1 };
+      ran = runs-from names half now;
+      named = refl;
+      answered = refl;
       all = λ is. (ended is).1;
-      still_open = λ is. sym (closes names half) ∙ (ended is).0;
-      shut = λ is. sym (closes names half) ∙ shut is;
+      still_open = λ is. sym (comes-to names half).closes ∙ (ended is).0;
+      shut = λ is. sym (comes-to names half).closes ∙ shut is;
       put = put;
       put_is = put_is;
       printed = subst (λ (told : Option (List ℕ)). Prints told (G.printed after) (report (names_of job) job.programs.items number reports.taken reports.rest begins_with) put) asks.calls.quiet.same
@@ -297,16 +288,7 @@ module _ {W : Type 0} (G : Ghosts W) (fewer_later : FewerLater G) (printed_now :
       earlier = subst (λ (told : Option (List ℕ)). PrintsEarlier told (G.printed after) (λ front. line_text (Open number) ++ text_of (names_of job) job.programs.items number front begins_with) reports.taken) asks.calls.quiet.same
           (subst (λ (f : Facts). PrintsEarlier (G.printed start) (G.printed after) (λ front. line_text (Open f.number) ++ text_of (names_of job) f.programs f.number front f.start) reports.taken) these reports.earlier);
       times = times-since put (on_ok_as _ result put fails (subst (λ (f : Facts). PutsTimes G (length (report_lines (names_of job) f.programs f.number reports.taken reports.rest f.start)) start after result) these reports.times));
-      faults = rose names half;
-      all_fine = all-fine names half;
-      calm = calm-now names half;
-      writes = writes-now names half;
-      serial_run = serial_run names half;
-      leaves = leaves-now names half;
-      records = records-now names half;
-      crash = crash-any (order_of new) reports.taken reports.rest (is_run names half) (ordered names half) reports.images;
       seen = crash-leaves;
-      doubt = doubt-leaves names half;
       honest = same_honest ∙ asks.calls.honest;
       time = elapses-trans G fewer_later before start after asks.calls.time time;
     }
@@ -319,7 +301,7 @@ module _ {W : Type 0} (G : Ghosts W) (fewer_later : FewerLater G) (printed_now :
   abbrev replayed-from : (number : ℕ) (store : FlatStore) (standing : StandsAt G before number store) → Replays ghosts G (names_of job) (activity desk).programs desk.opened job.events.items (first_desk G job.frames before start desk (opens standing.honest standing.told) asks) new start after result
   replayed-from number store standing = replays (first_desk G job.frames before start desk (opens standing.honest standing.told) asks) (has-opened G job.frames before start desk (opens standing.honest standing.told) asks)
 
-  pub happened-by : (that : Replayed) → result ≡ that → HappenedTo G job before after (order_of new) (Some new) (status_of_replay that)
+  pub happened-by : (that : Replayed) → result ≡ that → HappenedTo G job (call before after (order_of new) (status_of_replay that)) (Some new)
   happened-by replayed.Ended is = λ number store standing.
       let reports = subst (λ (those : Replayed). Replays ghosts G (names_of job) (activity desk).programs desk.opened job.events.items (first_desk G job.frames before start desk (opens standing.honest standing.told) asks) new start after those) is (replayed-from number store standing) in
       has_run G fewer_later printed_now job before start after desk new number store standing (opens standing.honest standing.told) asks programs_are same_opened same_honest time asks-calm
@@ -335,12 +317,16 @@ module _ {W : Type 0} (G : Ghosts W) (fewer_later : FewerLater G) (printed_now :
       has_run G fewer_later printed_now job before start after desk new number store standing (opens standing.honest standing.told) asks programs_are same_opened same_honest time asks-calm
       (Err failed) (Err failed) status.PutFault reports (failed, refl) (λ one two bytes prints. prints_broken {T = Bool} {U = ℕ} (Err failed) (Err failed) refl refl one two bytes prints) (λ is. is) (λ is. absurd (cc)) (λ is. absurd (cc))
 
+-- what running did, as something else that it did
+did-as : {W : Type 0} (G : Ghosts W) (ran other : Type 0) (c : Call W) (session : Option Session) (now : Status) → (ran → other) → DidBy G ran c session now → DidBy G other c session now
+did-as G ran other c session status.Done turns did = turns did
+did-as G ran other c session status.PutFault turns did = turns did
+did-as G ran other c (Some session) status.DiskFault turns did = turns did
+did-as G ran other c None status.DiskFault turns did = did
+did-as G ran other c session (status.Store offset) turns did = did
+did-as G ran other c session _ turns did = did
+
 -- what happened to the job of a text
-pub happens : {W : Type 0} (G : Ghosts W) (left left_now : Option (List ℕ)) (before after : W) (text : List ℕ) (job : Job) (order : List (ℕ × ℕ)) (session : Option Session) (now : Status)
-    → IsWhole left left_now text → job_of text ≡ Ok (content_of job) → HappenedTo G job before after order session now → HandedRuns job.programs.items session → Happened G left left_now before after order session now
-happens G left left_now before after text job order session status.Done whole means did runs = record { text = text; whole = whole; job = job; means = means; has_run = did; runs = runs }
-happens G left left_now before after text job order session status.PutFault whole means did runs = record { text = text; whole = whole; job = job; means = means; has_run = did; runs = runs }
-happens G left left_now before after text job order (Some session) status.DiskFault whole means did runs = record { text = text; whole = whole; job = job; means = means; has_run = did; runs = runs }
-happens G left left_now before after text job order None status.DiskFault whole means did runs = did
-happens G left left_now before after text job order session (status.Store offset) whole means did runs = did
-happens G left left_now before after text job order session _ whole means did runs = did
+pub happens : {W : Type 0} (G : Ghosts W) (text : List ℕ) (job : Job) (from : Given) (c : Call W) (session : Option Session) → IsWhole from.left from.left_now text → job_of text ≡ Ok (content_of job) → HappenedTo G job c session → HandedRuns job.programs.items session → Happened G from c session
+happens G text job from c session whole means did runs =
+    did-as G (HasRunFrom G job c session) (RanJob G from c session) c session c.status (λ ran. record { text = text; whole = whole; job = job; means = means; has_run = ran; runs = runs }) did

@@ -1,10 +1,9 @@
 -- What a call of the console did: the run of the desk that its report tells of and what a crash leaves of it, or nothing.
-use Rattle.std.specs.Prelude.{◌≡◌, ℕ, ◌≤◌, ◌+◌, ◌*◌, ◌%◌, ◌^◌, true, false, List, [], ◌∷◌, ◌++◌, length, map, take, count_by, slice_set, Option, None, Some, IsSome, Result, Ok, Err}
+use Rattle.std.specs.Prelude.{◌≡◌, ℕ, ◌+◌, ◌%◌, ◌^◌, true, false, List, [], ◌∷◌, ◌++◌, length, map, take, slice_set, Option, None, Some, IsSome, Result, Ok, Err}
 use Rattle.outside.specs.declared.world.Outside.{Ghosts}
 use Rattle.outside.specs.declared.failed.Failed.{Failed}
 use Rattle.outside.specs.Bytes.{Prints}
-use Rattle.outside.specs.Causes.{Rose, RoseBy}
-use Rattle.outside.specs.Durable.{IsSure}
+use Rattle.outside.specs.Causes.{Rose}
 use Rattle.outside.specs.Moments.{Elapses}
 use Rattle.outside.specs.Runs.{OnlyAsks, Leaves, held_of}
 use Rattle.line_geometry.specs.FlatStore.{FlatStore}
@@ -15,18 +14,18 @@ use Rattle.desk.specs.declared.event.Event.{Event}
 use Rattle.desk.specs.Desk.{Desk, opened}
 use Rattle.desk.specs.Instruction.{Word, Doubt}
 use Rattle.desk.specs.Run.{run, faulted, IsRunOf}
-use Rattle.desk.specs.Lines.{line_text, Open}
+use Rattle.desk.specs.Lines.{Line, line_text, Open}
 use Rattle.desk.specs.Report.{report, report_lines, event_lines}
-use Rattle.desk.specs.Commits.{begun, is_commit, IsSerial}
-use Rattle.desk.specs.Kept.{WritesMore, records_in, most_records, tells_fault}
+use Rattle.desk.specs.Commits.{begun, IsSerial}
 use Rattle.run_law.specs.Headline.{IsPrefix}
 use Rattle.schedule_replay.specs.Puts.{PutsTimes, shown_of}
 use Rattle.schedule_replay.specs.Ran.{PrintsEarlier, text_of}
+use Rattle.schedule_replay.specs.RanTo.{RanTo}
 use Rattle.supervisor.specs.declared.session.Session.{Session}
-use Rattle.supervisor.specs.Session.{order_of, is_closed}
-use Rattle.supervisor.specs.Shown.{Shown}
+use Rattle.supervisor.specs.contracts.supervisor.SessionSupervisor.TheImpl.{ghosts}
 use Rattle.job_text.specs.declared.job.Job.{Job}
 use Rattle.job_text.specs.Grammar.{job_of, content_of}
+use Rattle.call_status.specs.Call.{Call, Given}
 use Rattle.call_status.specs.declared.status.Status.{Status}
 use Rattle.call_status.specs.declared.status.Status.TheVariants as status
 use Rattle.call_status.specs.SourceText.{IsWhole}
@@ -53,101 +52,96 @@ DoubtStands G job number store order now =
     (gate : ℕ) × (left : FlatStore) × (serial (begun job.programs.items job.events.items) order store ≡ Some left)
     × Leaves G (λ image seen. stands (slice_set image gate 165) ≡ Stands ((number + length order) % 2 ^ 64) left) now now
 
--- The session that is answered ends where the run of the desk does: it has the desk's order, is closed exactly where the desk is, and
--- otherwise shows the desk over the bytes of the disk.
-pub record IsSessionAt {W : Type 0} (G : Ghosts W) (answer : Option Session) (after : W) (order : List (ℕ × ℕ)) (desk : Desk) : Type 0 where
-  pub session : Session
-  pub answered : answer ≡ Some session
-  pub ordered : order_of session ≡ order
-  pub closes : is_closed session ≡ desk.closed
-  pub shows : desk.closed ≡ false → Shown session (held_of G after) desk
-
--- One run of the desk over the first of a job's events, from the store that the disk stood for. Its order is the answered one, and its
--- report is printed: to the byte, or after a failed put a prefix of it with the first line and those of all events but the last.
-pub record HasRun {W : Type 0} (G : Ghosts W) (job : Job) (number : ℕ) (store : FlatStore) (before after : W) (order : List (ℕ × ℕ)) (session : Option Session) (status : Status) : Type 0 where
+-- One run of the desk over the first of a job's events, from the store that the disk stood for, to the answered order and to a session.
+pub record RunsFrom {W : Type 0} (G : Ghosts W) (job : Job) (number : ℕ) (store : FlatStore) (call : Call W) : Type 0 where
   pub taken : List (Event × Word)
   pub rest : List Event
-  pub is_run : IsRunOf job.programs.items job.events.items (job_desk job (held_of G before) store) taken rest
-  pub order_is : order ≡ (run job.programs.items taken (job_desk job (held_of G before) store)).order
-  pub ends : IsSessionAt G session after order (run job.programs.items taken (job_desk job (held_of G before) store))
-  -- at Done all events were run and the desk is open, and a disk fault closed it
-  pub all : status ≡ Status.Done → rest ≡ []
-  pub still_open : status ≡ Status.Done → (run job.programs.items taken (job_desk job (held_of G before) store)).closed ≡ false
-  pub shut : status ≡ Status.DiskFault → (run job.programs.items taken (job_desk job (held_of G before) store)).closed ≡ true
-  pub put : Result ℕ Failed
-  pub put_is : put_by status put
-  pub printed : Prints (G.printed before) (G.printed after) (report (names_of job) job.programs.items number taken rest (job_desk job (held_of G before) store)) put
-  -- each line by one put
-  pub times : PutsTimes G (length (report_lines (names_of job) job.programs.items number taken rest (job_desk job (held_of G before) store))) before after put
-  pub earlier : PrintsEarlier (G.printed before) (G.printed after) (λ front. line_text (Open number) ++ text_of (names_of job) job.programs.items number front (job_desk job (held_of G before) store)) taken
-  -- the disk's faults rose by at least the number of events whose word isn't fine, and all are fine where they didn't rise; they stay where
-  -- no line tells of one
-  pub faults : RoseBy (faulted taken) (G.disk_faults before) (G.disk_faults after)
-  pub all_fine : (Rose (G.disk_faults before) (G.disk_faults after) → ⊥) → faulted taken ≡ 0
-  pub calm : count_by tells_fault (event_lines (names_of job) job.programs.items number taken (job_desk job (held_of G before) store)) ≡ 0 → G.disk_faults after ≡ G.disk_faults before
-  -- each commit line comes behind two writes of its own
-  pub writes : WritesMore (G.writes before) (G.writes after) (2 * count_by is_commit (event_lines (names_of job) job.programs.items number taken (job_desk job (held_of G before) store)))
+  pub is_run : IsRunOf job.programs.items job.events.items (job_desk job (held_of G call.before) store) taken rest
+  pub end : Desk
+  pub end_is : end ≡ run job.programs.items taken (job_desk job (held_of G call.before) store)
+  pub order_is : call.order ≡ end.order
+  -- its lines, with these names for the programs
+  pub names : List (List ℕ)
+  pub lines : List Line
+  pub lines_are : lines ≡ event_lines names job.programs.items number taken (job_desk job (held_of G call.before) store)
+  pub session : Session
+  pub to : RanTo ghosts G end lines (faulted taken) session call.before call.after
+  -- all words are fine where the disk's faults didn't rise
+  pub all_fine : (Rose (G.disk_faults call.before) (G.disk_faults call.after) → ⊥) → faulted taken ≡ 0
   -- the commits are those of the job's activations, one after another, and so are the commit lines
-  pub serial_run : IsSerial (begun job.programs.items job.events.items) number store order (event_lines (names_of job) job.programs.items number taken (job_desk job (held_of G before) store)) (run job.programs.items taken (job_desk job (held_of G before) store)).committed (run job.programs.items taken (job_desk job (held_of G before) store)).closed
-  -- while the desk is open the disk's bytes are sure, and stand for the number of commits and the store that they leave one after another
-  pub leaves : (run job.programs.items taken (job_desk job (held_of G before) store)).closed ≡ false
-      → IsSure G after × ((left : FlatStore) × (serial (begun job.programs.items job.events.items) order store ≡ Some left) × (stands (held_of G after) ≡ Stands ((number + length order) % 2 ^ 64) left))
-  -- and their chosen bank holds no more records than the lines tell: behind the last checkpoint, as many as there are commits
-  pub records : (run job.programs.items taken (job_desk job (held_of G before) store)).closed ≡ false
-      → records_in (held_of G after) ≤ most_records (event_lines (names_of job) job.programs.items number taken (job_desk job (held_of G before) store)) (records_in (held_of G before))
+  pub serial_run : IsSerial (begun job.programs.items job.events.items) number store call.order lines end.committed end.closed
+  -- while the desk is open the disk's bytes stand for the number of commits and the store that they leave one after another
+  pub leaves : end.closed ≡ false → (left : FlatStore) × (serial (begun job.programs.items job.events.items) call.order store ≡ Some left) × (stands (held_of G call.after) ≡ Stands ((number + length call.order) % 2 ^ 64) left)
   -- a crash at any moment of the call leaves a store that the first commits leave one after another
-  pub crash : Leaves G (λ image seen. IsPrefix (begun job.programs.items job.events.items) number store order [] image []) before after
-  -- and where the printed bytes are told, no fewer of them than were printed by then
-  pub seen : IsSome (G.printed before) → Leaves G (IsPrefix (begun job.programs.items job.events.items) number store order (shown_of G before)) before after
+  pub crash : Leaves G (λ image seen. IsPrefix (begun job.programs.items job.events.items) number store call.order [] image []) call.before call.after
   -- and where the last event ended in doubt, the gate byte alone decides whether its commit is among them
-  pub doubt : (run job.programs.items taken (job_desk job (held_of G before) store)).closed ≡ true → (front : List (Event × Word)) (event : Event) → taken ≡ front ++ (event, Doubt) ∷ [] → DoubtStands G job number store order after
-  pub honest : G.is_honest after ≡ G.is_honest before
-  pub time : Elapses G.moment G.left_since before after
+  pub doubt : end.closed ≡ true → (front : List (Event × Word)) (event : Event) → taken ≡ front ++ (event, Doubt) ∷ [] → DoubtStands G job number store call.order call.after
+
+-- The job was run from the store that the disk stood for, and the report of the run is printed: to the byte, or after a failed put a prefix of it with
+-- the first line and those of all events but the last.
+pub record HasRun {W : Type 0} (G : Ghosts W) (job : Job) (number : ℕ) (store : FlatStore) (call : Call W) (session : Option Session) : Type 0 where
+  pub ran : RunsFrom G job number store call
+  pub named : ran.names ≡ names_of job
+  pub answered : session ≡ Some ran.session
+  -- at Done all events were run and the desk is open, and a disk fault closed it
+  pub all : call.status ≡ Status.Done → ran.rest ≡ []
+  pub still_open : call.status ≡ Status.Done → ran.end.closed ≡ false
+  pub shut : call.status ≡ Status.DiskFault → ran.end.closed ≡ true
+  pub put : Result ℕ Failed
+  pub put_is : put_by call.status put
+  pub printed : Prints (G.printed call.before) (G.printed call.after) (report (names_of job) job.programs.items number ran.taken ran.rest (job_desk job (held_of G call.before) store)) put
+  -- each line by one put
+  pub times : PutsTimes G (length (report_lines (names_of job) job.programs.items number ran.taken ran.rest (job_desk job (held_of G call.before) store))) call.before call.after put
+  pub earlier : PrintsEarlier (G.printed call.before) (G.printed call.after) (λ front. line_text (Open number) ++ text_of (names_of job) job.programs.items number front (job_desk job (held_of G call.before) store)) ran.taken
+  -- a crash leaves no fewer commits than were printed by then, where the printed bytes are told
+  pub seen : IsSome (G.printed call.before) → Leaves G (IsPrefix (begun job.programs.items job.events.items) number store call.order (shown_of G call.before)) call.before call.after
+  pub honest : G.is_honest call.after ≡ G.is_honest call.before
+  pub time : Elapses G.moment G.left_since call.before call.after
 
 -- the job was run, from whatever number and store the disk stood for
-abbrev pub HasRunFrom : {W : Type 0} → Ghosts W → Job → W → W → List (ℕ × ℕ) → Option Session → Status → Type 0
-HasRunFrom G job before after order session status = (number : ℕ) (store : FlatStore) → StandsAt G before number store → HasRun G job number store before after order session status
+abbrev pub HasRunFrom : {W : Type 0} → Ghosts W → Job → Call W → Option Session → Type 0
+HasRunFrom G job call session = (number : ℕ) (store : FlatStore) → StandsAt G call.before number store → HasRun G job number store call session
 
 -- a disk that stood for a store isn't found damaged
 abbrev pub StoodForNone : {W : Type 0} → Ghosts W → W → Type 0
 StoodForNone G before = (number : ℕ) (store : FlatStore) → StandsAt G before number store → ⊥
 
 -- the text was had whole, and means a job whose events were run; the session runs its programs
-pub record RanJob {W : Type 0} (G : Ghosts W) (left left_now : Option (List ℕ)) (before after : W) (order : List (ℕ × ℕ)) (session : Option Session) (status : Status) : Type 0 where
+pub record RanJob {W : Type 0} (G : Ghosts W) (given : Given) (call : Call W) (session : Option Session) : Type 0 where
   pub text : List ℕ
-  pub whole : IsWhole left left_now text
+  pub whole : IsWhole given.left given.left_now text
   pub job : Job
   pub means : job_of text ≡ Ok (content_of job)
-  pub has_run : HasRunFrom G job before after order session status
+  pub has_run : HasRunFrom G job call session
   pub runs : HandedRuns job.programs.items session
 
 -- no event was run: nothing was printed, and the disk was only asked
-pub record Untouched {W : Type 0} (G : Ghosts W) (before after : W) (order : List (ℕ × ℕ)) : Type 0 where
-  pub no_order : order ≡ []
-  pub asks : OnlyAsks G before after
+pub record Untouched {W : Type 0} (G : Ghosts W) (call : Call W) : Type 0 where
+  pub no_order : call.order ≡ []
+  pub asks : OnlyAsks G call.before call.after
 
 -- and the disk didn't fail
-pub record Refused {W : Type 0} (G : Ghosts W) (before after : W) (order : List (ℕ × ℕ)) : Type 0 where
-  pub untouched : Untouched G before after order
-  pub calm : G.disk_faults after ≡ G.disk_faults before
+pub record Refused {W : Type 0} (G : Ghosts W) (call : Call W) : Type 0 where
+  pub untouched : Untouched G call
+  pub calm : G.disk_faults call.after ≡ G.disk_faults call.before
 
 -- the first where a session was opened, and the second where the call was refused before
 abbrev pub ByOpening : Option Session → Type 0 → Type 0 → Type 0
 ByOpening (Some session) opened refused = opened
 ByOpening None opened refused = refused
 
--- what a call did, by its status; a disk fault and damage come in the opening or in an event
-abbrev pub Happened : {W : Type 0} → Ghosts W → Option (List ℕ) → Option (List ℕ) → W → W → List (ℕ × ℕ) → Option Session → Status → Type 0
-Happened G left left_now before after order session status.Done = RanJob G left left_now before after order session status.Done
-Happened G left left_now before after order session status.PutFault = RanJob G left left_now before after order session status.PutFault
-Happened G left left_now before after order session status.DiskFault = ByOpening session (RanJob G left left_now before after order session status.DiskFault) (Untouched G before after order)
-Happened G left left_now before after order session (status.Store offset) = ByOpening session (StoodForNone G before) (Refused G before after order)
-Happened G left left_now before after order session _ = Refused G before after order
+-- what a call did, by its status, where this is what running its events did; a disk fault and damage come in the opening or in an event
+abbrev pub DidBy : {W : Type 0} → Ghosts W → (ran : Type 0) → Call W → Option Session → Status → Type 0
+DidBy G ran call session status.Done = ran
+DidBy G ran call session status.PutFault = ran
+DidBy G ran call session status.DiskFault = ByOpening session ran (Untouched G call)
+DidBy G ran call session (status.Store offset) = ByOpening session (StoodForNone G call.before) (Refused G call)
+DidBy G ran call session _ = Refused G call
+
+-- what a call did with the job of its source
+abbrev pub Happened : {W : Type 0} → Ghosts W → Given → Call W → Option Session → Type 0
+Happened G given call session = DidBy G (RanJob G given call session) call session call.status
 
 -- the same for a job that is given
-abbrev pub HappenedTo : {W : Type 0} → Ghosts W → Job → W → W → List (ℕ × ℕ) → Option Session → Status → Type 0
-HappenedTo G job before after order session status.Done = HasRunFrom G job before after order session status.Done
-HappenedTo G job before after order session status.PutFault = HasRunFrom G job before after order session status.PutFault
-HappenedTo G job before after order session status.DiskFault = ByOpening session (HasRunFrom G job before after order session status.DiskFault) (Untouched G before after order)
-HappenedTo G job before after order session (status.Store offset) = ByOpening session (StoodForNone G before) (Refused G before after order)
-HappenedTo G job before after order session _ = Refused G before after order
+abbrev pub HappenedTo : {W : Type 0} → Ghosts W → Job → Call W → Option Session → Type 0
+HappenedTo G job call session = DidBy G (HasRunFrom G job call session) call session call.status

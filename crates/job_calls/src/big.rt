@@ -6,6 +6,7 @@ ghost use Rattle.schedule_replay.specs.Asked.{begins_in};
 ghost use Rattle.job_text.specs.Big.{IsBigJob};
 ghost use Rattle.job_text.specs.Ready.{IsReady};
 ghost use Rattle.listing.specs.Puts.{Puts, PutsTimes};
+ghost use Rattle.call_status.specs.Call.{call};
 ghost use Rattle.job_calls.specs.Big.{IsToldBy, Loaded, big_line};
 ghost use Rattle.job_calls.specs.Causes.{IsOfEvents};
 ghost use Rattle.job_calls.specs.Handed.{HandedFits, HandsOn};
@@ -24,7 +25,7 @@ use text_line::TextLine;
 /// Runs a load of so many transfers on the disk's store, and prints its one line.
 pub fn run_load<W: Outside>(alloc: Global, transfers: u32, outside: &mut W) -> Ended
     requires { transfers ≤ 512 }
-    ensures loaded { Loaded W.Outside transfers outside.old outside.new (order_told result.order.items) result.session result.status }
+    ensures loaded { Loaded W.Outside transfers (call outside.old outside.new (order_told result.order.items) result.status) result.session }
     ensures handed { HandsOn (order_told result.order.items) result.session result.status }
     ensures fits { HandedFits W.Outside outside.new result.session }
     ensures unfailed { result.status ≡ Status.Done → W.put_faults outside.new ≡ W.put_faults outside.old }
@@ -42,7 +43,7 @@ pub fn run_load<W: Outside>(alloc: Global, transfers: u32, outside: &mut W) -> E
 fn run_with_order<W: Outside>(alloc: Global, transfers: u32, job: Job, outside: &mut W) -> Ended
     requires load { IsBigJob transfers job }
     requires ready { IsReady job }
-    ensures loaded { Loaded W.Outside transfers outside.old outside.new (order_told result.order.items) result.session result.status }
+    ensures loaded { Loaded W.Outside transfers (call outside.old outside.new (order_told result.order.items) result.status) result.session }
     ensures handed { HandsOn (order_told result.order.items) result.session result.status }
     ensures fits { HandedFits W.Outside outside.new result.session }
     ensures unfailed { result.status ≡ Status.Done → W.put_faults outside.new ≡ W.put_faults outside.old }
@@ -71,7 +72,7 @@ fn open_and_run<W: Outside>(
     requires begins { begins ≡ begins_in job.events.items }
     requires none { order.items ≡ [] }
     requires room { begins ≤ vec_capacity order }
-    ensures loaded { Loaded W.Outside transfers outside.old outside.new (order_told result.order.items) result.session result.status }
+    ensures loaded { Loaded W.Outside transfers (call outside.old outside.new (order_told result.order.items) result.status) result.session }
     ensures handed { HandsOn (order_told result.order.items) result.session result.status }
     ensures fits { HandedFits W.Outside outside.new result.session }
     ensures unfailed { result.status ≡ Status.Done → W.put_faults outside.new ≡ W.put_faults outside.old }
@@ -95,7 +96,7 @@ fn open_and_run<W: Outside>(
 /// Puts the line of a run that ended; nothing of one that closed the desk.
 fn tell<W: Outside>(transfers: u32, quiet: Quiet, last: &[u8], outside: &mut W) -> Status
     requires { length last.now ≤ 4096 }
-    ensures { IsToldBy W.Outside transfers quiet last.now outside.old outside.new result }
+    ensures { IsToldBy W.Outside transfers quiet last.now (call outside.old outside.new [] result) }
 {
     match quiet {
         Quiet::Closed => Status::DiskFault,

@@ -4,6 +4,7 @@ ghost use Rattle.outside.specs.Causes.{Rose};
 ghost use Rattle.desk.specs.Answers.{order_told};
 ghost use Rattle.job_text.specs.Ready.{IsReady};
 ghost use Rattle.schedule_replay.specs.Asked.{begins_in};
+ghost use Rattle.call_status.specs.Call.{call, given};
 ghost use Rattle.call_status.specs.Reading.{ReadsBy};
 ghost use Rattle.job_calls.specs.Causes.{IsOfEvents, IsOfRun, OpensBy, status_of_replay};
 ghost use Rattle.job_calls.specs.Handed.{HandedFits, HandedRuns, HandsOn};
@@ -20,12 +21,12 @@ use supervisor::Session;
 
 /// Runs the job of a source on the disk's store, and puts its report, a line at a time.
 pub fn run_source<S: Source, W: Outside>(alloc: Global, source: &mut S, outside: &mut W) -> Ended
-    ensures read { ReadsBy (S.left source.old) (S.left source.new) (S.faults source.old) (S.faults source.new) result.status }
+    ensures read { ReadsBy (given S.Source source.old source.new) result.status }
     ensures opened { OpensBy W.Outside outside.old outside.new result.status }
     ensures unfailed { result.status ≡ Status.Done → (S.faults source.new ≡ S.faults source.old) × (W.put_faults outside.new ≡ W.put_faults outside.old) }
     ensures put { result.status ≡ Status.PutFault → Rose (W.put_faults outside.old) (W.put_faults outside.new) }
     ensures disk { result.status ≡ Status.DiskFault → Rose (W.disk_faults outside.old) (W.disk_faults outside.new) }
-    ensures happened { Happened W.Outside (S.left source.old) (S.left source.new) outside.old outside.new (order_told result.order.items) result.session result.status }
+    ensures happened { Happened W.Outside (given S.Source source.old source.new) (call outside.old outside.new (order_told result.order.items) result.status) result.session }
     ensures handed { HandsOn (order_told result.order.items) result.session result.status }
     ensures fits { HandedFits W.Outside outside.new result.session }
     ensures only { IsOfRun result.status }
@@ -43,7 +44,7 @@ pub fn try_job<W: Outside>(alloc: Global, job: Job, outside: &mut W) -> Ended
     ensures unfailed { result.status ≡ Status.Done → W.put_faults outside.new ≡ W.put_faults outside.old }
     ensures put { result.status ≡ Status.PutFault → Rose (W.put_faults outside.old) (W.put_faults outside.new) }
     ensures disk { result.status ≡ Status.DiskFault → Rose (W.disk_faults outside.old) (W.disk_faults outside.new) }
-    ensures happened { HappenedTo W.Outside job outside.old outside.new (order_told result.order.items) result.session result.status }
+    ensures happened { HappenedTo W.Outside job (call outside.old outside.new (order_told result.order.items) result.status) result.session }
     ensures handed { HandsOn (order_told result.order.items) result.session result.status }
     ensures runs { HandedRuns job.programs.items result.session }
     ensures fits { HandedFits W.Outside outside.new result.session }
@@ -72,7 +73,7 @@ fn run_job<W: Outside>(
     ensures unfailed { result.status ≡ Status.Done → W.put_faults outside.new ≡ W.put_faults outside.old }
     ensures put { result.status ≡ Status.PutFault → Rose (W.put_faults outside.old) (W.put_faults outside.new) }
     ensures disk { result.status ≡ Status.DiskFault → Rose (W.disk_faults outside.old) (W.disk_faults outside.new) }
-    ensures happened { HappenedTo W.Outside job outside.old outside.new (order_told result.order.items) result.session result.status }
+    ensures happened { HappenedTo W.Outside job (call outside.old outside.new (order_told result.order.items) result.status) result.session }
     ensures handed { HandsOn (order_told result.order.items) result.session result.status }
     ensures runs { HandedRuns job.programs.items result.session }
     ensures fits { HandedFits W.Outside outside.new result.session }

@@ -1,6 +1,7 @@
 pub mod CountLemmas
 pub mod PutsLemmas
 pub mod WriteLemmas
+pub mod RanToLemmas
 pub mod WentLemmas
 pub mod EventLemmas
 pub mod AnsweredLemmas

@@ -1,11 +1,10 @@
 -- Events without a report, one after another.
-use Rattle.std.proofs.Common.{◌≡◌, ℕ, ◌+◌, ◌*◌, ◌<◌, ◌≤◌, ◌⊎◌, List, [], ◌∷◌, ◌++◌, length, cond, take, get_or, refl, sym, ap, ◌∙◌, subst, arith, ⊎_elim}
-use Rattle.std.specs.Prelude.{Bool, true, false, not, count_by, Option, None, Some, IfSome, unwrap_or}
+use Rattle.std.proofs.Common.{◌≡◌, ℕ, ◌+◌, ◌<◌, List, [], ◌∷◌, ◌++◌, length, cond, take, get_or, refl, sym, ap, ◌∙◌, subst, arith}
+use Rattle.std.specs.Prelude.{true, false, not, count_by, Option, None, Some, IfSome}
 use Rattle.std.specs.List.{flat_map, fold}
 use Rattle.std.proofs.lemmas.List.{map-append, length-map, take_more}
 use Rattle.std.proofs.lemmas.List.Sums.{fold-append, sum_by-append}
 use Rattle.outside.specs.declared.world.Outside.{Ghosts}
-use Rattle.outside.specs.Causes.{Rose, RoseBy}
 use Rattle.outside.specs.Durable.{IsSure}
 use Rattle.outside.specs.Runs.{CallsDisk, FewerLater, held_of}
 use Rattle.outside.proofs.Durable.{leaves_held}
@@ -22,23 +21,21 @@ use Rattle.desk.specs.Answers.{begun_told, turn_told, counts_told}
 use Rattle.desk.specs.Commits.{is_commit}
 use Rattle.desk.specs.Crash.{standing_of, IsEitherOf}
 use Rattle.desk.specs.Desk.{Desk}
-use Rattle.desk.specs.Instruction.{Word, Fine, Doubt}
-use Rattle.desk.specs.Kept.{WritesMore, records_in, most_records}
+use Rattle.desk.specs.Instruction.{Word, Doubt}
 use Rattle.desk.specs.Lines.{Line}
 use Rattle.desk.specs.Lines as line
 use Rattle.desk.specs.Report.{cycle_lines, event_lines, happening_lines, number_after}
-use Rattle.desk.specs.Run.{Step, run, step, faulted, is_fine}
+use Rattle.desk.specs.Run.{Step, run, step, faulted}
 use Rattle.run_law.proofs.LeftLemmas.{left_none, left_quiet}
 use Rattle.run_law.proofs.RunLemmas.{run_on, open_on, lines_on, faulted_on}
-use Rattle.run_law.proofs.SeenLemmas.{commits_in, commits_on}
 use Rattle.run_law.proofs.StepLemmas.{Grew, Stepped, counted_quiet, run_grew, step_by}
 use Rattle.schedule_replay.specs.Quiet.{RanQuietly, Tells, WentQuietly, is_rollback, last_by, out_after, tally_begun, tally_by}
 use Rattle.schedule_replay.specs.Ran.{InDoubt}
+use Rattle.schedule_replay.specs.RanTo.{RanTo}
 use Rattle.schedule_replay.specs.declared.quietly.Tally.{Tally}
-use Rattle.schedule_replay.proofs.CountLemmas.{faults_in, faults_front, faults_behind, happened_keep, most_on, most_le}
-use Rattle.schedule_replay.proofs.RanLemmas.{images_join}
+use Rattle.schedule_replay.proofs.RanLemmas.{images_join, none_last}
+use Rattle.schedule_replay.proofs.RanToLemmas.{to_did, to_none, to_on}
 use Rattle.schedule_replay.proofs.WentLemmas.{last_is, one_event}
-use Rattle.schedule_replay.proofs.WriteLemmas.{writes_on, writes_same}
 
 -- the victims of cycles are rolled back
 cycles_roll : (cycles : List (List ℕ)) (ends : List Line) → count_by is_rollback (flat_map cycle_lines cycles ++ ends) ≡ length cycles + count_by is_rollback ends
@@ -137,16 +134,6 @@ if_some : {A : Type 0} (P Q : A → Type 0) (told : Option A) → ((one : A) →
 if_some P Q None turns is = tt
 if_some P Q (Some one) turns is = turns one is
 
--- a word that isn't fine is counted where the disk's faults rose
-few_of : (broken : Bool) → 0 + cond broken 1 0 ≤ 1
-few_of true = omega arith
-few_of false = omega arith
-
-word_faults : (event : Event) (word : Word) (before after : ℕ) → before ≤ after → (word ≡ Fine) ⊎ Rose before after → RoseBy (faulted ((event, word) ∷ [])) before after
-word_faults event word before after le cause =
-    ⊎_elim (λ (fine : word ≡ Fine). subst (λ (these : Word). RoseBy (faulted ((event, these) ∷ [])) before after) (sym fine) (omega arith))
-    (λ rose. let few : faulted ((event, word) ∷ []) ≤ 1 = few_of (not (is_fine word)) in omega (arith, rose, few)) cause
-
 module _ {D W : Type 0} (S : desk.Ghosts D) (G : Ghosts W) (fewer_later : FewerLater G) (programs : List Program) (number : ℕ) where
   -- nothing was run yet
   pub ran_nothing : (stands_law : (s : D) (held : List ℕ) (desk : Desk) → S.shows s held desk → stands held ≡ standing_of (S.opened s) desk) (open_law : (s : D) (held : List ℕ) (desk : Desk) → S.shows s held desk → desk.closed ≡ false) (closed_law : (s : D) (held : List ℕ) (desk : Desk) → S.shows s held desk → S.closed s ≡ false) (order_law : (s : D) (held : List ℕ) (desk : Desk) → S.shows s held desk → S.order s ≡ desk.order)
@@ -156,22 +143,12 @@ module _ {D W : Type 0} (S : desk.Ghosts D) (G : Ghosts W) (fewer_later : FewerL
         taken = [];
         events_taken = refl;
         each_open = tt;
-        closes = closed_law new (held_of G w) start shows ∙ sym (open_law new (held_of G w) start shows);
-        ordered = order_law new (held_of G w) start shows;
-        still = λ still. (sure, shows);
-        records = λ still. omega arith;
-        faults = omega arith;
-        calm = λ none. refl;
-        writes = writes_same (G.writes w);
-        left = λ image seen left.
+        to = to_none S G start new w (closed_law new (held_of G w) start shows) (open_law new (held_of G w) start shows) (order_law new (held_of G w) start shows) sure shows;
+        images = λ image seen left.
             left_none programs number start [] [] image [] 0 (open_law new (held_of G w) start shows) (ap stands (leaves_held G w sure image seen left) ∙ stands_law new (held_of G w) start shows ∙ ap (λ n. standing_of n start) opened) refl refl;
         doubt = λ shut front last is. absurd (none_last front (last, Doubt) is);
       } in
       (ran, refl)
-    where
-      none_last : (front : List (Event × Word)) (last : Event × Word) → [] ≡ front ++ last ∷ [] → ⊥
-      none_last [] last is = cc
-      none_last (first ∷ front) last is = cc
 
   -- some events were run, and then one more
   pub ran_one_more : (xs : List Event) (event : Event) (start : Desk) (mid new : D) (before between after : W) (old_last new_last : List ℕ) (tally : Option Tally) → S.closed mid ≡ false → CallsDisk G before between → CallsDisk G between after → (one : RanQuietly S G programs number xs start mid before between)
@@ -184,7 +161,7 @@ module _ {D W : Type 0} (S : desk.Ghosts D) (G : Ghosts W) (fewer_later : FewerL
       let next : Step = record { desk = two.did.next; happening = two.told } in
       let first : List Line = event_lines [] programs number one.taken start in
       let second : List Line = happening_lines [] (number_after number two.did.next) two.told in
-      let still_open : middle.closed ≡ false = sym one.closes ∙ was_open in
+      let still_open : middle.closed ≡ false = sym one.to.closes ∙ was_open in
       let next_is : (step programs event word middle).desk ≡ two.did.next = ap (λ (after : Step). after.desk) two.did.stepped in
       let same : run programs (one.taken ++ last_one) start ≡ two.did.next = run_on programs one.taken last_one start ∙ next_is in
       let lines : event_lines [] programs number (one.taken ++ last_one) start ≡ first ++ second = lines_on programs [] number one.taken last_one start ∙ ap (λ (back : List Line). first ++ back) (one_event [] programs number event word middle next two.did.stepped) in
@@ -194,29 +171,12 @@ module _ {D W : Type 0} (S : desk.Ghosts D) (G : Ghosts W) (fewer_later : FewerL
         taken = one.taken ++ last_one;
         events_taken = map-append (λ (each : Event × Word). each.0) one.taken last_one ∙ ap (λ (front : List Event). front ++ event ∷ []) one.events_taken;
         each_open = open_on programs one.taken last_one start one.each_open (ap not still_open, tt);
-        closes = two.did.closes ∙ ap (λ (desk : Desk). desk.closed) (sym same);
-        ordered = two.did.ordered ∙ ap (λ (desk : Desk). desk.order) (sym same);
-        still = λ still.
-            let kept = two.did.still (ap (λ (desk : Desk). desk.closed) (sym same) ∙ still) in
-            (kept.0, subst (λ (desk : Desk). S.shows new (unwrap_or (G.held after) []) desk) (sym same) kept.1);
-        records = λ still.
-            let kept = one.records still_open in
-            let later = two.did.records (ap (λ (desk : Desk). desk.closed) (sym same) ∙ still) in
-            let told = happened_keep [] (number_after number two.did.next) two.told (records_in (held_of G between)) in
-            let grown = most_le second (records_in (held_of G between)) (most_records first (records_in (held_of G before))) kept in
-            let split = ap (λ (these : List Line). most_records these (records_in (held_of G before))) lines ∙ most_on first second (records_in (held_of G before)) in
-            omega (arith, later, told, grown, split);
-        faults = let rose = word_faults event word (G.disk_faults between) (G.disk_faults after) calls_two.disk two.did.why in omega (arith, one.faults, rose, faulted_on one.taken last_one);
-        calm = λ none.
-            let both : faults_in (first ++ second) ≡ 0 = ap faults_in (sym lines) ∙ none in
-            two.calm (faults_behind first second both) ∙ one.calm (faults_front first second both);
-        writes =
-            let split = ap commits_in lines ∙ commits_on first second in
-            subst (λ (n : ℕ). WritesMore (G.writes before) (G.writes after) n)
-            (let twice : 2 * commits_in first + 2 * commits_in second ≡ 2 * commits_in (event_lines [] programs number (one.taken ++ last_one) start) = omega (arith, split) in twice)
-            (writes_on (G.writes before) (G.writes between) (G.writes after) (2 * commits_in first) (2 * commits_in second) one.writes two.writes);
-        left =
-            images_join G fewer_later programs number start one.taken last_one before between after grew.more steps.more calls_one.time calls_two.time one.each_open grew.order_is steps.order_is one.left
+        to =
+            subst (λ (desk : Desk). RanTo S G desk (event_lines [] programs number (one.taken ++ last_one) start) (faulted (one.taken ++ last_one)) new before after) (sym same)
+            (to_on S G middle two.did.next first second (event_lines [] programs number (one.taken ++ last_one) start) (faulted one.taken) (faulted last_one) (faulted (one.taken ++ last_one)) mid new before between after was_open lines (faulted_on one.taken last_one) one.to
+            (to_did S G programs number event two.told [] middle new between after two.did calls_two.disk two.writes two.calm));
+        images =
+            images_join G fewer_later programs number start one.taken last_one before between after grew.more steps.more calls_one.time calls_two.time one.each_open grew.order_is steps.order_is one.images
             (λ image seen left. left_quiet programs number event word [] middle still_open [] [] image [] 0 (subst (λ (desk : Desk). IsEitherOf programs number event middle desk image) (sym next_is) (two.did.crash image seen left)) refl refl);
         doubt = λ shut front last is.
             let ends = last_is one.taken front (event, word) (last, Doubt) is in
@@ -234,7 +194,7 @@ module _ {D W : Type 0} (S : desk.Ghosts D) (G : Ghosts W) (fewer_later : FewerL
       → ((desk : Desk) → IsSure G between → S.shows mid (held_of G between) desk → WentQuietly S G (S.programs mid) (S.opened mid) (get_or events i event) desk new between after old_last new_last tally)
       → (ran : RanQuietly S G programs number (take (i + 1) events) start new before after) × IfSome tally (λ more. Tells (record { commits = so_far.commits + more.commits; rollbacks = so_far.rollbacks + more.rollbacks }) [] new_last (event_lines [] programs number ran.taken start))
   ran_next_quietly events i event lt start mid new before between after old_last new_last so_far tally was_open same_programs same_number calls_one calls_two one tells next =
-      let kept = one.still (sym one.closes ∙ was_open) in
+      let kept = one.to.still (sym one.to.closes ∙ was_open) in
       let told = next (run programs one.taken start) kept.0 kept.1 in
       let two : WentQuietly S G programs number (get_or events i event) (run programs one.taken start) new between after old_last new_last tally =
       subst (λ (n : ℕ). WentQuietly S G programs n (get_or events i event) (run programs one.taken start) new between after old_last new_last tally) same_number

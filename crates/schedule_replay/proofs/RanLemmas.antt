@@ -1,6 +1,6 @@
 -- The runs of a supervisor, one event after another.
-use Rattle.std.proofs.Common.{◌≡◌, ℕ, ◌+◌, ◌*◌, ◌<◌, ◌≤◌, List, [], ◌∷◌, ◌++◌, length, map, get_or, take, refl, sym, ap, ◌∙◌, subst, arith, length-append, append-nil, append_assoc, inl, inr}
-use Rattle.std.specs.Prelude.{false, Option, None, Some, unwrap_or, Result, Ok, IsErr}
+use Rattle.std.proofs.Common.{◌≡◌, ℕ, ◌+◌, ◌<◌, ◌≤◌, List, [], ◌∷◌, ◌++◌, length, map, get_or, take, refl, sym, ap, ◌∙◌, subst, arith, length-append, append-nil, append_assoc, inl, inr}
+use Rattle.std.specs.Prelude.{false, Option, None, Some, Result, Ok, IsErr}
 use Rattle.std.specs.List.{flat_map}
 use Rattle.std.proofs.lemmas.List.{map-append, take_more}
 use Rattle.std.proofs.lemmas.Grind.{flat_map-append}
@@ -20,22 +20,22 @@ use Rattle.desk.specs.declared.event.Event.{Event}
 use Rattle.desk.specs.declared.supervisor.Supervisor as desk
 use Rattle.desk.specs.Desk.{Desk}
 use Rattle.desk.specs.Instruction.{Word, Doubt}
-use Rattle.desk.specs.Run.{run, OpenBeforeEach}
+use Rattle.desk.specs.Run.{run, faulted, OpenBeforeEach}
 use Rattle.desk.specs.Lines.{Line, line_text}
 use Rattle.desk.specs.Report.{event_lines}
 use Rattle.desk.specs.Seen.{commits_seen}
 use Rattle.run_law.specs.Left.{IsLeft}
-use Rattle.run_law.proofs.SeenLemmas.{ArePlain, seen_lines, seen_all, commits_in, commits_on}
+use Rattle.run_law.proofs.SeenLemmas.{ArePlain, seen_lines, seen_all}
 use Rattle.run_law.proofs.StepLemmas.{AreNames, Grew, run_grew, run_plain}
 use Rattle.run_law.proofs.RunLemmas.{run_on, open_on, lines_on, faulted_on}
 use Rattle.run_law.proofs.LeftLemmas.{left_none, left_more, left_behind}
 use Rattle.schedule_replay.specs.Puts.{BeginsWith, PutsTimes, shown_of}
 use Rattle.schedule_replay.specs.Ran.{Ran, PrintsEarlier, InDoubt, text_of}
-use Rattle.schedule_replay.proofs.CountLemmas.{faults_in, faults_front, faults_behind, most_on, most_le, on_ok_as}
+use Rattle.schedule_replay.specs.RanTo.{RanTo}
+use Rattle.schedule_replay.proofs.CountLemmas.{on_ok_as}
 use Rattle.schedule_replay.proofs.PutsLemmas.{PrintedNow, done, no_time, times_on, shown_after, begins_none, begins_on, begins_behind}
 use Rattle.schedule_replay.proofs.WentLemmas.{last_is}
-use Rattle.schedule_replay.proofs.WriteLemmas.{writes_on, writes_same}
-use Rattle.desk.specs.Kept.{WritesMore, records_in, most_records}
+use Rattle.schedule_replay.proofs.RanToLemmas.{to_none, to_on}
 
 -- what is printed of earlier events, with more events behind
 earlier_on : {T U : Type 0} (old mid new : Option (List ℕ)) (text other : List (Event × Word) → List ℕ) (one two : List (Event × Word)) (value : T) (bytes : List ℕ) (result : Result U Failed)
@@ -99,13 +99,7 @@ module _ {D W : Type 0} (S : desk.Ghosts D) (G : Ghosts W) (fewer_later : FewerL
     taken = ran.taken;
     events_taken = ran.events_taken;
     each_open = ran.each_open;
-    closes = ran.closes;
-    ordered = ran.ordered;
-    still = ran.still;
-    records = ran.records;
-    faults = ran.faults;
-    calm = ran.calm;
-    writes = ran.writes;
+    to = ran.to;
     printed = turns (G.printed before) (G.printed after) (text_of names programs number ran.taken start) ran.printed;
     times = on_ok_as _ result other fails ran.times;
     earlier = ran.earlier;
@@ -124,36 +118,16 @@ module _ {D W : Type 0} (S : desk.Ghosts D) (G : Ghosts W) (fewer_later : FewerL
       sym (flat_map-append line_text (event_lines names programs number one.taken start) (event_lines names programs number front middle))
       ∙ ap (flat_map line_text) (sym (lines_on programs names number one.taken front start)) in
       let same : run programs (one.taken ++ two.taken) start ≡ run programs two.taken middle = run_on programs one.taken two.taken start in
-      let still_open : middle.closed ≡ false = sym one.closes ∙ was_open in
       let grew : Grew programs names number two.taken middle = run_grew programs names number two.taken middle two.each_open in
       record {
         taken = one.taken ++ two.taken;
         events_taken = map-append (λ (each : Event × Word). each.0) one.taken two.taken ∙ ap (λ (front : List Event). front ++ map (λ (each : Event × Word). each.0) two.taken) one.events_taken ∙ ap (λ (back : List Event). xs ++ back) two.events_taken;
         each_open = open_on programs one.taken two.taken start one.each_open two.each_open;
-        closes = two.closes ∙ ap (λ (desk : Desk). desk.closed) (sym same);
-        ordered = two.ordered ∙ ap (λ (desk : Desk). desk.order) (sym same);
-        still = λ still.
-            let kept = two.still (ap (λ (desk : Desk). desk.closed) (sym same) ∙ still) in
-            (kept.0, subst (λ (desk : Desk). S.shows new (unwrap_or (G.held after) []) desk) (sym same) kept.1);
-        records = λ still.
-            let first : List Line = event_lines names programs number one.taken start in
-            let second : List Line = event_lines names programs number two.taken middle in
-            let kept = one.records still_open in
-            let later_kept = two.records (ap (λ (desk : Desk). desk.closed) (sym same) ∙ still) in
-            let grown = most_le second (records_in (held_of G between)) (most_records first (records_in (held_of G before))) kept in
-            let split = ap (λ (lines : List Line). most_records lines (records_in (held_of G before))) (lines_on programs names number one.taken two.taken start) ∙ most_on first second (records_in (held_of G before)) in
-            omega (arith, later_kept, grown, split);
-        faults = omega (arith, one.faults, two.faults, faulted_on one.taken two.taken);
-        calm = λ none.
-            let first : List Line = event_lines names programs number one.taken start in
-            let second : List Line = event_lines names programs number two.taken middle in
-            let both : faults_in (first ++ second) ≡ 0 = ap faults_in (sym (lines_on programs names number one.taken two.taken start)) ∙ none in
-            two.calm (faults_behind first second both) ∙ one.calm (faults_front first second both);
-        writes =
-            let split = ap commits_in (lines_on programs names number one.taken two.taken start) ∙ commits_on (event_lines names programs number one.taken start) (event_lines names programs number two.taken middle) in
-            subst (λ (n : ℕ). WritesMore (G.writes before) (G.writes after) n)
-            (let same : 2 * commits_in (event_lines names programs number one.taken start) + 2 * commits_in (event_lines names programs number two.taken middle) ≡ 2 * commits_in (event_lines names programs number (one.taken ++ two.taken) start) = omega (arith, split) in same)
-            (writes_on (G.writes before) (G.writes between) (G.writes after) _ _ one.writes two.writes);
+        to =
+            let lines = event_lines names programs number (one.taken ++ two.taken) start in
+            subst (λ (desk : Desk). RanTo S G desk lines (faulted (one.taken ++ two.taken)) new before after) (sym same)
+            (to_on S G middle (run programs two.taken middle) (event_lines names programs number one.taken start) (event_lines names programs number two.taken middle) lines (faulted one.taken) (faulted two.taken) (faulted (one.taken ++ two.taken)) mid new before between after
+            was_open (lines_on programs names number one.taken two.taken start) (faulted_on one.taken two.taken) one.to two.to);
         printed = prints_same (G.printed before) (G.printed after) (bytes one.taken ++ later two.taken) (bytes (one.taken ++ two.taken)) result (behind two.taken)
             (prints_on (G.printed before) (G.printed between) (G.printed after) (bytes one.taken) (later two.taken) value result one.printed two.printed);
         times =
@@ -190,14 +164,14 @@ module _ {D W : Type 0} (S : desk.Ghosts D) (G : Ghosts W) (fewer_later : FewerL
   pub ran_next : {U : Type 0} (events : List Event) (i : ℕ) (event : Event) → i < length events → (start : Desk) (mid new : D) (before between after : W) (result : Result U Failed) → S.closed mid ≡ false → S.programs mid ≡ programs → S.opened mid ≡ number → Ran S G names programs number (take i events) start mid before between done
       → ((desk : Desk) → IsSure G between → S.shows mid (held_of G between) desk → Ran S G names (S.programs mid) (S.opened mid) (get_or events i event ∷ []) desk new between after result) → Ran S G names programs number (take (i + 1) events) start new before after result
   ran_next events i event lt start mid new before between after result was_open same_programs same_number one next =
-      let kept = one.still (sym one.closes ∙ was_open) in
+      let kept = one.to.still (sym one.to.closes ∙ was_open) in
       let two = next (run programs one.taken start) kept.0 kept.1 in
       ran_more events i event lt start mid new before between after result was_open one
       (subst (λ (n : ℕ). Ran S G names programs n (get_or events i event ∷ []) (run programs one.taken start) new between after result) same_number
       (subst (λ (these : List Program). Ran S G names these (S.opened mid) (get_or events i event ∷ []) (run programs one.taken start) new between after result) same_programs two))
 
 -- no event was run
-none_last : (front : List (Event × Word)) (last : Event × Word) → [] ≡ front ++ last ∷ [] → ⊥
+pub none_last : (front : List (Event × Word)) (last : Event × Word) → [] ≡ front ++ last ∷ [] → ⊥
 none_last [] last is = cc
 none_last (first ∷ front) last is = cc
 
@@ -211,13 +185,7 @@ ran_none S G printed_now stands_law open_law closed_law order_law names programs
   taken = [];
   events_taken = refl;
   each_open = tt;
-  closes = closed_law new (held_of G w) start shows ∙ sym (open_law new (held_of G w) start shows);
-  ordered = order_law new (held_of G w) start shows;
-  still = λ still. (sure, shows);
-  records = λ still. omega arith;
-  faults = omega arith;
-  calm = λ none. refl;
-  writes = writes_same (G.writes w);
+  to = to_none S G start new w (closed_law new (held_of G w) start shows) (open_law new (held_of G w) start shows) (order_law new (held_of G w) start shows) sure shows;
   printed = printed_same (G.printed w);
   times = λ told. omega arith;
   earlier = inl refl;

@@ -8,7 +8,7 @@ use Rattle.outside.specs.Bytes.{Prints}
 use Rattle.outside.specs.Durable.{IsSure}
 use Rattle.outside.specs.Moments.{Elapses}
 use Rattle.outside.specs.Runs.{FewerLater, Leaves, held_of}
-use Rattle.outside.proofs.Prints.{prints_same, prints_well, prints_on, prints_stop}
+use Rattle.outside.proofs.Prints.{prints_broken, prints_same, prints_well, prints_on, prints_stop}
 use Rattle.outside.proofs.Durable.{leaves_held}
 use Rattle.outside.proofs.Runs.{elapses-trans, leaves_on}
 use Rattle.flat_machine.specs.declared.machine.Program.{Program}
@@ -17,13 +17,11 @@ use Rattle.desk.specs.declared.event.Event.{Event}
 use Rattle.desk.specs.declared.supervisor.Supervisor as desk
 use Rattle.desk.specs.Crash.{standing_of}
 use Rattle.desk.specs.Desk.{Desk}
-use Rattle.desk.specs.Kept.{WritesMore, records_in, most_records}
-use Rattle.schedule_replay.proofs.WriteLemmas.{writes_same}
 use Rattle.desk.specs.Holdings.{numbers}
 use Rattle.desk.specs.Instruction.{Word}
 use Rattle.desk.specs.Lines.{Line, Open, Left, End, line_text}
 use Rattle.desk.specs.Report.{number_after, closing_lines, report, event_lines}
-use Rattle.desk.specs.Run.{run}
+use Rattle.desk.specs.Run.{run, faulted}
 use Rattle.desk.specs.Seen.{commits_seen}
 use Rattle.run_law.specs.Left.{IsLeft}
 use Rattle.run_law.proofs.SeenLemmas.{ArePlain, plain_on, commits_in, commits_on, seen_all}
@@ -38,6 +36,7 @@ use Rattle.schedule_replay.specs.Replays.{Reports, is_closed}
 use Rattle.schedule_replay.proofs.PutsLemmas.{PrintedNow, times_on, shown_after, begins_none, begins_on, begins_behind}
 use Rattle.schedule_replay.proofs.WentLemmas.{sure_puts, image_is}
 use Rattle.schedule_replay.proofs.RanLemmas.{leaves_join, seen_behind, seen_few}
+use Rattle.schedule_replay.proofs.RanToLemmas.{to_later, to_none, to_since}
 
 -- nothing is said of success where it failed
 times_failed : {T : Type 0} (P : Type 0) (result : Result T Failed) → IsErr result → OnOk result P
@@ -155,10 +154,10 @@ module _ {D W : Type 0} (S : desk.Ghosts D) (G : Ghosts W) (fewer_later : FewerL
     tail_shut {T} {U} front rest start new between after value other ran shut =
         let put = text_of names programs number ran.taken start in
         let ends = flat_map line_text (closing_lines number rest (run programs ran.taken start)) in
-        let none : ends ≡ [] = ap (flat_map line_text) (no_closing number rest (run programs ran.taken start) (sym ran.closes ∙ shut)) in
+        let none : ends ≡ [] = ap (flat_map line_text) (no_closing number rest (run programs ran.taken start) (sym ran.to.closes ∙ shut)) in
         record {
           printed = subst (λ (bytes : List ℕ). Prints {T = U} (G.printed between) (G.printed after) bytes (Ok other)) (sym (append-nil put) ∙ ap (λ (tail : List ℕ). put ++ tail) (sym none)) (prints_well (G.printed between) (G.printed after) put value other ran.printed);
-          times = subst (λ (lines : List Line). PutsTimes {T = U} G (length lines) between after (Ok other)) (sym (append-nil (event_lines names programs number ran.taken start)) ∙ ap (λ (tail : List Line). event_lines names programs number ran.taken start ++ tail) (sym (no_closing number rest (run programs ran.taken start) (sym ran.closes ∙ shut)))) ran.times;
+          times = subst (λ (lines : List Line). PutsTimes {T = U} G (length lines) between after (Ok other)) (sym (append-nil (event_lines names programs number ran.taken start)) ∙ ap (λ (tail : List Line). event_lines names programs number ran.taken start ++ tail) (sym (no_closing number rest (run programs ran.taken start) (sym ran.to.closes ∙ shut)))) ran.times;
           images = ran.images;
           left = λ told image seen left. longer start ran.taken put ends (shown_of G between) image seen (ran.left told image seen left);
           time = ran.time;
@@ -171,7 +170,7 @@ module _ {D W : Type 0} (S : desk.Ghosts D) (G : Ghosts W) (fewer_later : FewerL
         let last = run programs ran.taken start in
         let put = text_of names programs number ran.taken start in
         let ends : List ℕ = flat_map line_text (closing_lines number [] last) in
-        let kept = ran.still (sym ran.closes ∙ still) in
+        let kept = ran.to.still (sym ran.to.closes ∙ still) in
         let puts : Puts G (closing_lines number [] last) middle after later = closing (held_of G middle) last kept.1 in
         let all : Tail start ran.taken [] between after later = record {
           printed = prints_on (G.printed between) (G.printed middle) (G.printed after) put ends value later ran.printed puts.printed;
@@ -205,13 +204,7 @@ module _ {D W : Type 0} (S : desk.Ghosts D) (G : Ghosts W) (fewer_later : FewerL
             taken = [];
             rest = events;
             is_run = record { prefix = refl; each_open = tt };
-            closes = was_open ∙ sym (open_law old (held_of G before) start opened.shows);
-            ordered = order_law old (held_of G before) start opened.shows;
-            still = λ still. (sure.0, subst (λ (held : List ℕ). S.shows old held start) (sym sure.1) opened.shows);
-            records = λ still. omega (arith, ap records_in sure.1);
-            faults = omega (arith, puts.only.disk);
-            calm = λ none. puts.only.disk;
-            writes = subst (λ (those : Option ℕ). WritesMore (G.writes before) those 0) (sym puts.only.writes) (writes_same (G.writes before));
+            to = to_later S G start [] 0 old before before between puts.only.held puts.only.disk puts.only.writes (λ is. sure.0) (to_none S G start old before was_open (open_law old (held_of G before) start opened.shows) (order_law old (held_of G before) start opened.shows) opened.sure opened.shows);
             printed = prints_same (G.printed before) (G.printed between) (first ++ more) (report names programs number [] events start) later whole (prints_stop (G.printed before) (G.printed between) first more result later one two puts.printed);
             times = times_failed _ later two;
             earlier = inl refl;
@@ -226,10 +219,10 @@ module _ {D W : Type 0} (S : desk.Ghosts D) (G : Ghosts W) (fewer_later : FewerL
 
       -- the first line is put, then the lines of events and those of the end
       pub reports_of : {T U : Type 0} (events front rest : List Event) (new : D) (middle after : W) (value : T) (result : Result U Failed) (later : Result Going Failed) → HasOpened S G old before start → Puts G (Open number ∷ []) before between (Ok value) → front ++ rest ≡ events → (ran : Ran S G names programs number front start new between middle result)
-          → Tail start ran.taken rest between after later → ((run programs ran.taken start).closed ≡ false → IsSure G after × S.shows new (held_of G after) (run programs ran.taken start))
+          → Tail start ran.taken rest between after later → (IsSure G middle → IsSure G after)
           → ((image seen : List ℕ) → G.left_since after (G.moment after) image seen → (shown : List ℕ) × G.left_since middle (G.moment middle) image shown) → G.disk_faults after ≡ G.disk_faults middle → G.held after ≡ G.held middle → G.writes after ≡ G.writes middle → BeginsWith (G.printed middle) (G.printed after) []
           → IfOk later (λ going. S.closed new ≡ is_closed going) → IfOk later (λ going. is_closed going ≡ false → rest ≡ []) → Reports S G names programs number events start new before after is_closed later
-      reports_of events front rest new middle after value result later opened puts whole ran tail still images disk same_held same_writes more closed all =
+      reports_of events front rest new middle after value result later opened puts whole ran tail sure images disk same_held same_writes more closed all =
           let first : List ℕ = flat_map line_text (Open number ∷ []) in
           let put = text_of names programs number ran.taken start in
           let ends = flat_map line_text (closing_lines number rest (run programs ran.taken start)) in
@@ -239,19 +232,10 @@ module _ {D W : Type 0} (S : desk.Ghosts D) (G : Ghosts W) (fewer_later : FewerL
             taken = ran.taken;
             rest = rest;
             is_run = record { prefix = ap (λ (these : List Event). these ++ rest) ran.events_taken ∙ whole; each_open = ran.each_open };
-            closes = ran.closes;
-            ordered = ran.ordered;
-            still = still;
-            records = λ last_open.
-                let kept = ran.records last_open in
-                let at_start = ap (λ (held : Option (List ℕ)). most_records (event_lines names programs number ran.taken start) (records_in (unwrap_or held []))) puts.only.held in
-                let at_end = ap (λ (held : Option (List ℕ)). records_in (unwrap_or held [])) same_held in
-                omega (arith, kept, at_start, at_end);
-            faults = omega (arith, ran.faults, puts.only.disk, disk);
-            calm = λ none. disk ∙ ran.calm none ∙ puts.only.disk;
-            writes =
-                let due : ℕ = 2 * commits_in (event_lines names programs number ran.taken start) in
-                subst (λ (those : Option ℕ). WritesMore (G.writes before) those due) (sym same_writes) (subst (λ (those : Option ℕ). WritesMore those (G.writes middle) due) puts.only.writes ran.writes);
+            to =
+                let end = run programs ran.taken start in
+                let lines = event_lines names programs number ran.taken start in
+                to_since S G end lines (faulted ran.taken) new before between after puts.only.held puts.only.disk puts.only.writes (to_later S G end lines (faulted ran.taken) new between middle after same_held disk same_writes sure ran.to);
             printed = prints_same (G.printed before) (G.printed after) (first ++ (put ++ ends)) (report names programs number ran.taken rest start) later parts
                 (prints_on (G.printed before) (G.printed between) (G.printed after) first (put ++ ends) value later puts.printed tail.printed);
             times =
@@ -283,33 +267,39 @@ module _ {D W : Type 0} (S : desk.Ghosts D) (G : Ghosts W) (fewer_later : FewerL
           → IfOk later (λ going. S.closed new ≡ is_closed going) → IfOk later (λ going. is_closed going ≡ false → rest ≡ []) → Reports S G names programs number events start new before after is_closed later
       reports_ended events front rest new middle after value result later opened puts whole ran opened_new was_open none closing closed all =
           let last = run programs ran.taken start in
-          let kept = ran.still (sym ran.closes ∙ was_open) in
+          let kept = ran.to.still (sym ran.to.closes ∙ was_open) in
           let ends : Puts G (closing_lines number [] last) middle after later = closing (held_of G middle) last kept.1 in
-          let sure = sure_puts S G fewer_later printed_now (closing_lines number [] last) middle after later ends kept.0 in
           reports_of events front rest new middle after value (Ok result) later opened puts whole ran (tail_put front rest start new between middle after result later opened_new was_open none ran closing)
-          (λ still. (sure.0, subst (λ (held : List ℕ). S.shows new held last) (sym sure.1) kept.1))
+          (λ sure. (sure_puts S G fewer_later printed_now (closing_lines number [] last) middle after later ends sure).0)
           (λ image seen left. ends.images image seen (fewer_later after (G.moment middle) (G.moment after) image seen ends.only.time.later left))
           ends.only.disk ends.only.held ends.only.writes (begins_none (G.printed middle) (G.printed after) (flat_map line_text (closing_lines number [] last)) later ends.printed) closed all
 
--- what is told of how it goes on, as whether the desk is closed
-pub reports_told : {D W : Type 0} (S : desk.Ghosts D) (G : Ghosts W) (names : List (List ℕ)) (programs : List Program) (number : ℕ) (events : List Event) (start : Desk) (new : D) (before after : W) (how : Going) (shut : Bool) → is_closed how ≡ shut → Reports S G names programs number events start new before after is_closed (Ok how) → Reports S G names programs number events start new before after (λ closed. closed) (Ok shut)
-reports_told S G names programs number events start new before after how shut is reports = record {
+-- what is told of a result, as of another that says as much
+pub reports_as : {D W T U : Type 0} (S : desk.Ghosts D) (G : Ghosts W) (names : List (List ℕ)) (programs : List Program) (number : ℕ) (events : List Event) (start : Desk) (new : D) (before after : W) (shut : T → Bool) (other : U → Bool) (result : Result T Failed) (later : Result U Failed)
+    → ((old now : Option (List ℕ)) (bytes : List ℕ) → Prints old now bytes result → Prints old now bytes later) → ((P : Type 0) → OnOk result P → OnOk later P) → (IfOk result (λ value. S.closed new ≡ shut value) → IfOk later (λ value. S.closed new ≡ other value)) → ((P : Type 0) → IfOk result (λ value. shut value ≡ false → P) → IfOk later (λ value. other value ≡ false → P))
+    → Reports S G names programs number events start new before after shut result → Reports S G names programs number events start new before after other later
+reports_as S G names programs number events start new before after shut other result later prints times closes all reports = record {
   taken = reports.taken;
   rest = reports.rest;
   is_run = reports.is_run;
-  closes = reports.closes;
-  ordered = reports.ordered;
-  still = reports.still;
-  records = reports.records;
-  faults = reports.faults;
-  calm = reports.calm;
-  writes = reports.writes;
-  printed = prints_well (G.printed before) (G.printed after) (report names programs number reports.taken reports.rest start) how shut reports.printed;
-  times = reports.times;
+  to = reports.to;
+  printed = prints (G.printed before) (G.printed after) (report names programs number reports.taken reports.rest start) reports.printed;
+  times = times _ reports.times;
   earlier = reports.earlier;
-  closed = reports.closed ∙ is;
-  all = λ going_on. reports.all (is ∙ going_on);
+  closed = closes reports.closed;
+  all = all _ reports.all;
   images = reports.images;
   left = reports.left;
   doubt = reports.doubt;
 }
+
+-- what is told of how it goes on, as whether the desk is closed
+pub reports_told : {D W : Type 0} (S : desk.Ghosts D) (G : Ghosts W) (names : List (List ℕ)) (programs : List Program) (number : ℕ) (events : List Event) (start : Desk) (new : D) (before after : W) (how : Going) (shut : Bool) → is_closed how ≡ shut → Reports S G names programs number events start new before after is_closed (Ok how) → Reports S G names programs number events start new before after (λ closed. closed) (Ok shut)
+reports_told S G names programs number events start new before after how shut is =
+    reports_as S G names programs number events start new before after is_closed (λ closed. closed) (Ok how) (Ok shut)
+    (λ old now bytes prints. prints_well old now bytes how shut prints) (λ P times. times) (λ closes. closes ∙ is) (λ P all going_on. all (is ∙ going_on))
+
+-- and of a put that failed
+pub reports_broken : {D W : Type 0} (S : desk.Ghosts D) (G : Ghosts W) (names : List (List ℕ)) (programs : List Program) (number : ℕ) (events : List Event) (start : Desk) (new : D) (before after : W) (failed : Failed) → Reports S G names programs number events start new before after is_closed (Err failed) → Reports S G names programs number events start new before after {T = Bool} (λ closed. closed) (Err failed)
+reports_broken S G names programs number events start new before after failed =
+    reports_as S G names programs number events start new before after is_closed (λ closed. closed) (Err failed) (Err failed) (λ old now bytes prints. prints_broken {T = Going} {U = Bool} (Err failed) (Err failed) refl refl old now bytes prints) (λ P times. times) (λ closes. closes) (λ P all. all)

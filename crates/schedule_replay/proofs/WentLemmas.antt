@@ -1,11 +1,10 @@
 -- One event of a run, and its lines.
-use Rattle.std.proofs.Common.{◌≡◌, ℕ, zero, suc, ◌+◌, ◌*◌, ◌≤◌, List, [], ◌∷◌, ◌++◌, length, map, take, refl, sym, ap, ◌∙◌, subst, arith, length-append, ⊎_elim, append-nil, inr, IsTrue, IsSome, ◌⊎◌}
+use Rattle.std.proofs.Common.{◌≡◌, ℕ, zero, suc, ◌+◌, ◌*◌, ◌≤◌, List, [], ◌∷◌, ◌++◌, length, map, take, refl, sym, ap, ◌∙◌, subst, arith, length-append, ⊎_elim, append-nil, inr, IsTrue, IsSome}
 use Rattle.std.specs.Prelude.{true, false, not, Bool, Option, unwrap_or, Result, Ok, Err, All}
 use Rattle.std.specs.List.{flat_map}
 use Rattle.outside.specs.declared.failed.Failed.{Failed}
 use Rattle.outside.specs.declared.world.Outside.{Ghosts}
 use Rattle.outside.specs.Bytes.{Prints, AreTold}
-use Rattle.outside.specs.Causes.{Rose, RoseBy}
 use Rattle.outside.specs.Durable.{IsSure}
 use Rattle.outside.specs.Runs.{CallsDisk, Leaves, FewerLater, held_of}
 use Rattle.outside.proofs.Runs.{elapses-trans, leaves_on}
@@ -16,8 +15,8 @@ use Rattle.desk.specs.declared.event.Event.{Event}
 use Rattle.desk.specs.declared.supervisor.Supervisor as desk
 use Rattle.desk.specs.Crash.{Did, IsEitherOf, standing_of}
 use Rattle.desk.specs.Desk.{Desk}
-use Rattle.desk.specs.Kept.{WritesMore, records_in, most_records}
-use Rattle.desk.specs.Instruction.{Word, Fine, ReadFailed, Unwritten, Doubt, Failed as broken_word}
+use Rattle.desk.specs.Kept.{WritesMore}
+use Rattle.desk.specs.Instruction.{Word, Doubt}
 use Rattle.desk.specs.Run.{Step, Happening, step, faulted}
 use Rattle.desk.specs.Lines.{Line, line_text}
 use Rattle.desk.specs.Report.{number_after, happening_lines, event_lines}
@@ -28,22 +27,16 @@ use Rattle.run_law.proofs.StepLemmas.{AreNames, Stepped, step_by, run_plain}
 use Rattle.run_law.proofs.LeftLemmas.{left_quiet, left_open}
 use Rattle.schedule_replay.specs.Puts.{Puts, PutsTimes, shown_of}
 use Rattle.schedule_replay.specs.Ran.{Ran, InDoubt, text_of}
-use Rattle.schedule_replay.proofs.CountLemmas.{faults_in, happened_keep}
+use Rattle.schedule_replay.specs.RanTo.{RanTo}
+use Rattle.schedule_replay.proofs.CountLemmas.{faults_in}
 use Rattle.schedule_replay.proofs.PutsLemmas.{PrintedNow, puts_same, begins_none}
+use Rattle.schedule_replay.proofs.RanToLemmas.{to_did, to_later}
 
 -- the lines of one event are those of what happened at it
 pub one_event : (names : List (List ℕ)) (programs : List Program) (number : ℕ) (event : Event) (word : Word) (desk : Desk) (after : Step) → step programs event word desk ≡ after → event_lines names programs number ((event, word) ∷ []) desk ≡ happening_lines names (number_after number after.desk) after.happening
 one_event names programs number event word desk after is =
     let these : Step → List Line = λ step. happening_lines names (number_after number step.desk) step.happening in
     append-nil (these (step programs event word desk)) ∙ ap these is
-
--- a word that isn't fine is counted where the disk's faults rose
-word_faults : (event : Event) (word : Word) (before after : ℕ) → before ≤ after → (word ≡ Fine) ⊎ Rose before after → RoseBy (faulted ((event, word) ∷ [])) before after
-word_faults event Fine before after le cause = omega arith
-word_faults event (ReadFailed page) before after le cause = ⊎_elim (λ (fine : ReadFailed page ≡ Fine). absurd (let no : ⊥ = cc in no)) (λ rose. omega (arith, rose)) cause
-word_faults event Unwritten before after le cause = ⊎_elim (λ (fine : Unwritten ≡ Fine). absurd (let no : ⊥ = cc in no)) (λ rose. omega (arith, rose)) cause
-word_faults event Doubt before after le cause = ⊎_elim (λ (fine : Doubt ≡ Fine). absurd (let no : ⊥ = cc in no)) (λ rose. omega (arith, rose)) cause
-word_faults event broken_word before after le cause = ⊎_elim (λ (fine : broken_word ≡ Fine). absurd (let no : ⊥ = cc in no)) (λ rose. omega (arith, rose)) cause
 
 -- the last of two lists that are one
 pub last_is : {A : Type 0} (xs ys : List A) (x y : A) → xs ++ x ∷ [] ≡ ys ++ y ∷ [] → (xs ≡ ys) × (x ≡ y)
@@ -174,11 +167,14 @@ module _ {D W : Type 0} (S : desk.Ghosts D) (G : Ghosts W) (fewer_later : FewerL
           (from.1.1 ∙ ap (λ (these : List ℕ). these ++ take from.1.0 text) shown)
           few
 
-      still_after : went.desk.closed ≡ false → IsSure G after × S.shows new (held_of G after) went.desk
-      still_after still =
-          let kept = did.still (ap (λ (desk : Desk). desk.closed) (sym next_is) ∙ still) in
-          let sure = sure_puts (event_lines names programs number ((event, word) ∷ []) start) between after result lines_put kept.0 in
-          (sure.0, subst (λ (desk : Desk). S.shows new (held_of G after) desk) (sym next_is) (subst (λ (held : List ℕ). S.shows new held did.next) (sym sure.1) kept.1))
+      -- what it left, once its lines were put
+      comes_to : RanTo S G went.desk (event_lines names programs number ((event, word) ∷ []) start) (faulted ((event, word) ∷ [])) new before after
+      comes_to =
+          let happened : List Line = happening_lines names (number_after number did.next) told in
+          subst (λ (lines : List Line). RanTo S G went.desk lines (faulted ((event, word) ∷ [])) new before after) (sym lines_are)
+          (subst (λ (desk : Desk). RanTo S G desk happened (faulted ((event, word) ∷ [])) new before after) (sym next_is)
+          (to_later S G did.next happened (faulted ((event, word) ∷ [])) new before between after lines_put.only.held lines_put.only.disk lines_put.only.writes (λ sure. (sure_puts (event_lines names programs number ((event, word) ∷ []) start) between after result lines_put sure).0)
+          (to_did S G programs number event told names start new before between did calls.disk writes calm)))
 
       in_doubt : went.desk.closed ≡ true → (front : List (Event × Word)) (one : Event) → (event, word) ∷ [] ≡ front ++ (one, Doubt) ∷ [] → InDoubt G programs number start front one after
       in_doubt shut front one is =
@@ -202,20 +198,7 @@ module _ {D W : Type 0} (S : desk.Ghosts D) (G : Ghosts W) (fewer_later : FewerL
         taken = (event, word) ∷ [];
         events_taken = refl;
         each_open = (ap not was_open, tt);
-        closes = did.closes ∙ ap (λ (desk : Desk). desk.closed) (sym next_is);
-        ordered = did.ordered ∙ ap (λ (desk : Desk). desk.order) (sym next_is);
-        still = still_after;
-        records = λ still.
-            let kept = did.records (ap (λ (desk : Desk). desk.closed) (sym next_is) ∙ still) in
-            let lines = happened_keep names (number_after number did.next) told (records_in (held_of G before)) in
-            let some : records_in (held_of G between) ≤ most_records (happening_lines names (number_after number did.next) told) (records_in (held_of G before)) = omega (arith, kept, lines) in
-            subst (λ (held : Option (List ℕ)). records_in (unwrap_or held []) ≤ most_records (event_lines names programs number ((event, word) ∷ []) start) (records_in (held_of G before))) (sym lines_put.only.held)
-            (subst (λ (these : List Line). records_in (held_of G between) ≤ most_records these (records_in (held_of G before))) (sym lines_are) some);
-        calm = λ none. lines_put.only.disk ∙ calm (ap faults_in (sym lines_are) ∙ none);
-        faults = let rose = word_faults event word (G.disk_faults before) (G.disk_faults between) calls.disk did.why in omega (arith, rose, lines_put.only.disk);
-        writes =
-            subst (λ (those : Option ℕ). WritesMore (G.writes before) those (2 * commits_in (event_lines names programs number ((event, word) ∷ []) start))) (sym lines_put.only.writes)
-            (subst (λ (these : List Line). WritesMore (G.writes before) (G.writes between) (2 * commits_in these)) (sym lines_are) writes);
+        to = comes_to;
         printed = printed_since;
         times = times_since result lines_put.times;
         earlier = inr ([], (event, word), refl, begins_none (G.printed before) (G.printed after) text result printed_since);

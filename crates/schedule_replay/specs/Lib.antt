@@ -1,6 +1,7 @@
 pub mod Asked
 pub mod Puts
 pub mod Answered
+pub mod RanTo
 pub mod Ran
 pub mod Replays
 pub mod Quiet

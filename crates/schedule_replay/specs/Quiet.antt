@@ -32,6 +32,7 @@ use Rattle.schedule_replay.specs.declared.quietly.Quiet.{Quiet}
 use Rattle.schedule_replay.specs.declared.quietly.Quiet.TheVariants as quiet
 use Rattle.schedule_replay.specs.declared.quietly.Tally.{Tally}
 use Rattle.schedule_replay.specs.Ran.{InDoubt}
+use Rattle.schedule_replay.specs.RanTo.{RanTo}
 
 -- no put failed
 abbrev pub unput : Result ℕ Failed
@@ -116,14 +117,8 @@ pub record RanQuietly {D W : Type 0} (S : desk.Ghosts D) (G : Ghosts W) (program
   pub taken : List (Event × Word)
   pub events_taken : map (λ event. event.0) taken ≡ events
   pub each_open : OpenBeforeEach programs taken start
-  pub closes : S.closed new ≡ (run programs taken start).closed
-  pub ordered : S.order new ≡ (run programs taken start).order
-  pub still : (run programs taken start).closed ≡ false → IsSure G after × S.shows new (held_of G after) (run programs taken start)
-  pub records : (run programs taken start).closed ≡ false → records_in (held_of G after) ≤ most_records (event_lines [] programs number taken start) (records_in (held_of G before))
-  pub faults : RoseBy (faulted taken) (G.disk_faults before) (G.disk_faults after)
-  pub calm : count_by tells_fault (event_lines [] programs number taken start) ≡ 0 → G.disk_faults after ≡ G.disk_faults before
-  pub writes : WritesMore (G.writes before) (G.writes after) (2 * count_by is_commit (event_lines [] programs number taken start))
-  pub left : Leaves G (λ image seen. IsLeft programs number start taken [] [] image []) before after
+  pub to : RanTo S G (run programs taken start) (event_lines [] programs number taken start) (faulted taken) new before after
+  pub images : Leaves G (λ image seen. IsLeft programs number start taken [] [] image []) before after
   pub doubt : (run programs taken start).closed ≡ true → (front : List (Event × Word)) (event : Event) → taken ≡ front ++ (event, Doubt) ∷ [] → InDoubt G programs number start front event after
 
 -- the counts of a run that ended, and what its last commit printed, are those of its lines

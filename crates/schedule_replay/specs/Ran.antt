@@ -22,6 +22,7 @@ use Rattle.desk.specs.Lines.{line_text}
 use Rattle.desk.specs.Report.{number_after, event_lines}
 use Rattle.run_law.specs.Left.{IsLeft}
 use Rattle.schedule_replay.specs.Puts.{BeginsWith, PutsTimes, shown_of}
+use Rattle.schedule_replay.specs.RanTo.{RanTo}
 
 -- the bytes that are told are sure, and over them the supervisor is this desk, which was opened with the number that it tells
 pub record HasOpened {D W : Type 0} (S : desk.Ghosts D) (G : Ghosts W) (desk : D) (outside : W) (start : Desk) : Type 0 where
@@ -44,20 +45,13 @@ InDoubt G programs number start front event after =
 abbrev pub text_of : List (List ℕ) → List Program → ℕ → List (Event × Word) → Desk → List ℕ
 text_of names programs number taken start = flat_map line_text (event_lines names programs number taken start)
 
--- Events were run from a desk, each with a word, and their lines put. While the desk is open its bytes are sure and shown, and their
--- chosen bank holds no more records than the lines tell. The disk's count of faults stays where no line tells of one. The image that a
--- crash since the start left is one of the run, and where printed bytes are told it lacks no commit that was seen by then.
+-- Events were run from a desk, each with a word, and their lines put. The image that a crash since the start left is one of the run, and where printed
+-- bytes are told it lacks no commit that was seen by then.
 pub record Ran {D W : Type 0} (S : desk.Ghosts D) (G : Ghosts W) (names : List (List ℕ)) (programs : List Program) (number : ℕ) (events : List Event) (start : Desk) (new : D) (before after : W) {T : Type 0} (result : Result T Failed) : Type 0 where
   pub taken : List (Event × Word)
   pub events_taken : map (λ event. event.0) taken ≡ events
   pub each_open : OpenBeforeEach programs taken start
-  pub closes : S.closed new ≡ (run programs taken start).closed
-  pub ordered : S.order new ≡ (run programs taken start).order
-  pub still : (run programs taken start).closed ≡ false → IsSure G after × S.shows new (held_of G after) (run programs taken start)
-  pub records : (run programs taken start).closed ≡ false → records_in (held_of G after) ≤ most_records (event_lines names programs number taken start) (records_in (held_of G before))
-  pub faults : RoseBy (faulted taken) (G.disk_faults before) (G.disk_faults after)
-  pub calm : count_by tells_fault (event_lines names programs number taken start) ≡ 0 → G.disk_faults after ≡ G.disk_faults before
-  pub writes : WritesMore (G.writes before) (G.writes after) (2 * count_by is_commit (event_lines names programs number taken start))
+  pub to : RanTo S G (run programs taken start) (event_lines names programs number taken start) (faulted taken) new before after
   pub printed : Prints (G.printed before) (G.printed after) (text_of names programs number taken start) result
   pub times : PutsTimes G (length (event_lines names programs number taken start)) before after result
   pub earlier : PrintsEarlier (G.printed before) (G.printed after) (λ front. text_of names programs number front start) taken

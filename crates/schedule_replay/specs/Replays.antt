@@ -29,6 +29,7 @@ use Rattle.schedule_replay.specs.declared.events.Replayed.{Replayed}
 use Rattle.schedule_replay.specs.declared.events.Replayed.TheVariants as replayed
 use Rattle.schedule_replay.specs.Puts.{PutsTimes, shown_of}
 use Rattle.schedule_replay.specs.Ran.{Ran, PrintsEarlier, InDoubt, text_of}
+use Rattle.schedule_replay.specs.RanTo.{RanTo}
 
 -- whether the desk goes on
 abbrev pub is_closed : Going → Bool
@@ -68,21 +69,14 @@ pub record RanSome {D W : Type 0} (S : desk.Ghosts D) (G : Ghosts W) (names : Li
   pub all : IfOk result (λ going. is_closed going ≡ false → rest ≡ [])
 
 -- There is one run of the first of the events from the desk that was shown. Its report is put, a line by each put, or a prefix of it where
--- a put failed, which has the first line and those of all events but the last. The disk's faults rose by at least the number of events
--- whose word isn't fine, and stay where no line tells of one. A result says whether the desk is closed; all events were run where it goes
--- on. While the desk is open its bytes are sure and shown, and their chosen bank holds no more records than the lines tell. The image that
--- a crash at any moment since the start left is one of the run, and where printed bytes are told it lacks no commit that was seen by then.
+-- a put failed, which has the first line and those of all events but the last. A result says whether the desk is closed; all events were run where it
+-- goes on. The image that a crash at any moment since the start left is one of the run, and where printed bytes are told it lacks no commit that was
+-- seen by then.
 pub record Reports {D W : Type 0} (S : desk.Ghosts D) (G : Ghosts W) (names : List (List ℕ)) (programs : List Program) (number : ℕ) (events : List Event) (start : Desk) (new : D) (before after : W) {T : Type 0} (shut : T → Bool) (result : Result T Failed) : Type 0 where
   pub taken : List (Event × Word)
   pub rest : List Event
   pub is_run : IsRunOf programs events start taken rest
-  pub closes : S.closed new ≡ (run programs taken start).closed
-  pub ordered : S.order new ≡ (run programs taken start).order
-  pub still : (run programs taken start).closed ≡ false → IsSure G after × S.shows new (held_of G after) (run programs taken start)
-  pub records : (run programs taken start).closed ≡ false → records_in (held_of G after) ≤ most_records (event_lines names programs number taken start) (records_in (held_of G before))
-  pub faults : RoseBy (faulted taken) (G.disk_faults before) (G.disk_faults after)
-  pub calm : count_by tells_fault (event_lines names programs number taken start) ≡ 0 → G.disk_faults after ≡ G.disk_faults before
-  pub writes : WritesMore (G.writes before) (G.writes after) (2 * count_by is_commit (event_lines names programs number taken start))
+  pub to : RanTo S G (run programs taken start) (event_lines names programs number taken start) (faulted taken) new before after
   pub printed : Prints (G.printed before) (G.printed after) (report names programs number taken rest start) result
   pub times : PutsTimes G (length (report_lines names programs number taken rest start)) before after result
   pub earlier : PrintsEarlier (G.printed before) (G.printed after) (λ front. line_text (Open number) ++ text_of names programs number front start) taken

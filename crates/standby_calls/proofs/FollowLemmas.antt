@@ -25,6 +25,7 @@ use Rattle.standby.specs.declared.following.Followed.{Followed}
 use Rattle.standby.specs.declared.following.Followed.TheVariants.{Done, DiskFault, PutFault}
 use Rattle.standby.proofs.PutLemmas.{PrintedNow}
 use Rattle.standby.proofs.TellLemmas.{at_some, told_front}
+use Rattle.call_status.specs.Call.{call}
 use Rattle.call_status.specs.Opening.{StandsAt}
 use Rattle.call_status.specs.Statuses.{status_of_open}
 use Rattle.call_status.specs.declared.status.Status.{Status}
@@ -94,10 +95,10 @@ module _ {W : Type 0} (G : Ghosts W) (fewer_later : FewerLater G) (printed_now :
         cc
 
     -- of the number that stood
-    from_number : (now : Status) → ((store : FlatStore) → StandsAt G before (number_of durable) store → HasFollowed G content (number_of durable) store before after now) → FollowsOn G content before after now
+    from_number : (now : Status) → ((store : FlatStore) → StandsAt G before (number_of durable) store → HasFollowed G content (number_of durable) store (call before after [] now)) → FollowsOn G content before after now
     from_number now has number store at =
         let same = number_is number store at in
-        subst (λ (n : ℕ). HasFollowed G content n store before after now) (sym same) (has store (subst (λ (n : ℕ). StandsAt G before n store) same at))
+        subst (λ (n : ℕ). HasFollowed G content n store (call before after [] now)) (sym same) (has store (subst (λ (n : ℕ). StandsAt G before n store) same at))
 
     goes_from : (how : Followed) → Goes how → (store : FlatStore) → StandsAt G before (number_of durable) store → Follows G content.line_bytes (number_of durable) store (due content (number_of durable)) kept mid after how
     goes_from how goes store at =

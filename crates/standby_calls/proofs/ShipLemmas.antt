@@ -18,6 +18,7 @@ use Rattle.standby.specs.declared.shipping.Shipped.{Shipped}
 use Rattle.standby.specs.declared.shipping.Shipped.TheVariants as how
 use Rattle.outside.proofs.Shows.{shows_asks, shows_on}
 use Rattle.standby.proofs.ShowLemmas.{still_shown}
+use Rattle.call_status.specs.Call.{call}
 use Rattle.call_status.specs.Printed.{PrintsBy}
 use Rattle.call_status.specs.declared.status.Status.{Status}
 use Rattle.call_status.specs.declared.status.Status.TheVariants as status
@@ -59,28 +60,28 @@ module _ {W : Type 0} (G : Ghosts W) (fewer_later : FewerLater G) (from : ℕ) (
     }
 
   pub shipped_all : behind store.bank.base from ≤ store.bank.count → ((now : IsShown G store mid) → ShipsBy G (text_of (shipped store now.shows.read.records from)) mid after how.Done) → ((now : IsShown G store mid) → IsContent (shipped store now.shows.read.records from))
-      → ShippedFrom G from before after [] status.Done
+      → ShippedFrom G from (call before after [] status.Done)
   shipped_all kept ships content = record {
     no_order = refl;
     only = all_shows;
     by_status = λ told. puts_text told status.Done kept (from_before told well (ships (still told).0)) (λ is. content (still told).0);
   }
 
-  pub shipped_part : behind store.bank.base from ≤ store.bank.count → ((now : IsShown G store mid) → ShipsBy G (text_of (shipped store now.shows.read.records from)) mid after how.PutFault) → ShippedFrom G from before after [] status.PutFault
+  pub shipped_part : behind store.bank.base from ≤ store.bank.count → ((now : IsShown G store mid) → ShipsBy G (text_of (shipped store now.shows.read.records from)) mid after how.PutFault) → ShippedFrom G from (call before after [] status.PutFault)
   shipped_part kept ships = record {
     no_order = refl;
     only = all_shows;
     by_status = λ told. puts_text told status.PutFault kept (from_before told broken (ships (still told).0)) (λ is. absurd (cc));
   }
 
-  pub shipped_short : behind store.bank.base from ≤ store.bank.count → ((now : IsShown G store mid) → ShipsBy G (text_of (shipped store now.shows.read.records from)) mid after how.DiskFault) → ShippedFrom G from before after [] status.DiskFault
+  pub shipped_short : behind store.bank.base from ≤ store.bank.count → ((now : IsShown G store mid) → ShipsBy G (text_of (shipped store now.shows.read.records from)) mid after how.DiskFault) → ShippedFrom G from (call before after [] status.DiskFault)
   shipped_short kept ships = record {
     no_order = refl;
     only = all_shows;
     by_status = inr (λ told. puts_text told status.DiskFault kept (from_before told broken (ships (still told).0)) (λ is. absurd (cc)));
   }
 
-  pub none_kept : (base number : ℕ) → after ≡ mid → base ≡ store.bank.base → number ≡ number_of store → store.bank.count < behind store.bank.base from → ShippedFrom G from before after [] (status.NotKept base number)
+  pub none_kept : (base number : ℕ) → after ≡ mid → base ≡ store.bank.base → number ≡ number_of store → store.bank.count < behind store.bank.base from → ShippedFrom G from (call before after [] (status.NotKept base number))
   none_kept base number same base_is number_is behind_all = record {
     no_order = refl;
     only = all_shows;

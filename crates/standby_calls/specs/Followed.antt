@@ -1,5 +1,5 @@
 -- What following a ship text did.
-use Rattle.std.specs.Prelude.{◌≡◌, ◌⊎◌, ℕ, ◌+◌, ◌≤◌, List, [], length, Option, IsSome, All}
+use Rattle.std.specs.Prelude.{◌≡◌, ◌⊎◌, ℕ, ◌+◌, ◌≤◌, List, [], length, IsSome, All}
 use Rattle.outside.specs.declared.world.Outside.{Ghosts}
 use Rattle.outside.specs.Causes.{Rose}
 use Rattle.outside.specs.Durable.{IsSure}
@@ -15,6 +15,7 @@ use Rattle.standby.specs.Read.{IsFirstBad}
 use Rattle.standby.specs.State.{IsAmong, IsFirstLong, due, state}
 use Rattle.standby.specs.Text.{Content, IsContent, IsTextOf, later, text_of}
 use Rattle.standby.specs.declared.text.Ship.{Ship}
+use Rattle.call_status.specs.Call.{Call, Given, call}
 use Rattle.call_status.specs.Opening.{IsFaultAt, StandsAt}
 use Rattle.call_status.specs.Printed.{PrintsBy}
 use Rattle.call_status.specs.SourceText.{HasRead, IsWhole}
@@ -25,16 +26,16 @@ use Rattle.call_status.specs.declared.status.Status.TheVariants as status
 -- Where the bytes and each image of the start stand for a number and a store: each image that a crash leaves since stands for the store at that
 -- number or at one of the text's behind it, and where the bytes printed are told, not before a number whose whole `kept` line was seen; the lines
 -- are printed, or a first part of them. At Done the bytes, and each image of the end, stand for the text's last number.
-pub record HasFollowed {W : Type 0} (G : Ghosts W) (content : Content) (number : ℕ) (store : FlatStore) (before after : W) (now : Status) : Type 0 where
-  pub crash : Leaves G (IsAtNumber content.line_bytes number store (due content number) (G.printed before)) before after
-  pub printed : PrintsBy (G.printed before) (G.printed after) (followed_text number (length (due content number))) now
-  pub sure : now ≡ status.Done → IsSure G after
-  pub stood : now ≡ status.Done → stands (held_of G after) ≡ Stands (later number (length (due content number))) (state content number store (length (due content number)))
-  pub last : now ≡ status.Done → later number (length (due content number)) ≡ later content.start (length content.records)
+pub record HasFollowed {W : Type 0} (G : Ghosts W) (content : Content) (number : ℕ) (store : FlatStore) (call : Call W) : Type 0 where
+  pub crash : Leaves G (IsAtNumber content.line_bytes number store (due content number) (G.printed call.before)) call.before call.after
+  pub printed : PrintsBy (G.printed call.before) (G.printed call.after) (followed_text number (length (due content number))) call.status
+  pub sure : call.status ≡ status.Done → IsSure G call.after
+  pub stood : call.status ≡ status.Done → stands (held_of G call.after) ≡ Stands (later number (length (due content number))) (state content number store (length (due content number)))
+  pub last : call.status ≡ status.Done → later number (length (due content number)) ≡ later content.start (length content.records)
 
 -- what following did from a text with this content, on a store that stood
 abbrev pub FollowsOn : {W : Type 0} → Ghosts W → Content → W → W → Status → Type 0
-FollowsOn G content before after now = (number : ℕ) (store : FlatStore) → StandsAt G before number store → HasFollowed G content number store before after now
+FollowsOn G content before after now = (number : ℕ) (store : FlatStore) → StandsAt G before number store → HasFollowed G content number store (call before after [] now)
 
 -- The store isn't alike; or its number isn't among the text's; or a record behind it, the first such, is too long; or the text is followed.
 abbrev pub IsDueOn : KeptStore → Content → Status → Type 0
@@ -64,28 +65,27 @@ OnStore G content before after status.DiskFault = (OnlyAsks G before after ⊎ (
 OnStore G content before after _ = ⊥
 
 -- The source gave a ship text, whole, that holds this.
-pub record HasText (left left_now : Option (List ℕ)) (content : Content) : Type 0 where
+pub record HasText (given : Given) (content : Content) : Type 0 where
   pub text : List ℕ
-  pub whole : IsWhole left left_now text
+  pub whole : IsWhole given.left given.left_now text
   pub is_content : IsContent content
   pub means : text ≡ text_of content
 
 -- the source gave a text, whole, that holds what the value does
-abbrev pub IsShipFrom : (left left_now : Option (List ℕ)) → Ship → Type 0
-IsShipFrom left left_now ship = (text : List ℕ) × IsWhole left left_now text × IsTextOf text ship
+abbrev pub IsShipFrom : Given → Ship → Type 0
+IsShipFrom given ship = (text : List ℕ) × IsWhole given.left given.left_now text × IsTextOf text ship
 
 -- why there is no ship text from a source
-abbrev pub IsNoText : (left left_now : Option (List ℕ)) → (faults faults_now : ℕ) → Status → Type 0
-IsNoText left left_now faults faults_now status.SourceFault = Rose faults faults_now
-IsNoText left left_now faults faults_now status.TooBig = HasRead left left_now 1048577
-IsNoText left left_now faults faults_now status.NoMemory = Unit {0}
-IsNoText left left_now faults faults_now (status.Stream place kind) = (kind ≡ 1) × ((text : List ℕ) × IsWhole left left_now text × IsFirstBad text place)
-IsNoText left left_now faults faults_now _ = ⊥
+abbrev pub IsNoText : Given → Status → Type 0
+IsNoText given status.SourceFault = Rose given.faults given.faults_now
+IsNoText given status.TooBig = HasRead given.left given.left_now 1048577
+IsNoText given status.NoMemory = Unit {0}
+IsNoText given (status.Stream place kind) = (kind ≡ 1) × ((text : List ℕ) × IsWhole given.left given.left_now text × IsFirstBad text place)
+IsNoText given _ = ⊥
 
 -- there is no ship text, and all that is outside is left; or one was followed so
-abbrev pub FollowedBy : {W : Type 0} → Ghosts W → (left left_now : Option (List ℕ)) → (faults faults_now : ℕ) → W → W → Status → Type 0
-FollowedBy G left left_now faults faults_now before after now =
-    ((after ≡ before) × IsNoText left left_now faults faults_now now) ⊎ ((content : Content) × HasText left left_now content × OnStore G content before after now)
+abbrev pub FollowedBy : {W : Type 0} → Ghosts W → Given → W → W → Status → Type 0
+FollowedBy G given before after now = ((after ≡ before) × IsNoText given now) ⊎ ((content : Content) × HasText given content × OnStore G content before after now)
 
 -- nothing was committed
 abbrev pub IsRefusal : Status → Type 0
@@ -99,12 +99,12 @@ abbrev pub Stays : {W : Type 0} → Ghosts W → W → W → Type 0
 Stays G before after = (number : ℕ) (store : FlatStore) → StandsAt G before number store → Leaves G (λ image seen. stands image ≡ Stands number store) before after
 
 -- what it did; there is no order
-pub record FollowedFrom {W : Type 0} (G : Ghosts W) (left left_now : Option (List ℕ)) (faults faults_now : ℕ) (before after : W) (order : List (ℕ × ℕ)) (now : Status) : Type 0 where
-  pub no_order : order ≡ []
-  pub honest : G.is_honest after ≡ G.is_honest before
-  pub time : Elapses G.moment G.left_since before after
-  pub stays : IsRefusal now → Stays G before after
-  pub by_status : FollowedBy G left left_now faults faults_now before after now
+pub record FollowedFrom {W : Type 0} (G : Ghosts W) (given : Given) (call : Call W) : Type 0 where
+  pub no_order : call.order ≡ []
+  pub honest : G.is_honest call.after ≡ G.is_honest call.before
+  pub time : Elapses G.moment G.left_since call.before call.after
+  pub stays : IsRefusal call.status → Stays G call.before call.after
+  pub by_status : FollowedBy G given call.before call.after call.status
 
 -- a status of following a ship text
 abbrev pub IsOfText : Status → Type 0

@@ -7,6 +7,7 @@ use Rattle.restart.specs.Shows.{Shows}
 use Rattle.standby.specs.Shipped.{shipped}
 use Rattle.standby.specs.State.{behind}
 use Rattle.standby.specs.Text.{IsContent, text_of}
+use Rattle.call_status.specs.Call.{Call}
 use Rattle.call_status.specs.Opening.{IsFaultAt}
 use Rattle.call_status.specs.Printed.{PrintsBy}
 use Rattle.call_status.specs.Statuses.{IsOfOpening}
@@ -42,10 +43,10 @@ ShippedBy G from before after status.NoMemory = OnlyAsks G before after
 ShippedBy G from before after _ = ⊥
 
 -- what it did; it writes nothing, each image that a crash may leave since is one of the start, and there is no order
-pub record ShippedFrom {W : Type 0} (G : Ghosts W) (from : ℕ) (before after : W) (order : List (ℕ × ℕ)) (now : Status) : Type 0 where
-  pub no_order : order ≡ []
-  pub only : AsksAndPuts G before after
-  pub by_status : ShippedBy G from before after now
+pub record ShippedFrom {W : Type 0} (G : Ghosts W) (from : ℕ) (call : Call W) : Type 0 where
+  pub no_order : call.order ≡ []
+  pub only : AsksAndPuts G call.before call.after
+  pub by_status : ShippedBy G from call.before call.after call.status
 
 -- a status of shipping
 abbrev pub IsOfShip : Status → Type 0

@@ -2,6 +2,7 @@
 ghost use Rattle.std.specs.Prelude.{◌≡◌, [], MatchResult, OnOk};
 ghost use Rattle.outside.specs.Causes.{Rose};
 ghost use Rattle.outside.specs.Moments.{Elapses};
+ghost use Rattle.call_status.specs.Call.{call, given};
 ghost use Rattle.standby.specs.Text.{IsShip, content_of};
 ghost use Rattle.standby_calls.specs.Followed.{FollowedFrom, IsNoText, IsOfFollow, IsOfText, IsShipFrom, OnStore};
 
@@ -24,7 +25,7 @@ pub fn follow_source<S: Source, W: Outside>(
     source: &mut S,
     outside: &mut W,
 ) -> Status
-    ensures followed { FollowedFrom W.Outside (S.left source.old) (S.left source.new) (S.faults source.old) (S.faults source.new) outside.old outside.new [] result }
+    ensures followed { FollowedFrom W.Outside (given S.Source source.old source.new) (call outside.old outside.new [] result) }
     ensures unfailed { result ≡ Status.Done → (S.faults source.new ≡ S.faults source.old) × (W.put_faults outside.new ≡ W.put_faults outside.old) }
     ensures put { result ≡ Status.PutFault → Rose (W.put_faults outside.old) (W.put_faults outside.new) }
     ensures disk { result ≡ Status.DiskFault → Rose (W.disk_faults outside.old) (W.disk_faults outside.new) }
@@ -38,7 +39,7 @@ pub fn follow_source<S: Source, W: Outside>(
 
 /// The ship text that a source has.
 fn ship_from<S: Source>(alloc: Global, source: &mut S) -> Result<Ship, Status>
-    ensures text { MatchResult result (IsShipFrom (S.left source.old) (S.left source.new)) (IsNoText (S.left source.old) (S.left source.new) (S.faults source.old) (S.faults source.new)) }
+    ensures text { MatchResult result (IsShipFrom (given S.Source source.old source.new)) (IsNoText (given S.Source source.old source.new)) }
     ensures unfailed { OnOk result (S.faults source.new ≡ S.faults source.old) }
 {
     let text = read_text(alloc, source, MOST_OF_JOB)?;

@@ -1,6 +1,7 @@
 // The records of a store behind a number, shipped.
 ghost use Rattle.std.specs.Prelude.{◌≡◌, []};
 ghost use Rattle.outside.specs.Causes.{Rose};
+ghost use Rattle.call_status.specs.Call.{call};
 ghost use Rattle.standby_calls.specs.Shipped.{IsOfShip, ShippedFrom};
 
 use call_status::Status;
@@ -11,7 +12,7 @@ use std::alloc::Global;
 
 /// Prints the records that the disk's store keeps behind a number, as a ship text (docs/FORMATS.md, "Ship text").
 pub fn ship_store<W: Outside>(alloc: Global, from: u64, outside: &mut W) -> Status
-    ensures shipped { ShippedFrom W.Outside from outside.old outside.new [] result }
+    ensures shipped { ShippedFrom W.Outside from (call outside.old outside.new [] result) }
     ensures unfailed { result ≡ Status.Done → W.put_faults outside.new ≡ W.put_faults outside.old }
     ensures put { result ≡ Status.PutFault → Rose (W.put_faults outside.old) (W.put_faults outside.new) }
     ensures disk { result ≡ Status.DiskFault → Rose (W.disk_faults outside.old) (W.disk_faults outside.new) }

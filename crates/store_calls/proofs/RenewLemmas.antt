@@ -21,6 +21,7 @@ use Rattle.store_format.proofs.Sound.{begins_two, named_header, sound_header, st
 use Rattle.outside.specs.declared.world.Outside.{Ghosts}
 use Rattle.serial_audit.specs.Audit.{flat_of}
 use Rattle.serial_audit.specs.declared.auditing.KeptStore.{KeptStore}
+use Rattle.call_status.specs.Call.{Given, call}
 use Rattle.call_status.specs.declared.status.Status.{Status}
 use Rattle.call_status.specs.declared.status.Status.TheVariants as status
 use Rattle.store_calls.specs.New.{IsNoEmpty, IsOfWriting, Written}
@@ -109,8 +110,8 @@ stood_one text number store plain is =
     one_left n least most other = omega (arith, least, most, other)
 
 -- an old store with an image that was written, or couldn't be
-module _ {W : Type 0} (G : Ghosts W) (bank : ℕ) (left left_now : Option (List ℕ)) (faults faults_now : ℕ) (before after : W) (old : KeptStore) (has : HasOne left left_now old) (least : 4096 ≤ bank) (most : bank ≤ 131072) where
-  renewed_from : (now : Status) → Written G (renewed_image bank old.number (flat_of old)) (renew_line (length (renewed_image bank old.number (flat_of old))) old.number) before after [] now → IsRenewed G bank left left_now before after [] now
+module _ {W : Type 0} (G : Ghosts W) (bank : ℕ) (given : Given) (before after : W) (old : KeptStore) (has : HasOne given old) (least : 4096 ≤ bank) (most : bank ≤ 131072) where
+  renewed_from : (now : Status) → Written G (renewed_image bank old.number (flat_of old)) (renew_line (length (renewed_image bank old.number (flat_of old))) old.number) (call before after [] now) → IsRenewed G bank given (call before after [] now)
   renewed_from now written = record {
     text = has.text;
     whole = has.whole;
@@ -121,15 +122,15 @@ module _ {W : Type 0} (G : Ghosts W) (bank : ℕ) (left left_now : Option (List 
     written = written;
   }
 
-  pub renewed_by_writing : (now : Status) → IsOfWriting now → Written G (renewed_image bank old.number (flat_of old)) (renew_line (length (renewed_image bank old.number (flat_of old))) old.number) before after [] now
-      → Renewed G bank left left_now faults faults_now before after [] now
+  pub renewed_by_writing : (now : Status) → IsOfWriting now → Written G (renewed_image bank old.number (flat_of old)) (renew_line (length (renewed_image bank old.number (flat_of old))) old.number) (call before after [] now)
+      → Renewed G bank given (call before after [] now)
   renewed_by_writing status.Done of written = record { no_order = refl; by_status = renewed_from status.Done written }
   renewed_by_writing status.PutFault of written = record { no_order = refl; by_status = renewed_from status.PutFault written }
   renewed_by_writing status.DiskFault of written = record { no_order = refl; by_status = renewed_from status.DiskFault written }
   renewed_by_writing _ of written = absurd of
 
-  pub renewed_no_empty : (now : Status) → IsNoEmpty G before after now → Written G (renewed_image bank old.number (flat_of old)) (renew_line (length (renewed_image bank old.number (flat_of old))) old.number) before after [] now
-      → Renewed G bank left left_now faults faults_now before after [] now
+  pub renewed_no_empty : (now : Status) → IsNoEmpty G before after now → Written G (renewed_image bank old.number (flat_of old)) (renew_line (length (renewed_image bank old.number (flat_of old))) old.number) (call before after [] now)
+      → Renewed G bank given (call before after [] now)
   renewed_no_empty status.DiskFault why written = record { no_order = refl; by_status = renewed_from status.DiskFault written }
   renewed_no_empty status.Exists why written = record { no_order = refl; by_status = renewed_from status.Exists written }
   renewed_no_empty _ why written = absurd why

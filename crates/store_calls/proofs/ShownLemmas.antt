@@ -13,6 +13,7 @@ use Rattle.restart.specs.Kept.{KeptStore}
 use Rattle.restart.specs.Shows.{Shows, IsShown}
 use Rattle.restart.proofs.ShowLemmas.{shown_store}
 use Rattle.listing.specs.Listing.{row_lines}
+use Rattle.call_status.specs.Call.{call}
 use Rattle.call_status.specs.declared.status.Status.{Status}
 use Rattle.call_status.specs.declared.status.Status.TheVariants as status
 use Rattle.store_calls.specs.declared.show.Range.{Range}
@@ -32,7 +33,7 @@ same_directory held store shows number flat is =
 module _ {W : Type 0} (G : Ghosts W) (fewer_later : FewerLater G) (range : Range) (before start : W) (asks : OnlyAsks G before start) where
   module _ (store : KeptStore) (shows : IsSome (G.held before) → Shows (held_of G before) store) where
     -- the range isn't there
-    pub no_range : (IsInside store.header.directory range → ⊥) → Shown G range before start [] status.NoRange
+    pub no_range : (IsInside store.header.directory range → ⊥) → Shown G range (call before start [] status.NoRange)
     no_range outside = record {
       no_order = refl;
       only = shows_asks G before start asks;
@@ -71,14 +72,14 @@ module _ {W : Type 0} (G : Ghosts W) (fewer_later : FewerLater G) (range : Range
       only-shows : (result : Result (Unit {0}) Status) → PutsBytes G store at range.from range.count start after result → AsksAndPuts G before after
       only-shows result puts = shows_on G fewer_later before start after (shows_asks G before start asks) puts.only
 
-      pub shown_whole : PutsBytes G store at range.from range.count start after (Ok tt) → Shown G range before after [] status.Done
+      pub shown_whole : PutsBytes G store at range.from range.count start after (Ok tt) → Shown G range (call before after [] status.Done)
       shown_whole puts = record {
         no_order = refl;
         only = only-shows (Ok tt) puts;
         by_status = (has-range, rows-put (Ok tt) puts, λ told. puts.times (subst (λ (these : Option (List ℕ)). IsSome these) (sym asks.calls.quiet.same) told) ∙ ap (λ (n : ℕ). n + div_ceil range.count 16) asks.calls.puts);
       }
 
-      pub shown_part : (why : Status) → PutsBytes G store at range.from range.count start after (Err why) → Shown G range before after [] why
+      pub shown_part : (why : Status) → PutsBytes G store at range.from range.count start after (Err why) → Shown G range (call before after [] why)
       shown_part why puts = record { no_order = refl; only = only-shows (Err why) puts; by_status = by why puts puts.stops }
         where
           by : (why : Status) → PutsBytes G store at range.from range.count start after (Err why) → StopsBy G start after why → ShownBy G range before after why

@@ -10,6 +10,7 @@ use Rattle.outside.specs.Runs.{CallsDisk, FewerLater, OnlyAsks, held_of}
 use Rattle.outside.proofs.Runs.{elapses-trans, leaves_on}
 use Rattle.outside.proofs.Torn.{untouched}
 use Rattle.listing.specs.Puts.{Puts, PutsTimes}
+use Rattle.call_status.specs.Call.{call}
 use Rattle.call_status.specs.declared.status.Status.{Status}
 use Rattle.call_status.specs.declared.status.Status.TheVariants as status
 use Rattle.call_status.specs.Printed.{put_of, PrintsBy, PutsOnce}
@@ -23,7 +24,7 @@ module _ {W : Type 0} (G : Ghosts W) (fewer_later : FewerLater G) (image line : 
   none_held after empty told some = absurd (omega (arith, some, ap length (empty told)))
 
   -- the disk failed
-  pub written_torn : (IsSome (G.held start) → held_of G start ≡ []) → IsTornBy G (length image) start mid → Written G image line start mid [] status.DiskFault
+  pub written_torn : (IsSome (G.held start) → held_of G start ≡ []) → IsTornBy G (length image) start mid → Written G image line (call start mid [] status.DiskFault)
   written_torn empty left = record { no_order = refl; honest = calls.honest; time = calls.time; crash = torn; full = none_held mid empty; by_status = (calls.quiet.same, left) }
 
   -- all was written, and the line put
@@ -44,7 +45,7 @@ module _ {W : Type 0} (G : Ghosts W) (fewer_later : FewerLater G) (image line : 
         let (first, since) = puts.images crashed seen left in
         torn honest told crashed first (fewer_later mid (G.moment start) (G.moment mid) crashed first calls.time.later since))
 
-    put-written : (now : Status) (result : Result (Unit {0}) Failed) → Puts G line mid after result → WrittenBy G image line start after now → Written G image line start after [] now
+    put-written : (now : Status) (result : Result (Unit {0}) Failed) → Puts G line mid after result → WrittenBy G image line start after now → Written G image line (call start after [] now)
     put-written now result puts by = record {
       no_order = refl;
       honest = puts.only.honest ∙ calls.honest;
@@ -60,14 +61,14 @@ module _ {W : Type 0} (G : Ghosts W) (fewer_later : FewerLater G) (image line : 
     once : PutsTimes {T = Unit {0}} G 1 mid after (Ok tt) → PutsOnce G start after
     once times told = times (subst (λ (these : Option (List ℕ)). IsSome these) (sym calls.quiet.same) told) ∙ ap (λ (n : ℕ). n + 1) calls.puts
 
-    pub written_put : (now : Status) → (now ≡ status.Done) ⊎ (now ≡ status.PutFault) → Puts G line mid after (put_of now) → PutsTimes G 1 mid after (put_of now) → Written G image line start after [] now
+    pub written_put : (now : Status) → (now ≡ status.Done) ⊎ (now ≡ status.PutFault) → Puts G line mid after (put_of now) → PutsTimes G 1 mid after (put_of now) → Written G image line (call start after [] now)
     written_put now (inl is) puts times =
         let those = subst (λ (this : Status). Puts G line mid after (put_of this)) is puts in
-        subst (λ (this : Status). Written G image line start after [] this) (sym is)
+        subst (λ (this : Status). Written G image line (call start after [] this)) (sym is)
         (put-written status.Done (Ok tt) those (stored (Ok tt) those, printed-from (Ok tt) those, once (subst (λ (this : Status). PutsTimes G 1 mid after (put_of this)) is times)))
     written_put now (inr is) puts times =
         let those = subst (λ (this : Status). Puts G line mid after (put_of this)) is puts in
-        subst (λ (this : Status). Written G image line start after [] this) (sym is)
+        subst (λ (this : Status). Written G image line (call start after [] this)) (sym is)
         (put-written status.PutFault (Err (record {})) those (stored (Err (record {})) those, printed-from (Err (record {})) those))
 
 -- what was written since the disk was asked was written since before
@@ -111,7 +112,7 @@ module _ {W : Type 0} (G : Ghosts W) (fewer_later : FewerLater G) (before start 
     by-since status.DiskFault of (same, torn) = (same ∙ asks.calls.quiet.same, λ told. let left = torn (told-start told) in (left.0, subst (λ (held : List ℕ). Torn 0 (length image) held (held_of G after)) same-held left.1))
     by-since _ of by = absurd of
 
-    pub written_since : (now : Status) → IsOfWriting now → (IsSome (G.held before) → held_of G before ≡ []) → Written G image line start after [] now → Written G image line before after [] now
+    pub written_since : (now : Status) → IsOfWriting now → (IsSome (G.held before) → held_of G before ≡ []) → Written G image line (call start after [] now) → Written G image line (call before after [] now)
     written_since now of empty written = record {
       no_order = refl;
       honest = written.honest ∙ asks.calls.honest;
@@ -122,7 +123,7 @@ module _ {W : Type 0} (G : Ghosts W) (fewer_later : FewerLater G) (before start 
     }
 
     -- the disk isn't empty, or couldn't be asked
-    pub not_written : (now : Status) → IsNoEmpty G before start now → Written G image line before start [] now
+    pub not_written : (now : Status) → IsNoEmpty G before start now → Written G image line (call before start [] now)
     not_written now why = record {
       no_order = refl;
       honest = asks.calls.honest;
@@ -138,7 +139,7 @@ module _ {W : Type 0} (G : Ghosts W) (fewer_later : FewerLater G) (before start 
         by _ why = absurd why
 
     -- there is no memory for the image
-    pub no_memory : Written G image line before start [] status.NoMemory
+    pub no_memory : Written G image line (call before start [] status.NoMemory)
     no_memory = record {
       no_order = refl;
       honest = asks.calls.honest;

@@ -8,6 +8,7 @@ use Rattle.outside.specs.Durable.{IsSure}
 use Rattle.outside.specs.Moments.{Elapses}
 use Rattle.outside.specs.Runs.{OnlyAsks, Leaves, held_of}
 use Rattle.store_format.specs.Header.{Header, total, fresh}
+use Rattle.call_status.specs.Call.{Call}
 use Rattle.call_status.specs.declared.status.Status.{Status}
 use Rattle.call_status.specs.declared.status.Status.TheVariants as status
 use Rattle.call_status.specs.Printed.{PrintsBy, PutsOnce}
@@ -62,18 +63,18 @@ IsOfWriting status.DiskFault = Unit {0}
 IsOfWriting _ = ⊥
 
 -- what it did; there is no order
-pub record Written {W : Type 0} (G : Ghosts W) (image line : List ℕ) (before after : W) (order : List (ℕ × ℕ)) (status : Status) : Type 0 where
-  pub no_order : order ≡ []
-  pub honest : G.is_honest after ≡ G.is_honest before
-  pub time : Elapses G.moment G.left_since before after
-  pub crash : LeavesTorn G (length image) before after
+pub record Written {W : Type 0} (G : Ghosts W) (image line : List ℕ) (call : Call W) : Type 0 where
+  pub no_order : call.order ≡ []
+  pub honest : G.is_honest call.after ≡ G.is_honest call.before
+  pub time : Elapses G.moment G.left_since call.before call.after
+  pub crash : LeavesTorn G (length image) call.before call.after
   -- a disk that holds bytes is only asked
-  pub full : IsSome (G.held before) → 0 < length (held_of G before) → OnlyAsks G before after
-  pub by_status : WrittenBy G image line before after status
+  pub full : IsSome (G.held call.before) → 0 < length (held_of G call.before) → OnlyAsks G call.before call.after
+  pub by_status : WrittenBy G image line call.before call.after call.status
 
 -- what making a store did: its image has nothing in it but the header
-abbrev pub Made : {W : Type 0} → Ghosts W → Header → W → W → List (ℕ × ℕ) → Status → Type 0
-Made G header before after order status = Written G (fresh header) (new_line header) before after order status
+abbrev pub Made : {W : Type 0} → Ghosts W → Header → Call W → Type 0
+Made G header call = Written G (fresh header) (new_line header) call
 
 -- a status of making a store
 abbrev pub IsOfNew : Status → Type 0

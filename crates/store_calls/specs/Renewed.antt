@@ -1,5 +1,5 @@
 -- A store of version 2 with what a store of version 1 has.
-use Rattle.std.specs.Prelude.{◌≡◌, ◌⊎◌, ℕ, ◌+◌, ◌*◌, ◌/◌, ◌%◌, ◌^◌, ◌<◌, ◌≤◌, nat_eq, if◌then◌else◌, Bool, List, [], ◌∷◌, ◌++◌, codes, decimal, length, map, sum_by, take, drop, replicate, Option}
+use Rattle.std.specs.Prelude.{◌≡◌, ◌⊎◌, ℕ, ◌+◌, ◌*◌, ◌/◌, ◌%◌, ◌^◌, ◌<◌, ◌≤◌, nat_eq, if◌then◌else◌, Bool, List, [], ◌∷◌, ◌++◌, codes, decimal, length, map, sum_by, take, drop, replicate}
 use Rattle.std.specs.List.{starts_with}
 use Rattle.line_geometry.specs.FlatStore.{FlatStore}
 use Rattle.line_geometry.specs.Legal.{IsLegal}
@@ -12,6 +12,7 @@ use Rattle.store_format.specs.Header.{Header, front}
 use Rattle.store_format.specs.Stands.{Standing, Stands, NotAStore, Damaged, stands}
 use Rattle.serial_audit.specs.Audit.{flat_of}
 use Rattle.serial_audit.specs.declared.auditing.KeptStore.{KeptStore}
+use Rattle.call_status.specs.Call.{Call, Given}
 use Rattle.call_status.specs.SourceText.{HasRead, IsAll}
 use Rattle.call_status.specs.declared.status.Status.{Status}
 use Rattle.call_status.specs.declared.status.Status.TheVariants as status
@@ -55,19 +56,19 @@ abbrev pub renew_line : (bytes number : ℕ) → List ℕ
 renew_line bytes number = codes "renew " ++ decimal bytes ++ codes " at " ++ decimal number ++ codes "\n"
 
 -- The source had a store of version 1, whole, and the image of the widened store, which stands for it, was written and told.
-pub record IsRenewed {W : Type 0} (G : Ghosts W) (bank : ℕ) (left left_now : Option (List ℕ)) (before after : W) (order : List (ℕ × ℕ)) (status : Status) : Type 0 where
+pub record IsRenewed {W : Type 0} (G : Ghosts W) (bank : ℕ) (given : Given) (call : Call W) : Type 0 where
   pub text : List ℕ
-  pub whole : IsAll 4194304 left left_now text
+  pub whole : IsAll 4194304 given.left given.left_now text
   pub number : ℕ
   pub store : FlatStore
   pub stood : standing_as_one text ≡ Stands number store
   pub stands : stands (renewed_image bank number store) ≡ Stands number (widened store)
-  pub written : Written G (renewed_image bank number store) (renew_line (length (renewed_image bank number store)) number) before after order status
+  pub written : Written G (renewed_image bank number store) (renew_line (length (renewed_image bank number store)) number) call
 
 -- The source had a store of version 1, whole.
-pub record HasOne (left left_now : Option (List ℕ)) (kept : KeptStore) : Type 0 where
+pub record HasOne (given : Given) (kept : KeptStore) : Type 0 where
   pub text : List ℕ
-  pub whole : IsAll 4194304 left left_now text
+  pub whole : IsAll 4194304 given.left given.left_now text
   pub stood : standing_as_one text ≡ Stands kept.number (flat_of kept)
   pub small : kept.directory.page ≡ Two
   pub legal : IsLegal kept.directory.segments
@@ -79,25 +80,25 @@ abbrev pub IsNotOne : List ℕ → ℕ → Type 0
 IsNotOne text offset = (standing_as_one text ≡ NotAStore offset) ⊎ (standing_as_one text ≡ Damaged offset)
 
 -- why it had none, by the status
-abbrev pub IsNoOne : (left left_now : Option (List ℕ)) → (faults faults_now : ℕ) → Status → Type 0
-IsNoOne left left_now faults faults_now status.SourceFault = Rose faults faults_now
-IsNoOne left left_now faults faults_now status.TooBig = HasRead left left_now 4194305
-IsNoOne left left_now faults faults_now (status.Store offset) = (text : List ℕ) × IsAll 4194304 left left_now text × IsNotOne text offset
-IsNoOne left left_now faults faults_now status.NoMemory = Unit {0}
-IsNoOne left left_now faults faults_now _ = ⊥
+abbrev pub IsNoOne : Given → Status → Type 0
+IsNoOne given status.SourceFault = Rose given.faults given.faults_now
+IsNoOne given status.TooBig = HasRead given.left given.left_now 4194305
+IsNoOne given (status.Store offset) = (text : List ℕ) × IsAll 4194304 given.left given.left_now text × IsNotOne text offset
+IsNoOne given status.NoMemory = Unit {0}
+IsNoOne given _ = ⊥
 
 -- what renewing did, by the status: a source that fails, gives too much or has no store of version 1 leaves the disk alone
-abbrev pub RenewedBy : {W : Type 0} → Ghosts W → (bank : ℕ) → (left left_now : Option (List ℕ)) → (faults faults_now : ℕ) → W → W → List (ℕ × ℕ) → Status → Type 0
-RenewedBy G bank left left_now faults faults_now before after order status.SourceFault = (after ≡ before) × IsNoOne left left_now faults faults_now status.SourceFault
-RenewedBy G bank left left_now faults faults_now before after order status.TooBig = (after ≡ before) × IsNoOne left left_now faults faults_now status.TooBig
-RenewedBy G bank left left_now faults faults_now before after order (status.Store offset) = (after ≡ before) × IsNoOne left left_now faults faults_now (status.Store offset)
-RenewedBy G bank left left_now faults faults_now before after order status.NoMemory = OnlyAsks G before after
-RenewedBy G bank left left_now faults faults_now before after order status = IsRenewed G bank left left_now before after order status
+abbrev pub RenewedBy : {W : Type 0} → Ghosts W → (bank : ℕ) → Given → Call W → Status → Type 0
+RenewedBy G bank given call status.SourceFault = (call.after ≡ call.before) × IsNoOne given status.SourceFault
+RenewedBy G bank given call status.TooBig = (call.after ≡ call.before) × IsNoOne given status.TooBig
+RenewedBy G bank given call (status.Store offset) = (call.after ≡ call.before) × IsNoOne given (status.Store offset)
+RenewedBy G bank given call status.NoMemory = OnlyAsks G call.before call.after
+RenewedBy G bank given call _ = IsRenewed G bank given call
 
 -- what it did; there is no order
-pub record Renewed {W : Type 0} (G : Ghosts W) (bank : ℕ) (left left_now : Option (List ℕ)) (faults faults_now : ℕ) (before after : W) (order : List (ℕ × ℕ)) (status : Status) : Type 0 where
-  pub no_order : order ≡ []
-  pub by_status : RenewedBy G bank left left_now faults faults_now before after order status
+pub record Renewed {W : Type 0} (G : Ghosts W) (bank : ℕ) (given : Given) (call : Call W) : Type 0 where
+  pub no_order : call.order ≡ []
+  pub by_status : RenewedBy G bank given call call.status
 
 -- a status of renewing a store
 abbrev pub IsOfRenew : Status → Type 0

@@ -11,6 +11,7 @@ use Rattle.store_format.specs.Stands.{Standing, Stands, NotAStore, Damaged, stan
 use Rattle.restart.specs.Kept.{KeptStore}
 use Rattle.restart.specs.Shows.{IsShown}
 use Rattle.listing.specs.Listing.{row_lines}
+use Rattle.call_status.specs.Call.{Call}
 use Rattle.call_status.specs.declared.status.Status.{Status}
 use Rattle.call_status.specs.declared.status.Status.TheVariants as status
 use Rattle.store_calls.specs.declared.show.Range.{Range}
@@ -89,10 +90,10 @@ ShownBy G range before after status.NoMemory = OnlyAsks G before after
 ShownBy G range before after _ = ⊥
 
 -- what it did; it writes nothing
-pub record Shown {W : Type 0} (G : Ghosts W) (range : Range) (before after : W) (order : List (ℕ × ℕ)) (status : Status) : Type 0 where
-  pub no_order : order ≡ []
-  pub only : AsksAndPuts G before after
-  pub by_status : ShownBy G range before after status
+pub record Shown {W : Type 0} (G : Ghosts W) (range : Range) (call : Call W) : Type 0 where
+  pub no_order : call.order ≡ []
+  pub only : AsksAndPuts G call.before call.after
+  pub by_status : ShownBy G range call.before call.after call.status
 
 -- a status of printing bytes of a store
 abbrev pub IsOfShow : Status → Type 0

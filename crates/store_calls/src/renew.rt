@@ -4,6 +4,7 @@ ghost use Rattle.line_geometry.specs.Segments.{bytes_of};
 ghost use Rattle.line_geometry.specs.declared.directory.PageSize.TheVariants.{Two};
 ghost use Rattle.outside.specs.Causes.{Rose};
 ghost use Rattle.serial_audit.specs.Audit.{flat_of};
+ghost use Rattle.call_status.specs.Call.{call, given};
 ghost use Rattle.store_calls.specs.Renewed.{HasOne, IsNoOne, IsOfRenew, Renewed, renew_line, renewed_image, widened_bytes, widened_segments};
 
 use super::kept::{KeptFault, kept_image};
@@ -31,7 +32,7 @@ pub fn renew_store<S: Source, W: Outside>(
 ) -> Status
     requires least { 4096 ≤ bank_bytes }
     requires most { bank_bytes ≤ 131072 }
-    ensures renewed { Renewed W.Outside bank_bytes (S.left source.old) (S.left source.new) (S.faults source.old) (S.faults source.new) outside.old outside.new [] result }
+    ensures renewed { Renewed W.Outside bank_bytes (given S.Source source.old source.new) (call outside.old outside.new [] result) }
     ensures unfailed { result ≡ Status.Done → (S.faults source.new ≡ S.faults source.old) × (W.put_faults outside.new ≡ W.put_faults outside.old) }
     ensures put { result ≡ Status.PutFault → Rose (W.put_faults outside.old) (W.put_faults outside.new) }
     ensures disk { result ≡ Status.DiskFault → Rose (W.disk_faults outside.old) (W.disk_faults outside.new) }
@@ -54,7 +55,7 @@ pub fn renew_store<S: Source, W: Outside>(
 
 /// The store of version 1 that a source has.
 fn old_store<S: Source>(alloc: Global, source: &mut S) -> Result<KeptStore, Status>
-    ensures has { MatchResult result (HasOne (S.left source.old) (S.left source.new)) (IsNoOne (S.left source.old) (S.left source.new) (S.faults source.old) (S.faults source.new)) }
+    ensures has { MatchResult result (HasOne (given S.Source source.old source.new)) (IsNoOne (given S.Source source.old source.new)) }
     ensures unfailed { OnOk result (S.faults source.new ≡ S.faults source.old) }
 {
     let text = read_text(alloc, source, MOST_OF_STORE)?;

@@ -8,6 +8,7 @@ ghost use Rattle.outside.specs.Causes.{Rose, HasCause};
 ghost use Rattle.outside.specs.Runs.{OnlyAsks, held_of};
 ghost use Rattle.redo_journal.specs.Held.{HoldsAtLeast};
 ghost use Rattle.restart.specs.Shows.{IsShown};
+ghost use Rattle.call_status.specs.Call.{call};
 ghost use Rattle.store_calls.specs.Show.{HasRead, IsInside, IsOfShow, PutsBytes, Shown, bytes_in};
 
 use call_status::Status;
@@ -34,7 +35,7 @@ pub struct Range {
 
 /// Prints bytes of the store that the disk holds, in rows of sixteen, each by one put.
 pub fn show_range<W: Outside>(alloc: Global, range: Range, outside: &mut W) -> Status
-    ensures shown { Shown W.Outside range outside.old outside.new [] result }
+    ensures shown { Shown W.Outside range (call outside.old outside.new [] result) }
     ensures unfailed { result ≡ Status.Done → W.put_faults outside.new ≡ W.put_faults outside.old }
     ensures put { result ≡ Status.PutFault → Rose (W.put_faults outside.old) (W.put_faults outside.new) }
     ensures disk { result ≡ Status.DiskFault → Rose (W.disk_faults outside.old) (W.disk_faults outside.new) }

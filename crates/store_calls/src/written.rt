@@ -3,6 +3,7 @@ ghost use Rattle.std.specs.Prelude.{◌≡◌, ◌⊎◌, [], length, IsSome, If
 ghost use Rattle.outside.specs.Causes.{Rose, HasCause};
 ghost use Rattle.outside.specs.Runs.{CallsDisk, OnlyAsks, held_of};
 ghost use Rattle.listing.specs.Puts.{Puts, PutsTimes};
+ghost use Rattle.call_status.specs.Call.{call};
 ghost use Rattle.call_status.specs.Printed.{put_of};
 ghost use Rattle.store_calls.specs.New.{IsNoEmpty, IsOfWriting, IsTornBy, IsWrittenWhole, LeavesTorn, Written};
 
@@ -39,7 +40,7 @@ fn length<W: Outside>(outside: &mut W) -> Result<u64, Failed>
 /// Writes an image on an empty disk, and puts a line.
 pub(super) fn write_store<W: Outside>(image: &[u8], line: &[u8], outside: &mut W) -> Status
     requires empty { IsSome (W.held outside.old) → held_of W.Outside outside.old ≡ [] }
-    ensures written { Written W.Outside image.now line.now outside.old outside.new [] result }
+    ensures written { Written W.Outside image.now line.now (call outside.old outside.new [] result) }
     ensures unfailed { result ≡ Status.Done → W.put_faults outside.new ≡ W.put_faults outside.old }
     ensures put { result ≡ Status.PutFault → Rose (W.put_faults outside.old) (W.put_faults outside.new) }
     ensures disk { result ≡ Status.DiskFault → Rose (W.disk_faults outside.old) (W.disk_faults outside.new) }

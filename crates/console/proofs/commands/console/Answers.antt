@@ -2,10 +2,12 @@ use Rattle.std.proofs.Common.{◌≡◌, ◌⊎◌, ℕ, List, [], inl, inr, sub
 use Rattle.desk.specs.Answers.{order_told}
 use Rattle.desk.specs.declared.answers.Committed.{Committed}
 use Rattle.store_format.specs.Header.{Header}
+use Rattle.call_status.specs.Call.{Call, call, given}
 use Rattle.call_status.specs.declared.status.Status.{Status}
 use Rattle.store_calls.specs.declared.show.Range.{Range}
 use Rattle.store_calls.specs.New.{Made}
 use Rattle.store_calls.specs.Show.{Shown}
+use Rattle.job_calls.specs.declared.ended.Ended.{Ended}
 use Rattle.job_calls.specs.Big.{Loaded}
 use Rattle.bundle_calls.specs.Traced.{TracedFrom}
 use Rattle.console.specs.declared.words.Command.{Command}
@@ -13,6 +15,12 @@ use Rattle.console.specs.Words.{IsForm}
 use Rattle.console.proofs.PromiseLemmas.{audits, follow_promise, renewal_promise, ship_promise, traces}
 use Rattle.console.proofs.WordLemmas.{one_header, one_load, one_range, one_trace}
 use Rattle.console.proofs.commands.console.Goals as goal
+
+-- a call that opened no session did what it did with this status, and with no order
+ended_so : {W : Type 0} (P : Call W → Type 0) (before after : W) (now : Status) (ended : Ended) → ended.order.items ≡ [] → ended.status ≡ now → P (call before after [] now) → P (call before after (order_told ended.order.items) ended.status)
+ended_so P before after now ended order status did =
+    subst (λ (this : Status). P (call before after (order_told ended.order.items) this)) (sym status)
+    (subst (λ (commits : List Committed). P (call before after (order_told commits) now)) (sym order) did)
 
 pub returns-in_default-clause-listed : goal.returns-in_default-clause-listed
 returns-in_default-clause-listed g c = λ lists. absurd (c.in_default.ensures Command.List lists)
@@ -38,7 +46,7 @@ returns-in-Renew-clause-complete g c = λ complete calm disk put.
     let ended = c.without_events-in-Renew.ensures in
     let did = c.renew_store.ensures in
     subst (λ (status : Status). (status ≡ Status.Done) ⊎ (status ≡ Status.NoMemory)) (sym ended.status)
-    (renewal_promise g.W.Outside c.args.words.now c.in-Renew.bank_bytes asked (g.S.Source.left c.args.job.now) (g.S.Source.left c.renew_store.new.source) (g.S.Source.faults c.args.job.now) (g.S.Source.faults c.renew_store.new.source) c.args.outside.now c.renew_store.new.outside []
+    (renewal_promise g.W.Outside c.args.words.now c.in-Renew.bank_bytes asked (given g.S.Source c.args.job.now c.renew_store.new.source) c.args.outside.now c.renew_store.new.outside []
     c.renew_store.result did.renewed did.only complete calm (λ is. disk (did.disk is)) (λ is. put (did.put is)))
 
 pub returns-in_default-clause-shipped : goal.returns-in_default-clause-shipped
@@ -76,7 +84,7 @@ returns-in_default-clause-traced g c = λ activation traces. absurd (c.in_defaul
 pub returns-in-Big-clause-loaded : goal.returns-in-Big-clause-loaded
 returns-in-Big-clause-loaded g c = λ transfers loads.
     let asked : IsForm (Command.Big c.in-Big.transfers) c.args.words.now = subst (λ (form : Command). IsForm form c.args.words.now) c.in-Big.is c.in-Some.ensures in
-    subst (λ (n : ℕ). Loaded g.W.Outside n c.args.outside.now c.run_load.new.outside (order_told c.run_load.result.order.items) c.run_load.result.session c.run_load.result.status) (one_load c.args.words.now c.in-Big.transfers transfers asked loads) c.run_load.ensures.loaded
+    subst (λ (n : ℕ). Loaded g.W.Outside n (call c.args.outside.now c.run_load.new.outside (order_told c.run_load.result.order.items) c.run_load.result.status) c.run_load.result.session) (one_load c.args.words.now c.in-Big.transfers transfers asked loads) c.run_load.ensures.loaded
 
 pub returns-in-Audit-clause-complete : goal.returns-in-Audit-clause-complete
 returns-in-Audit-clause-complete g c = λ complete calm disk put.
@@ -94,40 +102,19 @@ returns-in-Trace-clause-complete g c = λ complete calm disk put.
 
 pub returns-in-Trace-clause-traced : goal.returns-in-Trace-clause-traced
 returns-in-Trace-clause-traced g c = λ activation traces.
-    let G = g.W.Outside in
-    let before = c.args.outside.now in
-    let after = c.trace_source.new.outside in
-    let left = g.S.Source.left c.args.job.now in
-    let left_now = g.S.Source.left c.trace_source.new.source in
-    let faults = g.S.Source.faults c.args.job.now in
-    let faults_now = g.S.Source.faults c.trace_source.new.source in
+    let from = given g.S.Source c.args.job.now c.trace_source.new.source in
     let asked : IsForm (Command.Trace c.in-Trace.activation) c.args.words.now = subst (λ (form : Command). IsForm form c.args.words.now) c.in-Trace.is c.in-Some.ensures in
-    let same : c.in-Trace.activation ≡ activation = one_trace c.args.words.now c.in-Trace.activation activation asked traces in
-    let ended = c.without_events-in-Trace.ensures in
-    subst (λ (status : Status). TracedFrom G activation left left_now faults faults_now before after (order_told c.without_events-in-Trace.result.order.items) status) (sym ended.status)
-    (subst (λ (order : List Committed). TracedFrom G activation left left_now faults faults_now before after (order_told order) c.trace_source.result) (sym ended.order)
-    (subst (λ (number : ℕ). TracedFrom G number left left_now faults faults_now before after [] c.trace_source.result) same c.trace_source.ensures.traced))
+    ended_so (TracedFrom g.W.Outside activation from) c.args.outside.now c.trace_source.new.outside c.trace_source.result c.without_events-in-Trace.result c.without_events-in-Trace.ensures.order c.without_events-in-Trace.ensures.status
+    (subst (λ (number : ℕ). TracedFrom g.W.Outside number from (call c.args.outside.now c.trace_source.new.outside [] c.trace_source.result)) (one_trace c.args.words.now c.in-Trace.activation activation asked traces) c.trace_source.ensures.traced)
 
 pub returns-in-Show-clause-shown : goal.returns-in-Show-clause-shown
 returns-in-Show-clause-shown g c = λ range shows.
-    let G = g.W.Outside in
-    let before = c.args.outside.now in
-    let after = c.show_range.new.outside in
     let asked : IsForm (Command.Show c.in-Show.range) c.args.words.now = subst (λ (form : Command). IsForm form c.args.words.now) c.in-Show.is c.in-Some.ensures in
-    let same : c.in-Show.range ≡ range = one_range c.args.words.now c.in-Show.range range asked shows in
-    let ended = c.without_events-in-Show.ensures in
-    subst (λ (status : Status). Shown G range before after (order_told c.without_events-in-Show.result.order.items) status) (sym ended.status)
-    (subst (λ (order : List Committed). Shown G range before after (order_told order) c.show_range.result) (sym ended.order)
-    (subst (λ (these : Range). Shown G these before after [] c.show_range.result) same c.show_range.ensures.shown))
+    ended_so (Shown g.W.Outside range) c.args.outside.now c.show_range.new.outside c.show_range.result c.without_events-in-Show.result c.without_events-in-Show.ensures.order c.without_events-in-Show.ensures.status
+    (subst (λ (these : Range). Shown g.W.Outside these (call c.args.outside.now c.show_range.new.outside [] c.show_range.result)) (one_range c.args.words.now c.in-Show.range range asked shows) c.show_range.ensures.shown)
 
 pub returns-in-New-clause-made : goal.returns-in-New-clause-made
 returns-in-New-clause-made g c = λ header makes.
-    let G = g.W.Outside in
-    let before = c.args.outside.now in
-    let after = c.make_store.new.outside in
     let asked : IsForm (Command.New c.in-New.header) c.args.words.now = subst (λ (form : Command). IsForm form c.args.words.now) c.in-New.is c.in-Some.ensures in
-    let same : c.in-New.header ≡ header = one_header c.args.words.now c.in-New.header header asked makes in
-    let ended = c.without_events-in-New.ensures in
-    subst (λ (status : Status). Made G header before after (order_told c.without_events-in-New.result.order.items) status) (sym ended.status)
-    (subst (λ (order : List Committed). Made G header before after (order_told order) c.make_store.result) (sym ended.order)
-    (subst (λ (these : Header). Made G these before after [] c.make_store.result) same c.make_store.ensures.made))
+    ended_so (Made g.W.Outside header) c.args.outside.now c.make_store.new.outside c.make_store.result c.without_events-in-New.result c.without_events-in-New.ensures.order c.without_events-in-New.ensures.status
+    (subst (λ (these : Header). Made g.W.Outside these (call c.args.outside.now c.make_store.new.outside [] c.make_store.result)) (one_header c.args.words.now c.in-New.header header asked makes) c.make_store.ensures.made)

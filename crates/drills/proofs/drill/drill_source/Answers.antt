@@ -1,4 +1,5 @@
 use Rattle.std.proofs.Common.{refl}
+use Rattle.call_status.specs.Call.{given}
 use Rattle.drills.proofs.DrillLemmas.{drill-rose, drill-same, drilled-text, drilled-unread, none-put}
 use Rattle.drills.proofs.drill.drill_source.Goals as goal
 
@@ -8,7 +9,7 @@ returns-in-Err-clause-drilled g c =
     let before = c.args.outside.now in
     record {
       no_order = refl;
-      by_status = drilled-unread G (g.S.Source.left c.args.source.now) (g.S.Source.left c.job_from.new.source) before c.in-Err.status (none-put G before) c.in-Err.ensures.only;
+      by_status = drilled-unread G (given g.S.Source c.args.source.now c.job_from.new.source) before c.in-Err.status (none-put G before) c.in-Err.ensures.only;
     }
 
 pub returns-in-Ok-clause-drilled : goal.returns-in-Ok-clause-drilled
@@ -16,7 +17,7 @@ returns-in-Ok-clause-drilled g c =
     let (text, whole, means) = c.in-Ok.ensures.means in
     record {
       no_order = refl;
-      by_status = drilled-text g.W.Outside c.in-Ok.job c.args.outside.now c.drill.new.outside (g.S.Source.left c.args.source.now) (g.S.Source.left c.job_from.new.source) text c.drill.result whole means c.drill.ensures.did;
+      by_status = drilled-text g.W.Outside c.in-Ok.job c.args.outside.now c.drill.new.outside (given g.S.Source c.args.source.now c.job_from.new.source) text c.drill.result whole means c.drill.ensures.did;
     }
 
 pub returns-in-Ok-clause-unfailed : goal.returns-in-Ok-clause-unfailed

@@ -12,6 +12,7 @@ use Rattle.supervisor.specs.Session.{activity}
 use Rattle.supervisor.specs.contracts.supervisor.SessionSupervisor.TheImpl.{ghosts}
 use Rattle.schedule_replay.specs.Asked.{is_turn, begins_in, turns_in}
 use Rattle.schedule_replay.specs.Quiet.{IsLasting, RunsQuietly}
+use Rattle.call_status.specs.Call.{call}
 use Rattle.job_calls.specs.Big.{Loaded}
 use Rattle.job_calls.proofs.NameLemmas.{asked-among}
 use Rattle.job_calls.proofs.BigLemmas.{lasting, loaded, still-holds}
@@ -63,7 +64,7 @@ returns-clause-loaded g c =
     let runs : (first : Desk) → IsSure G start → ghosts.shows desk (held_of G start) first → RunsQuietly ghosts G (activity desk).programs desk.opened job.events.items first new start between last quiet = λ first sure shows.
     subst (λ (bytes : List ℕ). RunsQuietly ghosts G (activity desk).programs desk.opened job.events.items first new start between bytes quiet) (sym c.as_slice.ensures.value)
     (subst (λ (events : List Event). RunsQuietly ghosts G (activity desk).programs desk.opened events first new start between c.run_quiet-quiet.new.last.items quiet) c.deref.ensures.value (c.run_quiet-quiet.ensures.runs first sure shows)) in
-    subst (λ (order : List (ℕ × ℕ)). Loaded G c.args.transfers before c.tell.new.outside order (Some new) c.tell.result) (sym (ap order_told c.filled.ensures ∙ c.order.ensures))
+    subst (λ (order : List (ℕ × ℕ)). Loaded G c.args.transfers (call before c.tell.new.outside order c.tell.result) (Some new)) (sym (ap order_told c.filled.ensures ∙ c.order.ensures))
     (loaded G g.met.W.Outside.fewer_later g.met.W.Outside.printed_now c.args.transfers job c.requires.load before start between desk new c.in-Ok.ensures.opened c.in-Ok.ensures.asks c.in-Ok.ensures.new.programs_are c.run_quiet-quiet.ensures.programs c.run_quiet-quiet.ensures.opened c.in-Ok.ensures.unfailed
     (λ told. (c.in-Ok.ensures.told told).1) last c.run_quiet-quiet.ensures.calls quiet runs c.tell.new.outside c.tell.result c.tell.ensures)
 

@@ -18,6 +18,7 @@ use Rattle.schedule_replay.specs.Asked.{is_turn, begins_in, turns_in}
 use Rattle.schedule_replay.specs.Ran.{HasOpened}
 use Rattle.schedule_replay.specs.Replays.{Replays}
 use Rattle.schedule_replay.specs.declared.events.Replayed.{Replayed}
+use Rattle.call_status.specs.Call.{call}
 use Rattle.call_status.specs.declared.status.Status.{Status}
 use Rattle.job_calls.specs.Causes.{status_of_replay, OpensBy}
 use Rattle.job_calls.specs.Headline.{HappenedTo, names_of}
@@ -102,8 +103,8 @@ returns-clause-happened g c =
     let after = c.replay-replayed.new.outside in
     let result = c.replay-replayed.result in
     let did = replays G _ c.deref-2.result.now job desk new start after result (ap (map (λ name. name.items)) c.deref.ensures.value) c.deref-2.ensures.value c.replay-replayed.ensures.replays in
-    subst (λ (now : Status). HappenedTo G job before after (order_told c.filled.result.items) (Some new) now) (sym c.status_of_replay.ensures)
-    (subst (λ (order : List (ℕ × ℕ)). HappenedTo G job before after order (Some new) (status_of_replay result)) (sym (ap order_told c.filled.ensures ∙ c.order.ensures))
+    subst (λ (now : Status). HappenedTo G job (call before after (order_told c.filled.result.items) now) (Some new)) (sym c.status_of_replay.ensures)
+    (subst (λ (order : List (ℕ × ℕ)). HappenedTo G job (call before after order (status_of_replay result)) (Some new)) (sym (ap order_told c.filled.ensures ∙ c.order.ensures))
     (happened-by G g.met.W.Outside.fewer_later g.met.W.Outside.printed_now job before start after desk new c.in-Ok.ensures.opened c.in-Ok.ensures.asks c.in-Ok.ensures.new.programs_are c.replay-replayed.ensures.opened
     c.replay-replayed.ensures.honest c.replay-replayed.ensures.time c.in-Ok.ensures.unfailed result did result refl))
 

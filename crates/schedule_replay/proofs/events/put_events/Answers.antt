@@ -76,7 +76,7 @@ returns-in_default g c =
       shut = λ was. shut_asked c.args.events.now c.loop-event.event-index c.in_ok-going.going c.loop-event-test.true (c.in_ok-going.ensures.shut (now.shut was).1);
       ran = λ start sure shows.
           let still = now.still (g.met.S.Supervisor.open_shown c.args.desk.now _ start shows) in
-          let before = (now.ran start sure shows).still (sym (now.ran start sure shows).closes ∙ still) in
+          let before = (now.ran start sure shows).to.still (sym (now.ran start sure shows).to.closes ∙ still) in
           record {
             front = take (c.loop-event.event-index + 1) c.args.events.now;
             rest = drop (c.loop-event.event-index + 1) c.args.events.now;

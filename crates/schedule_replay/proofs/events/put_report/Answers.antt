@@ -47,7 +47,7 @@ returns-in_err-going-clause-reports g c =
     let some = c.put_events.ensures.ran start sure.0 (subst (λ (held : List ℕ). S.shows old held start) (sym sure.1) opened.shows) in
     reports_of S G M.fewer_later M.printed_now L.shown_stands L.shown_open L.order_shown names are (S.programs old) (S.opened old) old refl start before between c.args.events.now some.front some.rest new middle middle c.in_ok-put_one.field-0 c.put_events.result later opened puts some.whole some.ran
     (tail_stop S G M.fewer_later M.printed_now L.shown_stands L.shown_open L.order_shown names are (S.programs old) (S.opened old) some.front some.rest start new between middle c.put_events.result later (search rules) broke some.ran)
-    some.ran.still (λ image seen left. (seen, left)) refl refl refl (begins_same (G.printed middle) (G.printed middle) refl)
+    (λ sure. sure) (λ image seen left. (seen, left)) refl refl refl (begins_same (G.printed middle) (G.printed middle) refl)
     (if_ok_broken later (λ going. S.closed new ≡ is_closed going) broke)
     (if_ok_broken later (λ going. is_closed going ≡ false → some.rest ≡ []) broke)
 
@@ -127,7 +127,7 @@ returns-in_default g c =
           let shut : S.closed new ≡ true = run.closed ∙ not_on_closed how c.in_default.not-On in
           reports_of S G M.fewer_later M.printed_now L.shown_stands L.shown_open L.order_shown names are (S.programs old) (S.opened old) old refl start before between c.args.events.now run.front run.rest new middle middle c.in_ok-put_one.field-0 (Ok how) (Ok how) opened puts run.whole run.ran
           (tail_shut S G M.fewer_later M.printed_now L.shown_stands L.shown_open L.order_shown names are (S.programs old) (S.opened old) run.front run.rest start new between middle how how run.ran shut)
-          run.ran.still (λ image seen left. (seen, left)) refl refl refl (begins_same (G.printed middle) (G.printed middle) refl)
+          (λ sure. sure) (λ image seen left. (seen, left)) refl refl refl (begins_same (G.printed middle) (G.printed middle) refl)
           run.closed run.all;
       undamaged = λ start opened. (some start opened).sound;
       goes = goes_since S G how old old new before between middle refl (λ was_open. was_open) (omega (arith, c.in_ok-put_one.ensures.only.disk)) c.in_ok-going.ensures.goes;

@@ -1,6 +1,7 @@
 use Rattle.std.proofs.Common.{◌≡◌, ℕ, List, [], ◌++◌, ◌∙◌, ap, subst}
 use Rattle.std.specs.Prelude.{codes, decimal}
 use Rattle.store_format.specs.Header.{fresh}
+use Rattle.call_status.specs.Call.{call}
 use Rattle.store_calls.specs.New.{Written, new_line}
 use Rattle.store_calls.proofs.WrittenLemmas.{written_since}
 use Rattle.store_calls.proofs.new.make_store.Goals as goal
@@ -13,6 +14,6 @@ returns-clause-made g c =
     let after = c.write_store.new.outside in
     let image : c.as_slice.result.now ≡ fresh header = c.as_slice.ensures.value ∙ c.in-Ok.ensures.bytes in
     let line : c.as_slice-2.result.now ≡ new_line header = c.as_slice-2.ensures ∙ c.new_line-line.ensures ∙ ap (λ (n : ℕ). codes "new " ++ decimal n ++ codes "\n") c.total.ensures.value in
-    subst (λ (bytes : List ℕ). Written G bytes (new_line header) before after [] c.write_store.result) image
-    (subst (λ (bytes : List ℕ). Written G c.as_slice.result.now bytes before after [] c.write_store.result) line
+    subst (λ (bytes : List ℕ). Written G bytes (new_line header) (call before after [] c.write_store.result)) image
+    (subst (λ (bytes : List ℕ). Written G c.as_slice.result.now bytes (call before after [] c.write_store.result)) line
     (written_since G g.met.W.Outside.fewer_later before c.ask_empty.new.outside c.in_default.ensures.asks c.as_slice.result.now c.as_slice-2.result.now after c.write_store.result c.write_store.ensures.only c.in_default.ensures.empty c.write_store.ensures.written))

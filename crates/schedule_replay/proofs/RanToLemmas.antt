@@ -1,0 +1,108 @@
+-- What runs leave, one after another.
+use Rattle.std.proofs.Common.{◌≡◌, ℕ, ◌+◌, ◌*◌, ◌≤◌, ◌⊎◌, List, [], ◌∷◌, ◌++◌, refl, sym, ap, ◌∙◌, subst, arith, ⊎_elim}
+use Rattle.std.specs.Prelude.{false, Option, unwrap_or}
+use Rattle.outside.specs.declared.world.Outside.{Ghosts}
+use Rattle.outside.specs.Causes.{Rose, RoseBy}
+use Rattle.outside.specs.Durable.{IsSure}
+use Rattle.outside.specs.Runs.{held_of}
+use Rattle.flat_machine.specs.declared.machine.Program.{Program}
+use Rattle.desk.specs.declared.event.Event.{Event}
+use Rattle.desk.specs.declared.supervisor.Supervisor as desk
+use Rattle.desk.specs.Crash.{Did}
+use Rattle.desk.specs.Desk.{Desk}
+use Rattle.desk.specs.Instruction.{Word, Fine, ReadFailed, Unwritten, Doubt, Failed as broken_word}
+use Rattle.desk.specs.Kept.{WritesMore, records_in, most_records}
+use Rattle.desk.specs.Lines.{Line}
+use Rattle.desk.specs.Report.{number_after, happening_lines}
+use Rattle.desk.specs.Run.{Happening, faulted}
+use Rattle.run_law.proofs.SeenLemmas.{commits_in, commits_on}
+use Rattle.schedule_replay.specs.RanTo.{RanTo}
+use Rattle.schedule_replay.proofs.CountLemmas.{faults_in, faults_front, faults_behind, happened_keep, most_on, most_le}
+use Rattle.schedule_replay.proofs.WriteLemmas.{writes_on, writes_same}
+
+-- a word that isn't fine is counted where the disk's faults rose
+word_faults : (event : Event) (word : Word) (before after : ℕ) → before ≤ after → (word ≡ Fine) ⊎ Rose before after → RoseBy (faulted ((event, word) ∷ [])) before after
+word_faults event Fine before after le cause = omega arith
+word_faults event (ReadFailed page) before after le cause = ⊎_elim (λ (fine : ReadFailed page ≡ Fine). absurd (let no : ⊥ = cc in no)) (λ rose. omega (arith, rose)) cause
+word_faults event Unwritten before after le cause = ⊎_elim (λ (fine : Unwritten ≡ Fine). absurd (let no : ⊥ = cc in no)) (λ rose. omega (arith, rose)) cause
+word_faults event Doubt before after le cause = ⊎_elim (λ (fine : Doubt ≡ Fine). absurd (let no : ⊥ = cc in no)) (λ rose. omega (arith, rose)) cause
+word_faults event broken_word before after le cause = ⊎_elim (λ (fine : broken_word ≡ Fine). absurd (let no : ⊥ = cc in no)) (λ rose. omega (arith, rose)) cause
+
+module _ {D W : Type 0} (S : desk.Ghosts D) (G : Ghosts W) where
+  -- nothing was run
+  pub to_none : (start : Desk) (new : D) (w : W) → S.closed new ≡ false → start.closed ≡ false → S.order new ≡ start.order → IsSure G w → S.shows new (held_of G w) start → RanTo S G start [] 0 new w w
+  to_none start new w was_open is_open order sure shows = record {
+    closes = was_open ∙ sym is_open;
+    ordered = order;
+    still = λ still. (sure, shows);
+    records = λ still. omega arith;
+    faults = omega arith;
+    calm = λ none. refl;
+    writes = writes_same (G.writes w);
+  }
+
+  -- an event, by its word
+  pub to_did : (programs : List Program) (number : ℕ) (event : Event) (told : Happening) (names : List (List ℕ)) (start : Desk) (new : D) (before after : W) (did : Did G programs number event told (S.closed new) (S.order new) (S.shows new) start before after) → G.disk_faults before ≤ G.disk_faults after
+      → WritesMore (G.writes before) (G.writes after) (2 * commits_in (happening_lines names (number_after number did.next) told)) → (faults_in (happening_lines names (number_after number did.next) told) ≡ 0 → G.disk_faults after ≡ G.disk_faults before)
+      → RanTo S G did.next (happening_lines names (number_after number did.next) told) (faulted ((event, did.word) ∷ [])) new before after
+  to_did programs number event told names start new before after did later writes calm = record {
+    closes = did.closes;
+    ordered = did.ordered;
+    still = did.still;
+    records = λ still.
+        let kept = did.records still in
+        let lines = happened_keep names (number_after number did.next) told (records_in (held_of G before)) in
+        omega (arith, kept, lines);
+    faults = word_faults event did.word (G.disk_faults before) (G.disk_faults after) later did.why;
+    calm = calm;
+    writes = writes;
+  }
+
+  module _ (end : Desk) (lines : List Line) (unfine : ℕ) (new : D) where
+    -- a run as it stands later, where nothing of it changed
+    pub to_later : (before between after : W) → G.held after ≡ G.held between → G.disk_faults after ≡ G.disk_faults between → G.writes after ≡ G.writes between → (IsSure G between → IsSure G after) → RanTo S G end lines unfine new before between → RanTo S G end lines unfine new before after
+    to_later before between after held disk writes sure ran = record {
+      closes = ran.closes;
+      ordered = ran.ordered;
+      still = λ still.
+          let kept = ran.still still in
+          (sure kept.0, subst (λ (those : Option (List ℕ)). S.shows new (unwrap_or those []) end) (sym held) kept.1);
+      records = λ still. subst (λ (those : Option (List ℕ)). records_in (unwrap_or those []) ≤ most_records lines (records_in (held_of G before))) (sym held) (ran.records still);
+      faults = subst (λ (n : ℕ). RoseBy unfine (G.disk_faults before) n) (sym disk) ran.faults;
+      calm = λ none. disk ∙ ran.calm none;
+      writes = subst (λ (told : Option ℕ). WritesMore (G.writes before) told (2 * commits_in lines)) (sym writes) ran.writes;
+    }
+
+    -- and as it is told from an earlier moment on, since which nothing had changed
+    pub to_since : (before start after : W) → G.held start ≡ G.held before → G.disk_faults start ≡ G.disk_faults before → G.writes start ≡ G.writes before → RanTo S G end lines unfine new start after → RanTo S G end lines unfine new before after
+    to_since before start after held disk writes ran = record {
+      closes = ran.closes;
+      ordered = ran.ordered;
+      still = ran.still;
+      records = λ still. subst (λ (those : Option (List ℕ)). records_in (held_of G after) ≤ most_records lines (records_in (unwrap_or those []))) held (ran.records still);
+      faults = subst (λ (n : ℕ). RoseBy unfine n (G.disk_faults after)) disk ran.faults;
+      calm = λ none. ran.calm none ∙ disk;
+      writes = subst (λ (told : Option ℕ). WritesMore told (G.writes after) (2 * commits_in lines)) writes ran.writes;
+    }
+
+  -- one run and then another
+  pub to_on : (middle end : Desk) (first second lines : List Line) (one two both : ℕ) (mid new : D) (before between after : W) → S.closed mid ≡ false → lines ≡ first ++ second → both ≡ one + two → RanTo S G middle first one mid before between → RanTo S G end second two new between after → RanTo S G end lines both new before after
+  to_on middle end first second lines one two both mid new before between after was_open is sum ran more = record {
+    closes = more.closes;
+    ordered = more.ordered;
+    still = more.still;
+    records = λ still.
+        let kept = ran.records (sym ran.closes ∙ was_open) in
+        let later = more.records still in
+        let grown = most_le second (records_in (held_of G between)) (most_records first (records_in (held_of G before))) kept in
+        let split = ap (λ (these : List Line). most_records these (records_in (held_of G before))) is ∙ most_on first second (records_in (held_of G before)) in
+        omega (arith, later, grown, split);
+    faults = omega (arith, ran.faults, more.faults, sum);
+    calm = λ none.
+        let all : faults_in (first ++ second) ≡ 0 = ap faults_in (sym is) ∙ none in
+        more.calm (faults_behind first second all) ∙ ran.calm (faults_front first second all);
+    writes =
+        let split = ap commits_in is ∙ commits_on first second in
+        subst (λ (n : ℕ). WritesMore (G.writes before) (G.writes after) n) (let twice : 2 * commits_in first + 2 * commits_in second ≡ 2 * commits_in lines = omega (arith, split) in twice)
+        (writes_on (G.writes before) (G.writes between) (G.writes after) (2 * commits_in first) (2 * commits_in second) ran.writes more.writes);
+  }
