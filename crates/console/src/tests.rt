@@ -1,83 +1,10 @@
-//! Calls by their words, with every part in memory: words that are no form, listings, drills, loads, and a store that is made,
-//! run on and shown; the expected bytes are worked out by hand.
+//! Calls by their words, with every part in memory: a store that is made, run on, shown and renewed, also where a part fails; the
+//! expected bytes are worked out by hand. What the other words do is shown on the program (checks/run).
 use super::*;
-use outside::{Call, Disk, Joint, MemoryDisk, MemoryScreen, MemorySource, Refusal};
+use outside::{Call, Joint, MemoryDisk, MemoryScreen, MemorySource, Refusal};
 use std::alloc::{AllocError, Global};
 use std::process::Abort;
 use std::test::Fail;
-
-/// One program that adds 5 to the first word of segment 1, and a turn of a hundred rows for it.
-const ONE_ADD: &[u8] =
-    b"frames 2\nprogram add5\n.window 1, 1, rw\n.word 0xD8601000\n.word 0xCD360000\n.word 0xC1330005\n.word 0xDD360000\n.word 0xC0000000\nend\nschedule\nbegin add5\nturn 1 100\nend\n";
-
-/// A program in assembler that adds register 2 to the first word of segment 1.
-const LISTED: &[u8] =
-    b"frames 2\nprogram add\n.window 1, 1, rw\ncau r6, r0, 0x1000\nl r3, 0(r6)\na r3, r2\nst r3, 0(r6)\nsvc 0\nend\nschedule\nend\n";
-
-/// Two small programs, and a begin of the second.
-const TWO_LISTED: &[u8] =
-    b"frames 2\nprogram none\nend\nprogram far\n.window 3, 9, r\n.window 2, 1, rw\n.entry 2\nsvc 0\nend\nschedule\nbegin far\nend\n";
-
-/// What calls neither disk nor session: its words and text, what fails, and what it comes to.
-#[derive(Clone, Copy)]
-struct Case {
-    name: &'static str,
-    words: &'static [&'static str],
-    text: &'static [u8],
-    failing_reads: &'static [u32],
-    failing_puts: &'static [(u32, u32)],
-    status: Status,
-    printed: &'static [u8],
-}
-
-/// Nothing fails, and nothing comes of it.
-const PLAIN: Case = Case {
-    name: "",
-    words: &["list"],
-    text: ONE_ADD,
-    failing_reads: &[],
-    failing_puts: &[],
-    status: Status::Done,
-    printed: b"",
-};
-
-/// Words that are no form, listings and drills, on a disk that is no store.
-const UNCALLED: [Case; 5] = [
-    Case {
-        name: "a word too many",
-        words: &["try", "x"],
-        status: Status::Usage,
-        ..PLAIN
-    },
-    Case {
-        name: "two programs",
-        text: TWO_LISTED,
-        printed: b"program none bytes 0 entry 00000000\nprogram far bytes 4 entry 00000002\nwindow 2 segment 1 rw\nwindow 3 segment 9 r\n00000000 c0000000\n",
-        ..PLAIN
-    },
-    Case {
-        name: "the second line fails",
-        text: LISTED,
-        failing_puts: &[(2, 0)],
-        status: Status::PutFault,
-        printed: b"program add bytes 18 entry 00000000\n",
-        ..PLAIN
-    },
-    Case {
-        name: "a drill of two writes",
-        words: &["drill"],
-        printed: b"stop 1 old seen 0 number 0\nstop 1 torn seen 0 number 0\nstop 2 old seen 0 number 0\nstop 2 torn seen 0 number 1\ndrill 2 number 1\n",
-        ..PLAIN
-    },
-    Case {
-        name: "the fourth line of a drill fails",
-        words: &["drill"],
-        failing_puts: &[(4, 0)],
-        status: Status::PutFault,
-        printed: b"stop 1 old seen 0 number 0\nstop 1 torn seen 0 number 0\nstop 2 old seen 0 number 0\n",
-        ..PLAIN
-    },
-];
 
 /// The words of a command line.
 fn words_of(alloc: Global, listed: &[&str]) -> Result<Vec<String>, AllocError> {
@@ -88,15 +15,12 @@ fn words_of(alloc: Global, listed: &[&str]) -> Result<Vec<String>, AllocError> {
     Ok(words)
 }
 
-/// What a call left: its status, whether it handed on a session, what it printed, the disk's bytes, and how often the disk was
-/// called.
+/// What a call left: its status, what it printed, and the disk's bytes.
 #[derive(Drop)]
 struct Left {
     status: Status,
-    opened: bool,
     printed: Vec<u8>,
     held: Vec<u8>,
-    calls: u64,
 }
 
 /// The words over this source and this disk, and a screen with these puts that fail.
@@ -113,71 +37,9 @@ fn call(
     let (disk, screen) = outside.into_parts();
     Ok(Left {
         status: ended.status,
-        opened: ended.session.is_some(),
         printed: screen.into_bytes(),
-        calls: disk.moment(),
         held: disk.into_image(),
     })
-}
-
-/// The same where nothing fails: the text of the source, and the bytes of the disk.
-fn call_well(
-    alloc: Global,
-    words: &[&str],
-    text: &[u8],
-    held: Vec<u8>,
-) -> Result<Left, AllocError> {
-    let source = MemorySource::new(Vec::from_slice(alloc, text)?, Vec::new(alloc));
-    let disk = MemoryDisk::new(alloc, held, Vec::new(alloc));
-    call(alloc, words, source, disk, Vec::new(alloc))
-}
-
-/// What the words of a case come to, on a disk that is no store.
-fn run_case(alloc: Global, case: &Case) -> Result<Left, AllocError> {
-    let source = MemorySource::new(
-        Vec::from_slice(alloc, case.text)?,
-        Vec::from_slice(alloc, case.failing_reads)?,
-    );
-    let disk = MemoryDisk::new(alloc, vec![in alloc; 3; 9]?, Vec::new(alloc));
-    let fails = Vec::from_slice(alloc, case.failing_puts)?;
-    call(alloc, case.words, source, disk, fails)
-}
-
-#[test]
-fn a_listing_and_a_drill_leave_the_disk_alone(rt: HostRuntime) -> Result<(), Fail> {
-    let alloc = rt.alloc();
-    for case in &UNCALLED {
-        let left = run_case(alloc, case)?;
-        assert_eq!(rt; left.status, case.status, "{}", case.name);
-        assert!(rt; !left.opened, "{}", case.name);
-        assert!(rt; left.printed.as_slice() == case.printed, "{}", case.name);
-        assert_eq!(rt; left.calls, 0, "{}", case.name);
-    }
-    Ok(())
-}
-
-/// Loads, and the lines that they print.
-const LOADS: [(&str, &str); 2] = [
-    ("1", "big 1 commits 3 rollbacks 0 out 0003e800\n"),
-    ("2", "big 2 commits 3 rollbacks 1 out 0003e800\n"),
-];
-
-#[test]
-fn a_load_prints_its_line(rt: HostRuntime) -> Result<(), Fail> {
-    let alloc = rt.alloc();
-    for (transfers, line) in &LOADS {
-        let left = call_well(alloc, &["big", *transfers], b"", try_store(alloc)?)?;
-        assert_eq!(rt; left.status, Status::Done);
-        assert!(rt; left.opened);
-        assert!(rt; left.printed.as_slice() == line.as_bytes());
-    }
-    Ok(())
-}
-
-#[test]
-fn a_status_says_itself(rt: HostRuntime) {
-    assert_eq!(rt; status_text(&Status::Job(4, 5)).as_str(), "job 4 5");
-    assert_eq!(rt; status_text(&Status::Done).as_str(), "");
 }
 
 /// A program that stores a number that falls into one line after another, and one that does nothing.

@@ -12,10 +12,6 @@ use store_calls::try_store;
 const ONE_ADD: &[u8] =
     b"frames 2\nprogram add5\n.window 1, 1, rw\n.word 0xD8601000\n.word 0xCD360000\n.word 0xC1330005\n.word 0xDD360000\n.word 0xC0000000\nend\nschedule\nbegin add5\nturn 1 100\nend\n";
 
-/// The same with a turn of three rows.
-const THREE_ROWS: &[u8] =
-    b"frames 2\nprogram add5\n.window 1, 1, rw\n.word 0xD8601000\n.word 0xCD360000\n.word 0xC1330005\n.word 0xDD360000\n.word 0xC0000000\nend\nschedule\nbegin add5\nturn 1 3\nend\n";
-
 /// Where the first record of bank A has its gate.
 const GATE: usize = 264;
 
@@ -31,18 +27,10 @@ const COMMIT: Committed = Committed {
     steps: 5,
 };
 
-/// The bytes of a source.
-#[derive(Clone, Copy)]
-enum Text {
-    Bytes(&'static [u8]),
-    Zeros(usize),
-}
-
-/// What is handed in, what fails, and what it comes to.
+/// What fails, and what it comes to.
 #[derive(Clone, Copy)]
 struct Case {
     name: &'static str,
-    text: Text,
     failing_reads: &'static [u32],
     other_byte: Option<usize>,
     failing_sync: Option<u32>,
@@ -53,17 +41,9 @@ struct Case {
     record: [u8; 19],
 }
 
-/// A program of two sources, of which the second has a routine that stores.
-const TWO_SOURCES: &[u8] =
-    b"frames 2\nprogram two\n.window 1, 1, rw\ncau r6, r0, 0x1000\nbali r15, put\nsvc 0\n.part\n.export put\nput: st r2, 0(r6)\nbnbr pz, r15\n; last\nend\nschedule\nbegin two 9\nturn 1 9\nend\n";
-
-/// The record of its commit.
-const NINE: [u8; 19] = [0xA5, 0, 1, 0, 0, 0, 0, 0, 0, 0, 1, 0, 0, 0, 0, 0, 0, 0, 9];
-
 /// Nothing fails, and nothing comes of it.
 const PLAIN: Case = Case {
     name: "",
-    text: Text::Bytes(ONE_ADD),
     failing_reads: &[],
     other_byte: None,
     failing_sync: None,
@@ -74,50 +54,12 @@ const PLAIN: Case = Case {
     record: [0; 19],
 };
 
-const CASES: [Case; 13] = [
+const CASES: [Case; 7] = [
     Case {
         name: "one add",
         printed: b"open 0\nbegin 1 add5\nturn 1 ran 5 page 1 lock 2\ncommit 1 number 1 steps 5 out -\nend 1\n",
         order: &[COMMIT],
         record: RECORD,
-        ..PLAIN
-    },
-    Case {
-        name: "two sources",
-        text: Text::Bytes(TWO_SOURCES),
-        printed: b"open 0\nbegin 1 two\nturn 1 ran 5 page 1 lock 1\ncommit 1 number 1 steps 5 out -\nend 1\n",
-        order: &[COMMIT],
-        record: NINE,
-        ..PLAIN
-    },
-    Case {
-        name: "a turn that ends before the commit",
-        text: Text::Bytes(THREE_ROWS),
-        printed: b"open 0\nbegin 1 add5\nturn 1 ran 3 page 1 lock 1\nleft 1\nend 0\n",
-        ..PLAIN
-    },
-    Case {
-        name: "a byte too many",
-        text: Text::Zeros(1_048_577),
-        status: Status::TooBig,
-        ..PLAIN
-    },
-    Case {
-        name: "no job",
-        text: Text::Bytes(b"no job\n"),
-        status: Status::Job(1, 10),
-        ..PLAIN
-    },
-    Case {
-        name: "a label that stands twice",
-        text: Text::Bytes(b"frames 2\nprogram p\nx: svc 0\nx: svc 0\nend\n"),
-        status: Status::Job(4, 5),
-        ..PLAIN
-    },
-    Case {
-        name: "another store",
-        other_byte: Some(9),
-        status: Status::Store(8),
         ..PLAIN
     },
     Case {
@@ -168,12 +110,9 @@ const CASES: [Case; 13] = [
     },
 ];
 
-/// A source of these bytes, which fails at these reads.
+/// The source of the job, which fails at these reads.
 fn source_of(alloc: Global, case: &Case) -> Result<MemorySource, AllocError> {
-    let bytes = match case.text {
-        Text::Bytes(bytes) => Vec::from_slice(alloc, bytes)?,
-        Text::Zeros(count) => vec![in alloc; 0; count]?,
-    };
+    let bytes = Vec::from_slice(alloc, ONE_ADD)?;
     Ok(MemorySource::new(bytes, Vec::from_slice(alloc, case.failing_reads)?))
 }
 

@@ -1,4 +1,4 @@
-//! Worked cases: jobs that are written and read again, reports that are read, and runs that end early, of each part that fails and
+//! Worked cases: jobs that are written and read again, and runs that end early, of each part that fails and
 //! of disks that stop within a write. Tests alone; nothing stands on it.
 #![tactic(auto)]
 
@@ -10,5 +10,3 @@ mod crash_tests;
 mod ending_tests;
 #[cfg(test)]
 mod job_tests;
-#[cfg(test)]
-mod report_tests;

@@ -3,7 +3,7 @@ ghost use Rattle.std.specs.Prelude.{◌<◌, ◌^◌, length};
 ghost use Rattle.standby.specs.Text.{IsShip};
 
 use line_geometry::{Directory, PageSize};
-use outside::{Call, Joint, MemoryDisk, MemoryScreen, Refusal};
+use outside::{Joint, MemoryDisk, MemoryScreen};
 use redo_journal::Kept;
 use restart::Durable;
 use standby::{Followed, Ship, ShipFault, Shipped, follow, read_ship, ship};
@@ -23,17 +23,17 @@ fn fresh(rt: &impl Abort, alloc: Global, page: PageSize) -> Result<Vec<u8>, Allo
     Header::new(directory, 65_536).fresh(alloc)
 }
 
-fn over(alloc: Global, image: Vec<u8>, refused: Vec<Refusal>, fails: Vec<(u32, u32)>) -> Both {
+fn over(alloc: Global, image: Vec<u8>) -> Both {
     Joint::new(
-        MemoryDisk::new(alloc, image, refused),
-        MemoryScreen::new(alloc, fails),
+        MemoryDisk::new(alloc, image, Vec::new(alloc)),
+        MemoryScreen::new(alloc, Vec::new(alloc)),
     )
 }
 
 /// The store of `try` with the word 5 in line 0, by one commit.
 fn first(rt: &impl Abort, alloc: Global, page: PageSize) -> Result<Vec<u8>, AllocError> {
     let image = fresh(rt, alloc, page)?;
-    let mut outside = over(alloc, image, Vec::new(alloc), Vec::new(alloc));
+    let mut outside = over(alloc, image);
     let mut store = Durable::open(alloc, &mut outside).expect(rt, "a store");
     let mut line = [0; 256];
     line[3] = 5;
@@ -50,7 +50,7 @@ fn first(rt: &impl Abort, alloc: Global, page: PageSize) -> Result<Vec<u8>, Allo
 
 /// How a shipping of an image behind a number ends, and what it prints.
 fn shipped(rt: &impl Abort, alloc: Global, image: Vec<u8>, from: u64) -> (Shipped, Vec<u8>) {
-    let mut outside = over(alloc, image, Vec::new(alloc), Vec::new(alloc));
+    let mut outside = over(alloc, image);
     let store = Durable::open(alloc, &mut outside).expect(rt, "a store");
     let done = ship(&store, &mut outside, from);
     let (_disk, screen) = outside.into_parts();
@@ -110,17 +110,10 @@ struct Outcome {
     image: Vec<u8>,
 }
 
-fn followed(
-    rt: &impl Abort,
-    alloc: Global,
-    text: &Ship,
-    image: Vec<u8>,
-    refused: Vec<Refusal>,
-    fails: Vec<(u32, u32)>,
-) -> Outcome
+fn followed(rt: &impl Abort, alloc: Global, text: &Ship, image: Vec<u8>) -> Outcome
     requires { IsShip text.now }
 {
-    let mut outside = over(alloc, image, refused, fails);
+    let mut outside = over(alloc, image);
     let mut store = Durable::open(alloc, &mut outside).expect(rt, "a store");
     let done = follow(&mut store, text, &mut outside);
     let (disk, screen) = outside.into_parts();
@@ -142,20 +135,12 @@ fn read(rt: &impl Abort, alloc: Global, text: &[u8]) -> Ship
 
 /// Follows the first store by a fresh one, and again.
 fn follows(rt: &impl Abort, alloc: Global, page: PageSize, bytes: usize) -> Result<(), AllocError> {
-    let none = || Vec::new(alloc);
     let text = read(rt, alloc, wanted(alloc, bytes, 0)?.as_slice());
-    let once = followed(
-        rt,
-        alloc,
-        &text,
-        fresh(rt, alloc, page)?,
-        none(),
-        Vec::new(alloc),
-    );
+    let once = followed(rt, alloc, &text, fresh(rt, alloc, page)?);
     assert_eq!(rt; once.done, Followed::Done);
     assert_eq!(rt; once.text.as_slice(), b"kept 1\nend 1\n".as_slice());
     assert_eq!(rt; once.image.as_slice(), first(rt, alloc, page)?.as_slice());
-    let again = followed(rt, alloc, &text, once.image, none(), Vec::new(alloc));
+    let again = followed(rt, alloc, &text, once.image);
     assert_eq!(rt; again.done, Followed::Done);
     assert_eq!(rt; again.text.as_slice(), b"end 1\n".as_slice());
     assert_eq!(rt; again.writes, 0);
@@ -166,59 +151,6 @@ fn follows(rt: &impl Abort, alloc: Global, page: PageSize, bytes: usize) -> Resu
 fn a_store_follows(rt: HostRuntime) -> Result<(), Fail> {
     for (page, bytes) in SIZES {
         follows(&rt, rt.alloc(), page, bytes)?;
-    }
-    Ok(())
-}
-
-/// Refusals, and how following ends under them.
-const REFUSALS: [(Call, u64, u64, u32, Followed, &[u8]); 5] = [
-    (Call::Write, 265, 408, 0, Followed::DiskFault, b""),
-    (Call::Write, 264, 265, 0, Followed::DiskFault, b""),
-    (Call::Sync, 0, 0, 1, Followed::DiskFault, b""),
-    (Call::Sync, 0, 0, 2, Followed::DiskFault, b""),
-    (Call::Sync, 0, 0, 3, Followed::Done, b"kept 1\nend 1\n"),
-];
-
-/// Puts that fail behind three bytes, and what is printed then.
-const FAILS: [(u32, &[u8]); 2] = [(1, b"kep"), (2, b"kept 1\nend")];
-
-/// How a fresh store follows the first one under a refusal, or where a put fails.
-fn under(
-    rt: &impl Abort,
-    alloc: Global,
-    refused: Vec<Refusal>,
-    fails: Vec<(u32, u32)>,
-) -> Result<Outcome, AllocError> {
-    let text = read(rt, alloc, wanted(alloc, 128, 0)?.as_slice());
-    let image = fresh(rt, alloc, PageSize::Two)?;
-    Ok(followed(rt, alloc, &text, image, refused, fails))
-}
-
-#[test]
-fn faults_end_it(rt: HostRuntime) -> Result<(), Fail> {
-    let alloc = rt.alloc();
-    for (call, from, to, skip, done, told) in REFUSALS {
-        let refused = vec![in alloc;
-            Refusal {
-                call,
-                from,
-                to,
-                skip
-            },
-        ]?;
-        let found = under(&rt, alloc, refused, Vec::new(alloc))?;
-        assert_eq!(rt; found.done, done);
-        assert_eq!(rt; found.text.as_slice(), told);
-    }
-    for (put, told) in FAILS {
-        let fails = Vec::from_slice(alloc, &[(put, 3)])?;
-        let found = under(&rt, alloc, Vec::new(alloc), fails)?;
-        assert_eq!(rt; found.done, Followed::PutFault);
-        assert_eq!(rt; found.text.as_slice(), told);
-        assert_eq!(rt;
-            found.image.as_slice(),
-            first(&rt, alloc, PageSize::Two)?.as_slice()
-        );
     }
     Ok(())
 }
@@ -236,7 +168,7 @@ fn texts_are_read_or_not(rt: HostRuntime) -> Result<(), Fail> {
     assert!(rt; matches!(read_ship(alloc, &whole[..cut]), Err(ShipFault::Bad(4))));
     let text = read(&rt, alloc, AROUND);
     let image = fresh(&rt, alloc, PageSize::Two)?;
-    let found = followed(&rt, alloc, &text, image, Vec::new(alloc), Vec::new(alloc));
+    let found = followed(&rt, alloc, &text, image);
     assert_eq!(rt; found.done, Followed::Done);
     Ok(())
 }
