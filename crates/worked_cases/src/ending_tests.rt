@@ -32,7 +32,6 @@ const COMMIT: Committed = Committed {
 struct Case {
     name: &'static str,
     failing_reads: &'static [u32],
-    other_byte: Option<usize>,
     failing_sync: Option<u32>,
     failing_put: Option<u32>,
     status: Status,
@@ -45,7 +44,6 @@ struct Case {
 const PLAIN: Case = Case {
     name: "",
     failing_reads: &[],
-    other_byte: None,
     failing_sync: None,
     failing_put: None,
     status: Status::Done,
@@ -54,7 +52,7 @@ const PLAIN: Case = Case {
     record: [0; 19],
 };
 
-const CASES: [Case; 7] = [
+const CASES: [Case; 6] = [
     Case {
         name: "one add",
         printed: b"open 0\nbegin 1 add5\nturn 1 ran 5 page 1 lock 2\ncommit 1 number 1 steps 5 out -\nend 1\n",
@@ -100,14 +98,6 @@ const CASES: [Case; 7] = [
         record: RECORD,
         ..PLAIN
     },
-    Case {
-        name: "a selector that chooses the first bank all the same",
-        other_byte: Some(128),
-        printed: b"open 0\nbegin 1 add5\nturn 1 ran 5 page 1 lock 2\ncommit 1 number 1 steps 5 out -\nend 1\n",
-        order: &[COMMIT],
-        record: RECORD,
-        ..PLAIN
-    },
 ];
 
 /// The source of the job, which fails at these reads.
@@ -117,11 +107,8 @@ fn source_of(alloc: Global, case: &Case) -> Result<MemorySource, AllocError> {
 }
 
 /// The bytes that the disk holds at first, but for the bytes of a first record.
-fn store_of(alloc: Global, case: &Case, record: &[u8; 19]) -> Result<Vec<u8>, AllocError> {
+fn store_of(alloc: Global, record: &[u8; 19]) -> Result<Vec<u8>, AllocError> {
     let mut bytes = try_store(alloc)?;
-    if let Some(byte) = case.other_byte.and_then(|at| bytes.get_mut(at)) {
-        *byte = 3;
-    }
     if let Some(place) = bytes.as_mut_slice().get_mut(GATE..GATE + record.len()) {
         place.copy_from_slice(record);
     }
@@ -143,7 +130,7 @@ fn outside_of(alloc: Global, case: &Case) -> Result<Joint<MemoryDisk, MemoryScre
     if let Some(put) = case.failing_put {
         fails.push((put, 0))?;
     }
-    let disk = MemoryDisk::new(alloc, store_of(alloc, case, &[0; 19])?, refusals);
+    let disk = MemoryDisk::new(alloc, store_of(alloc, &[0; 19])?, refusals);
     Ok(Joint::new(disk, MemoryScreen::new(alloc, fails)))
 }
 
@@ -173,7 +160,7 @@ fn run_case(alloc: Global, case: &Case) -> Result<Left, AllocError> {
 /// Runs a case, and looks whether it left what it should.
 fn assert_case(rt: &impl Abort, alloc: Global, case: &Case) -> Result<(), Fail> {
     let order = Vec::from_slice(alloc, case.order)?;
-    let store = store_of(alloc, case, &case.record)?;
+    let store = store_of(alloc, &case.record)?;
     let left = run_case(alloc, case)?;
     assert_eq!(rt; left.status, case.status, "{}", case.name);
     assert_eq!(rt; left.order, order, "{}", case.name);

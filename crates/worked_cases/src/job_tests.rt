@@ -4,16 +4,8 @@ use job_text::{Job, JobFault, big_job, read_job, write_job};
 use std::alloc::Global;
 use std::test::Fail;
 
-/// The job of a short text.
-fn read(alloc: Global, text: &str) -> Result<Job, JobFault> {
-    if text.len() > 4096 {
-        return Err(JobFault::Memory);
-    }
-    read_job(alloc, text.as_bytes())
-}
-
-/// The job of a written text.
-fn read_again(alloc: Global, text: &[u8]) -> Result<Job, JobFault> {
+/// The job of a text, unless it is long.
+fn read(alloc: Global, text: &[u8]) -> Result<Job, JobFault> {
     if text.len() > 4096 {
         return Err(JobFault::Memory);
     }
@@ -48,7 +40,7 @@ fn is_same(one: &Job, other: &Job) -> bool {
 /// Whether a job is written as this text, and read again from it.
 fn is_written_as(alloc: Global, job: &Job, written: &str) -> Result<bool, Fail> {
     let text = write_job(alloc, job)?;
-    let again = read_again(alloc, text.as_slice())?;
+    let again = read(alloc, text.as_slice())?;
     Ok(text.as_slice() == written.as_bytes() && is_same(&again, job))
 }
 
@@ -62,7 +54,7 @@ const WORKED_WRITTEN: &str =
 
 #[test]
 fn the_worked_job_is_written(rt: HostRuntime) -> Result<(), Fail> {
-    let job = read(rt.alloc(), WORKED)?;
+    let job = read(rt.alloc(), WORKED.as_bytes())?;
     assert!(rt; is_written_as(rt.alloc(), &job, WORKED_WRITTEN)?);
     assert_eq!(rt; job.events.len(), 2);
     Ok(())
@@ -78,7 +70,7 @@ const SEVEN_WRITTEN: &str =
 
 #[test]
 fn bytes_that_are_left_are_written(rt: HostRuntime) -> Result<(), Fail> {
-    let job = read(rt.alloc(), SEVEN)?;
+    let job = read(rt.alloc(), SEVEN.as_bytes())?;
     assert!(rt; is_written_as(rt.alloc(), &job, SEVEN_WRITTEN)?);
     assert_eq!(rt; job.events.len(), 4);
     let image = [1, 2, 3, 4, 5, 6, 7];
