@@ -1,21 +1,5 @@
 -- What one asks for, and waits for.
-use Rattle.std.specs.Prelude.{◌≡◌, refl, ℕ, ◌+◌, ◌<◌, ◌≤◌, ◌==◌, Bool, true, false, List, [], ◌∷◌, length, map, Some, IsSome}
-use Rattle.std.proofs.Common.{arith, ap, sym, ◌∙◌, subst}
-use Rattle.std.proofs.lemmas.Bool.{eqb-true}
-use Rattle.line_geometry.specs.Directory.{Layout}
-use Rattle.lock_rules.specs.Sets.{has}
-use Rattle.line_locks.specs.Held.{AreWithin}
-use Rattle.line_locks.specs.declared.request.Request.{Request}
-use Rattle.line_locks.specs.declared.request.Want.{Want}
-use Rattle.seats.specs.declared.seat.Seat.{Seat}
-use Rattle.seats.specs.Seating.{sitter, number_in, waiting_for}
-use Rattle.seats.proofs.Kept.{taken-below}
-use Rattle.seats.specs.Waiting.{AreOfPage}
-use Rattle.activations.specs.Activity.{Activity}
-use Rattle.activations.specs.Follows.{IsSound}
-use Rattle.activations.specs.Kept.{KeepsParts, AreRowsWithin, StaysSeated}
-use Rattle.activations.specs.Serving.{asking}
-use Rattle.activations.specs.Touched.{with_whole_page, AreWanted}
+use Rattle.activations.proofs.Common.{◌≡◌, refl, ℕ, ◌+◌, ◌<◌, ◌≤◌, ◌==◌, Bool, true, false, List, [], ◌∷◌, length, map, Some, IsSome, arith, ap, sym, ◌∙◌, subst, eqb-true, Layout, has, AreWithin, Request, Want, Seat, sitter, number_in, waiting_for, taken-below, AreOfPage, Activity, IsSound, KeepsParts, AreRowsWithin, StaysSeated, asking, with_whole_page, AreWanted}
 use Rattle.activations.proofs.GrantingLemmas.{within-whole}
 use Rattle.activations.proofs.RequestLemmas.{whole-of-page}
 use Rattle.activations.proofs.SoundLemmas.{sound-reseated}

@@ -1,24 +1,7 @@
 -- The bytes of a unit in which a seat begins: its private bytes are new, and all others stay.
-use Rattle.std.specs.Prelude.{◌≡◌, refl, ℕ, ◌+◌, ◌-◌, ◌*◌, ◌%◌, ◌<◌, ◌≤◌, ◌==◌, ◌⊎◌, false, List, ◌++◌, length, map, replicate, drop, slice_index, slice_range, if◌then◌else◌, Option, Some, None}
-use Rattle.std.specs.List.{range_with_len}
-use Rattle.std.specs.Option.{option_map_or}
-use Rattle.std.proofs.Common.{arith, ap, sym, ◌∙◌, subst, inl, inr}
-use Rattle.std.proofs.lemmas.Bool.{cases_lt, eq-eqb, both_ways}
+use Rattle.activations.proofs.Common.{◌≡◌, refl, ℕ, ◌+◌, ◌-◌, ◌*◌, ◌%◌, ◌<◌, ◌≤◌, ◌==◌, ◌⊎◌, false, List, ◌++◌, length, map, replicate, drop, slice_index, slice_range, if◌then◌else◌, Option, Some, None, range_with_len, option_map_or, arith, ap, sym, ◌∙◌, subst, inl, inr, cases_lt, eq-eqb, both_ways, same_number_lists, length-overlaid, overlaid_before, overlaid_within, overlaid_behind, PageSize, Layout, byte_count, page_of, page_bytes, Pool, frame_at, with_bytes, private_frames, byte_in_frame, byte_over, bytes_over, private_bytes, is_marked, Fits, frame-high, in-range}
 use Rattle.std.proofs.lemmas.List.{length-take, length-drop, length-append, length-replicate}
-use Rattle.std.proofs.lemmas.Grind.{same_number_lists}
-use Rattle.owned_list.proofs.Overlay.{length-overlaid, overlaid_before, overlaid_within, overlaid_behind}
-use Rattle.line_geometry.specs.declared.directory.PageSize.{PageSize}
-use Rattle.line_geometry.specs.Directory.{Layout, byte_count}
-use Rattle.line_geometry.specs.Lines.{page_of}
-use Rattle.line_geometry.specs.Segments.{page_bytes}
-use Rattle.frame_pool.specs.declared.model.Pool.{Pool}
-use Rattle.frame_pool.specs.Pool.{frame_at, with_bytes}
-use Rattle.frame_pool.specs.Sizes.{private_frames}
-use Rattle.storage_unit.specs.Bytes.{byte_in_frame, byte_over, bytes_over, private_bytes, is_marked}
-use Rattle.storage_unit.specs.Laws.{Fits}
-use Rattle.storage_unit.proofs.SizeLemmas.{frame-high}
 use Rattle.activations.proofs.SizeLemmas.{private-all}
-use Rattle.storage_unit.proofs.ByteLemmas.{in-range}
 
 -- a part of a list is as long as it says
 long-range : (xs : List ℕ) (from count : ℕ) → from + count ≤ length xs → length (slice_range xs from (from + count)) ≡ count

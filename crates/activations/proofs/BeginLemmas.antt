@@ -1,51 +1,12 @@
 -- A program begins.
-use Rattle.std.specs.Prelude.{◌≡◌, ◌≢◌, refl, ℕ, zero, suc, ◌+◌, ◌*◌, ◌/◌, ◌%◌, ◌<◌, ◌≤◌, ◌==◌, ◌||◌, ◌⊎◌, nat_lt, if◌then◌else◌, Bool, true, false, List, [], ◌∷◌, ◌++◌, All, length, map, slice_index_or, Option, Some, None}
-use Rattle.std.specs.List.{list_any}
-use Rattle.std.proofs.Common.{arith, ap, sym, ◌∙◌, subst, inl, inr, get_or-set_same, get_or-set_other}
-use Rattle.std.proofs.lemmas.Bool.{eqb-true, eqb-false, eq-eqb, both_ways, or_left, or_right, or_cases, or_parts}
-use Rattle.std.proofs.lemmas.Bool.Decides.{nat_tests}
-use Rattle.std.proofs.lemmas.List.{length-map, length-set, map-append, get_or_read}
-use Rattle.std.proofs.lemmas.List.Elements.{All-from_get_or}
-use Rattle.std.proofs.lemmas.List.Folds.{list_any-append}
+use Rattle.activations.proofs.Common.{◌≡◌, ◌≢◌, refl, ℕ, zero, suc, ◌+◌, ◌*◌, ◌/◌, ◌%◌, ◌<◌, ◌≤◌, ◌==◌, ◌||◌, ◌⊎◌, nat_lt, if◌then◌else◌, Bool, true, false, List, [], ◌∷◌, ◌++◌, All, length, map, slice_index_or, Option, Some, None, list_any, arith, ap, sym, ◌∙◌, subst, inl, inr, get_or-set_same, get_or-set_other, eqb-true, eqb-false, eq-eqb, both_ways, or_left, or_right, or_cases, or_parts, nat_tests, length-map, length-set, map-append, get_or_read, All-from_get_or, list_any-append, FlatStore, has, no_lines, has-append, no_lines_of, Authority, unowned, Program, start, registers_of_program, Begun, Entry, nobody, Fine, AreAlike, AreMarked, IsState, requested, due_to, IsCurrent, IsOrderly, current-begun, first_entry, with_first, begins-consistent, refused-consistent, told-taken, Seat, IsSeating, sitter, number_in, newcomer, next_seat, all-has, none-free, some-free, has-at, few-taken, taken-below, kept-seated, apart-taken, is_line_marked, Fits, private_segment, Live, Activity, no_program, program_at, live_in, entry_for, entry_in, entries, number_under, authority_under, authority_told, store_over, desk_over, lines_held, locks_in, request_for, request_in, state_in, shown, given, started, begun_in, IsBegin, IsSound, IsSetUp, IsIdentified, IsKept, Follows}
 use Rattle.std.proofs.lemmas.Option.{slice_get-get_or}
-use Rattle.line_geometry.specs.FlatStore.{FlatStore}
-use Rattle.lock_rules.specs.Sets.{has}
-use Rattle.lock_rules.specs.Lines.{no_lines}
-use Rattle.lock_rules.proofs.Sets.{has-append}
-use Rattle.line_locks.specs.Holding.{no_lines_of}
-use Rattle.lockbit_rules.specs.declared.Authority.{Authority}
-use Rattle.inverted_table.specs.Placed.{unowned}
-use Rattle.flat_machine.specs.declared.machine.Program.{Program}
-use Rattle.flat_machine.specs.After.{start}
 use Rattle.flat_machine.specs.Serial.{Activation}
-use Rattle.romp_cpu.specs.Segments.{registers_of_program}
 use Rattle.desk.specs.declared.event.Event.TheVariants.{Begin}
-use Rattle.desk.specs.declared.answers.Begun.{Begun}
-use Rattle.desk.specs.declared.answers.Begun.TheVariants as answer
-use Rattle.desk.specs.Desk.{Desk, Entry, nobody}
-use Rattle.desk.specs.Desk as desk
-use Rattle.desk.specs.Instruction.{Fine}
 use Rattle.desk.specs.Run.{absent_segment, begin, begins, begin_if, step, Busy, Begun as Began}
-use Rattle.desk_law.specs.Beside.{AreAlike, AreMarked, IsState, requested}
-use Rattle.desk_law.specs.Consistent.{due_to}
-use Rattle.desk_law.specs.Current.{IsCurrent}
-use Rattle.desk_law.specs.Orderly.{IsOrderly}
-use Rattle.desk_law.proofs.CurrentSteps.{current-begun}
-use Rattle.desk_law.proofs.Endings.{first_entry, with_first, begins-consistent, refused-consistent}
-use Rattle.desk_law.proofs.Identifiers.{told-taken}
-use Rattle.seats.specs.declared.seat.Seat.{Seat}
-use Rattle.seats.specs.Seating.{IsSeating, sitter, number_in, newcomer, next_seat}
-use Rattle.seats.proofs.Ascending.{all-has, none-free, some-free}
-use Rattle.seats.proofs.Kept.{has-at, few-taken, taken-below, kept-seated}
-use Rattle.seats.proofs.Numbers.{apart-taken}
-use Rattle.storage_unit.specs.Bytes.{is_line_marked}
-use Rattle.storage_unit.specs.Laws.{Fits}
-use Rattle.storage_unit.specs.Places.{private_segment}
-use Rattle.activations.specs.declared.live.Live.{Live}
-use Rattle.activations.specs.Activity.{Activity, no_program, program_at, live_in, entry_for, entry_in, entries, number_under, authority_under, authority_told, store_over, desk_over, lines_held, locks_in, request_for, request_in, state_in, shown}
-use Rattle.activations.specs.Begins.{given, started, begun_in, IsBegin}
+use Rattle.desk.specs.declared.answers.Begun.TheVariants as answer
+use Rattle.desk.specs.Desk as desk
 use Rattle.activations.specs.Begins as begun
-use Rattle.activations.specs.Follows.{IsSound, IsSetUp, IsIdentified, IsKept, Follows}
 use Rattle.activations.proofs.BeginBytes.{private-there, private-other, store-frame, shown-same}
 use Rattle.activations.proofs.HoldingLemmas.{held-flat}
 use Rattle.activations.proofs.SittingLemmas.{sitter-there, sitter-other, live-other, live-there}

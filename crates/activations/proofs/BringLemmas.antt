@@ -1,54 +1,26 @@
 -- A page that comes in from the store on the disk: what is read, and what frames have then.
+use Rattle.activations.proofs.Common.{option_map_or, arith, ap, sym, ◌∙◌, subst, both_ways, eq-eqb, or_left, ltb-false, PageSize, Layout, byte_count, page_count, page_bytes, byte_count-lines, brought, has, has_left, overlaid, Ghosts, OnlyAsks, FewerLater, held_of, Standing, Stands, NotAStore, Damaged, stands, KeptStore, Pool, pool_of, IsSeen, private_frames, frame_count, line_place, Reach, reach_of, IsClean, private_bytes, Fits, Keeps, filled, page_in, frame-high, unit-sound, sound-fits, emptied-frame, laid-bytes, room-stays, emptied-stays, IsStoreOf, IsIn, IsMoved}
 use Rattle.std.specs.Prelude.{◌≡◌, refl, ℕ, ◌+◌, ◌-◌, ◌*◌, ◌<◌, ◌≤◌, ◌==◌, ◌||◌, ◌++◌, not, nat_lt, if◌then◌else◌, Bool, true, false, List, [], ◌∷◌, length, take, drop, fold, remove, position, unwrap_or, slice_index, Option, Some, None, option_to_list, is_some, Result, Ok, Err, OnOk}
-use Rattle.std.specs.Option.{option_map_or}
-use Rattle.std.proofs.Common.{arith, ap, sym, ◌∙◌, subst}
-use Rattle.std.proofs.lemmas.Bool.{both_ways, eq-eqb, or_left, ltb-false}
 use Rattle.std.proofs.lemmas.List.{take-append-le, take-take, length-append, length-take, length-drop}
 use Rattle.std.proofs.lemmas.List.Quantifiers.{position-Some}
-use Rattle.line_geometry.specs.declared.directory.PageSize.{PageSize}
-use Rattle.line_geometry.specs.Directory.{Layout, byte_count, page_count}
-use Rattle.line_geometry.specs.Segments.{page_bytes}
-use Rattle.line_geometry.proofs.Within.{byte_count-lines}
-use Rattle.lock_rules.specs.Resident.{brought}
-use Rattle.lock_rules.specs.Sets.{has}
-use Rattle.lock_rules.proofs.Sets.{has_left}
-use Rattle.owned_list.specs.Overlay.{overlaid}
-use Rattle.outside.specs.declared.world.Outside.{Ghosts}
-use Rattle.outside.specs.Runs.{OnlyAsks, FewerLater, held_of}
-use Rattle.store_format.specs.Stands.{Standing, Stands, NotAStore, Damaged, stands}
 use Rattle.store_format.proofs.Fronts.{shorter_front, later_front}
 use Rattle.store_format.proofs.Stores.{stands_is}
 use Rattle.redo_journal.proofs.Newest.{store_agrees}
-use Rattle.restart.specs.Kept.{KeptStore}
-use Rattle.restart.specs.Shows as restart
 use Rattle.restart.specs.Shows.{Shows}
 use Rattle.restart.proofs.ShowLemmas.{sure_on, shown_store}
-use Rattle.frame_pool.specs.declared.model.Pool.{Pool}
 use Rattle.frame_pool.specs.declared.pages.StorePages.{StorePages}
 use Rattle.frame_pool.specs.Places.{index_out}
 use Rattle.frame_pool.specs.PlacesView.{places_of}
 use Rattle.frame_pool.specs.Pool.{Brought, frame_at, frame_bytes, marks_at, with_bytes, emptied, laid, line_laid, line_kept}
 use Rattle.frame_pool.specs.PoolLending.{with_frame_part}
-use Rattle.frame_pool.specs.View.{pool_of}
-use Rattle.frame_pool.specs.Seen.{IsSeen}
-use Rattle.frame_pool.specs.Sizes.{private_frames, frame_count, line_place}
 use Rattle.frame_pool.proofs.ApartLemmas.{has-remove_other, turned}
 use Rattle.frame_pool.proofs.LendLemmas.{lent-part}
 use Rattle.frame_pool.proofs.PlaceLemmas.{none-room}
 use Rattle.frame_pool.proofs.SoundLemmas.{page_part}
-use Rattle.storage_unit.specs.declared.model.Reach.{Reach}
 use Rattle.storage_unit.specs.declared.unit.Unit.{Unit}
-use Rattle.storage_unit.specs.View.{reach_of}
-use Rattle.storage_unit.specs.Bytes.{IsClean, private_bytes}
-use Rattle.storage_unit.specs.Laws.{Fits, Keeps, filled, page_in}
 use Rattle.storage_unit.proofs.BringKeeps.{bring-keeps}
 use Rattle.storage_unit.proofs.FailedBringKeeps.{failed-bring-keeps}
-use Rattle.storage_unit.proofs.SizeLemmas.{frame-high}
-use Rattle.storage_unit.proofs.UnitLemmas.{unit-sound, sound-fits}
-use Rattle.storage_unit.proofs.LeaveLemmas.{emptied-frame}
-use Rattle.storage_unit.proofs.StateLemmas.{laid-bytes, room-stays, emptied-stays}
-use Rattle.activations.specs.Fetching.{IsStoreOf, IsIn}
-use Rattle.activations.specs.Steps.{IsMoved}
+use Rattle.restart.specs.Shows as restart
 use Rattle.activations.proofs.SizeLemmas.{private-all}
 
 -- a store stays open, with the same bytes, while the disk is only asked

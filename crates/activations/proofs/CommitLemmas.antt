@@ -1,39 +1,7 @@
 -- A commit.
-use Rattle.std.specs.Prelude.{◌≡◌, refl, ℕ, ◌%◌, ◌<◌, ◌==◌, ◌&&◌, ◌||◌, not, Bool, true, false, List, [], ◌∷◌, ◌++◌, length, slice_index, Some}
-use Rattle.std.proofs.Common.{ap, sym, ◌∙◌, subst}
-use Rattle.std.proofs.lemmas.Bool.{both_ways, eqb-true}
-use Rattle.std.proofs.lemmas.List.FromFn.{length-map-range_with_len}
-use Rattle.line_geometry.specs.Directory.{Layout, byte_count, page_count}
-use Rattle.line_geometry.specs.FlatStore.{FlatStore}
-use Rattle.line_geometry.specs.Lines.{line_of}
-use Rattle.line_geometry.proofs.Within.{line-bytes-pos}
-use Rattle.lock_rules.specs.Sets.{has}
-use Rattle.lock_rules.specs.Lines.{Lines, page_of_line}
-use Rattle.flat_machine.specs.declared.machine.Plain.{Plain}
-use Rattle.flat_machine.specs.After.{after}
+use Rattle.activations.proofs.Common.{◌≡◌, refl, ℕ, ◌%◌, ◌<◌, ◌==◌, ◌&&◌, ◌||◌, not, Bool, true, false, List, [], ◌∷◌, ◌++◌, length, slice_index, Some, ap, sym, ◌∙◌, subst, both_ways, eqb-true, length-map-range_with_len, Layout, byte_count, page_count, FlatStore, line_of, line-bytes-pos, has, Lines, page_of_line, no_lines, Plain, after, Pool, settled, Commit, row, Entry, Counts, no_counts, AreAlike, AreMarked, IsState, IsTold, requested, by_number, over_all, left_by, committed_at, IsAmong, due_to, IsCurrent, IsOrderly, place-laid, marked-commit, others, seat-told, told-seat, at-number, kept-seats, commit-ends, is_line_marked, bytes_over, byte_over, Fits, SettleKeeps, Keeps, Activity, program_in, entry_in, entries, store_over, desk_over, locks_in, request_in, state_for, state_in, live_in, shown, IsSound, IsKept, Follows, wrote, is_of, AreWritten, WereSettled, rolled, Commits}
 use Rattle.flat_machine.proofs.Agreement.{after-whole}
-use Rattle.frame_pool.specs.declared.model.Pool.{Pool}
-use Rattle.frame_pool.specs.Pool.{settled}
-use Rattle.flat_machine.specs.Row.{Commit, row}
-use Rattle.desk.specs.Desk.{Entry}
-use Rattle.desk.specs.Instruction.{Counts, no_counts}
-use Rattle.desk_law.specs.Beside.{AreAlike, AreMarked, IsState, IsTold, requested, by_number, over_all}
-use Rattle.desk_law.specs.Changes.{left_by, committed_at}
-use Rattle.desk_law.specs.Consistent.{IsAmong, due_to}
-use Rattle.desk_law.specs.Current.{IsCurrent}
-use Rattle.desk_law.specs.Orderly.{IsOrderly}
-use Rattle.desk_law.proofs.LaidPlaces.{place-laid}
-use Rattle.desk_law.proofs.MarkedLines.{marked-commit}
-use Rattle.desk_law.proofs.Others.{others}
-use Rattle.desk_law.proofs.Seats.{seat-told, told-seat, at-number, kept-seats}
-use Rattle.desk_law.proofs.EntriesEnd.{commit-ends}
 use Rattle.desk_law.proofs.EntriesEnd as law
-use Rattle.lock_rules.specs.Lines.{no_lines}
-use Rattle.storage_unit.specs.Bytes.{is_line_marked, bytes_over, byte_over}
-use Rattle.storage_unit.specs.Laws.{Fits, SettleKeeps, Keeps}
-use Rattle.activations.specs.Activity.{Activity, program_in, entry_in, entries, store_over, desk_over, locks_in, request_in, state_for, state_in, live_in, shown}
-use Rattle.activations.specs.Follows.{IsSound, IsKept, Follows}
-use Rattle.activations.specs.Steps.{wrote, is_of, AreWritten, WereSettled, rolled, Commits}
 use Rattle.activations.proofs.RollbackLemmas.{wrote-due, locks-left, of-written}
 use Rattle.activations.proofs.RowLemmas.{orderly-order}
 use Rattle.activations.proofs.TableLemmas.{stands-for}

@@ -1,25 +1,5 @@
 -- A contest as its loop keeps it, whatever is committed.
-use Rattle.std.specs.Prelude.{◌≡◌, refl, ℕ, ◌<◌, ◌≤◌, ◌==◌, ◌&&◌, ◌||◌, not, if◌then◌else◌, Bool, true, false, List, [], ◌∷◌, ◌++◌, filter, length, map, Option, Some, None, IsSome}
-use Rattle.std.proofs.Common.{arith, ap, sym, ◌∙◌}
-use Rattle.std.proofs.lemmas.Bool.{eqb-true, eq-eqb, both_ways}
-use Rattle.lock_rules.specs.Sets.{has}
-use Rattle.lock_rules.specs.Waits.{victim_of}
-use Rattle.lock_rules.proofs.Sets.{has-filter}
-use Rattle.frame_pool.specs.declared.model.Pool.{Pool}
-use Rattle.desk.specs.Desk.{Desk}
-use Rattle.desk.specs.Instruction.{Word, Counts, Attempt, Turning, Victim, Waits}
-use Rattle.desk_law.specs.Consistent.{AreConsistent}
-use Rattle.desk_law.proofs.ContestRounds.{with_cycle}
-use Rattle.seats.specs.Seating.{number_in, seat_of, sitter}
-use Rattle.seats.specs.Waiting.{cycle_of, holders}
-use Rattle.seats.proofs.Numbers.{seat-found}
-use Rattle.activations.specs.Activity.{Activity, entries, store_over}
-use Rattle.activations.specs.Follows.{IsSound, IsKept}
-use Rattle.activations.specs.Serving.{IsContested, IsOver, IsFree}
-use Rattle.activations.specs.Steps.{rolled, RollsBack}
-use Rattle.activations.specs.Turning.{Contests}
-use Rattle.line_locks.specs.declared.request.Request.{Request}
-use Rattle.desk.specs.declared.answers.Cycle.{Cycle}
+use Rattle.activations.proofs.Common.{◌≡◌, refl, ℕ, ◌<◌, ◌≤◌, ◌==◌, ◌&&◌, ◌||◌, not, if◌then◌else◌, Bool, true, false, List, [], ◌∷◌, ◌++◌, filter, length, map, Option, Some, None, IsSome, arith, ap, sym, ◌∙◌, eqb-true, eq-eqb, both_ways, has, victim_of, has-filter, Pool, Desk, Word, Counts, Attempt, Turning, Victim, Waits, AreConsistent, with_cycle, number_in, seat_of, sitter, cycle_of, holders, seat-found, Activity, entries, store_over, IsSound, IsKept, IsContested, IsOver, IsFree, rolled, RollsBack, Contests, Request, Cycle}
 use Rattle.activations.proofs.ContestLemmas.{round-goes, round-loses, cycle-sits, contest-waits, contest-frees}
 
 -- fewer are taken where one that was is left

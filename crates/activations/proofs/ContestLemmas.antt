@@ -1,29 +1,6 @@
 -- A contest, round by round: each cycle that a waiting seat closes is broken.
-use Rattle.std.specs.Prelude.{◌≡◌, ℕ, ◌==◌, true, false, List, [], ◌∷◌, filter, find, map, Option, Some, None}
-use Rattle.std.specs.Option.{option_map, option_map_or}
-use Rattle.std.proofs.Common.{ap, sym, ◌∙◌, subst}
-use Rattle.lock_rules.specs.Sets.{has}
-use Rattle.lock_rules.specs.Lines.{Lines, no_lines}
-use Rattle.lock_rules.specs.Waits.{shown_cycle, victim_of}
-use Rattle.line_locks.specs.Flat.{lines_wanted}
-use Rattle.line_locks.specs.declared.request.Request.{Request}
-use Rattle.flat_machine.specs.declared.machine.Plain.{Plain}
-use Rattle.frame_pool.specs.declared.model.Pool.{Pool}
+use Rattle.activations.proofs.Common.{◌≡◌, ℕ, ◌==◌, true, false, List, [], ◌∷◌, filter, find, map, Option, Some, None, option_map, option_map_or, ap, sym, ◌∙◌, subst, has, Lines, no_lines, shown_cycle, victim_of, lines_wanted, Request, Plain, Pool, Word, Counts, Attempt, Turning, Over, Victim, Waits, contest_ends, AreAlike, by_number, kept_conflict, kept_waits, IsOrderly, KeepsPages, contest, IsUnderWay, marked, with_cycle, alike-same, told-found, at-number, IsContesting, contesting-victim, contesting-turn, contesting-loses, contesting-consistent, contesting-ready, contesting-waits, contesting-gets, number_in, seat_of, sitter, holders, cycle_of, Activity, entry_in, entries, desk_over, locks_in, request_in, state_in, shown, IsSound, Follows, IsContested, IsOver, IsFree, WereRefused, rolled, RollsBack}
 use Rattle.desk.specs.Desk.{Desk, Entry, Authority}
-use Rattle.desk.specs.Instruction.{Word, Counts, Attempt, Turning, Over, Victim, Waits, contest_ends}
-use Rattle.desk_law.specs.Beside.{AreAlike, by_number, kept_conflict, kept_waits}
-use Rattle.desk_law.specs.Orderly.{IsOrderly}
-use Rattle.desk_law.specs.UnderWay.{KeepsPages, contest, IsUnderWay, marked}
-use Rattle.desk_law.proofs.ContestRounds.{with_cycle}
-use Rattle.desk_law.proofs.KeptTables.{alike-same}
-use Rattle.desk_law.proofs.Seats.{told-found, at-number}
-use Rattle.desk_law.proofs.ServesConflicts.{IsContesting, contesting-victim, contesting-turn, contesting-loses, contesting-consistent, contesting-ready, contesting-waits, contesting-gets}
-use Rattle.seats.specs.Seating.{number_in, seat_of, sitter}
-use Rattle.seats.specs.Waiting.{holders, cycle_of}
-use Rattle.activations.specs.Activity.{Activity, entry_in, entries, desk_over, locks_in, request_in, state_in, shown}
-use Rattle.activations.specs.Follows.{IsSound, Follows}
-use Rattle.activations.specs.Serving.{IsContested, IsOver, IsFree, WereRefused}
-use Rattle.activations.specs.Steps.{rolled, RollsBack}
 use Rattle.activations.proofs.CommitLemmas.{told-kept}
 use Rattle.activations.proofs.WaitLemmas.{holders-told, cycle-told}
 

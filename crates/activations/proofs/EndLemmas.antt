@@ -1,22 +1,5 @@
 -- Who is rolled back: after a program check, and one after another.
-use Rattle.std.specs.Prelude.{◌≡◌, ℕ, ◌+◌, true, List, []}
-use Rattle.std.proofs.Common.{ap, sym, ◌∙◌, subst}
-use Rattle.lock_rules.specs.Sets.{has}
-use Rattle.flat_machine.specs.Row.{Check, row}
-use Rattle.frame_pool.specs.declared.model.Pool.{Pool}
-use Rattle.desk.specs.Desk.{Desk}
-use Rattle.desk.specs.Instruction.{Counts, Over, Checked}
-use Rattle.desk.specs.Run.{restarted}
-use Rattle.desk_law.specs.Beside.{IsState, over_all}
-use Rattle.desk_law.specs.Orderly.{IsOrderly}
-use Rattle.desk_law.proofs.Contest.{rolled-consistent}
-use Rattle.desk_law.proofs.EntriesEnd.{check-ends}
-use Rattle.storage_unit.specs.Rows.{plain_over}
-use Rattle.activations.specs.Activity.{Activity, live_in, program_in, entry_in, store_over, desk_over, state_in, shown}
-use Rattle.activations.specs.Ends.{WereRolled}
-use Rattle.activations.specs.Follows.{IsSound, Follows}
-use Rattle.activations.specs.Serving.{IsOver, instruction_in}
-use Rattle.activations.specs.Steps.{with_pool, rolled, RollsBack}
+use Rattle.activations.proofs.Common.{◌≡◌, ℕ, ◌+◌, true, List, [], ap, sym, ◌∙◌, subst, has, Check, row, Pool, Desk, Counts, Over, Checked, restarted, IsState, over_all, IsOrderly, rolled-consistent, check-ends, plain_over, Activity, live_in, program_in, entry_in, store_over, desk_over, state_in, shown, WereRolled, IsSound, Follows, IsOver, instruction_in, with_pool, rolled, RollsBack}
 use Rattle.activations.proofs.SittingLemmas.{state-shows}
 use Rattle.activations.proofs.SoundLemmas.{sound-beside}
 use Rattle.activations.proofs.VacateLemmas.{sound-left}

@@ -1,38 +1,7 @@
 -- What a seat that is left leaves, once its written lines are forgotten or committed.
-use Rattle.std.specs.Prelude.{◌≡◌, refl, ℕ, ◌+◌, ◌<◌, ◌==◌, ◌&&◌, not, Bool, true, false, List, [], slice_index, is_some, Some}
-use Rattle.std.proofs.Common.{arith, ap, sym, ◌∙◌, subst}
-use Rattle.std.proofs.lemmas.Bool.{both_ways, eqb-true, eqb-false}
-use Rattle.line_geometry.specs.Directory.{byte_count}
-use Rattle.line_geometry.specs.Lines.{line_of}
-use Rattle.line_geometry.proofs.Within.{line-bytes-pos}
-use Rattle.lock_rules.specs.Sets.{has}
-use Rattle.lock_rules.proofs.Sets.{has-filter}
-use Rattle.flat_machine.specs.declared.machine.Plain.{Plain}
-use Rattle.flat_machine.specs.After.{after}
-use Rattle.flat_machine.specs.Row.{Commit, row}
-use Rattle.frame_pool.specs.declared.model.Pool.{Pool}
-use Rattle.frame_pool.specs.Pool.{emptied}
-use Rattle.frame_pool.specs.Seen.{IsSeen}
-use Rattle.frame_pool.proofs.SeenLemmas.{Stays}
-use Rattle.desk.specs.Desk.{Entry}
-use Rattle.desk.specs.Instruction.{no_counts}
-use Rattle.desk_law.specs.Beside.{over_all}
-use Rattle.desk_law.specs.Consistent.{AreConsistent, due_to}
-use Rattle.desk_law.proofs.LaidPlaces.{place-kept}
-use Rattle.desk_law.proofs.Seats.{seat-told}
-use Rattle.desk_law.proofs.Waiting.{among-any}
-use Rattle.seats.proofs.Kept.{taken-below}
-use Rattle.storage_unit.specs.declared.model.Reach.{Reach}
-use Rattle.storage_unit.specs.Bytes.{IsClean, is_line_marked, is_marked, bytes_over, private_bytes}
-use Rattle.storage_unit.specs.Laws.{Fits, Keeps}
+use Rattle.activations.proofs.Common.{◌≡◌, refl, ℕ, ◌+◌, ◌<◌, ◌==◌, ◌&&◌, not, Bool, true, false, List, [], slice_index, is_some, Some, arith, ap, sym, ◌∙◌, subst, both_ways, eqb-true, eqb-false, byte_count, line_of, line-bytes-pos, has, has-filter, Plain, after, Commit, row, Pool, emptied, IsSeen, Stays, Entry, no_counts, over_all, AreConsistent, due_to, place-kept, seat-told, among-any, taken-below, Reach, IsClean, is_line_marked, is_marked, bytes_over, private_bytes, Fits, Keeps, emptied-frame, emptied-stays, Activity, program_in, entry_in, entries, store_over, shown, HasUndone, HasSettled, WereRolled, IsRestarted, IsDeserted, IsSound, IsKept, Follows, rolled, vacated, with_pool, RollsBack, Commits}
 use Rattle.storage_unit.proofs.CommitIsUnseen.{commit-is-unseen}
 use Rattle.storage_unit.proofs.EmptyKeeps.{empty-keeps}
-use Rattle.storage_unit.proofs.LeaveLemmas.{emptied-frame}
-use Rattle.storage_unit.proofs.StateLemmas.{emptied-stays}
-use Rattle.activations.specs.Activity.{Activity, program_in, entry_in, entries, store_over, shown}
-use Rattle.activations.specs.Ends.{HasUndone, HasSettled, WereRolled, IsRestarted, IsDeserted}
-use Rattle.activations.specs.Follows.{IsSound, IsKept, Follows}
-use Rattle.activations.specs.Steps.{rolled, vacated, with_pool, RollsBack, Commits}
 use Rattle.activations.proofs.BringLemmas.{none-has}
 use Rattle.activations.proofs.CommitLemmas.{ends, wrote-seen, commits-here}
 use Rattle.activations.proofs.EndLemmas.{sound-pool, sound-rolled, rolled-more}

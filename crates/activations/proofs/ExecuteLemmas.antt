@@ -1,24 +1,6 @@
 -- An attempt in a seat that is selected.
-use Rattle.std.specs.Prelude.{◌≡◌, refl, ℕ, ◌<◌, ◌≤◌, ◌==◌, Bool, true, false, List, [], ◌∷◌, ◌++◌, length, replicate, slice_set, slice_index_or}
-use Rattle.std.proofs.Common.{arith, ap, sym, ◌∙◌, subst, length-append}
-use Rattle.std.proofs.lemmas.Bool.{eqb-true}
-use Rattle.std.proofs.lemmas.List.{length-set, length-replicate, set-get_or, get_or_default}
-use Rattle.lock_rules.specs.Sets.{has}
-use Rattle.line_geometry.specs.Directory.{byte_count}
+use Rattle.activations.proofs.Common.{◌≡◌, refl, ℕ, ◌<◌, ◌≤◌, ◌==◌, Bool, true, false, List, [], ◌∷◌, ◌++◌, length, replicate, slice_set, slice_index_or, arith, ap, sym, ◌∙◌, subst, length-append, eqb-true, length-set, length-replicate, set-get_or, get_or_default, has, byte_count, Cpu, IsOfFewBytes, IsClean, Reach, registers_of_program, private_segment, HasWindows, GoesOpen, IsRow, GivesRows, ChangesBytes, StaysClean, LeavesSeats, plain_over, taken-below, Live, Activity, live_in, program_in, nothing_runs, IsSetUp, IsSound, executed, HasExecuted, IsSelected, TookEffect, WasAttempted, printed_after, attempted}
 use Rattle.romp_cpu.specs.declared.cpu.Attempt.{Attempt}
-use Rattle.romp_cpu.specs.declared.cpu.Cpu.{Cpu}
-use Rattle.romp_cpu.specs.Attempts.{IsOfFewBytes}
-use Rattle.storage_unit.specs.Bytes.{IsClean}
-use Rattle.storage_unit.specs.declared.model.Reach.{Reach}
-use Rattle.romp_cpu.specs.Segments.{registers_of_program}
-use Rattle.storage_unit.specs.Places.{private_segment}
-use Rattle.storage_unit.specs.Rows.{HasWindows, GoesOpen, IsRow, GivesRows, ChangesBytes, StaysClean, LeavesSeats, plain_over}
-use Rattle.seats.proofs.Kept.{taken-below}
-use Rattle.activations.specs.declared.live.Live.{Live}
-use Rattle.activations.specs.Activity.{Activity, live_in, program_in, nothing_runs}
-use Rattle.activations.specs.Follows.{IsSetUp, IsSound}
-use Rattle.activations.specs.Steps.{executed, HasExecuted}
-use Rattle.activations.specs.Attempted.{IsSelected, TookEffect, WasAttempted, printed_after, attempted}
 use Rattle.activations.proofs.SittingLemmas.{live-there, live-other}
 
 module _ (a : Activity) (seat : ℕ) (sound : IsSound a) (taken : has a.seating.taken seat ≡ true) where

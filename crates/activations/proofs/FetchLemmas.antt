@@ -1,22 +1,5 @@
 -- Pages of a touch that came in, one after the other, or that broke off.
-use Rattle.std.specs.Prelude.{◌≡◌, refl, ℕ, ◌+◌, ◌<◌, ◌≤◌, ◌==◌, ◌||◌, if◌then◌else◌, Bool, true, false, List, [], ◌∷◌, Option, Some, None, option_to_list, Result, Ok, Err, OnErr}
-use Rattle.std.proofs.Common.{arith, ap, sym, ◌∙◌, inl, inr}
-use Rattle.std.proofs.lemmas.Bool.{eqb-true, eq-eqb, ne_eqb, or_cases, or_left}
-use Rattle.lock_rules.specs.Resident.{brought}
-use Rattle.lock_rules.specs.Sets.{has}
-use Rattle.lock_rules.proofs.Sets.{has_right}
-use Rattle.frame_pool.specs.declared.model.Pool.{Pool}
-use Rattle.line_geometry.specs.Directory.{Layout}
-use Rattle.outside.specs.declared.world.Outside.{Ghosts}
-use Rattle.outside.specs.Runs.{OnlyAsks, FewerLater}
-use Rattle.restart.specs.Kept.{KeptStore}
-use Rattle.storage_unit.specs.Bytes.{IsClean}
-use Rattle.storage_unit.specs.Laws.{Keeps}
-use Rattle.desk.specs.Instruction.{Word, Fine, ReadFailed, Fetching, Fetched, Broken, can't_be_read, fetches}
-use Rattle.activations.specs.Activity.{Activity}
-use Rattle.activations.specs.Fetching.{IsStoreOf, IsIn, IsUnread, IsBrokenOff}
-use Rattle.activations.specs.Serves.{IsFetched}
-use Rattle.activations.specs.Steps.{IsMoved}
+use Rattle.activations.proofs.Common.{◌≡◌, refl, ℕ, ◌+◌, ◌<◌, ◌≤◌, ◌==◌, ◌||◌, if◌then◌else◌, Bool, true, false, List, [], ◌∷◌, Option, Some, None, option_to_list, Result, Ok, Err, OnErr, arith, ap, sym, ◌∙◌, inl, inr, eqb-true, eq-eqb, ne_eqb, or_cases, or_left, brought, has, has_right, Pool, Layout, Ghosts, OnlyAsks, FewerLater, KeptStore, IsClean, Keeps, Word, Fine, ReadFailed, Fetching, Fetched, Broken, can't_be_read, fetches, Activity, IsStoreOf, IsIn, IsUnread, IsBrokenOff, IsFetched, IsMoved}
 use Rattle.activations.proofs.BringLemmas.{store-on, keeps-then}
 use Rattle.activations.proofs.PoolLemmas.{brought-one, brought-first, brought-second}
 

@@ -1,58 +1,8 @@
 -- What is asked for is got: the pages come in once more, and the row is served; or one can't be read.
-use Rattle.std.specs.Prelude.{◌≡◌, refl, ℕ, ◌+◌, ◌<◌, ◌%◌, ◌==◌, if◌then◌else◌, not, Bool, true, false, List, [], ◌∷◌, ◌++◌, filter, length, map, slice_index_or, Result, Ok, Err, OnOk, IfErr}
-use Rattle.std.specs.List.{list_any}
-use Rattle.std.proofs.Common.{arith, ap, sym, ◌∙◌, subst, inl, inr, set-set}
-use Rattle.std.proofs.lemmas.Bool.{both_ways, eqb-true, ne_eqb, or_cases, or_left}
-use Rattle.std.proofs.lemmas.Bool.Decides.{nat_tests}
-use Rattle.std.proofs.lemmas.List.Elements.{All-head, All-tail}
-use Rattle.line_geometry.specs.Directory.{is_fine_page}
-use Rattle.line_geometry.specs.FlatStore.{FlatStore}
-use Rattle.lock_rules.specs.Sets.{has}
-use Rattle.lock_rules.specs.Lines.{Lines, both, page_of_line, pages_of, with_whole_pages}
-use Rattle.lock_rules.specs.Resident.{taken_out}
-use Rattle.lock_rules.proofs.Sets.{has-append, has_right}
-use Rattle.line_locks.specs.declared.request.Want.{Want}
-use Rattle.line_locks.specs.Flat.{lines_wanted}
-use Rattle.line_locks.specs.Held.{AreWithin, with_wants}
-use Rattle.line_locks.specs.Holding.{no_lines_of, of_seat}
-use Rattle.lockbit_rules.specs.declared.Authority.{Authority}
-use Rattle.flat_machine.specs.declared.machine.Plain.{Plain}
-use Rattle.flat_machine.specs.Row.{On}
+use Rattle.activations.proofs.Common.{◌≡◌, refl, ℕ, ◌+◌, ◌<◌, ◌%◌, ◌==◌, if◌then◌else◌, not, Bool, true, false, List, [], ◌∷◌, ◌++◌, filter, length, map, slice_index_or, Result, Ok, Err, OnOk, IfErr, list_any, arith, ap, sym, ◌∙◌, subst, inl, inr, set-set, both_ways, eqb-true, ne_eqb, or_cases, or_left, nat_tests, All-head, All-tail, is_fine_page, FlatStore, has, Lines, both, page_of_line, pages_of, with_whole_pages, taken_out, has-append, has_right, Want, lines_wanted, AreWithin, with_wants, no_lines_of, of_seat, Authority, Plain, On, Pool, Ghosts, KeptStore, TurnEnd, Desk, Entry, rolled_back, wanted, Word, ReadFailed, Fine, Counts, Attempt, Turning, Over, Disk, Fetched, Broken, fetches, goes_on, locks_with, touched_pages, with_grants, AreAlike, owners_told, gone_on, IsAmong, AreConsistent, due_to, IsOrderly, granted-rolled, new-among, one-entry, replaced, replaced-among, due-more, grants-held, row-goes-on, touched_of, seat-told, resident-consistent, any-among, Seating, sitter, left, IsClean, is_line_marked, Touch, Activity, entry_in, entries, store_over, desk_over, authority_told, number_under, authority_under, locks_in, HasUndone, IsBrokenOff, IsStoreOf, HasBrokenOff, IsSound, IsKept, IsServed, Serves, IsFetched, AreGranted, IsFree, locked, with_entries, KeepsParts, rolled, with_pool, wrote, AreWanted, page_if, pages_picked, pages_wanted, wants_of, with_whole_page, HasBroken, HasEnded}
 use Rattle.flat_machine.specs.Agreement.{all_of}
-use Rattle.frame_pool.specs.declared.model.Pool.{Pool}
-use Rattle.outside.specs.declared.world.Outside.{Ghosts}
-use Rattle.restart.specs.Kept.{KeptStore}
-use Rattle.desk.specs.declared.answers.TurnEnd.{TurnEnd}
 use Rattle.desk.specs.declared.answers.TurnEnd.TheVariants as end
-use Rattle.desk.specs.Desk.{Desk, Entry, rolled_back}
 use Rattle.desk.specs.Desk as desk
-use Rattle.desk.specs.Holdings.{wanted}
-use Rattle.desk.specs.Instruction.{Word, ReadFailed, Fine, Counts, Attempt, Turning, Over, Disk, Fetched, Broken, fetches, goes_on, locks_with, touched_pages, with_grants}
-use Rattle.desk_law.specs.Beside.{AreAlike, owners_told}
-use Rattle.desk_law.specs.Changes.{gone_on}
-use Rattle.desk_law.specs.Consistent.{IsAmong, AreConsistent, due_to}
-use Rattle.desk_law.specs.Orderly.{IsOrderly}
-use Rattle.desk_law.proofs.Endings.{granted-rolled}
-use Rattle.desk_law.proofs.Entries.{new-among, one-entry, replaced, replaced-among}
-use Rattle.desk_law.proofs.GoesOn.{due-more, grants-held, row-goes-on}
-use Rattle.desk_law.specs.UnderWay.{touched_of}
-use Rattle.desk_law.proofs.Seats.{seat-told}
-use Rattle.desk_law.proofs.TurnsStay.{resident-consistent}
-use Rattle.desk_law.proofs.Waiting.{any-among}
-use Rattle.seats.specs.Seating.{Seating, sitter, left}
-use Rattle.storage_unit.specs.Bytes.{IsClean, is_line_marked}
-use Rattle.activations.specs.declared.touch.Touch.{Touch}
-use Rattle.activations.specs.Activity.{Activity, entry_in, entries, store_over, desk_over, authority_told, number_under, authority_under, locks_in}
-use Rattle.activations.specs.Ends.{HasUndone}
-use Rattle.activations.specs.Fetching.{IsBrokenOff, IsStoreOf, HasBrokenOff}
-use Rattle.activations.specs.Follows.{IsSound, IsKept}
-use Rattle.activations.specs.Instructed.{IsServed, Serves}
-use Rattle.activations.specs.Serves.{IsFetched}
-use Rattle.activations.specs.Serving.{AreGranted, IsFree, locked, with_entries}
-use Rattle.activations.specs.Kept.{KeepsParts}
-use Rattle.activations.specs.Steps.{rolled, with_pool, wrote}
-use Rattle.activations.specs.Touched.{AreWanted, page_if, pages_picked, pages_wanted, wants_of, with_whole_page}
-use Rattle.activations.specs.Turning.{HasBroken, HasEnded}
 use Rattle.activations.proofs.ContestLemmas.{orderly-other}
 use Rattle.activations.proofs.EndLemmas.{sound-pool}
 use Rattle.activations.proofs.KeptLemmas.{keeps-locked, keeps-rolled}

@@ -1,23 +1,6 @@
 -- The row whose access was served: it takes effect.
-use Rattle.std.specs.Prelude.{◌≡◌, refl, ℕ, ◌+◌, ◌<◌, ◌≤◌, ◌==◌, ◌⊎◌, Bool, true, false, List, None}
-use Rattle.std.proofs.Common.{arith, ap, sym, ◌∙◌, subst, inl, inr}
-use Rattle.std.proofs.lemmas.Bool.{eqb-true}
-use Rattle.lock_rules.specs.Sets.{has}
-use Rattle.flat_machine.specs.Row.{Commit, Check}
+use Rattle.activations.proofs.Common.{◌≡◌, refl, ℕ, ◌+◌, ◌<◌, ◌≤◌, ◌==◌, ◌⊎◌, Bool, true, false, List, None, arith, ap, sym, ◌∙◌, subst, inl, inr, eqb-true, has, Commit, Check, Word, Counts, Turning, Want, Authority, Seat, sitter, went_on, taken-below, Activity, live_in, TookEffect, WasAttempted, CameTo, IsSound, GoesUncounted, IsServed, AreRowsWithin, KeepsParts, AreLowered, pages_lowered, with_entries, counted}
 use Rattle.romp_cpu.specs.declared.cpu.Attempt.{Attempt}
-use Rattle.desk.specs.Instruction.{Word, Counts, Turning}
-use Rattle.line_locks.specs.declared.request.Want.{Want}
-use Rattle.lockbit_rules.specs.declared.Authority.{Authority}
-use Rattle.seats.specs.declared.seat.Seat.{Seat}
-use Rattle.seats.specs.Seating.{sitter, went_on}
-use Rattle.seats.proofs.Kept.{taken-below}
-use Rattle.activations.specs.Activity.{Activity, live_in}
-use Rattle.activations.specs.Attempted.{TookEffect, WasAttempted, CameTo}
-use Rattle.activations.specs.Follows.{IsSound}
-use Rattle.activations.specs.Instructed.{GoesUncounted, IsServed}
-use Rattle.activations.specs.Kept.{AreRowsWithin, KeepsParts}
-use Rattle.activations.specs.Serving.{AreLowered, pages_lowered, with_entries}
-use Rattle.activations.specs.Steps.{counted}
 use Rattle.activations.proofs.SittingLemmas.{sitter-there, sitter-other}
 
 -- rows that are counted, and nothing else

@@ -1,31 +1,8 @@
 -- Pages that are granted, and lines that are open.
-use Rattle.std.specs.Prelude.{◌≡◌, refl, ℕ, zero, suc, ◌+◌, ◌*◌, ◌%◌, ◌<◌, ◌≤◌, ◌==◌, not, if◌then◌else◌, Bool, true, false, List, [], ◌∷◌, filter, length, map, slice_index_or, slice_set}
-use Rattle.std.specs.List.{range_with_len}
-use Rattle.std.proofs.Common.{arith, ap, sym, ◌∙◌, get_or-set_same, get_or-set_other}
-use Rattle.std.proofs.lemmas.Bool.{eqb-false}
-use Rattle.std.proofs.lemmas.Bool.Decides.{nat_tests}
-use Rattle.std.proofs.lemmas.List.{length-set}
-use Rattle.line_geometry.specs.Directory.{is_fine_page}
-use Rattle.line_geometry.specs.LineSets.{passing, IsOfPage}
-use Rattle.lock_rules.specs.Sets.{has}
-use Rattle.lock_rules.specs.Lines.{page_of_line, within_page, is_whole_page}
-use Rattle.line_locks.specs.Flat.{flat_lines, IsFlat}
-use Rattle.line_locks.specs.Holding.{of_seat, held_at}
-use Rattle.lockbit_rules.specs.declared.Authority.{Authority}
+use Rattle.activations.proofs.Common.{◌≡◌, refl, ℕ, zero, suc, ◌+◌, ◌*◌, ◌%◌, ◌<◌, ◌≤◌, ◌==◌, not, if◌then◌else◌, Bool, true, false, List, [], ◌∷◌, filter, length, map, slice_index_or, slice_set, range_with_len, arith, ap, sym, ◌∙◌, get_or-set_same, get_or-set_other, eqb-false, nat_tests, length-set, is_fine_page, passing, IsOfPage, has, page_of_line, within_page, is_whole_page, flat_lines, IsFlat, of_seat, held_at, Authority, unowned, authority_by, fine_authority_by, entry_given, entry_to_read, IsThere, Ascend, permitted-told, sitter, IsOpenLine, Activity, authority_of, authority_at, authority_under, number_under, entries, desk_over, locks_in, IsSound}
 use Rattle.lockbit_rules.specs.Entries.{Entry, entry_of, lets}
 use Rattle.lockbit_rules.specs.Entries as bits
-use Rattle.inverted_table.specs.Placed.{unowned}
-use Rattle.desk.specs.Desk.{nobody}
 use Rattle.desk.specs.Desk as desk
-use Rattle.desk.specs.Instruction.{authority_by, fine_authority_by}
-use Rattle.activations.specs.Serving.{entry_given, entry_to_read}
-use Rattle.desk_law.specs.Beside.{IsThere}
-use Rattle.desk_law.specs.Consistent.{Ascend}
-use Rattle.desk_law.proofs.Identifiers.{permitted-told}
-use Rattle.seats.specs.Seating.{sitter}
-use Rattle.storage_unit.specs.Rows.{IsOpenLine}
-use Rattle.activations.specs.Activity.{Activity, authority_of, authority_at, authority_under, number_under, entries, desk_over, locks_in}
-use Rattle.activations.specs.Follows.{IsSound}
 use Rattle.activations.proofs.HoldingLemmas.{held-flat}
 use Rattle.activations.proofs.TableLemmas.{stands-for, permits-flat}
 use Rattle.activations.proofs.VacateLemmas.{map-range}

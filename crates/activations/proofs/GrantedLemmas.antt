@@ -1,48 +1,6 @@
 -- Who took what he asked for is granted it as on the desk: his lines are open then, and his next row isn't refused.
-use Rattle.std.specs.Prelude.{◌≡◌, refl, ℕ, zero, suc, ◌+◌, ◌-◌, ◌<◌, ◌==◌, ◌&&◌, not, if◌then◌else◌, Bool, true, false, List, [], ◌∷◌, ◌++◌, length, filter, slice_index_or, Some}
-use Rattle.std.proofs.Common.{arith, ap, sym, ◌∙◌, subst, inl, inr}
-use Rattle.std.proofs.lemmas.Bool.{eqb-true, or_cases}
-use Rattle.std.proofs.lemmas.List.Elements.{All-head, All-tail}
-use Rattle.line_geometry.specs.FlatStore.{FlatStore}
-use Rattle.lock_rules.specs.Sets.{has}
-use Rattle.lock_rules.specs.Lines.{Lines, both, page_of_line, pages_of, with_whole_pages}
-use Rattle.line_locks.specs.declared.request.Want.{Want}
-use Rattle.line_locks.specs.Flat.{lines_wanted}
-use Rattle.line_locks.specs.Held.{AreWithin}
-use Rattle.line_locks.specs.Holding.{of_seat}
-use Rattle.lockbit_rules.specs.declared.Authority.{Authority}
-use Rattle.flat_machine.specs.declared.machine.Plain.{Plain}
-use Rattle.flat_machine.specs.Row.{On, row}
-use Rattle.flat_machine.specs.After.{after}
-use Rattle.flat_machine.specs.Touched.{touched}
-use Rattle.frame_pool.specs.declared.model.Pool.{Pool}
-use Rattle.romp_cpu.specs.declared.storage.Access.{Access}
-use Rattle.desk.specs.Desk.{Desk, Entry, nobody}
-use Rattle.desk.specs.Instruction.{Word, Counts, Attempt, Turning, granted, lowered, locks_with, touched_pages, with_grants}
-use Rattle.line_geometry.specs.Directory.{page_count, is_fine_page}
-use Rattle.desk_law.specs.Beside.{AreAlike, AreThere, IsThere, IsState, over_all, owners_told}
-use Rattle.desk_law.specs.Changes.{row_done}
-use Rattle.desk_law.specs.Consistent.{due_to, permitted}
-use Rattle.desk_law.specs.Orderly.{IsOrderly}
-use Rattle.desk_law.proofs.AttemptsOnCurrent.{wanted-is}
-use Rattle.desk_law.proofs.Entries.{one-entry}
-use Rattle.desk_law.proofs.GoesOn.{grants-held, row-goes-on}
-use Rattle.desk_law.specs.UnderWay.{touched_of}
-use Rattle.desk_law.proofs.Seats.{seat-told}
-use Rattle.desk_law.proofs.ServedEffect.{got, served-there}
+use Rattle.activations.proofs.Common.{◌≡◌, refl, ℕ, zero, suc, ◌+◌, ◌-◌, ◌<◌, ◌==◌, ◌&&◌, not, if◌then◌else◌, Bool, true, false, List, [], ◌∷◌, ◌++◌, length, filter, slice_index_or, Some, arith, ap, sym, ◌∙◌, subst, inl, inr, eqb-true, or_cases, All-head, All-tail, FlatStore, has, Lines, both, page_of_line, pages_of, with_whole_pages, Want, lines_wanted, AreWithin, of_seat, Authority, Plain, On, row, after, touched, Pool, Access, Desk, Entry, nobody, Word, Counts, Attempt, Turning, granted, lowered, locks_with, touched_pages, with_grants, page_count, is_fine_page, AreAlike, AreThere, IsThere, IsState, over_all, owners_told, row_done, due_to, permitted, IsOrderly, wanted-is, one-entry, grants-held, row-goes-on, touched_of, seat-told, got, served-there, resident-granted, sitter, taken-below, long-seat, private_bytes, IsOpen, IsOpenLine, IsShutOut, Activity, live_in, program_in, entry_in, entries, store_over, desk_over, authority_under, number_under, locks_in, state_in, shown, plain_in, IsShut, IsSound, IsFetched, AreGranted, AreLowered, IsFree, is_lowered, pages_lowered, locked, with_pool, AreWanted, pages_wanted}
 use Rattle.desk_law.proofs.SharedBytes.{RunsOn, row-on-current}
-use Rattle.desk_law.proofs.TurnsStay.{resident-granted}
-use Rattle.seats.specs.Seating.{sitter}
-use Rattle.seats.proofs.Kept.{taken-below, long-seat}
-use Rattle.storage_unit.specs.Bytes.{private_bytes}
-use Rattle.storage_unit.specs.Rows.{IsOpen, IsOpenLine, IsShutOut}
-use Rattle.activations.specs.Activity.{Activity, live_in, program_in, entry_in, entries, store_over, desk_over, authority_under, number_under, locks_in, state_in, shown}
-use Rattle.activations.specs.Attempted.{plain_in, IsShut}
-use Rattle.activations.specs.Follows.{IsSound}
-use Rattle.activations.specs.Serves.{IsFetched}
-use Rattle.activations.specs.Serving.{AreGranted, AreLowered, IsFree, is_lowered, pages_lowered, locked}
-use Rattle.activations.specs.Steps.{with_pool}
-use Rattle.activations.specs.Touched.{AreWanted, pages_wanted}
 use Rattle.activations.proofs.EndLemmas.{sound-pool}
 use Rattle.activations.proofs.GrantLemmas.{opened}
 use Rattle.activations.proofs.GrantingLemmas.{within-whole}

@@ -1,27 +1,7 @@
 -- Locks that are taken and pages that are granted, one after another: what is left is sound.
-use Rattle.std.specs.Prelude.{◌≡◌, refl, ℕ, zero, suc, ◌+◌, ◌<◌, ◌==◌, if◌then◌else◌, Bool, true, false, List, [], ◌∷◌, ◌++◌, length, map, slice_index_or, slice_set}
-use Rattle.std.proofs.Common.{ap, sym, ◌∙◌, subst, inr}
-use Rattle.std.proofs.lemmas.Bool.{eqb-true, eq-eqb, or_left, or_right}
-use Rattle.std.proofs.lemmas.List.{length-set}
-use Rattle.std.proofs.lemmas.List.Elements.{All-cons, All-head, All-tail}
-use Rattle.line_geometry.specs.Directory.{Layout, is_fine_page}
-use Rattle.line_geometry.specs.LineSets.{IsOfPage, between, union}
-use Rattle.line_geometry.proofs.LineSetLemmas.{of_page-where}
-use Rattle.lock_rules.specs.Sets.{has}
-use Rattle.line_locks.specs.declared.request.Want.{Want}
-use Rattle.line_locks.specs.Held.{AreWithin, of_page, together, with_want, with_wants}
+use Rattle.activations.proofs.Common.{◌≡◌, refl, ℕ, zero, suc, ◌+◌, ◌<◌, ◌==◌, if◌then◌else◌, Bool, true, false, List, [], ◌∷◌, ◌++◌, length, map, slice_index_or, slice_set, ap, sym, ◌∙◌, subst, inr, eqb-true, eq-eqb, or_left, or_right, length-set, All-cons, All-head, All-tail, Layout, is_fine_page, IsOfPage, between, union, of_page-where, has, Want, AreWithin, of_page, together, with_want, with_wants, Authority, is_whole_page, unowned, Seating, took, taken-below, kept-took, same-with, other-with, Touch, Activity, AreOfPages, IsIdentified, IsSound, AreSet, AreGranted, AreLowered, entry_given, entry_to_read, locked, with_entries, each_refused, page_if, pages_picked, pages_refused, pages_wanted, refuses_want, stores_into, wants_of, with_whole_page}
 use Rattle.line_locks.specs.Holding.{of_seat, held_at, taken as holding_more}
-use Rattle.lockbit_rules.specs.declared.Authority.{Authority}
 use Rattle.lockbit_rules.specs.Entries.{Entry, granted, granted_fine}
-use Rattle.lock_rules.specs.Lines.{is_whole_page}
-use Rattle.inverted_table.specs.Placed.{unowned}
-use Rattle.seats.specs.Seating.{Seating, took}
-use Rattle.seats.proofs.Kept.{taken-below, kept-took, same-with, other-with}
-use Rattle.activations.specs.declared.touch.Touch.{Touch}
-use Rattle.activations.specs.Activity.{Activity}
-use Rattle.activations.specs.Follows.{AreOfPages, IsIdentified, IsSound}
-use Rattle.activations.specs.Serving.{AreSet, AreGranted, AreLowered, entry_given, entry_to_read, locked, with_entries}
-use Rattle.activations.specs.Touched.{each_refused, page_if, pages_picked, pages_refused, pages_wanted, refuses_want, stores_into, wants_of, with_whole_page}
 
 -- what is set is there, or what was
 set-keeps : {A : Type 0} (P : A → Type 0) (xs : List A) (place at : ℕ) (value other : A) → P value → P (slice_index_or xs at other) → P (slice_index_or (slice_set xs place value) at other)

@@ -1,18 +1,5 @@
 -- What a seat holds page by page, as flat lines.
-use Rattle.std.specs.Prelude.{◌≡◌, ◌≢◌, refl, ℕ, zero, suc, ◌+◌, ◌*◌, ◌<◌, ◌≤◌, ◌==◌, ◌||◌, nat_lt, Bool, true, false, List, [], length}
-use Rattle.std.specs.List.{flat_map, range_with_len}
-use Rattle.std.proofs.Common.{arith, ap, sym, ◌∙◌}
-use Rattle.std.proofs.lemmas.Bool.{eqb-true, eqb-false}
-use Rattle.std.proofs.lemmas.Bool.Decides.{nat_tests}
-use Rattle.std.proofs.lemmas.List.{get_or_past}
-use Rattle.line_geometry.proofs.LineSetLemmas.{of_page-below}
-use Rattle.lock_rules.specs.Sets.{has}
-use Rattle.lock_rules.proofs.Sets.{has-append}
-use Rattle.line_locks.specs.Held.{of_page, nothing}
-use Rattle.line_locks.specs.Flat.{flat_lines, IsFlat}
-use Rattle.line_locks.proofs.FlatLemmas.{has-page, has-other_page}
-use Rattle.activations.specs.Activity.{lines_held}
-use Rattle.activations.specs.Follows.{AreOfPages}
+use Rattle.activations.proofs.Common.{◌≡◌, ◌≢◌, refl, ℕ, zero, suc, ◌+◌, ◌*◌, ◌<◌, ◌≤◌, ◌==◌, ◌||◌, nat_lt, Bool, true, false, List, [], length, flat_map, range_with_len, arith, ap, sym, ◌∙◌, eqb-true, eqb-false, nat_tests, get_or_past, of_page-below, has, has-append, of_page, nothing, flat_lines, IsFlat, has-page, has-other_page, lines_held, AreOfPages}
 
 -- lines of pages from a first on, none of which is this page
 pub flat-apart : (sets : ℕ → List ℕ) (from n page line : ℕ) → ((p x : ℕ) → has (sets p) x ≡ true → x < 16) → line < 16 → ((p : ℕ) → from ≤ p → p < from + n → page ≢ p)

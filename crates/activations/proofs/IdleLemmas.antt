@@ -1,42 +1,6 @@
 -- Nobody sits anywhere: as at first, and as after a crash.
-use Rattle.std.specs.Prelude.{◌≡◌, refl, ℕ, zero, suc, ◌+◌, ◌%◌, ◌<◌, nat_lt, if◌then◌else◌, Bool, true, false, List, [], ◌∷◌, length, map, replicate, slice_index, slice_index_or, Option, Some, None}
-use Rattle.std.specs.List.{range_with_len}
-use Rattle.std.specs.Option.{option_map_or, ForSome}
-use Rattle.std.proofs.Common.{arith, ap, sym, ◌∙◌, subst, inl, inr}
-use Rattle.std.proofs.lemmas.Bool.{both_ways}
-use Rattle.std.proofs.lemmas.Bool.Decides.{nat_tests}
-use Rattle.std.proofs.lemmas.Grind.{same_number_lists}
-use Rattle.std.proofs.lemmas.List.{get_or_past, get_or-replicate, length-replicate}
-use Rattle.std.proofs.lemmas.List.Elements.{All-nil, All-replicate}
-use Rattle.std.proofs.lemmas.List.FromFn.{get_or-map-range_with_len, length-map-range_with_len}
-use Rattle.line_geometry.specs.Directory.{Layout, byte_count, page_count}
-use Rattle.line_geometry.specs.Lines.{line_of, page_of}
-use Rattle.lock_rules.specs.Sets.{has}
-use Rattle.lock_rules.specs.Lines.{page_of_line}
-use Rattle.line_locks.specs.Held.{AreWithin}
-use Rattle.line_locks.specs.Holding.{of_seat, no_lines_of, nothing_held}
-use Rattle.lockbit_rules.specs.declared.Authority.{Authority}
-use Rattle.inverted_table.specs.Placed.{unowned}
-use Rattle.flat_machine.specs.declared.machine.Program.{Program}
-use Rattle.frame_pool.specs.declared.model.Pool.{Pool}
-use Rattle.frame_pool.specs.Pool.{frame_at}
-use Rattle.desk.specs.Desk.{Desk, Entry, nobody, opened}
+use Rattle.activations.proofs.Common.{◌≡◌, refl, ℕ, zero, suc, ◌+◌, ◌%◌, ◌<◌, nat_lt, if◌then◌else◌, Bool, true, false, List, [], ◌∷◌, length, map, replicate, slice_index, slice_index_or, Option, Some, None, range_with_len, option_map_or, ForSome, arith, ap, sym, ◌∙◌, subst, inl, inr, both_ways, nat_tests, same_number_lists, get_or_past, get_or-replicate, length-replicate, All-nil, All-replicate, get_or-map-range_with_len, length-map-range_with_len, Layout, byte_count, page_count, line_of, page_of, has, page_of_line, AreWithin, of_seat, no_lines_of, nothing_held, Authority, unowned, Program, Pool, frame_at, nobody, opened, restarted, owner_told, owners_told, IsCurrent, current-quiet, quiet-consistent, Seat, IsSeating, newcomer, nobody_sits, byte_in_frame, byte_over, is_line_marked, is_marked, Keeps, Live, Activity, authority_at, authority_of, authority_told, entry_in, number_under, store_over, desk_over, shown, idle, WereRolled, IsRestarted, IsSound, IsKept, Follows, IsIdentified, AreOfPages, IsMoved, with_pool}
 use Rattle.desk.specs.Desk as desk
-use Rattle.desk.specs.Run.{restarted}
-use Rattle.desk_law.specs.Beside.{owner_told, owners_told}
-use Rattle.desk_law.specs.Current.{IsCurrent}
-use Rattle.desk_law.proofs.CurrentSteps.{current-quiet}
-use Rattle.desk_law.proofs.Endings.{quiet-consistent}
-use Rattle.seats.specs.declared.seat.Seat.{Seat}
-use Rattle.seats.specs.Seating.{IsSeating, newcomer, nobody_sits}
-use Rattle.storage_unit.specs.Bytes.{byte_in_frame, byte_over, is_line_marked, is_marked}
-use Rattle.storage_unit.specs.Laws.{Keeps}
-use Rattle.activations.specs.declared.live.Live.{Live}
-use Rattle.activations.specs.Activity.{Activity, authority_at, authority_of, authority_told, entry_in, number_under, store_over, desk_over, shown}
-use Rattle.activations.specs.Begins.{idle}
-use Rattle.activations.specs.Ends.{WereRolled, IsRestarted}
-use Rattle.activations.specs.Follows.{IsSound, IsKept, Follows, IsIdentified, AreOfPages}
-use Rattle.activations.specs.Steps.{IsMoved, with_pool}
 use Rattle.activations.proofs.PoolLemmas.{moved-follows}
 use Rattle.activations.proofs.TableLemmas.{nobody-page}
 use Rattle.activations.proofs.VacateLemmas.{none-of-pages}

@@ -1,18 +1,5 @@
 -- One instruction of who sits in a seat: a row that takes effect, and the commit call.
-use Rattle.std.specs.Prelude.{◌≡◌, ℕ, true, List, []}
-use Rattle.std.proofs.Common.{ap, sym, ◌∙◌, subst}
-use Rattle.lock_rules.specs.Sets.{has}
-use Rattle.flat_machine.specs.declared.machine.Plain.{Plain}
-use Rattle.flat_machine.specs.Row.{Commit, row}
-use Rattle.desk.specs.Instruction.{Counts}
-use Rattle.desk_law.specs.Beside.{IsState, over_all}
-use Rattle.activations.specs.Activity.{Activity, live_in, program_in, entry_in, store_over, state_in, shown}
-use Rattle.activations.specs.Attempted.{IsSelected, TookEffect, CameTo}
-use Rattle.activations.specs.Follows.{IsSound, Follows}
-use Rattle.activations.specs.Instructed.{GoesUncounted}
-use Rattle.activations.specs.Serving.{instruction_in}
-use Rattle.activations.specs.Steps.{GoesOn}
-use Rattle.activations.specs.Turns.{IsAtCommit}
+use Rattle.activations.proofs.Common.{◌≡◌, ℕ, true, List, [], ap, sym, ◌∙◌, subst, has, Plain, Commit, row, Counts, IsState, over_all, Activity, live_in, program_in, entry_in, store_over, state_in, shown, IsSelected, TookEffect, CameTo, IsSound, Follows, GoesUncounted, instruction_in, GoesOn, IsAtCommit}
 use Rattle.activations.proofs.CommitLemmas.{ends}
 use Rattle.activations.proofs.RowLemmas.{goes-on}
 use Rattle.activations.proofs.SittingLemmas.{state-shows}

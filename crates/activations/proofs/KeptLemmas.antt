@@ -1,21 +1,5 @@
 -- What stays while those that run are served: of a rollback of another, and one after another.
-use Rattle.std.specs.Prelude.{◌≡◌, refl, ℕ, ◌+◌, ◌≤◌, ◌==◌, ◌&&◌, not, if◌then◌else◌, Bool, true, false, List, [], ◌∷◌, filter, length, None, replicate, Result, Ok, Err, OnOk}
-use Rattle.std.proofs.Common.{arith, ap, sym, ◌∙◌, subst}
-use Rattle.std.proofs.lemmas.Bool.{eqb-true, eq-eqb, both_ways}
-use Rattle.lock_rules.specs.Sets.{has}
-use Rattle.lock_rules.proofs.Sets.{has-filter}
-use Rattle.arrayvec.specs.ArrayVec.{ArrayVec}
-use Rattle.desk.specs.declared.answers.Cycle.{Cycle}
-use Rattle.frame_pool.specs.declared.model.Pool.{Pool}
-use Rattle.activations.specs.declared.tally.Tally.{Tally}
-use Rattle.activations.specs.Activity.{Activity}
-use Rattle.seats.specs.Seating.{sitter}
-use Rattle.activations.specs.Attempted.{IsSelected, TookEffect}
-use Rattle.activations.specs.Kept.{KeepsParts, StaysSeated}
-use Rattle.line_locks.specs.declared.request.Want.{Want}
-use Rattle.lockbit_rules.specs.declared.Authority.{Authority}
-use Rattle.activations.specs.Serving.{locked}
-use Rattle.activations.specs.Steps.{rolled, with_pool}
+use Rattle.activations.proofs.Common.{◌≡◌, refl, ℕ, ◌+◌, ◌≤◌, ◌==◌, ◌&&◌, not, if◌then◌else◌, Bool, true, false, List, [], ◌∷◌, filter, length, None, replicate, Result, Ok, Err, OnOk, arith, ap, sym, ◌∙◌, subst, eqb-true, eq-eqb, both_ways, has, has-filter, ArrayVec, Cycle, Pool, Tally, Activity, sitter, IsSelected, TookEffect, KeepsParts, StaysSeated, Want, Authority, locked, rolled, with_pool}
 
 -- none more are left of those but one
 no-more : (taken : List ℕ) (seat : ℕ) → length (filter (λ other. not (other == seat)) taken) ≤ length taken

@@ -1,24 +1,5 @@
 -- How many lines will have been written.
-use Rattle.std.specs.Prelude.{◌≡◌, ◌≢◌, refl, ℕ, zero, suc, ◌+◌, ◌*◌, ◌/◌, ◌%◌, ◌<◌, ◌==◌, ◌&&◌, ◌||◌, not, if◌then◌else◌, Bool, true, false, List, [], ◌∷◌, ◌++◌, All, filter, length, map}
-use Rattle.std.specs.List.{flat_map, list_any, range_with_len, sum_by}
-use Rattle.std.proofs.Common.{arith, ap, sym, ◌∙◌}
-use Rattle.std.proofs.lemmas.Bool.{eqb-true, and_parts}
-use Rattle.std.proofs.lemmas.Bool.Decides.{nat_tests}
-use Rattle.std.proofs.lemmas.List.{append-nil, length-map}
-use Rattle.std.proofs.lemmas.List.Sums.{sum_by-cons}
-use Rattle.std.proofs.lemmas.List.Elements.{All-nil, All-cons}
-use Rattle.line_geometry.specs.LineSets.{passing, IsOfPage, difference}
-use Rattle.line_geometry.proofs.LineSetLemmas.{of_page-below, of_page-where, is_in_where-below}
-use Rattle.lock_rules.specs.Sets.{has, distinct, size}
-use Rattle.lock_rules.specs.Lines.{page_of_line}
-use Rattle.lock_rules.proofs.Sets.{has-filter}
-use Rattle.lock_rules.proofs.Sizes.{size-alike, size-apart, size-append, size-counted}
-use Rattle.line_locks.specs.declared.request.Want.{Want}
-use Rattle.line_locks.specs.Held.{of_page, write_count}
-use Rattle.line_locks.specs.Flat.{flat_lines, lines_wanted}
-use Rattle.seats.specs.Waiting.{AreOfPage}
-use Rattle.activations.specs.Activity.{lines_held}
-use Rattle.activations.specs.Follows.{AreOfPages}
+use Rattle.activations.proofs.Common.{◌≡◌, ◌≢◌, refl, ℕ, zero, suc, ◌+◌, ◌*◌, ◌/◌, ◌%◌, ◌<◌, ◌==◌, ◌&&◌, ◌||◌, not, if◌then◌else◌, Bool, true, false, List, [], ◌∷◌, ◌++◌, All, filter, length, map, flat_map, list_any, range_with_len, sum_by, arith, ap, sym, ◌∙◌, eqb-true, and_parts, nat_tests, append-nil, length-map, sum_by-cons, All-nil, All-cons, passing, IsOfPage, difference, of_page-below, of_page-where, is_in_where-below, has, distinct, size, page_of_line, has-filter, size-alike, size-apart, size-append, size-counted, Want, of_page, write_count, flat_lines, lines_wanted, AreOfPage, lines_held, AreOfPages}
 use Rattle.activations.proofs.HoldingLemmas.{flat-apart, held-flat}
 use Rattle.activations.proofs.RequestLemmas.{has-flat, has-wanted}
 

@@ -1,20 +1,6 @@
 -- Pages that come in and go out, of which those that run see nothing.
-use Rattle.std.specs.Prelude.{◌≡◌, refl, ℕ, ◌%◌, ◌==◌, ◌||◌, not, nat_lt, if◌then◌else◌, Bool, true, false, List, [], ◌∷◌, ◌++◌, length, slice_index_or, Option, Some, None, option_to_list, remove, unwrap_or}
-use Rattle.std.proofs.Common.{ap, sym, ◌∙◌, subst}
-use Rattle.std.proofs.lemmas.Bool.{eqb-true, both_ways}
-use Rattle.lock_rules.specs.Sets.{has}
-use Rattle.lock_rules.specs.Lines.{page_of_line}
-use Rattle.lock_rules.specs.Resident.{brought}
-use Rattle.frame_pool.specs.declared.model.Pool.{Pool}
-use Rattle.desk_law.specs.Beside.{IsState}
-use Rattle.desk_law.specs.Current.{IsCurrent}
-use Rattle.desk_law.specs.Orderly.{IsOrderly}
+use Rattle.activations.proofs.Common.{◌≡◌, refl, ℕ, ◌%◌, ◌==◌, ◌||◌, not, nat_lt, if◌then◌else◌, Bool, true, false, List, [], ◌∷◌, ◌++◌, length, slice_index_or, Option, Some, None, option_to_list, remove, unwrap_or, ap, sym, ◌∙◌, subst, eqb-true, both_ways, has, page_of_line, brought, Pool, IsState, IsCurrent, IsOrderly, taken-below, Keeps, Activity, entry_in, entries, store_over, desk_over, state_in, IsSound, IsKept, Follows, IsMoved, with_pool}
 use Rattle.activations.proofs.PositionLemmas.{position-same}
-use Rattle.seats.proofs.Kept.{taken-below}
-use Rattle.storage_unit.specs.Laws.{Keeps}
-use Rattle.activations.specs.Activity.{Activity, entry_in, entries, store_over, desk_over, state_in}
-use Rattle.activations.specs.Follows.{IsSound, IsKept, Follows}
-use Rattle.activations.specs.Steps.{IsMoved, with_pool}
 
 -- what follows the desk follows it with other pages in its frames
 pub moved-kept : (a : Activity) (pool : Pool) (committed : List ℕ) → IsSound a → IsMoved a.reach.pool pool → Keeps a.reach.directory a.reach.pool pool committed

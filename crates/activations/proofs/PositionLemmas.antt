@@ -1,9 +1,5 @@
 -- The first of a list that passes a test.
-use Rattle.std.specs.Prelude.{◌≡◌, refl, ℕ, ◌+◌, ◌==◌, nat_lt, not, cond, Bool, true, List, [], ◌∷◌, length, position, Some, None}
-use Rattle.std.specs.List.{position_or_len}
-use Rattle.std.proofs.Common.{ap}
-use Rattle.std.proofs.lemmas.Bool.{eq-eqb, or_left, or_right}
-use Rattle.lock_rules.specs.Sets.{has}
+use Rattle.activations.proofs.Common.{◌≡◌, refl, ℕ, ◌+◌, ◌==◌, nat_lt, not, cond, Bool, true, List, [], ◌∷◌, length, position, Some, None, position_or_len, ap, eq-eqb, or_left, or_right, has}
 
 -- the first that passes is the same for tests that say the same of each
 place-same : (p q : ℕ → Bool) (xs : List ℕ) → ((x : ℕ) → has xs x ≡ true → p x ≡ q x) → position_or_len p xs ≡ position_or_len q xs

@@ -1,33 +1,6 @@
 -- An access is prepared: its pages come in, or one of them can't be read.
+use Rattle.activations.proofs.Common.{◌≡◌, refl, ℕ, ◌+◌, nat_lt, if◌then◌else◌, Bool, true, false, List, [], ◌∷◌, length, ap, sym, ◌∙◌, subst, has, lines_wanted, Want, Authority, Plain, lines_of_access, Access, Ghosts, KeptStore, Pool, IsClean, Desk, rolled_back, Word, ReadFailed, Counts, Attempt, Turning, Over, Disk, fetches, touched_pages, AreConsistent, Touch, Activity, program_in, entry_in, entries, store_over, desk_over, IsSelected, IsShut, HasUndone, IsStoreOf, IsBrokenOff, HasBrokenOff, IsSound, IsKept, Follows, IsAsked, IsPrepared, IsToServe, IsFetched, AreTouched, attempt_in, lines_with, counted_with, instruction_in, with_pool, rolled, RollsBack, AreWanted, wants_of, pages_wanted, refuses_want, each_refused, pages_refused, HasBroken}
 use mir.Val.{bool_byte}
-use Rattle.std.specs.Prelude.{◌≡◌, refl, ℕ, ◌+◌, nat_lt, if◌then◌else◌, Bool, true, false, List, [], ◌∷◌, length}
-use Rattle.std.proofs.Common.{ap, sym, ◌∙◌, subst}
-use Rattle.lock_rules.specs.Sets.{has}
-use Rattle.line_locks.specs.Flat.{lines_wanted}
-use Rattle.line_locks.specs.declared.request.Want.{Want}
-use Rattle.lockbit_rules.specs.declared.Authority.{Authority}
-use Rattle.flat_machine.specs.declared.machine.Plain.{Plain}
-use Rattle.romp_cpu.specs.Attempts.{lines_of_access}
-use Rattle.romp_cpu.specs.declared.storage.Access.{Access}
-use Rattle.outside.specs.declared.world.Outside.{Ghosts}
-use Rattle.restart.specs.Kept.{KeptStore}
-use Rattle.frame_pool.specs.declared.model.Pool.{Pool}
-use Rattle.storage_unit.specs.Bytes.{IsClean}
-use Rattle.desk.specs.Desk.{Desk, rolled_back}
-use Rattle.desk.specs.Instruction.{Word, ReadFailed, Counts, Attempt, Turning, Over, Disk, fetches, touched_pages}
-use Rattle.desk_law.specs.Consistent.{AreConsistent}
-use Rattle.activations.specs.declared.touch.Touch.{Touch}
-use Rattle.activations.specs.Activity.{Activity, program_in, entry_in, entries, store_over, desk_over}
-use Rattle.activations.specs.Attempted.{IsSelected, IsShut}
-use Rattle.activations.specs.Ends.{HasUndone}
-use Rattle.activations.specs.Fetching.{IsStoreOf, IsBrokenOff, HasBrokenOff}
-use Rattle.activations.specs.Follows.{IsSound, IsKept, Follows}
-use Rattle.activations.specs.Instructed.{IsAsked, IsPrepared}
-use Rattle.activations.specs.Serves.{IsToServe, IsFetched, AreTouched, attempt_in, lines_with, counted_with}
-use Rattle.activations.specs.Serving.{instruction_in}
-use Rattle.activations.specs.Steps.{with_pool, rolled, RollsBack}
-use Rattle.activations.specs.Touched.{AreWanted, wants_of, pages_wanted, refuses_want, each_refused, pages_refused}
-use Rattle.activations.specs.Turning.{HasBroken}
 use Rattle.activations.proofs.EndLemmas.{rolled-follows}
 use Rattle.activations.proofs.PoolLemmas.{moved-desk, moved-follows}
 use Rattle.activations.proofs.GrantingLemmas.{picked-refused}

@@ -1,14 +1,5 @@
 -- What was printed in a seat in which nobody sits is nobody's.
-use Rattle.std.specs.Prelude.{◌≡◌, refl, ℕ, ◌≤◌, ◌==◌, Bool, true, false, List, length}
-use Rattle.std.proofs.Common.{ap, sym, ◌∙◌, subst}
-use Rattle.std.proofs.lemmas.Bool.{eqb-true, both_ways}
-use Rattle.std.proofs.lemmas.List.{length-set}
-use Rattle.lock_rules.specs.Sets.{has}
-use Rattle.desk_law.specs.Beside.{IsState}
-use Rattle.activations.specs.declared.live.Live.{Live}
-use Rattle.activations.specs.Activity.{Activity, live_in, entry_in, store_over, state_for}
-use Rattle.activations.specs.Ends.{reprinted}
-use Rattle.activations.specs.Follows.{IsSound, Follows}
+use Rattle.activations.proofs.Common.{◌≡◌, refl, ℕ, ◌≤◌, ◌==◌, Bool, true, false, List, length, ap, sym, ◌∙◌, subst, eqb-true, both_ways, length-set, has, IsState, Live, Activity, live_in, entry_in, store_over, state_for, reprinted, IsSound, Follows}
 use Rattle.activations.proofs.SittingLemmas.{live-other}
 
 module _ (a : Activity) (seat : ℕ) (out : List ℕ) (free : has a.seating.taken seat ≡ false) where

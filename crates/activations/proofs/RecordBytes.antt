@@ -1,20 +1,5 @@
 -- The bytes of a line as a pool has them.
-use Rattle.std.specs.Prelude.{◌≡◌, refl, ℕ, ◌+◌, ◌-◌, ◌*◌, ◌/◌, ◌%◌, ◌<◌, ◌≤◌, if◌then◌else◌, Bool, true, List, length, drop, slice_index, slice_range, Option, Some, None}
-use Rattle.std.specs.Option.{option_map_or}
-use Rattle.std.proofs.Common.{arith, ap, sym, ◌∙◌}
-use Rattle.std.proofs.lemmas.List.{length-take-le, length-drop}
-use Rattle.line_geometry.specs.Directory.{Layout}
-use Rattle.line_geometry.specs.Lines.{page_of}
-use Rattle.line_geometry.specs.Segments.{page_bytes, line_bytes}
-use Rattle.line_geometry.specs.declared.directory.PageSize.{PageSize}
-use Rattle.frame_pool.specs.declared.model.Pool.{Pool}
-use Rattle.frame_pool.specs.Pool.{frame_at, line_shown, line_in_frame, line_kept}
-use Rattle.frame_pool.specs.Seen.{IsSeen}
-use Rattle.frame_pool.specs.Sizes.{frame_count, line_place, line_size}
-use Rattle.storage_unit.specs.Bytes.{byte_over, byte_in_frame, is_marked}
-use Rattle.storage_unit.proofs.ByteLemmas.{in-range, over-none, over-some}
-use Rattle.storage_unit.proofs.SizeLemmas.{page-of-line}
-use Rattle.activations.specs.Recorded.{line_told}
+use Rattle.activations.proofs.Common.{◌≡◌, refl, ℕ, ◌+◌, ◌-◌, ◌*◌, ◌/◌, ◌%◌, ◌<◌, ◌≤◌, if◌then◌else◌, Bool, true, List, length, drop, slice_index, slice_range, Option, Some, None, option_map_or, arith, ap, sym, ◌∙◌, length-take-le, length-drop, Layout, page_of, page_bytes, line_bytes, PageSize, Pool, frame_at, line_shown, line_in_frame, line_kept, IsSeen, frame_count, line_place, line_size, byte_over, byte_in_frame, is_marked, in-range, over-none, over-some, page-of-line, line_told}
 use Rattle.activations.proofs.SizeLemmas.{line-there, place-in-page, place-in-line, rest-of-place}
 
 -- part of a list

@@ -1,36 +1,7 @@
 -- What a record of the lines that one holds to write leaves, laid over what is committed.
-use Rattle.std.specs.Prelude.{◌≡◌, refl, ℕ, ◌+◌, ◌*◌, ◌/◌, ◌%◌, ◌<◌, ◌≤◌, ◌==◌, ◌||◌, if◌then◌else◌, Bool, true, false, List, [], ◌∷◌, length, slice_index, Some}
-use Rattle.std.proofs.Common.{arith, ap, sym, ◌∙◌}
-use Rattle.std.proofs.lemmas.Bool.{eqb-true, eqb-false, or_left, or_right, eq-eqb}
-use Rattle.std.proofs.lemmas.Grind.{same_number_lists}
-use Rattle.line_geometry.specs.Directory.{page_count}
-use Rattle.line_geometry.specs.Segments.{page_bytes, line_bytes}
-use Rattle.line_geometry.specs.declared.directory.PageSize.{PageSize}
-use Rattle.line_geometry.proofs.Within.{byte_count-pages, line-bytes-pos}
-use Rattle.lock_rules.specs.Sets.{has}
-use Rattle.owned_list.specs.Overlay.{overlaid}
-use Rattle.owned_list.proofs.Overlay.{length-overlaid}
-use Rattle.store_format.specs.Header.{entry_bytes}
-use Rattle.store_format.specs.Stands.{laid}
+use Rattle.activations.proofs.Common.{◌≡◌, refl, ℕ, ◌+◌, ◌*◌, ◌/◌, ◌%◌, ◌<◌, ◌≤◌, ◌==◌, ◌||◌, if◌then◌else◌, Bool, true, false, List, [], ◌∷◌, length, slice_index, Some, arith, ap, sym, ◌∙◌, eqb-true, eqb-false, or_left, or_right, eq-eqb, same_number_lists, page_count, page_bytes, line_bytes, PageSize, byte_count-pages, line-bytes-pos, has, overlaid, length-overlaid, entry_bytes, laid, is_line_marked, byte-of-all, Plain, after, Commit, row, FlatStore, page_of_line, Entry, no_counts, IsLaid, over_all, due_to, place-laid, place-kept, seat-told, among-any, Activity, program_in, entry_in, entries, store_over, locks_in, shown, IsSound, Follows, line_told, recorded}
 use Rattle.storage_unit.proofs.FillLemmas.{over-part, in-part}
 use Rattle.storage_unit.specs.Reached as reached
-use Rattle.storage_unit.specs.Bytes.{is_line_marked}
-use Rattle.storage_unit.proofs.ByteLemmas.{byte-of-all}
-use Rattle.flat_machine.specs.declared.machine.Plain.{Plain}
-use Rattle.flat_machine.specs.After.{after}
-use Rattle.flat_machine.specs.Row.{Commit, row}
-use Rattle.line_geometry.specs.FlatStore.{FlatStore}
-use Rattle.lock_rules.specs.Lines.{page_of_line}
-use Rattle.desk.specs.Desk.{Entry}
-use Rattle.desk.specs.Instruction.{no_counts}
-use Rattle.desk_law.specs.Beside.{IsLaid, over_all}
-use Rattle.desk_law.specs.Consistent.{due_to}
-use Rattle.desk_law.proofs.LaidPlaces.{place-laid, place-kept}
-use Rattle.desk_law.proofs.Seats.{seat-told}
-use Rattle.desk_law.proofs.Waiting.{among-any}
-use Rattle.activations.specs.Activity.{Activity, program_in, entry_in, entries, store_over, locks_in, shown}
-use Rattle.activations.specs.Follows.{IsSound, Follows}
-use Rattle.activations.specs.Recorded.{line_told, recorded}
 use Rattle.activations.proofs.CommitLemmas.{ends}
 use Rattle.activations.proofs.RecordBytes.{shown-long, told-byte}
 use Rattle.activations.proofs.SizeLemmas.{rest-of-place, place-of-line, line-of-place, line-ends}

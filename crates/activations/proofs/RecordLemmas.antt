@@ -1,21 +1,5 @@
 -- Lines that come into a record one after another.
-use Rattle.std.specs.Prelude.{◌≡◌, refl, ℕ, zero, suc, ◌+◌, ◌*◌, ◌/◌, ◌%◌, ◌<◌, ◌≤◌, ◌==◌, ◌||◌, if◌then◌else◌, Bool, true, false, List, [], ◌∷◌, ◌++◌, All, filter, length, map, slice_index_or, Option, Some, None, IsSome, unwrap_or}
-use Rattle.std.specs.List.{AllPairs, list_any, range_with_len}
-use Rattle.std.proofs.Common.{arith, ap, sym, ◌∙◌, subst, append_assoc, length-append}
-use Rattle.std.proofs.lemmas.Bool.{both_ways, eqb-true}
-use Rattle.std.proofs.lemmas.List.{append-nil}
-use Rattle.std.proofs.lemmas.List.Elements.{All-nil, All-cons, All-append}
-use Rattle.line_geometry.specs.LineSets.{passing, IsOfPage}
-use Rattle.line_geometry.specs.declared.directory.PageSize.{PageSize}
-use Rattle.lock_rules.specs.Sets.{has, distinct, size}
-use Rattle.line_locks.specs.Flat.{flat_lines}
-use Rattle.frame_pool.specs.declared.model.Pool.{Pool}
-use Rattle.frame_pool.specs.Pool.{line_shown}
-use Rattle.store_format.specs.Bank.{RecordLine}
-use Rattle.store_format.specs.Header.{entry_bytes, most_lines}
-use Rattle.redo_journal.specs.Kept.{begun_of, record_bytes_of, with_line}
-use Rattle.restart.specs.Kept.{KeptStore, with_begun}
-use Rattle.activations.specs.Recorded.{line_told, recorded, with_lines}
+use Rattle.activations.proofs.Common.{◌≡◌, refl, ℕ, zero, suc, ◌+◌, ◌*◌, ◌/◌, ◌%◌, ◌<◌, ◌≤◌, ◌==◌, ◌||◌, if◌then◌else◌, Bool, true, false, List, [], ◌∷◌, ◌++◌, All, filter, length, map, slice_index_or, Option, Some, None, IsSome, unwrap_or, AllPairs, list_any, range_with_len, arith, ap, sym, ◌∙◌, subst, append_assoc, length-append, both_ways, eqb-true, append-nil, All-nil, All-cons, All-append, passing, IsOfPage, PageSize, has, distinct, size, flat_lines, Pool, line_shown, RecordLine, entry_bytes, most_lines, begun_of, record_bytes_of, with_line, KeptStore, with_begun, line_told, recorded, with_lines}
 
 -- numbers ascend from a least one on, below a bound
 abbrev pub Climbs : (least : ℕ) → List ℕ → (bound : ℕ) → Type 0

@@ -1,28 +1,8 @@
 -- The pages whose lines come into a record.
+use Rattle.activations.proofs.Common.{flat_map, arith, ap, sym, ◌∙◌, subst, append_assoc, length-append, both_ways, eqb-true, or_right, nat_tests, append-nil, length-map, take_more, take_all, get_or_default, page_of_line, has, size, has-append, size-alike, flat_lines, holds_some, Holding, IsWhole, held_at, of_seat, Pool, RecordLine, entry_bytes, most_lines, begun_of, record_bytes_of, KeptStore, with_begun, Activity, locks_in, IsSound, line_told, recorded, with_lines, written_of, wrote}
 use Rattle.std.specs.Prelude.{◌≡◌, refl, ℕ, zero, suc, ◌+◌, ◌*◌, ◌/◌, ◌%◌, ◌<◌, ◌≤◌, ◌==◌, ◌&&◌, ◌||◌, not, Bool, true, false, List, [], ◌∷◌, ◌++◌, All, length, take, slice_index_or}
-use Rattle.std.specs.List.{flat_map}
-use Rattle.std.proofs.Common.{arith, ap, sym, ◌∙◌, subst, append_assoc, length-append}
-use Rattle.std.proofs.lemmas.Bool.{both_ways, eqb-true, or_right}
-use Rattle.std.proofs.lemmas.Bool.Decides.{nat_tests}
-use Rattle.std.proofs.lemmas.List.{append-nil, length-map, take_more, take_all, get_or_default}
 use Rattle.std.proofs.lemmas.List.Concat.{flat_map-append}
-use Rattle.lock_rules.specs.Lines.{page_of_line}
-use Rattle.lock_rules.specs.Sets.{has, size}
-use Rattle.lock_rules.proofs.Sets.{has-append}
-use Rattle.lock_rules.proofs.Sizes.{size-alike}
 use Rattle.line_locks.specs.Counted.{Ascend}
-use Rattle.line_locks.specs.Flat.{flat_lines}
-use Rattle.line_locks.specs.Held.{holds_some}
-use Rattle.line_locks.specs.Holding.{Holding, IsWhole, held_at, of_seat}
-use Rattle.frame_pool.specs.declared.model.Pool.{Pool}
-use Rattle.store_format.specs.Bank.{RecordLine}
-use Rattle.store_format.specs.Header.{entry_bytes, most_lines}
-use Rattle.redo_journal.specs.Kept.{begun_of, record_bytes_of}
-use Rattle.restart.specs.Kept.{KeptStore, with_begun}
-use Rattle.activations.specs.Activity.{Activity, locks_in}
-use Rattle.activations.specs.Follows.{IsSound}
-use Rattle.activations.specs.Recorded.{line_told, recorded, with_lines, written_of}
-use Rattle.activations.specs.Steps.{wrote}
 use Rattle.activations.proofs.HoldingLemmas.{held-flat}
 use Rattle.activations.proofs.RecordLemmas.{Climbs, climbs-from, climbs-below, climbs-on, climbs-page, climbs-flat, climbs-once, length-recorded, recorded-append, recorded-below}
 use Rattle.activations.proofs.RequestLemmas.{has-flat}

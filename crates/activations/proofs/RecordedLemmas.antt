@@ -1,27 +1,6 @@
 -- The record of a commit, from the pages whose lines came into it.
-use Rattle.std.specs.Prelude.{◌≡◌, refl, ℕ, ◌+◌, ◌*◌, ◌<◌, ◌≤◌, true, List, [], ◌++◌, All, length, map, slice_index_or}
-use Rattle.std.specs.List.{AllPairs}
-use Rattle.std.proofs.Common.{arith, ap, sym, ◌∙◌, subst}
-use Rattle.std.proofs.lemmas.List.Elements.{All-nil}
-use Rattle.line_geometry.specs.LineSets.{IsOfPage}
-use Rattle.line_locks.specs.declared.request.Want.{Want}
-use Rattle.lock_rules.specs.Sets.{has}
-use Rattle.lock_rules.proofs.Sizes.{size-alike}
-use Rattle.line_locks.specs.Held.{write_count}
-use Rattle.line_locks.specs.Holding.{of_seat}
-use Rattle.desk_law.specs.Consistent.{due_to}
-use Rattle.desk_law.proofs.Seats.{seat-told}
-use Rattle.redo_journal.specs.Kept.{begun_of, record_bytes_of}
-use Rattle.restart.specs.Kept.{KeptStore}
-use Rattle.seats.proofs.Ascending.{all-has}
-use Rattle.seats.proofs.Kept.{taken-below}
+use Rattle.activations.proofs.Common.{◌≡◌, refl, ℕ, ◌+◌, ◌*◌, ◌<◌, ◌≤◌, true, List, [], ◌++◌, All, length, map, slice_index_or, AllPairs, arith, ap, sym, ◌∙◌, subst, All-nil, IsOfPage, Want, has, size-alike, write_count, of_seat, due_to, seat-told, begun_of, record_bytes_of, KeptStore, all-has, taken-below, RecordLine, laid, Activity, entry_in, store_over, locks_in, IsSound, Follows, IsRecordOf, LeavesCommitted, HasWritten, line_told, recorded, written_of, lines_with}
 use Rattle.storage_unit.specs.Reached as reached
-use Rattle.store_format.specs.Bank.{RecordLine}
-use Rattle.store_format.specs.Stands.{laid}
-use Rattle.activations.specs.Activity.{Activity, entry_in, store_over, locks_in}
-use Rattle.activations.specs.Follows.{IsSound, Follows}
-use Rattle.activations.specs.Recorded.{IsRecordOf, LeavesCommitted, HasWritten, line_told, recorded, written_of}
-use Rattle.activations.specs.Serves.{lines_with}
 use Rattle.activations.proofs.LimitLemmas.{size-held, written-none}
 use Rattle.activations.proofs.RecordLaid.{leaves-committed}
 use Rattle.activations.proofs.RecordLemmas.{climbs-below, length-recorded, numbers-recorded, bytes-recorded, recorded-ascend}

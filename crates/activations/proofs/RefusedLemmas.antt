@@ -1,29 +1,7 @@
 -- The pages whose entries refuse a line that is touched.
-use Rattle.std.specs.Prelude.{◌≡◌, ◌≢◌, refl, ℕ, ◌+◌, ◌*◌, ◌/◌, ◌%◌, ◌<◌, ◌==◌, ◌&&◌, ◌||◌, not, if◌then◌else◌, Bool, true, false, List, [], ◌∷◌, All, filter, slice_index_or}
-use Rattle.std.specs.List.{list_any}
-use Rattle.std.proofs.Common.{arith, ap, sym, ◌∙◌}
-use Rattle.std.proofs.lemmas.Bool.{eqb-true, eq-eqb}
-use Rattle.std.proofs.lemmas.List.Elements.{All-nil, All-cons, All-head, All-tail}
-use Rattle.line_geometry.specs.LineSets.{IsOfPage}
-use Rattle.lock_rules.specs.Sets.{has}
-use Rattle.lock_rules.specs.Lines.{page_of_line, within_page}
-use Rattle.lock_rules.specs.Access.{permits}
-use Rattle.line_locks.specs.declared.request.Want.{Want}
-use Rattle.line_locks.specs.Flat.{flat_lines, lines_wanted}
-use Rattle.line_locks.proofs.FlatLemmas.{has-page}
-use Rattle.lockbit_rules.specs.declared.Authority.{Authority}
+use Rattle.activations.proofs.Common.{◌≡◌, ◌≢◌, refl, ℕ, ◌+◌, ◌*◌, ◌/◌, ◌%◌, ◌<◌, ◌==◌, ◌&&◌, ◌||◌, not, if◌then◌else◌, Bool, true, false, List, [], ◌∷◌, All, filter, slice_index_or, list_any, arith, ap, sym, ◌∙◌, eqb-true, eq-eqb, All-nil, All-cons, All-head, All-tail, IsOfPage, has, page_of_line, within_page, permits, Want, flat_lines, lines_wanted, has-page, Authority, unowned, nobody, Attempt, refuses, refused_pages, touched_pages, lines_within, Ascend, refused-told, sitter, AreOfPage, Activity, authority_at, authority_under, number_under, entries, desk_over, IsSound, refuses_want, pages_refused, pages_wanted, IsApart}
 use Rattle.lockbit_rules.specs.Entries.{Entry, entry_of, lets}
-use Rattle.inverted_table.specs.Placed.{unowned}
-use Rattle.desk.specs.Desk.{nobody}
 use Rattle.desk.specs.Desk as desk
-use Rattle.desk.specs.Instruction.{Attempt, refuses, refused_pages, touched_pages, lines_within}
-use Rattle.desk_law.specs.Consistent.{Ascend}
-use Rattle.desk_law.proofs.Identifiers.{refused-told}
-use Rattle.seats.specs.Seating.{sitter}
-use Rattle.seats.specs.Waiting.{AreOfPage}
-use Rattle.activations.specs.Activity.{Activity, authority_at, authority_under, number_under, entries, desk_over}
-use Rattle.activations.specs.Follows.{IsSound}
-use Rattle.activations.specs.Touched.{refuses_want, pages_refused, pages_wanted, IsApart}
 use Rattle.activations.proofs.GrantLemmas.{flat-within}
 use Rattle.activations.proofs.RequestLemmas.{has-wanted}
 use Rattle.activations.proofs.TableLemmas.{under-page, stands-for}

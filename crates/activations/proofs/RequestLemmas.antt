@@ -1,24 +1,5 @@
 -- The lines that an access touches and what it asks for, page by page and as flat lines.
-use Rattle.std.specs.Prelude.{◌≡◌, refl, ℕ, ◌+◌, ◌*◌, ◌/◌, ◌%◌, ◌<◌, ◌==◌, ◌&&◌, ◌||◌, not, nat_le, if◌then◌else◌, Bool, true, false, List, [], ◌∷◌, All, length, map}
-use Rattle.std.specs.List.{flat_map, list_any}
-use Rattle.std.proofs.Common.{arith, ap, sym, ◌∙◌}
-use Rattle.std.proofs.lemmas.Bool.{eqb-true, eq-eqb, both_ways, or_left, or_right}
-use Rattle.std.proofs.lemmas.Bool.Decides.{nat_tests}
-use Rattle.std.proofs.lemmas.List.Elements.{All-cons, All-head, All-tail}
-use Rattle.std.proofs.lemmas.List.Folds.{list_any-append}
-use Rattle.line_geometry.specs.Directory.{Layout, is_fine_page}
-use Rattle.line_geometry.specs.LineSets.{IsOfPage, between, union}
-use Rattle.line_geometry.proofs.LineSetLemmas.{of_page-below, of_page-where, is_in_where-below}
-use Rattle.lock_rules.specs.Sets.{has}
-use Rattle.lock_rules.specs.Lines.{page_of_line, pages_of, with_whole_pages}
-use Rattle.lock_rules.proofs.Sets.{has-append}
-use Rattle.lock_rules.proofs.Lines.{has-pages_of, any-or, has-whole_pages}
-use Rattle.line_locks.specs.declared.request.Want.{Want}
-use Rattle.line_locks.specs.Flat.{flat_lines, lines_wanted}
-use Rattle.line_locks.proofs.FlatLemmas.{has-page, has-other_page}
-use Rattle.desk_law.specs.Beside.{AreAlike}
-use Rattle.seats.specs.Waiting.{AreOfPage}
-use Rattle.activations.specs.Touched.{with_whole_page}
+use Rattle.activations.proofs.Common.{◌≡◌, refl, ℕ, ◌+◌, ◌*◌, ◌/◌, ◌%◌, ◌<◌, ◌==◌, ◌&&◌, ◌||◌, not, nat_le, if◌then◌else◌, Bool, true, false, List, [], ◌∷◌, All, length, map, flat_map, list_any, arith, ap, sym, ◌∙◌, eqb-true, eq-eqb, both_ways, or_left, or_right, nat_tests, All-cons, All-head, All-tail, list_any-append, Layout, is_fine_page, IsOfPage, between, union, of_page-below, of_page-where, is_in_where-below, has, page_of_line, pages_of, with_whole_pages, has-append, has-pages_of, any-or, has-whole_pages, Want, flat_lines, lines_wanted, has-page, has-other_page, AreAlike, AreOfPage, with_whole_page}
 
 -- a line is one of these of a page
 pub has-flat : (page : ℕ) (set : List ℕ) (line : ℕ) → IsOfPage set → has (flat_lines page set) line ≡ ((page == page_of_line line) && has set (line % 16))

@@ -1,35 +1,5 @@
 -- A rollback.
-use Rattle.std.specs.Prelude.{◌≡◌, refl, ℕ, ◌+◌, ◌*◌, ◌/◌, ◌%◌, ◌<◌, ◌==◌, ◌&&◌, not, if◌then◌else◌, Bool, true, false, List, length, slice_index}
-use Rattle.std.proofs.Common.{arith, ap, sym, ◌∙◌, subst}
-use Rattle.std.proofs.lemmas.Bool.{both_ways, eqb-true, eq-eqb}
-use Rattle.std.proofs.lemmas.List.FromFn.{length-map-range_with_len}
-use Rattle.line_geometry.specs.Directory.{Layout, byte_count}
-use Rattle.line_geometry.specs.FlatStore.{FlatStore}
-use Rattle.line_geometry.specs.Lines.{line_of}
-use Rattle.line_geometry.proofs.Within.{line-bytes-pos}
-use Rattle.line_geometry.proofs.LineSetLemmas.{of_page-below}
-use Rattle.lock_rules.specs.Sets.{has}
-use Rattle.lock_rules.specs.Lines.{Lines, page_of_line}
-use Rattle.lock_rules.proofs.Sets.{any-at, any-some}
-use Rattle.lock_rules.proofs.Lines.{has-pages_of}
-use Rattle.line_locks.specs.Holding.{of_seat, no_lines_of}
-use Rattle.frame_pool.specs.declared.model.Pool.{Pool}
-use Rattle.desk.specs.Desk.{Entry, rolled_back, written_pages}
-use Rattle.desk_law.specs.Beside.{AreAlike, AreMarked, IsState, IsLaid}
-use Rattle.desk_law.specs.Current.{IsCurrent}
-use Rattle.desk_law.specs.Consistent.{IsAmong, AreConsistent, due_to}
-use Rattle.desk_law.proofs.CurrentSteps.{current-rolled}
-use Rattle.desk_law.proofs.KeptTables.{both-imply}
-use Rattle.desk_law.proofs.LaidPlaces.{laid-places}
-use Rattle.desk_law.proofs.MarkedLines.{marked-end}
-use Rattle.desk_law.proofs.Seats.{seat-told}
-use Rattle.seats.proofs.Kept.{other-with}
-use Rattle.storage_unit.specs.Bytes.{IsClean, is_line_marked, byte_over, bytes_over}
-use Rattle.storage_unit.proofs.ByteLemmas.{byte-of-all}
-use Rattle.storage_unit.proofs.LeaveLemmas.{clean-shows}
-use Rattle.activations.specs.Activity.{Activity, entry_in, entries, store_over, desk_over, lines_held, locks_in, state_for, live_in, shown}
-use Rattle.activations.specs.Follows.{IsSound, IsKept}
-use Rattle.activations.specs.Steps.{wrote, is_of, WereUndone, AreAsCommitted, AreWritten, rolled, RollsBack}
+use Rattle.activations.proofs.Common.{◌≡◌, refl, ℕ, ◌+◌, ◌*◌, ◌/◌, ◌%◌, ◌<◌, ◌==◌, ◌&&◌, not, if◌then◌else◌, Bool, true, false, List, length, slice_index, arith, ap, sym, ◌∙◌, subst, both_ways, eqb-true, eq-eqb, length-map-range_with_len, Layout, byte_count, FlatStore, line_of, line-bytes-pos, of_page-below, has, Lines, page_of_line, any-at, any-some, has-pages_of, of_seat, no_lines_of, Pool, Entry, rolled_back, written_pages, AreAlike, AreMarked, IsState, IsLaid, IsCurrent, IsAmong, AreConsistent, due_to, current-rolled, both-imply, laid-places, marked-end, seat-told, other-with, IsClean, is_line_marked, byte_over, bytes_over, byte-of-all, clean-shows, Activity, entry_in, entries, store_over, desk_over, lines_held, locks_in, state_for, live_in, shown, IsSound, IsKept, wrote, is_of, WereUndone, AreAsCommitted, AreWritten, rolled, RollsBack}
 use Rattle.activations.proofs.HoldingLemmas.{held-flat}
 use Rattle.activations.proofs.TableLemmas.{stands-for}
 use Rattle.activations.proofs.UndoLemmas.{filter-alike}

@@ -1,35 +1,6 @@
 -- A row of one that takes effect, over what all see.
-use Rattle.std.specs.Prelude.{◌≡◌, ℕ, ◌+◌, ◌-◌, ◌<◌, ◌==◌, ◌||◌, true, false, List, [], Some}
-use Rattle.std.proofs.Common.{arith, ap, sym, ◌∙◌, subst}
-use Rattle.std.proofs.lemmas.Bool.{eq-eqb, both_ways}
-use Rattle.line_geometry.specs.FlatStore.{FlatStore}
-use Rattle.lock_rules.specs.Sets.{has}
-use Rattle.lock_rules.specs.Lines.{Lines}
-use Rattle.flat_machine.specs.declared.machine.Plain.{Plain}
-use Rattle.flat_machine.specs.Row.{row}
-use Rattle.flat_machine.specs.Touched.{touched}
-use Rattle.desk.specs.Desk.{Desk, Entry, with_entry}
-use Rattle.desk.specs.Holdings.{wanted}
-use Rattle.desk.specs.Instruction.{Counts, Going, no_counts}
-use Rattle.desk_law.specs.Beside.{AreAlike, IsState, over_all, owners_told, AreMarked, requested}
-use Rattle.desk_law.specs.Changes.{gone_on}
-use Rattle.desk_law.specs.Consistent.{IsAmong, due_to}
-use Rattle.desk_law.specs.Current.{IsCurrent}
-use Rattle.desk_law.specs.Orderly.{IsOrderly}
-use Rattle.desk_law.proofs.AttemptsOnCurrent.{HasGone, attempt-goes, wanted-is}
-use Rattle.desk_law.proofs.Entries.{replaced}
-use Rattle.desk_law.proofs.KeptTables.{alike-then, alike-back}
-use Rattle.desk_law.proofs.MarkedLines.{marked-row}
+use Rattle.activations.proofs.Common.{◌≡◌, ℕ, ◌+◌, ◌-◌, ◌<◌, ◌==◌, ◌||◌, true, false, List, [], Some, arith, ap, sym, ◌∙◌, subst, eq-eqb, both_ways, FlatStore, has, Lines, Plain, row, touched, Desk, Entry, with_entry, wanted, Counts, Going, no_counts, AreAlike, IsState, over_all, owners_told, AreMarked, requested, gone_on, IsAmong, due_to, IsCurrent, IsOrderly, HasGone, attempt-goes, wanted-is, replaced, alike-then, alike-back, marked-row, seat-told, told-replaced, Seat, taken-below, is_line_marked, private_bytes, plain_over, Live, Activity, live_in, program_in, entry_in, entries, store_over, desk_over, authority_under, locks_in, request_for, request_in, state_in, shown, IsSound, IsKept, Follows, counted, executed, HasExecuted, GoesOn}
 use Rattle.desk_law.proofs.RowsThere.{open-due}
-use Rattle.desk_law.proofs.Seats.{seat-told, told-replaced}
-use Rattle.seats.specs.declared.seat.Seat.{Seat}
-use Rattle.seats.proofs.Kept.{taken-below}
-use Rattle.storage_unit.specs.Bytes.{is_line_marked, private_bytes}
-use Rattle.storage_unit.specs.Rows.{plain_over}
-use Rattle.activations.specs.declared.live.Live.{Live}
-use Rattle.activations.specs.Activity.{Activity, live_in, program_in, entry_in, entries, store_over, desk_over, authority_under, locks_in, request_for, request_in, state_in, shown}
-use Rattle.activations.specs.Follows.{IsSound, IsKept, Follows}
-use Rattle.activations.specs.Steps.{counted, executed, HasExecuted, GoesOn}
 use Rattle.activations.proofs.SittingLemmas.{by_seat, state-shows, sitter-other, entry-counted, entry-other, under-counted, live-other, live-there}
 use Rattle.activations.proofs.TableLemmas.{there}
 

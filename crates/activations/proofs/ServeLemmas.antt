@@ -1,12 +1,6 @@
 -- The stages of an access that is served, one after another.
-use Rattle.std.specs.Prelude.{◌≡◌, ◌<◌, Result, Ok, Err, IfErr, IsErrAnd}
-use Rattle.std.proofs.Common.{ap, sym, ◌∙◌, subst}
-use Rattle.outside.specs.Causes.{Rose}
-use Rattle.outside.specs.declared.world.Outside.{Ghosts}
-use Rattle.desk.specs.declared.answers.TurnEnd.{TurnEnd}
+use Rattle.activations.proofs.Common.{◌≡◌, ◌<◌, Result, Ok, Err, IfErr, IsErrAnd, ap, sym, ◌∙◌, subst, Rose, Ghosts, TurnEnd, Tally, IsEndOfRows}
 use Rattle.desk.specs.declared.answers.TurnEnd.TheVariants as end
-use Rattle.activations.specs.declared.tally.Tally.{Tally}
-use Rattle.activations.specs.Instructed.{IsEndOfRows}
 
 -- what is to be said of an end that is handed on
 pub handed : {T : Type 0} (P : Result T TurnEnd → Type 0) (result : Result T TurnEnd) (end : TurnEnd) → IsErrAnd result (λ told. told ≡ end) → P (Err end) → P result

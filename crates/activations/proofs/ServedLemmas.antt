@@ -1,47 +1,6 @@
 -- A row that was served takes effect: its pages are there, its lines are locked and granted, and its second attempt went.
-use Rattle.std.specs.Prelude.{◌≡◌, refl, ℕ, ◌+◌, ◌-◌, ◌%◌, ◌<◌, ◌==◌, ◌||◌, if◌then◌else◌, Bool, true, false, List, [], map, slice_index_or, Some}
-use Rattle.std.proofs.Common.{arith, ap, sym, ◌∙◌, subst}
-use Rattle.std.proofs.lemmas.Bool.{eq-eqb, both_ways}
-use Rattle.line_geometry.specs.Directory.{is_fine_page}
-use Rattle.line_geometry.specs.FlatStore.{FlatStore}
-use Rattle.lock_rules.specs.Sets.{has}
-use Rattle.lock_rules.specs.Lines.{Lines, no_lines, page_of_line, both, with_whole_pages}
+use Rattle.activations.proofs.Common.{◌≡◌, refl, ℕ, ◌+◌, ◌-◌, ◌%◌, ◌<◌, ◌==◌, ◌||◌, if◌then◌else◌, Bool, true, false, List, [], map, slice_index_or, Some, arith, ap, sym, ◌∙◌, subst, eq-eqb, both_ways, is_fine_page, FlatStore, has, Lines, no_lines, page_of_line, both, with_whole_pages, wanted, Want, with_wants, of_seat, Authority, Plain, On, row, after, touched, Pool, Desk, Entry, Word, Counts, Attempt, Turning, Going, Fetched, Fine, fetches, touched_pages, with_grants, lowered, locks_with, AreAlike, AreMarked, IsState, over_all, requested, by_number, owners_told, gone_on, row_done, IsAmong, due_to, IsCurrent, IsOrderly, wanted-is, replaced, one-entry, due-more, marked-row, seat-told, told-replaced, at-number, got, WentOn, gets-goes, sitter, taken-below, other-with, is_line_marked, private_bytes, Keeps, plain_over, Live, Activity, live_in, program_in, entry_in, entries, store_over, desk_over, authority_under, number_under, lines_held, locks_in, request_for, request_in, state_in, shown, IsSound, IsFree, Goes, locked, with_entries, counted, executed, with_pool, IsMoved, HasExecuted, with_whole_page}
 use Rattle.flat_machine.specs.Due.{touched_within}
-use Rattle.desk.specs.Holdings.{wanted}
-use Rattle.line_locks.specs.declared.request.Want.{Want}
-use Rattle.line_locks.specs.Held.{with_wants}
-use Rattle.line_locks.specs.Holding.{of_seat}
-use Rattle.lockbit_rules.specs.declared.Authority.{Authority}
-use Rattle.flat_machine.specs.declared.machine.Plain.{Plain}
-use Rattle.flat_machine.specs.Row.{On, row}
-use Rattle.flat_machine.specs.After.{after}
-use Rattle.flat_machine.specs.Touched.{touched}
-use Rattle.frame_pool.specs.declared.model.Pool.{Pool}
-use Rattle.desk.specs.Desk.{Desk, Entry}
-use Rattle.desk.specs.Instruction.{Word, Counts, Attempt, Turning, Going, Fetched, Fine, fetches, touched_pages, with_grants, lowered, locks_with}
-use Rattle.desk_law.specs.Beside.{AreAlike, AreMarked, IsState, over_all, requested, by_number, owners_told}
-use Rattle.desk_law.specs.Changes.{gone_on, row_done}
-use Rattle.desk_law.specs.Consistent.{IsAmong, due_to}
-use Rattle.desk_law.specs.Current.{IsCurrent}
-use Rattle.desk_law.specs.Orderly.{IsOrderly}
-use Rattle.desk_law.proofs.AttemptsOnCurrent.{wanted-is}
-use Rattle.desk_law.proofs.Entries.{replaced, one-entry}
-use Rattle.desk_law.proofs.GoesOn.{due-more}
-use Rattle.desk_law.proofs.MarkedLines.{marked-row}
-use Rattle.desk_law.proofs.Seats.{seat-told, told-replaced, at-number}
-use Rattle.desk_law.proofs.ServedEffect.{got}
-use Rattle.desk_law.proofs.ServedRows.{WentOn, gets-goes}
-use Rattle.seats.specs.Seating.{sitter}
-use Rattle.seats.proofs.Kept.{taken-below, other-with}
-use Rattle.storage_unit.specs.Bytes.{is_line_marked, private_bytes}
-use Rattle.storage_unit.specs.Laws.{Keeps}
-use Rattle.storage_unit.specs.Rows.{plain_over}
-use Rattle.activations.specs.declared.live.Live.{Live}
-use Rattle.activations.specs.Activity.{Activity, live_in, program_in, entry_in, entries, store_over, desk_over, authority_under, number_under, lines_held, locks_in, request_for, request_in, state_in, shown}
-use Rattle.activations.specs.Follows.{IsSound}
-use Rattle.activations.specs.Serving.{IsFree, Goes, locked, with_entries}
-use Rattle.activations.specs.Steps.{counted, executed, with_pool, IsMoved, HasExecuted}
-use Rattle.activations.specs.Touched.{with_whole_page}
 use Rattle.activations.proofs.CommitLemmas.{told-kept}
 use Rattle.activations.proofs.ContestLemmas.{orderly-other}
 use Rattle.activations.proofs.SittingLemmas.{by_seat, sitter-other, entry-counted, entry-other, under-counted, live-other, live-there}

@@ -1,16 +1,5 @@
 -- Who sits in a seat, and what runs there, when one seat changes.
-use Rattle.std.specs.Prelude.{◌≡◌, refl, ℕ, zero, suc, ◌+◌, ◌-◌, ◌<◌, ◌==◌, Bool, true, false, List, length, slice_index_or, slice_set, None, []}
-use Rattle.std.proofs.Common.{arith, ap, sym, ◌∙◌, subst, get_or-set_same, get_or-set_other, set-set}
-use Rattle.std.proofs.lemmas.Bool.{eqb-true, eqb-false}
-use Rattle.lock_rules.specs.Sets.{has}
-use Rattle.desk_law.specs.Beside.{over_all}
-use Rattle.seats.specs.declared.seat.Seat.{Seat}
-use Rattle.seats.specs.Seating.{Seating, sitter, number_in, newcomer, with_sitter, went_on}
-use Rattle.storage_unit.specs.Bytes.{private_bytes}
-use Rattle.storage_unit.specs.Rows.{plain_over}
-use Rattle.activations.specs.declared.live.Live.{Live}
-use Rattle.activations.specs.Activity.{Activity, nothing_runs, live_in, state_in, shown, entry_for, entry_in, number_under}
-use Rattle.activations.specs.Steps.{counted}
+use Rattle.activations.proofs.Common.{◌≡◌, refl, ℕ, zero, suc, ◌+◌, ◌-◌, ◌<◌, ◌==◌, Bool, true, false, List, length, slice_index_or, slice_set, None, [], arith, ap, sym, ◌∙◌, subst, get_or-set_same, get_or-set_other, set-set, eqb-true, eqb-false, has, over_all, Seat, Seating, sitter, number_in, newcomer, with_sitter, went_on, private_bytes, plain_over, Live, Activity, nothing_runs, live_in, state_in, shown, entry_for, entry_in, number_under, counted}
 
 module _ (seating : Seating) (seat : ℕ) (who : Seat) (sixteen : length seating.sitters ≡ 16) (below : seat < 16) where
   pub sitter-there : sitter (with_sitter seating seat who) seat ≡ who

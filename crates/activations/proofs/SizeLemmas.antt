@@ -1,11 +1,6 @@
 -- Frames, pages and lines, by the size of a page.
+use Rattle.activations.proofs.Common.{PageSize, Two, Four, page_bytes, line_bytes, frame_count, line_place, entry_bytes, record_bytes}
 use Rattle.std.proofs.Common.{◌≡◌, ℕ, ◌+◌, ◌-◌, ◌*◌, ◌/◌, ◌%◌, ◌<◌, ◌≤◌, arith}
-use Rattle.line_geometry.specs.declared.directory.PageSize.{PageSize}
-use Rattle.line_geometry.specs.declared.directory.PageSize.TheVariants.{Two, Four}
-use Rattle.line_geometry.specs.Segments.{page_bytes, line_bytes}
-use Rattle.frame_pool.specs.Sizes.{frame_count, line_place}
-use Rattle.store_format.specs.Header.{entry_bytes}
-use Rattle.store_format.specs.Bank.{record_bytes}
 
 -- the private frames have the first bytes
 pub private-all : (size : PageSize) (frames bytes : ℕ) → bytes ≡ frame_count size frames * page_bytes size → 262144 ≤ bytes

@@ -1,23 +1,6 @@
 -- What leaves what is kept sound: other pages in the frames, numbers that are given, and a seat whose sitter goes on.
-use Rattle.std.specs.Prelude.{◌≡◌, ℕ, ◌<◌, ◌==◌, Bool, true, false, All, length, Some}
-use Rattle.std.specs.List.{AllPairs}
-use Rattle.std.specs.Option.{ForSome}
+use Rattle.activations.proofs.Common.{◌≡◌, ℕ, ◌<◌, ◌==◌, Bool, true, false, All, length, Some, AllPairs, ForSome, eqb-true, length-set, All-set, has, AreWithin, Request, Pool, registers_of_program, Seat, IsSeating, sitter, number_in, with_sitter, taken-below, AreOfPage, private_segment, Activity, program_at, IsSound}
 use Rattle.std.proofs.Common.{ap, refl, sym, ◌∙◌, subst}
-use Rattle.std.proofs.lemmas.Bool.{eqb-true}
-use Rattle.std.proofs.lemmas.List.{length-set}
-use Rattle.std.proofs.lemmas.List.Elements.{All-set}
-use Rattle.lock_rules.specs.Sets.{has}
-use Rattle.line_locks.specs.Held.{AreWithin}
-use Rattle.line_locks.specs.declared.request.Request.{Request}
-use Rattle.frame_pool.specs.declared.model.Pool.{Pool}
-use Rattle.romp_cpu.specs.Segments.{registers_of_program}
-use Rattle.seats.specs.declared.seat.Seat.{Seat}
-use Rattle.seats.specs.Seating.{IsSeating, sitter, number_in, with_sitter}
-use Rattle.seats.proofs.Kept.{taken-below}
-use Rattle.seats.specs.Waiting.{AreOfPage}
-use Rattle.storage_unit.specs.Places.{private_segment}
-use Rattle.activations.specs.Activity.{Activity, program_at}
-use Rattle.activations.specs.Follows.{IsSound}
 use Rattle.activations.proofs.SittingLemmas.{sitter-there, sitter-other, number-there}
 
 -- frames may have other pages, and numbers may have been given

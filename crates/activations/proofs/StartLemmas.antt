@@ -1,45 +1,6 @@
 -- An access that isn't permitted: where its serving begins, and what becomes of it first.
-use Rattle.std.specs.Prelude.{◌≡◌, refl, ℕ, zero, suc, ◌+◌, ◌<◌, ◌==◌, nat_lt, if◌then◌else◌, Bool, true, false, List, [], ◌∷◌, ◌++◌, All, filter, length, map, Some}
-use Rattle.std.proofs.Common.{ap, sym, ◌∙◌, subst}
-use Rattle.std.proofs.lemmas.Bool.{eq-eqb}
-use Rattle.line_geometry.specs.Directory.{is_fine_page}
-use Rattle.lock_rules.specs.Sets.{has, size}
-use Rattle.lock_rules.specs.Lines.{Lines, no_lines, with_whole_pages}
-use Rattle.line_locks.specs.declared.request.Request.{Request}
-use Rattle.line_locks.specs.declared.request.Want.{Want}
-use Rattle.line_locks.specs.Flat.{lines_wanted}
-use Rattle.flat_machine.specs.declared.machine.Plain.{Plain}
-use Rattle.flat_machine.specs.Row.{On, row}
-use Rattle.flat_machine.specs.Touched.{touched}
-use Rattle.frame_pool.specs.declared.model.Pool.{Pool}
-use Rattle.desk.specs.Desk.{Desk, Entry, with_entry, rolled_back}
-use Rattle.desk.specs.Holdings.{conflicts_of}
-use Rattle.desk.specs.Instruction.{Word, Counts, Attempt, Over, Fetched, Broken, Fine, Journal, Disk, fetches, touched_pages, refused_pages, gets, contest_ends, lines_written}
-use Rattle.desk_law.specs.Beside.{AreAlike, AreMarked, IsState, requested, owners_told, over_all, by_number, kept_conflict}
-use Rattle.desk_law.specs.Consistent.{IsAmong, due_to}
-use Rattle.desk_law.specs.Current.{IsCurrent}
-use Rattle.desk_law.specs.Orderly.{IsOrderly}
-use Rattle.desk_law.proofs.Contest.{rolled-consistent}
-use Rattle.desk_law.specs.UnderWay.{IsReady, contest, IsUnderWay, served_attempt}
-use Rattle.desk_law.proofs.KeptTables.{alike-then, alike-back}
-use Rattle.desk_law.proofs.Entries.{replaced}
-use Rattle.desk_law.proofs.MarkedLines.{marked-mark}
-use Rattle.desk_law.proofs.Seats.{seat-told, told-replaced}
-use Rattle.desk_law.proofs.ServesConflicts.{IsContesting}
-use Rattle.desk_law.proofs.ServedRows.{free-gets, free-none, contest-begins}
+use Rattle.activations.proofs.Common.{◌≡◌, refl, ℕ, zero, suc, ◌+◌, ◌<◌, ◌==◌, nat_lt, if◌then◌else◌, Bool, true, false, List, [], ◌∷◌, ◌++◌, All, filter, length, map, Some, ap, sym, ◌∙◌, subst, eq-eqb, is_fine_page, has, size, Lines, no_lines, with_whole_pages, Request, Want, lines_wanted, Plain, On, row, touched, Pool, Desk, Entry, with_entry, rolled_back, conflicts_of, Word, Counts, Attempt, Over, Fetched, Broken, Fine, Journal, Disk, fetches, touched_pages, refused_pages, gets, contest_ends, lines_written, AreAlike, AreMarked, IsState, requested, owners_told, over_all, by_number, kept_conflict, IsAmong, due_to, IsCurrent, IsOrderly, rolled-consistent, IsReady, contest, IsUnderWay, served_attempt, alike-then, alike-back, replaced, marked-mark, seat-told, told-replaced, IsContesting, free-gets, free-none, contest-begins, Seat, sitter, holders, AreOfPage, taken-below, is_line_marked, Keeps, plain_over, Activity, live_in, program_in, entry_for, entry_in, entries, authority_under, number_under, request_for, store_over, desk_over, locks_in, request_in, state_in, shown, IsSound, IsKept, Follows, IsOver, IsFree, IsContested, WereRefused, instruction_in, asking, with_pool, rolled, IsMoved, RollsBack, IsApart, pages_refused, pages_wanted, with_whole_page}
 use Rattle.desk_law.proofs.ServesToLocks.{asked_for, serve-outcome, serve-journal, serve-within, serve-broken, serve-ready}
-use Rattle.seats.specs.declared.seat.Seat.{Seat}
-use Rattle.seats.specs.Seating.{sitter}
-use Rattle.seats.specs.Waiting.{holders, AreOfPage}
-use Rattle.seats.proofs.Kept.{taken-below}
-use Rattle.storage_unit.specs.Bytes.{is_line_marked}
-use Rattle.storage_unit.specs.Laws.{Keeps}
-use Rattle.storage_unit.specs.Rows.{plain_over}
-use Rattle.activations.specs.Activity.{Activity, live_in, program_in, entry_for, entry_in, entries, authority_under, number_under, request_for, store_over, desk_over, locks_in, request_in, state_in, shown}
-use Rattle.activations.specs.Follows.{IsSound, IsKept, Follows}
-use Rattle.activations.specs.Serving.{IsOver, IsFree, IsContested, WereRefused, instruction_in, asking}
-use Rattle.activations.specs.Steps.{with_pool, rolled, IsMoved, RollsBack}
-use Rattle.activations.specs.Touched.{IsApart, pages_refused, pages_wanted, with_whole_page}
 use Rattle.activations.proofs.CommitLemmas.{told-kept}
 use Rattle.activations.proofs.ContestLemmas.{orderly-other}
 use Rattle.activations.proofs.PoolLemmas.{moved-kept, moved-desk, moved-follows}

@@ -1,26 +1,5 @@
 -- Rows that take effect one after another, before they are counted.
-use Rattle.std.specs.Prelude.{◌≡◌, refl, ℕ, suc, ◌+◌, ◌<◌, ◌==◌, true, List, length, find, Option, Some, None}
-use Rattle.std.specs.Option.{option_map}
-use Rattle.std.proofs.Common.{arith, ap, sym, ◌∙◌, subst}
-use Rattle.lock_rules.specs.Sets.{has}
-use Rattle.flat_machine.specs.Row.{Outcome, row}
-use Rattle.line_geometry.specs.Directory.{byte_count}
-use Rattle.flat_machine.specs.declared.machine.Program.{Program}
-use Rattle.desk.specs.Desk.{Desk, Entry}
-use Rattle.desk.specs.Instruction.{Word, Counts, Going, instruction, turns}
-use Rattle.desk_law.proofs.Seats.{told-found}
-use Rattle.storage_unit.specs.Rows.{GoesOpen, plain_over}
-use Rattle.seats.specs.declared.seat.Seat.{Seat}
-use Rattle.seats.specs.Seating.{Seating, sitter, number_in, went_on}
-use Rattle.seats.proofs.Kept.{taken-below}
-use Rattle.seats.proofs.Numbers.{seat-of-taken}
-use Rattle.activations.specs.declared.live.Live.{Live}
-use Rattle.activations.specs.Activity.{Activity, live_in, program_in, entry_in, entries, desk_over}
-use Rattle.romp_cpu.specs.Segments.{registers_of_program}
-use Rattle.storage_unit.specs.Places.{private_segment}
-use Rattle.activations.specs.Attempted.{IsSelected, TookEffect, Strode, CameTo, plain_in}
-use Rattle.activations.specs.Follows.{IsSound, Follows}
-use Rattle.activations.specs.Steps.{counted, executed, HasExecuted, GoesOn, Strides}
+use Rattle.activations.proofs.Common.{◌≡◌, refl, ℕ, suc, ◌+◌, ◌<◌, ◌==◌, true, List, length, find, Option, Some, None, option_map, arith, ap, sym, ◌∙◌, subst, has, Outcome, row, byte_count, Program, Desk, Entry, Word, Counts, Going, instruction, turns, told-found, GoesOpen, plain_over, Seat, Seating, sitter, number_in, went_on, taken-below, seat-of-taken, Live, Activity, live_in, program_in, entry_in, entries, desk_over, registers_of_program, private_segment, IsSelected, TookEffect, Strode, CameTo, plain_in, IsSound, Follows, counted, executed, HasExecuted, GoesOn, Strides}
 use Rattle.activations.proofs.RowLemmas.{goes-on}
 use Rattle.activations.proofs.SoundLemmas.{sound-reseated}
 use Rattle.activations.proofs.SittingLemmas.{entry-counted, number-counted, counted-more}

@@ -1,19 +1,7 @@
 -- One row of what runs in a seat, and a run of them, beside what it reaches.
-use Rattle.std.specs.Prelude.{◌≡◌, refl, ℕ, ◌+◌, ◌<◌, ◌⊎◌, true, List, length, slice_set, slice_index_or}
-use Rattle.std.proofs.Common.{ap, sym, ◌∙◌, subst, inl, inr}
+use Rattle.activations.proofs.Common.{◌≡◌, refl, ℕ, ◌+◌, ◌<◌, ◌⊎◌, true, List, length, slice_set, slice_index_or, ap, sym, ◌∙◌, subst, inl, inr, has, Cpu, IsOfFewBytes, Reach, GivesRows, ChangesBytes, StaysClean, LeavesSeats, Live, Activity, nothing_runs, IsSelected, TookEffect, WasAttempted, Strode, printed_after, IsSound, KeepsParts, RunsAt, StrodeTo, with_live}
 use Rattle.std.proofs.lemmas.List.{set-set, set-get_or, length-set}
-use Rattle.lock_rules.specs.Sets.{has}
 use Rattle.romp_cpu.specs.declared.cpu.Attempt.{Attempt}
-use Rattle.romp_cpu.specs.declared.cpu.Cpu.{Cpu}
-use Rattle.romp_cpu.specs.Attempts.{IsOfFewBytes}
-use Rattle.storage_unit.specs.declared.model.Reach.{Reach}
-use Rattle.storage_unit.specs.Rows.{GivesRows, ChangesBytes, StaysClean, LeavesSeats}
-use Rattle.activations.specs.declared.live.Live.{Live}
-use Rattle.activations.specs.Activity.{Activity, nothing_runs}
-use Rattle.activations.specs.Attempted.{IsSelected, TookEffect, WasAttempted, Strode, printed_after}
-use Rattle.activations.specs.Follows.{IsSound}
-use Rattle.activations.specs.Kept.{KeepsParts}
-use Rattle.activations.specs.Striding.{RunsAt, StrodeTo, with_live}
 use Rattle.activations.proofs.ExecuteLemmas.{within, runs-there, room-to-print, attempted-so}
 use Rattle.activations.proofs.KeptLemmas.{keeps-itself, keeps-two, keeps-took}
 use Rattle.activations.proofs.SittingLemmas.{live-there}

@@ -1,29 +1,7 @@
 -- The authority of pages under identifiers of seats, and the state in a seat beside its entry.
-use Rattle.std.specs.Prelude.{◌≡◌, refl, ℕ, suc, ◌+◌, ◌*◌, ◌/◌, ◌%◌, ◌<◌, ◌≤◌, ◌==◌, nat_lt, not, Bool, true, false, List, length, slice_index_or}
-use Rattle.std.proofs.Common.{arith, ap, sym, ◌∙◌, subst, inl, inr}
-use Rattle.std.proofs.lemmas.Bool.Decides.{nat_tests}
-use Rattle.std.proofs.lemmas.List.{get_or_past}
-use Rattle.std.proofs.lemmas.List.FromFn.{get_or-map-range_with_len, length-map-range_with_len}
-use Rattle.line_geometry.specs.LineSets.{passing}
-use Rattle.lock_rules.specs.Sets.{has}
-use Rattle.lock_rules.specs.Lines.{page_of_line}
-use Rattle.lock_rules.specs.Access.{permits}
-use Rattle.line_locks.specs.Flat.{flat_lines}
-use Rattle.line_locks.proofs.FlatLemmas.{has-page}
-use Rattle.lockbit_rules.specs.declared.Authority.{Authority}
-use Rattle.lockbit_rules.specs.Entries.{entry_of, lets}
-use Rattle.inverted_table.specs.Placed.{unowned}
-use Rattle.desk.specs.Desk.{Entry, nobody}
-use Rattle.desk.specs.Desk as desk
-use Rattle.desk_law.specs.Beside.{IsThere, StandsFor}
-use Rattle.desk_law.specs.Consistent.{Ascend, permitted}
+use Rattle.activations.proofs.Common.{◌≡◌, refl, ℕ, suc, ◌+◌, ◌*◌, ◌/◌, ◌%◌, ◌<◌, ◌≤◌, ◌==◌, nat_lt, not, Bool, true, false, List, length, slice_index_or, arith, ap, sym, ◌∙◌, subst, inl, inr, nat_tests, get_or_past, get_or-map-range_with_len, length-map-range_with_len, passing, has, page_of_line, permits, flat_lines, has-page, Authority, entry_of, lets, unowned, nobody, IsThere, StandsFor, Ascend, permitted, permitted-told, seat-told, sitter, IsOpenLine, Activity, authority_of, authority_at, authority_under, number_under, entry_in, entries, desk_over, IsSound, Follows, IsIdentified}
 use Rattle.desk_law.proofs.Entries.{between}
-use Rattle.desk_law.proofs.Identifiers.{permitted-told}
-use Rattle.desk_law.proofs.Seats.{seat-told}
-use Rattle.seats.specs.Seating.{sitter}
-use Rattle.storage_unit.specs.Rows.{IsOpenLine}
-use Rattle.activations.specs.Activity.{Activity, authority_of, authority_at, authority_under, number_under, entry_in, entries, desk_over}
-use Rattle.activations.specs.Follows.{IsSound, Follows, IsIdentified}
+use Rattle.desk.specs.Desk as desk
 
 pub nobody-page : (page : ℕ) → authority_of page unowned ≡ nobody
 unfolding passing

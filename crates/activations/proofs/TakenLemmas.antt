@@ -1,36 +1,10 @@
 -- What a seat holds once it has taken what it asked for, and what it is granted then.
-use Rattle.std.specs.Prelude.{◌≡◌, refl, ℕ, suc, ◌+◌, ◌*◌, ◌/◌, ◌%◌, ◌<◌, ◌==◌, ◌&&◌, ◌||◌, not, if◌then◌else◌, Bool, true, false, List, [], ◌∷◌, length, filter, map, slice_set}
-use Rattle.std.proofs.Common.{arith, ap, sym, ◌∙◌, subst}
-use Rattle.std.proofs.lemmas.Bool.{eqb-true, eq-eqb, and_right, or_left, or_right}
-use Rattle.std.proofs.lemmas.List.{length-set}
-use Rattle.std.proofs.lemmas.List.Folds.{list_any-append}
-use Rattle.line_geometry.specs.Directory.{is_fine_page}
-use Rattle.lock_rules.specs.Sets.{has}
-use Rattle.lock_rules.specs.Lines.{Lines, both, pages_of, with_whole_pages, within_page, is_whole_page}
-use Rattle.lock_rules.proofs.Sets.{has-append, has-filter}
-use Rattle.std.specs.List.{list_any}
-use Rattle.lock_rules.proofs.Lines.{reaches, has-whole_pages}
-use Rattle.line_locks.specs.declared.request.Want.{Want}
-use Rattle.line_locks.specs.Held.{AreWithin, with_wants}
-use Rattle.line_locks.specs.Flat.{flat_lines, lines_wanted, IsFlat}
-use Rattle.line_locks.specs.Holding.{of_seat}
-use Rattle.line_locks.proofs.FlatLemmas.{flat-taken}
-use Rattle.lockbit_rules.specs.declared.Authority.{Authority}
+use Rattle.activations.proofs.Common.{◌≡◌, refl, ℕ, suc, ◌+◌, ◌*◌, ◌/◌, ◌%◌, ◌<◌, ◌==◌, ◌&&◌, ◌||◌, not, if◌then◌else◌, Bool, true, false, List, [], ◌∷◌, length, filter, map, slice_set, arith, ap, sym, ◌∙◌, subst, eqb-true, eq-eqb, and_right, or_left, or_right, length-set, list_any-append, is_fine_page, has, Lines, both, pages_of, with_whole_pages, within_page, is_whole_page, has-append, has-filter, list_any, reaches, has-whole_pages, Want, AreWithin, with_wants, flat_lines, lines_wanted, IsFlat, of_seat, flat-taken, Authority, AreAlike, owners_told, granted-told, lowered-told, alike-then, sitter, same-with, AreOfPage, Activity, authority_under, number_under, locks_in, IsSound, AreOfPages, AreSet, AreGranted, AreLowered, entry_given, entry_to_read, is_lowered, pages_lowered, locked, with_whole_page, stores_into, pages_wanted}
 use Rattle.desk.specs.Instruction.{Attempt, authority_by, fine_authority_by, given, with_each, granted, to_read, lowered_pages, lowered}
-use Rattle.desk.specs.Desk as desk
 use Rattle.lockbit_rules.specs.Entries.{Entry}
-use Rattle.desk_law.specs.Beside.{AreAlike, owners_told}
 use Rattle.desk_law.proofs.AlikeSets.{granted-alike, lowered-alike}
 use Rattle.desk_law.proofs.EachPage.{each-alike}
-use Rattle.desk_law.proofs.Identifiers.{granted-told, lowered-told}
-use Rattle.desk_law.proofs.KeptTables.{alike-then}
-use Rattle.seats.specs.Seating.{sitter}
-use Rattle.seats.proofs.Kept.{same-with}
-use Rattle.seats.specs.Waiting.{AreOfPage}
-use Rattle.activations.specs.Activity.{Activity, authority_under, number_under, locks_in}
-use Rattle.activations.specs.Follows.{IsSound, AreOfPages}
-use Rattle.activations.specs.Serving.{AreSet, AreGranted, AreLowered, entry_given, entry_to_read, is_lowered, pages_lowered, locked}
-use Rattle.activations.specs.Touched.{with_whole_page, stores_into, pages_wanted}
+use Rattle.desk.specs.Desk as desk
 use Rattle.activations.proofs.GrantLemmas.{granted-page, lowered-page, held-whole, under-set}
 use Rattle.activations.proofs.HoldingLemmas.{held-flat}
 use Rattle.activations.proofs.RequestLemmas.{asked-alike, has-pages_wanted, or-cross, whole-of-page}

@@ -1,14 +1,6 @@
 -- One line of a page, or two neighbours, as flat lines.
+use Rattle.activations.proofs.Common.{◌==◌, ◌||◌, if◌then◌else◌, range_with_len, nat_tests, passing, between, append-nil, get_or-map-range_with_len, flat_lines, lines_wanted, lines_between, pages_of}
 use Rattle.std.proofs.Common.{◌≡◌, ℕ, ◌+◌, ◌-◌, ◌*◌, ◌/◌, ◌%◌, ◌<◌, ◌≤◌, Bool, true, false, List, [], ◌∷◌, ◌++◌, refl, sym, ◌∙◌, ap, arith, map, get_or}
-use Rattle.std.specs.Prelude.{◌==◌, ◌||◌, if◌then◌else◌}
-use Rattle.std.specs.List.{range_with_len}
-use Rattle.std.proofs.lemmas.Bool.Decides.{nat_tests}
-use Rattle.line_geometry.specs.LineSets.{passing, between}
-use Rattle.std.proofs.lemmas.List.{append-nil}
-use Rattle.std.proofs.lemmas.List.FromFn.{get_or-map-range_with_len}
-use Rattle.line_locks.specs.Flat.{flat_lines, lines_wanted}
-use Rattle.activations.specs.Touched.{lines_between}
-use Rattle.lock_rules.specs.Lines.{pages_of}
 
 -- two functions that are the same on the first numbers, as a table of them tells
 tabled : (f g : ℕ → List ℕ) (n i : ℕ) → map f (range_with_len 0 n) ≡ map g (range_with_len 0 n) → i < n → f i ≡ g i

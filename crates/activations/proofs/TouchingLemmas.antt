@@ -1,59 +1,13 @@
 -- The lines that an access touches, page by page, and how many will have been written with them.
+use Rattle.activations.proofs.Common.{range_with_len, arith, ap, sym, ◌∙◌, subst, eqb-true, eq-eqb, ne_eqb, leb-true, both_ways, nat_tests, append-nil, length-range_with_len, sum_by-le, All-nil, All-cons, All-head, All-tail, All-get_or, All-from_get_or, PageSize, Two, Four, Layout, start_of, length_of, byte_count, page_count, IsLegal, line_of, line_count, passing, between, difference, IsOfPage, line_bytes, of_page-where, line-below, segment-within, has, Lines, no_lines, pages_of, Want, lines_wanted, nothing, write_count, AreWithin, of_seat, held_at, Plain, Program, in_segment, in_window, in_register, located, lines_at, Registers, located_by, virtual_at, Access, lines_of_access, registers_of_program, TurnEnd, ending_told, Counts, AreConsistent, AreDistinct, filter-short, AreOfPage, Reach, private_segment, is_private, offset_of, place_at, Activity, live_in, program_in, entries, store_over, AreOfPages, IsSound, IsKept, IsToServe, AreTouched, attempt_in, lines_with, IsOver, instruction_in, rolled, RollsBack, HasEnded, Touch, lines_between, pages_wanted, wants_of, AreWanted}
 use Rattle.std.specs.Prelude.{◌≡◌, refl, ℕ, zero, suc, ◌+◌, ◌-◌, ◌/◌, ◌%◌, ◌^◌, ◌<◌, ◌≤◌, ◌==◌, ◌||◌, ◌&&◌, nat_le, nat_lt, not, if◌then◌else◌, Bool, true, false, List, [], ◌∷◌, ◌++◌, length, slice_index_or, Option, Some, None, Result, Ok, Err}
-use Rattle.std.specs.List.{range_with_len}
-use Rattle.std.proofs.Common.{arith, ap, sym, ◌∙◌, subst}
-use Rattle.std.proofs.lemmas.Bool.{eqb-true, eq-eqb, ne_eqb, leb-true, both_ways}
-use Rattle.std.proofs.lemmas.Bool.Decides.{nat_tests}
-use Rattle.std.proofs.lemmas.List.{append-nil}
-use Rattle.std.proofs.lemmas.List.FromFn.{length-range_with_len}
-use Rattle.std.proofs.lemmas.List.Sums.{sum_by-le}
-use Rattle.std.proofs.lemmas.List.Elements.{All-nil, All-cons, All-head, All-tail, All-get_or, All-from_get_or}
-use Rattle.line_geometry.specs.declared.directory.PageSize.{PageSize}
-use Rattle.line_geometry.specs.declared.directory.PageSize.TheVariants.{Two, Four}
-use Rattle.line_geometry.specs.Directory.{Layout, start_of, length_of, byte_count, page_count}
-use Rattle.line_geometry.specs.Legal.{IsLegal}
-use Rattle.line_geometry.specs.Lines.{line_of, line_count}
-use Rattle.line_geometry.specs.LineSets.{passing, between, difference, IsOfPage}
-use Rattle.line_geometry.specs.Segments.{line_bytes}
-use Rattle.line_geometry.proofs.LineSetLemmas.{of_page-where}
-use Rattle.line_geometry.proofs.Within.{line-below, segment-within}
-use Rattle.lock_rules.specs.Sets.{has}
-use Rattle.lock_rules.specs.Lines.{Lines, no_lines, pages_of}
-use Rattle.line_locks.specs.declared.request.Want.{Want}
-use Rattle.line_locks.specs.Flat.{lines_wanted}
-use Rattle.line_locks.specs.Held.{nothing, write_count, AreWithin}
-use Rattle.line_locks.specs.Holding.{of_seat, held_at}
 use Rattle.flat_machine.specs.declared.machine.Located.{Located}
 use Rattle.flat_machine.specs.declared.machine.Located.TheVariants.{Private, Shared, Refused}
-use Rattle.flat_machine.specs.declared.machine.Plain.{Plain}
-use Rattle.flat_machine.specs.declared.machine.Program.{Program}
 use Rattle.flat_machine.specs.declared.machine.Window.{Window}
-use Rattle.flat_machine.specs.Row.{in_segment, in_window, in_register, located}
-use Rattle.flat_machine.specs.Touched.{lines_at}
 use Rattle.segment_regs.specs.declared.registers.Check.{Check}
 use Rattle.segment_regs.specs.declared.registers.Virtual.{Virtual}
-use Rattle.segment_regs.specs.Registers.{Registers, located_by, virtual_at}
-use Rattle.romp_cpu.specs.declared.storage.Access.{Access}
-use Rattle.romp_cpu.specs.Attempts.{lines_of_access}
-use Rattle.romp_cpu.specs.Segments.{registers_of_program}
-use Rattle.desk.specs.declared.answers.TurnEnd.{TurnEnd}
-use Rattle.desk.specs.Answers.{ending_told}
-use Rattle.desk.specs.Instruction.{Counts}
-use Rattle.desk_law.specs.Consistent.{AreConsistent, AreDistinct}
-use Rattle.desk_law.proofs.Entries.{filter-short}
-use Rattle.seats.specs.Waiting.{AreOfPage}
-use Rattle.storage_unit.specs.declared.model.Reach.{Reach}
-use Rattle.storage_unit.specs.Places.{private_segment, is_private, offset_of, place_at}
 use Rattle.storage_unit.proofs.PlaceLemmas.{under, offset-is}
 use Rattle.storage_unit.proofs.LocatedLemmas.{lies-where}
-use Rattle.activations.specs.Activity.{Activity, live_in, program_in, entries, store_over}
-use Rattle.activations.specs.Follows.{AreOfPages, IsSound, IsKept}
-use Rattle.activations.specs.Serves.{IsToServe, AreTouched, attempt_in, lines_with}
-use Rattle.activations.specs.Serving.{IsOver, instruction_in}
-use Rattle.activations.specs.Steps.{rolled, RollsBack}
-use Rattle.activations.specs.Turning.{HasEnded}
-use Rattle.activations.specs.declared.touch.Touch.{Touch}
-use Rattle.activations.specs.Touched.{lines_between, pages_wanted, wants_of, AreWanted}
 use Rattle.activations.proofs.LimitLemmas.{written-none, written-one, written-two}
 use Rattle.activations.proofs.RefusedLemmas.{apart-one, apart-two}
 use Rattle.activations.proofs.StartLemmas.{lines-are, journal}

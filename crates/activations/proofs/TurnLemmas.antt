@@ -1,32 +1,8 @@
 -- The rows of a turn, instruction by instruction.
-use Rattle.std.specs.Prelude.{◌≡◌, refl, ℕ, suc, ◌+◌, ◌-◌, ◌<◌, ◌≤◌, true, List, length}
-use Rattle.std.proofs.Common.{arith, ap, sym, ◌∙◌, subst}
-use Rattle.std.proofs.lemmas.Bool.Decides.{nat_tests}
-use Rattle.lock_rules.specs.Sets.{has}
-use Rattle.outside.specs.declared.world.Outside.{Ghosts}
-use Rattle.desk.specs.Answers.{ending_told}
-use Rattle.desk.specs.Desk.{Desk}
-use Rattle.desk.specs.Instruction.{Word, ReadFailed, Counts, Turning, Going, Ending, Limit, Disk, turns}
-use Rattle.desk.specs.declared.answers.TurnEnd.{TurnEnd}
-use Rattle.desk.specs.declared.answers.TurnEnd.TheVariants as end
-use Rattle.desk_law.specs.Beside.{Reads}
-use Rattle.desk_law.specs.Consistent.{IsAmong}
-use Rattle.desk_law.specs.Orderly.{IsOrderly}
-use Rattle.desk_law.proofs.Seats.{seat-told}
-use Rattle.desk_law.proofs.TurnLoop as law
+use Rattle.activations.proofs.Common.{◌≡◌, refl, ℕ, suc, ◌+◌, ◌-◌, ◌<◌, ◌≤◌, true, List, length, arith, ap, sym, ◌∙◌, subst, nat_tests, has, Ghosts, ending_told, Desk, Word, ReadFailed, Counts, Turning, Going, Ending, Limit, Disk, turns, TurnEnd, Reads, IsAmong, IsOrderly, seat-told, Seating, number_in, taken-below, Tally, Activity, entry_in, entries, desk_over, Strode, IsSound, Follows, GoesUncounted, IsEndOfRows, KeepsParts, StaysSeated, IsOver, instruction_in, counted, HasBroken, HasEnded, counts_of, IsAtCommit, IsTurning, selected_in, turn_in, commit_call}
 use Rattle.desk_law.proofs.TurnLoop.{turning-goes, turning-ends, turning-commits, turning-limit}
-use Rattle.seats.specs.Seating.{Seating, number_in}
-use Rattle.seats.proofs.Kept.{taken-below}
-use Rattle.activations.specs.declared.tally.Tally.{Tally}
-use Rattle.activations.specs.Activity.{Activity, entry_in, entries, desk_over}
-use Rattle.activations.specs.Attempted.{Strode}
-use Rattle.activations.specs.Follows.{IsSound, Follows}
-use Rattle.activations.specs.Instructed.{GoesUncounted, IsEndOfRows}
-use Rattle.activations.specs.Kept.{KeepsParts, StaysSeated}
-use Rattle.activations.specs.Serving.{IsOver, instruction_in}
-use Rattle.activations.specs.Steps.{counted}
-use Rattle.activations.specs.Turning.{HasBroken, HasEnded, counts_of}
-use Rattle.activations.specs.Turns.{IsAtCommit, IsTurning, selected_in, turn_in, commit_call}
+use Rattle.desk.specs.declared.answers.TurnEnd.TheVariants as end
+use Rattle.desk_law.proofs.TurnLoop as law
 use Rattle.activations.proofs.KeptLemmas.{keeps-less, keeps-on}
 use Rattle.activations.proofs.RowLemmas.{orderly-order}
 use Rattle.activations.proofs.SittingLemmas.{number-counted}

@@ -1,21 +1,5 @@
 -- Pages that go out one after another, their lines forgotten.
-use Rattle.std.specs.Prelude.{◌≡◌, refl, ℕ, ◌%◌, ◌<◌, ◌==◌, ◌&&◌, ◌||◌, not, if◌then◌else◌, Bool, true, false, List, [], ◌∷◌, ◌++◌, filter, length, slice_index, slice_index_or, slice_set, Option, Some, None, is_some}
-use Rattle.std.specs.Option.{option_map_or}
-use Rattle.std.proofs.Common.{arith, ap, sym, ◌∙◌, get_or-set_same, get_or-set_other}
-use Rattle.std.proofs.lemmas.Bool.{eqb-true, eq-eqb, both_ways, or_left, or_right}
-use Rattle.line_geometry.specs.Directory.{Layout, byte_count, page_count}
-use Rattle.line_geometry.specs.Lines.{line_of}
-use Rattle.line_geometry.specs.LineSets.{difference}
-use Rattle.line_geometry.proofs.LineSetLemmas.{is_in_where-below}
-use Rattle.lock_rules.specs.Sets.{has}
-use Rattle.lock_rules.specs.Lines.{page_of_line}
-use Rattle.lock_rules.specs.Resident.{taken_out}
-use Rattle.lock_rules.proofs.Sets.{has-append}
-use Rattle.frame_pool.specs.declared.model.Pool.{Pool}
-use Rattle.frame_pool.specs.Pool.{marks_at, frame_at, undone, settled, gone}
-use Rattle.storage_unit.specs.Bytes.{is_line_marked, bytes_over}
-use Rattle.storage_unit.specs.Laws.{Fits, UndoForgets, is_among}
-use Rattle.activations.specs.Steps.{is_of, WereUndone, AreAsCommitted}
+use Rattle.activations.proofs.Common.{◌≡◌, refl, ℕ, ◌%◌, ◌<◌, ◌==◌, ◌&&◌, ◌||◌, not, if◌then◌else◌, Bool, true, false, List, [], ◌∷◌, ◌++◌, filter, length, slice_index, slice_index_or, slice_set, Option, Some, None, is_some, option_map_or, arith, ap, sym, ◌∙◌, get_or-set_same, get_or-set_other, eqb-true, eq-eqb, both_ways, or_left, or_right, Layout, byte_count, page_count, line_of, difference, is_in_where-below, has, page_of_line, taken_out, has-append, Pool, marks_at, frame_at, undone, settled, gone, is_line_marked, bytes_over, Fits, UndoForgets, is_among, is_of, WereUndone, AreAsCommitted}
 
 filter-then : (p q : ℕ → Bool) (xs : List ℕ) → filter p (filter q xs) ≡ filter (λ x. q x && p x) xs
 filter-then p q [] = refl

@@ -1,29 +1,6 @@
 -- A seat that is left: its entry goes, and its pages are nobody's.
-use Rattle.std.specs.Prelude.{◌≡◌, refl, ℕ, zero, suc, ◌+◌, ◌<◌, ◌≤◌, ◌==◌, not, nat_lt, if◌then◌else◌, Bool, true, false, List, [], ◌∷◌, length, map, slice_index_or, slice_set}
-use Rattle.std.specs.List.{range_with_len}
-use Rattle.std.proofs.Common.{arith, ap, sym, ◌∙◌, subst, inl, inr, get_or-set_same, get_or-set_other}
-use Rattle.std.proofs.lemmas.Bool.{eqb-true, eqb-false, both_ways, and_parts, and_from, and_cases, not-true}
-use Rattle.std.proofs.lemmas.Bool.Decides.{nat_tests}
-use Rattle.std.proofs.lemmas.List.{length-map, length-set, get_or-map, get_or_past}
-use Rattle.std.proofs.lemmas.List.Elements.{All-filter}
-use Rattle.line_geometry.specs.LineSets.{passing, IsOfPage}
-use Rattle.lock_rules.specs.Sets.{has}
-use Rattle.lock_rules.proofs.Sets.{has-filter}
-use Rattle.lockbit_rules.specs.declared.Authority.{Authority}
-use Rattle.inverted_table.specs.Placed.{unowned, cleared_entry}
-use Rattle.desk.specs.Desk.{Entry, nobody}
+use Rattle.activations.proofs.Common.{◌≡◌, refl, ℕ, zero, suc, ◌+◌, ◌<◌, ◌≤◌, ◌==◌, not, nat_lt, if◌then◌else◌, Bool, true, false, List, [], ◌∷◌, length, map, slice_index_or, slice_set, range_with_len, arith, ap, sym, ◌∙◌, subst, inl, inr, get_or-set_same, get_or-set_other, eqb-true, eqb-false, both_ways, and_parts, and_from, and_cases, not-true, nat_tests, length-map, length-set, get_or-map, get_or_past, All-filter, passing, IsOfPage, has, has-filter, Authority, unowned, cleared_entry, nobody, StandsFor, owners_told, freed-told, others, told-others, sitter, number_in, left, taken-below, kept-left, same-with, other-with, of_page, nothing, of_seat, no_lines_of, released, Activity, authority_of, authority_at, authority_under, authority_told, number_under, entry_in, entries, IsSound, IsIdentified, AreOfPages, vacated}
 use Rattle.desk.specs.Desk as desk
-use Rattle.desk_law.specs.Beside.{StandsFor, owners_told}
-use Rattle.desk_law.proofs.Identifiers.{freed-told}
-use Rattle.desk_law.proofs.Others.{others}
-use Rattle.desk_law.proofs.Seats.{told-others}
-use Rattle.seats.specs.Seating.{sitter, number_in, left}
-use Rattle.seats.proofs.Kept.{taken-below, kept-left, same-with, other-with}
-use Rattle.line_locks.specs.Held.{of_page, nothing}
-use Rattle.line_locks.specs.Holding.{of_seat, no_lines_of, released}
-use Rattle.activations.specs.Activity.{Activity, authority_of, authority_at, authority_under, authority_told, number_under, entry_in, entries}
-use Rattle.activations.specs.Follows.{IsSound, IsIdentified, AreOfPages}
-use Rattle.activations.specs.Steps.{vacated}
 use Rattle.activations.proofs.TableLemmas.{nobody-page}
 
 -- an entry that is cleared is told as a page that is freed

@@ -1,23 +1,5 @@
 -- Who holds what is asked for, and who waits for whom: of seats, as of the desk's entries.
-use Rattle.std.specs.Prelude.{◌≡◌, refl, ℕ, ◌==◌, ◌&&◌, not, Bool, true, List, [], ◌∷◌, filter, map, Option, Some, None, is_some}
-use Rattle.std.specs.Option.{option_map_or}
-use Rattle.std.proofs.Common.{ap, sym, ◌∙◌}
-use Rattle.lock_rules.specs.Sets.{has}
-use Rattle.lock_rules.specs.Lines.{Lines, no_lines, conflicts}
-use Rattle.lock_rules.specs.Waits.{shown_cycle}
-use Rattle.line_locks.specs.declared.request.Request.{Request}
-use Rattle.line_locks.specs.declared.request.Want.{Want}
-use Rattle.line_locks.specs.Flat.{lines_wanted}
-use Rattle.line_locks.specs.Holding.{of_seat}
-use Rattle.desk.specs.Desk.{Entry}
-use Rattle.desk_law.specs.Beside.{AreAlike, by_number, kept_conflict, kept_waits}
-use Rattle.desk_law.proofs.KeptTables.{alike-same, conflicts-alike, filter-alike}
-use Rattle.desk_law.proofs.Seats.{conflicts-seats, waits-seats}
-use Rattle.seats.specs.Seating.{sitter, number_in, numbers}
-use Rattle.seats.specs.Waiting.{holders, seat_waits, cycle_of, AreOfPage}
-use Rattle.seats.proofs.Numbers.{holders-flat, waits-flat, waits-none, cycle-numbers}
-use Rattle.activations.specs.Activity.{Activity, entry_in, entries, locks_in, request_in}
-use Rattle.activations.specs.Follows.{IsSound}
+use Rattle.activations.proofs.Common.{◌≡◌, refl, ℕ, ◌==◌, ◌&&◌, not, Bool, true, List, [], ◌∷◌, filter, map, Option, Some, None, is_some, option_map_or, ap, sym, ◌∙◌, has, Lines, no_lines, conflicts, shown_cycle, Request, Want, lines_wanted, of_seat, Entry, AreAlike, by_number, kept_conflict, kept_waits, alike-same, conflicts-alike, filter-alike, conflicts-seats, waits-seats, sitter, number_in, numbers, holders, seat_waits, cycle_of, AreOfPage, holders-flat, waits-flat, waits-none, cycle-numbers, Activity, entry_in, entries, locks_in, request_in, IsSound}
 use Rattle.activations.proofs.HoldingLemmas.{held-flat}
 
 -- the numbers of the entries are those of the seats

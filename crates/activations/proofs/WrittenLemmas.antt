@@ -1,27 +1,8 @@
 -- The pages into which a seat wrote, one after another.
+use Rattle.activations.proofs.Common.{arith, ap, sym, ◌∙◌, subst, eq-eqb, both_ways, and_parts, and_from, or_left, or_right, nat_tests, append-nil, take_more, get_or_past, All-get_or, filter-append, Layout, byte_count, page_count, line_of, has, page_of_line, has-filter, holds_some, nothing, Holding, IsWhole, held_at, of_seat, has-at, Pool, undone, settled, Reach, IsClean, is_line_marked, bytes_over, Fits, Keeps, HasUndone, HasSettled, WereUndone, AreAsCommitted, WereSettled}
 use Rattle.std.specs.Prelude.{◌≡◌, refl, ℕ, suc, ◌+◌, ◌%◌, ◌<◌, ◌==◌, ◌&&◌, nat_lt, not, if◌then◌else◌, Bool, true, false, List, [], ◌∷◌, ◌++◌, filter, length, slice_index, take, slice_index_or}
-use Rattle.std.proofs.Common.{arith, ap, sym, ◌∙◌, subst}
-use Rattle.std.proofs.lemmas.Bool.{eq-eqb, both_ways, and_parts, and_from, or_left, or_right}
-use Rattle.std.proofs.lemmas.Bool.Decides.{nat_tests}
-use Rattle.std.proofs.lemmas.List.{append-nil, take_more, get_or_past}
-use Rattle.std.proofs.lemmas.List.Elements.{All-get_or, filter-append}
-use Rattle.line_geometry.specs.Directory.{Layout, byte_count, page_count}
-use Rattle.line_geometry.specs.Lines.{line_of}
-use Rattle.lock_rules.specs.Sets.{has}
-use Rattle.lock_rules.specs.Lines.{page_of_line}
-use Rattle.lock_rules.proofs.Sets.{has-filter}
-use Rattle.line_locks.specs.Held.{holds_some, nothing}
-use Rattle.line_locks.specs.Holding.{Holding, IsWhole, held_at, of_seat}
-use Rattle.seats.proofs.Kept.{has-at}
-use Rattle.frame_pool.specs.declared.model.Pool.{Pool}
-use Rattle.frame_pool.specs.Pool.{undone, settled}
-use Rattle.storage_unit.specs.declared.model.Reach.{Reach}
-use Rattle.storage_unit.specs.Bytes.{IsClean, is_line_marked, bytes_over}
-use Rattle.storage_unit.specs.Laws.{Fits, Keeps}
 use Rattle.storage_unit.proofs.UndoForgets.{undo-forgets}
 use Rattle.storage_unit.proofs.SettleKeeps.{settle-keeps}
-use Rattle.activations.specs.Ends.{HasUndone, HasSettled}
-use Rattle.activations.specs.Steps.{WereUndone, AreAsCommitted, WereSettled}
 use Rattle.activations.proofs.CommitLemmas.{were-settled, settled-unseen}
 use Rattle.activations.proofs.UndoLemmas.{were-undone, are-as-committed}
 

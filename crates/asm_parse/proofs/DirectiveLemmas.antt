@@ -1,9 +1,6 @@
 -- The statements of lines that are an entry address, data or a window.
-use Rattle.std.proofs.Common.{◌≡◌, ℕ, pos, Bool, true, false, if◌then◌else◌, [], ◌∷◌, codes, Some, None, Ok, refl}
+use Rattle.asm_parse.proofs.Common.{◌≡◌, ℕ, pos, Bool, true, false, if◌then◌else◌, [], ◌∷◌, codes, Some, None, Ok, refl, statement_of, Word, Number, Comma, Data, Window, Entry}
 use Rattle.romp_table.specs.Names.{mnemonic, op_named}
-use Rattle.asm_parse.specs.Statement.{statement_of}
-use Rattle.asm_parse.specs.declared.token.Token.TheVariants.{Word, Number, Comma}
-use Rattle.asm_parse.specs.declared.statement.Body.TheVariants.{Data, Window, Entry}
 use Rattle.asm_parse.specs.declared.statement.Expr.TheVariants as expr
 
 no_entry : op_named (codes ".entry") ≡ None

@@ -1,16 +1,6 @@
 -- The tokens that a line has are such as a line can have.
-use Rattle.std.proofs.Common.{◌≡◌, ℕ, zero, suc, ◌<◌, ◌^◌, ◌==◌, nat_le, nat_lt, Bool, true, false, ◌&&◌, if◌then◌else◌, List, [], ◌∷◌, length, drop, codes, Option, Some, None, Result, Ok, Err, refl, subst, arith}
-use Rattle.std.specs.Char.{is_ascii_alphanumeric, is_ascii_digit, is_digit}
-use Rattle.std.specs.List.{AllByRecursion, list_all, prefix_len, starts_with, take_while}
-use Rattle.std.specs.Str.Parse.{digits_value}
-use Rattle.std.proofs.lemmas.Bool.Decides.{nat_tests}
+use Rattle.asm_parse.proofs.Common.{◌≡◌, ℕ, zero, suc, ◌<◌, ◌^◌, ◌==◌, nat_le, nat_lt, Bool, true, false, ◌&&◌, if◌then◌else◌, List, [], ◌∷◌, length, drop, codes, Option, Some, None, Result, Ok, Err, refl, subst, arith, is_ascii_alphanumeric, is_ascii_digit, is_digit, AllByRecursion, list_all, prefix_len, starts_with, take_while, digits_value, nat_tests, number_in, number_of, begins, begins_word, continues_word, is_blank, mark_begins, more_of, number_begins, then_tokens, tokens, tokens_past, word_begins, Token, Word, Minus, Begin, Blank, Comment, Takes, Bad}
 use Rattle.std.specs.Prelude.{nat_eq}
-use Rattle.asm_parse.specs.Number.{number_in, number_of}
-use Rattle.asm_parse.specs.Token.{begins, begins_word, continues_word, is_blank, mark_begins, more_of, number_begins, then_tokens, tokens, tokens_past, word_begins}
-use Rattle.asm_parse.specs.declared.token.Token.{Token}
-use Rattle.asm_parse.specs.declared.token.Token.TheVariants.{Word, Minus}
-use Rattle.asm_parse.specs.declared.token.Begin.{Begin}
-use Rattle.asm_parse.specs.declared.token.Begin.TheVariants.{Blank, Comment, Takes, Bad}
 use Rattle.asm_parse.proofs.RunLemmas.{taken_pass}
 use Rattle.asm_parse.proofs.FrontLemmas.{IsToken}
 

@@ -1,17 +1,6 @@
 -- A word, a number or a mark at the front of a line.
-use Rattle.std.proofs.Common.{◌≡◌, ℕ, ◌<◌, ◌≤◌, ◌^◌, ◌==◌, nat_eq, Bool, true, false, ◌&&◌, ◌||◌, List, [], ◌∷◌, ◌++◌, length, codes, decimal, Some, refl, sym, ◌∙◌, arith}
-use Rattle.std.specs.Char.{digit_value, is_ascii_alphanumeric, is_ascii_digit}
-use Rattle.std.specs.List.{list_all, starts_with}
-use Rattle.std.specs.Str.Parse.{AllDigits, digits_value}
-use Rattle.std.proofs.lemmas.Bool.{le-leb}
-use Rattle.std.proofs.lemmas.Bool.Decides.{nat_tests}
+use Rattle.asm_parse.proofs.Common.{◌≡◌, ℕ, ◌<◌, ◌≤◌, ◌^◌, ◌==◌, nat_eq, Bool, true, false, ◌&&◌, ◌||◌, List, [], ◌∷◌, ◌++◌, length, codes, decimal, Some, refl, sym, ◌∙◌, arith, digit_value, is_ascii_alphanumeric, is_ascii_digit, list_all, starts_with, AllDigits, digits_value, le-leb, nat_tests, drop_at, take_at, number_of, before, begins, begins_word, continues_word, is_blank, tokens_past, Token, Word, Number, Comma, Open, Close, Colon, Plus, Minus, Takes}
 use Rattle.std.proofs.lemmas.Fmt.{decimal_is_IsNumeral}
-use Rattle.std.proofs.lemmas.List.{drop_at, take_at}
-use Rattle.asm_parse.specs.Number.{number_of}
-use Rattle.asm_parse.specs.Token.{before, begins, begins_word, continues_word, is_blank, tokens_past}
-use Rattle.asm_parse.specs.declared.token.Token.{Token}
-use Rattle.asm_parse.specs.declared.token.Token.TheVariants.{Word, Number, Comma, Open, Close, Colon, Plus, Minus}
-use Rattle.asm_parse.specs.declared.token.Begin.TheVariants.{Takes}
 use Rattle.asm_parse.proofs.NumberLemmas.{as_number}
 use Rattle.asm_parse.proofs.TokenLemmas.{from_byte}
 use Rattle.asm_parse.proofs.RunLemmas.{Stops, run_length}

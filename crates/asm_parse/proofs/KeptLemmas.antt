@@ -1,12 +1,7 @@
 -- Statements that are kept whole, and one more.
-use Rattle.std.proofs.Common.{◌≡◌, ℕ, List, [], ◌∷◌, ◌++◌, length, map, get_or, None, ap, ◌∙◌}
-use Rattle.std.specs.List.{AllByRecursion}
-use Rattle.std.proofs.Math.Seq.{get_or-append_seam}
-use Rattle.std.proofs.lemmas.List.{get_or_append_left}
+use Rattle.asm_parse.proofs.Common.{◌≡◌, ℕ, List, [], ◌∷◌, ◌++◌, length, map, get_or, None, ap, ◌∙◌, AllByRecursion, get_or-append_seam, get_or_append_left, Statement, Nothing}
 use Rattle.asm_parse.specs.declared.head.Head.{Head}
 use Rattle.asm_parse.specs.declared.head.Head.TheVariants.{Bare, Whole}
-use Rattle.asm_parse.specs.declared.statement.Statement.{Statement}
-use Rattle.asm_parse.specs.declared.statement.Body.TheVariants.{Nothing}
 use Rattle.asm_parse.specs.Kept.{IsKept, stated_by}
 
 abbrev none : Statement

@@ -1,3 +1,4 @@
+pub mod Common
 pub mod NumberLemmas
 pub mod TokenLemmas
 pub mod OperandLemmas

@@ -1,12 +1,7 @@
 -- The operands of an instruction, as they are read one after the other.
-use Rattle.std.proofs.Common.{◌≡◌, ℕ, suc, ◌+◌, ◌<◌, Bool, not, cond, List, [], ◌∷◌, ◌++◌, length, map, drop, Option, Some, None, refl, ap, position, Bor}
-use Rattle.std.proofs.Math.Seq.{drop-cons}
-use Rattle.std.specs.List.{prefix_len}
-use Rattle.std.specs.Option.{option_map}
-use Rattle.asm_parse.specs.declared.token.Token.{Token}
+use Rattle.asm_parse.proofs.Common.{◌≡◌, ℕ, suc, ◌+◌, ◌<◌, Bool, not, cond, List, [], ◌∷◌, ◌++◌, length, map, drop, Option, Some, None, refl, ap, position, Bor, drop-cons, prefix_len, option_map, Token, operands_of}
 use Rattle.asm_parse.specs.declared.form.Sort.{Sort}
 use Rattle.asm_parse.specs.declared.statement.Operand.{Operand}
-use Rattle.asm_parse.specs.Operand.{operands_of}
 
 -- a prefix of a list that was mapped
 prefix_mapped : {A B : Type 0} (p : B → Bool) (f : A → B) (xs : List A) → prefix_len p (map f xs) ≡ prefix_len (λ x. p (f x)) xs

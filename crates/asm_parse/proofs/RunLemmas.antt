@@ -1,7 +1,5 @@
 -- Runs of bytes that pass a test.
-use Rattle.std.proofs.Common.{◌≡◌, ℕ, Bool, true, false, cond, List, [], ◌∷◌, ◌++◌, length, refl, arith}
-use Rattle.std.specs.List.{list_all, prefix_len, take_while}
-use Rattle.std.proofs.lemmas.Bool.{and_parts}
+use Rattle.asm_parse.proofs.Common.{◌≡◌, ℕ, Bool, true, false, cond, List, [], ◌∷◌, ◌++◌, length, refl, arith, list_all, prefix_len, take_while, and_parts}
 use Rattle.std.proofs.lemmas.List.Sums.{take_while-cons}
 
 -- a list doesn't go on with a byte that passes

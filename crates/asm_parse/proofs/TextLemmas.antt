@@ -1,15 +1,9 @@
 -- The statements of a text, as its lines are read one after the other.
-use Rattle.std.proofs.Common.{◌≡◌, ℕ, suc, ◌+◌, ◌<◌, ◌≤◌, Bool, true, false, cond, nat_lt, List, [], ◌∷◌, ◌++◌, length, Option, Some, None, Result, Ok, Err, refl, sym, ap, ◌∙◌, arith, append_assoc, append-nil, length-append, length-drop}
-use Rattle.std.specs.List.{slice_split, position_or_len, before_first, after_first}
-use Rattle.std.proofs.lemmas.Bool.{lt-ltb}
-use Rattle.std.proofs.lemmas.Bool.Decides.{nat_tests}
+use Rattle.asm_parse.proofs.Common.{◌≡◌, ℕ, suc, ◌+◌, ◌<◌, ◌≤◌, Bool, true, false, cond, nat_lt, List, [], ◌∷◌, ◌++◌, length, Option, Some, None, Result, Ok, Err, refl, sym, ap, ◌∙◌, arith, append_assoc, append-nil, length-append, length-drop, slice_split, position_or_len, before_first, after_first, lt-ltb, nat_tests, Statement, line_of, Gains, at_line, is_feed, lines_of, statements_from, then_statements}
 use Rattle.asm_parse.specs.declared.fault.AsmFault.{AsmFault}
 use Rattle.asm_parse.specs.declared.fault.AsmFault.TheVariants.{Fault, Memory}
 use Rattle.asm_parse.specs.Answers.{IsTextFaultOf}
 use Rattle.asm_parse.specs.Cut.{behind_first}
-use Rattle.asm_parse.specs.declared.statement.Statement.{Statement}
-use Rattle.asm_parse.specs.Statement.{line_of}
-use Rattle.asm_parse.specs.Text.{Gains, at_line, is_feed, lines_of, statements_from, then_statements}
 
 -- the parts of what stands behind a cut, if there was one
 abbrev pub parts_behind : {X : Type 0} → (X → Bool) → Option (List X) → List (List X)

@@ -1,16 +1,6 @@
 -- The tokens of a line, as they are found one after the other.
-use Rattle.std.proofs.Common.{◌≡◌, ℕ, zero, suc, ◌+◌, ◌<◌, ◌≤◌, ◌≢◌, nat_le, cond, ◌==◌, Bool, true, false, List, [], ◌∷◌, ◌++◌, length, take, drop, Option, Some, None, Result, Ok, Err, refl, sym, ap, ◌∙◌, arith, append_assoc, append-nil, add-one}
-use Rattle.std.specs.Char.{is_ascii_alphanumeric, is_ascii_digit}
-use Rattle.std.specs.List.{prefix_len}
-use Rattle.std.specs.Str.{IsAscii}
-use Rattle.std.proofs.lemmas.Bool.Decides.{nat_tests}
+use Rattle.asm_parse.proofs.Common.{◌≡◌, ℕ, zero, suc, ◌+◌, ◌<◌, ◌≤◌, ◌≢◌, nat_le, cond, ◌==◌, Bool, true, false, List, [], ◌∷◌, ◌++◌, length, take, drop, Option, Some, None, Result, Ok, Err, refl, sym, ap, ◌∙◌, arith, append_assoc, append-nil, add-one, is_ascii_alphanumeric, is_ascii_digit, prefix_len, IsAscii, nat_tests, number_of, Token, Word, Begin, Takes, Bad, begins, begins_word, before, continues_word, is_blank, more_of, number_begins, then_tokens, tokens_past, word_begins}
 use Rattle.std.proofs.lemmas.Str.Ascii.{IsAscii-nil, IsAscii-cons}
-use Rattle.asm_parse.specs.Number.{number_of}
-use Rattle.asm_parse.specs.declared.token.Token.{Token}
-use Rattle.asm_parse.specs.declared.token.Token.TheVariants.{Word}
-use Rattle.asm_parse.specs.declared.token.Begin.{Begin}
-use Rattle.asm_parse.specs.declared.token.Begin.TheVariants.{Takes, Bad}
-use Rattle.asm_parse.specs.Token.{begins, begins_word, before, continues_word, is_blank, more_of, number_begins, then_tokens, tokens_past, word_begins}
 
 -- tokens behind those that were found
 abbrev pub behind : List Token → Result (List Token) ℕ → Result (List Token) ℕ

@@ -1,14 +1,7 @@
 -- A status that comes from below, and the commit lines of a report.
-use Rattle.std.proofs.Common.{◌≡◌, ◌+◌, List, length, refl, sym, subst, arith}
-use Rattle.std.specs.Prelude.{Result, Ok, Err, IsErr, IsErrAnd, MatchResult, count_by, if◌then◌else◌}
+use Rattle.bundle_calls.proofs.Common.{◌≡◌, ◌+◌, List, length, refl, sym, subst, arith, Result, Ok, Err, IsErr, IsErrAnd, MatchResult, count_by, if◌then◌else◌, is_commit, Line, owned_told, OwnedLine, Told, report_told, told_before, Status}
 use Rattle.std.proofs.lemmas.List.Recursion.{is_count_by}
-use Rattle.desk.specs.Commits.{is_commit}
 use Rattle.desk.specs.Lines as report
-use Rattle.desk.specs.Lines.{Line}
-use Rattle.report_text.specs.ReadLines.{owned_told}
-use Rattle.report_text.specs.declared.owned.OwnedLine.{OwnedLine}
-use Rattle.serial_audit.specs.Audit.{Told, report_told, told_before}
-use Rattle.call_status.specs.declared.status.Status.{Status}
 
 -- a status that is handed on
 pub handed_on : {T : Type 0} (Good : T → Type 0) (Bad : Status → Type 0) (result : Result T Status) (status : Status) → IsErr result × IsErrAnd result (λ other. other ≡ status) → Bad status → MatchResult result Good Bad

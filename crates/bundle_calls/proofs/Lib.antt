@@ -1,2 +1,3 @@
+pub mod Common
 pub mod BundleLemmas
 pub mod PromiseLemmas

@@ -1,21 +1,9 @@
 -- A bundle that has what a call needs.
-use Rattle.std.proofs.Common.{◌≡◌, ◌⊎◌, ℕ, List, inl, inr, refl, subst, ap}
-use Rattle.std.specs.Prelude.{Option, Some, Result, Ok, Err}
+use Rattle.bundle_calls.proofs.Common.{◌≡◌, ◌⊎◌, ℕ, List, inl, inr, refl, subst, ap, Option, IsFirstBad, job_of, IsBundle, Bundle, IsFaultAt, IsStanding, IsWholeBundle, Status, read_whole, AuditedBy, CanAudit, IsOfAudit, HasBundle, IsBadClosing, IsNoJob, IsWrongPart, part_of, CanTrace, IsOfTrace, TracedBy}
 use Rattle.outside.specs.declared.world.Outside.{Ghosts}
-use Rattle.report_text.specs.ReadLines.{IsFirstBad}
-use Rattle.job_text.specs.Grammar.{job_of}
-use Rattle.serial_audit.specs.Bundle.{IsBundle}
-use Rattle.serial_audit.specs.declared.bundle.Bundle.{Bundle}
 use Rattle.serial_audit.proofs.OneLemmas.{has_one_splitting}
 use Rattle.touch_trace.specs.declared.answer.TraceFault.TheVariants as fault
-use Rattle.call_status.specs.Opening.{IsFaultAt, IsStanding}
-use Rattle.call_status.specs.SourceText.{IsWholeBundle}
-use Rattle.call_status.specs.declared.status.Status.{Status}
 use Rattle.call_status.specs.declared.status.Status.TheVariants as status
-use Rattle.call_status.proofs.TextLemmas.{read_whole}
-use Rattle.bundle_calls.specs.Audited.{AuditedBy, CanAudit, IsOfAudit}
-use Rattle.bundle_calls.specs.Bundled.{HasBundle, IsBadClosing, IsNoJob, IsWrongPart, part_of}
-use Rattle.bundle_calls.specs.Traced.{CanTrace, IsOfTrace, TracedBy}
 
 -- bytes that stand have no fault
 stands_well : (bytes : List ℕ) (offset : ℕ) → IsStanding bytes → IsFaultAt bytes offset → ⊥

@@ -1,24 +1,11 @@
 -- A record that is added behind a checkpoint.
-use Rattle.std.proofs.Common.{◌≡◌, inl, inr, ⊎_elim, ◌⊎◌, ℕ, ◌+◌, ◌%◌, ◌^◌, ◌<◌, ◌≤◌, Bool, true, false, List, [], ◌∷◌, ◌++◌, length, refl, sym, subst, ◌∙◌, ap, arith}
-use Rattle.std.specs.Prelude.{Option, None, Some, unwrap_or, nat_lt, if◌then◌else◌}
+use Rattle.checkpoint.proofs.Common.{Option, None, Some, unwrap_or, nat_lt, if◌then◌else◌, Which, RecordLine, Standing, stands, one_more, KeptBank, area_end, needed_end, begun_of, number_of, with_record, IsEither, placed, turned, PageSize, emptied, roomy, kept_by, number_after, IsKeptAfter, Appended}
+use Rattle.std.proofs.Common.{◌≡◌, inl, inr, ⊎_elim, ◌⊎◌, ℕ, ◌+◌, ◌%◌, ◌^◌, ◌<◌, ◌≤◌, Bool, true, false, List, [], ◌∷◌, length, refl, sym, subst, ◌∙◌, ap, arith}
 use Rattle.std.specs.Option.{option_map}
 use Rattle.std.proofs.lemmas.Bool.Decides.{nat_tests}
-use Rattle.std.proofs.lemmas.List.{length-replicate}
-use Rattle.store_format.specs.declared.header.Which.{Which}
-use Rattle.store_format.specs.Bank.{RecordLine}
-use Rattle.store_format.specs.Stands.{Standing, stands, one_more}
-use Rattle.redo_journal.specs.Kept.{KeptBank, area_end, needed_end, begun_of, number_of, with_record}
-use Rattle.redo_journal.specs.Tracks.{IsEither, HoldsOneOf}
-use Rattle.redo_journal.specs.Turned.{placed, turned}
 use Rattle.redo_journal.proofs.TurnLemmas.{one_more_placed}
-use Rattle.checkpoint.specs.Home.{home_place, store_bytes}
-use Rattle.line_geometry.specs.declared.directory.PageSize.{PageSize}
-use Rattle.checkpoint.specs.Committed.{emptied, roomy, kept_by, number_after, IsKeptAfter, HoldsCommitted}
-use Rattle.store_format.specs.Header.{Header}
-use Rattle.checkpoint.specs.Chosen.{other}
-use Rattle.redo_journal.specs.declared.bank.Appended.{Appended}
-use Rattle.redo_journal.specs.declared.bank.Appended.TheVariants as appended
 use Rattle.redo_journal.specs.declared.keep.Kept.{Kept}
+use Rattle.redo_journal.specs.declared.bank.Appended.TheVariants as appended
 use Rattle.redo_journal.specs.declared.keep.Kept.TheVariants as keeping
 
 -- the begun record behind another gate

@@ -1,27 +1,10 @@
 -- Newest bytes that are written home.
-use Rattle.std.proofs.Common.{◌≡◌, inl, inr, ℕ, ◌+◌, ◌*◌, ◌-◌, ◌<◌, ◌≤◌, List, length, take, drop, refl, sym, ◌∙◌, ap, subst, arith}
-use Rattle.std.specs.Prelude.{Option, None, Some, fold}
+use Rattle.checkpoint.proofs.Common.{◌≡◌, inl, inr, ℕ, ◌+◌, ◌*◌, ◌-◌, ◌<◌, ◌≤◌, List, length, take, drop, refl, sym, ◌∙◌, ap, subst, arith, Option, None, Some, fold, drop-drop, take_at, length-drop, length-take-le, line_count, PageSize, Which, A, B, Header, home_at, bank_at, KeptBank, end_of, line_bytes_of, RecordLine, IsStore, laid, home_of, shorter_front, rest_front, area_within, store_front, behind_bytes, bytes_at, written, Torn, torn_by_written, drop-written, home_line, home_place, copied, TornLine, IsCovered, IsHomed}
 use Rattle.std.proofs.lemmas.Bool.{cases_lt, cases_eq}
-use Rattle.std.proofs.lemmas.List.{drop-drop, take_at, length-drop, length-take-le}
-use Rattle.line_geometry.specs.Lines.{line_count}
-use Rattle.line_geometry.specs.declared.directory.PageSize.{PageSize}
-use Rattle.store_format.specs.declared.header.Which.{Which}
-use Rattle.store_format.specs.declared.header.Which.TheVariants.{A, B}
 use Rattle.line_geometry.specs.Segments.{line_bytes}
-use Rattle.store_format.specs.Header.{Header, home_at, bank_at}
-use Rattle.redo_journal.specs.Kept.{KeptBank, end_of, line_bytes_of}
-use Rattle.store_format.specs.Bank.{RecordLine}
-use Rattle.store_format.specs.Stands.{IsStore, laid, home_of}
-use Rattle.store_format.proofs.Fronts.{shorter_front, rest_front}
-use Rattle.store_format.proofs.Stores.{area_within}
-use Rattle.store_format.proofs.Elsewhere.{store_front, behind_bytes}
 use Rattle.store_format.proofs.Widths.{lines-below}
-use Rattle.outside.specs.Bytes.{bytes_at, written, Torn}
-use Rattle.outside.proofs.Torn.{torn_by_written}
 use Rattle.redo_journal.specs.Noted.{newest_place}
-use Rattle.redo_journal.proofs.GateLemmas.{drop-written}
 use Rattle.redo_journal.proofs.Newest.{bytes_of_line, newest_bytes, store_agrees, held_records, newest_within, same_lines}
-use Rattle.checkpoint.specs.Home.{home_line, home_place, copied, TornLine, IsCovered, IsHomed}
 
 -- a line of the home lines
 home_is : (header : Header) (image : List ℕ) (line : ℕ) → bytes_of_line header.directory.page line (home_of image header) ≡ home_line header image line

@@ -1,25 +1,6 @@
 -- The other bank, its head, and the selector.
-use Rattle.std.proofs.Common.{◌≡◌, inl, inr, ◌⊎◌, ℕ, ◌+◌, ◌%◌, ◌^◌, ◌<◌, ◌≤◌, List, [], ◌∷◌, length, drop, refl, sym, ◌∙◌, ap, arith, slice_index}
-use Rattle.std.specs.Prelude.{◌==◌, if◌then◌else◌, fold}
-use Rattle.std.proofs.lemmas.List.{get_or-drop}
-use Rattle.store_format.specs.declared.header.Which.{Which}
-use Rattle.store_format.specs.declared.header.Which.TheVariants.{A, B}
-use Rattle.store_format.specs.Header.{Header, home_at, bank_at}
-use Rattle.store_format.specs.Bank.{RecordLine, area_at}
-use Rattle.store_format.specs.Stands.{IsStore, HasHeader, laid, home_of, chosen, stands}
-use Rattle.store_format.proofs.Fronts.{shorter_front, same_byte}
-use Rattle.store_format.proofs.Stores.{area_within}
-use Rattle.store_format.proofs.Elsewhere.{same_header, header_held, base_behind, store_behind, store_front, store_empty, store_big, stands_alike, behind_bytes}
-use Rattle.line_geometry.specs.Lines.{line_count}
-use Rattle.outside.specs.Bytes.{written, Torn}
-use Rattle.outside.proofs.Torn.{torn_by_written}
-use Rattle.redo_journal.specs.Kept.{KeptBank, number_of}
-use Rattle.redo_journal.specs.Turned.{head_bytes}
+use Rattle.checkpoint.proofs.Common.{◌≡◌, inl, inr, ◌⊎◌, ℕ, ◌+◌, ◌%◌, ◌^◌, ◌<◌, ◌≤◌, List, [], ◌∷◌, length, drop, refl, sym, ◌∙◌, ap, arith, slice_index, ◌==◌, if◌then◌else◌, fold, get_or-drop, Which, A, B, Header, home_at, bank_at, RecordLine, area_at, IsStore, HasHeader, laid, home_of, chosen, stands, shorter_front, same_byte, area_within, same_header, header_held, base_behind, store_behind, store_front, store_empty, store_big, stands_alike, behind_bytes, line_count, written, Torn, torn_by_written, KeptBank, number_of, head_bytes, drop-written, other, selector_of, IsCovered, IsHomed, IsSame}
 use Rattle.redo_journal.proofs.HeadLemmas.{IsEmpty, head_empty, head_long}
-use Rattle.redo_journal.proofs.GateLemmas.{drop-written}
-use Rattle.checkpoint.specs.Chosen.{other, selector_of}
-use Rattle.checkpoint.specs.Home.{IsCovered, IsHomed}
-use Rattle.checkpoint.specs.Moved.{IsSame}
 use Rattle.checkpoint.proofs.HomeLemmas.{covered_store, covered_bytes, homed_bytes}
 
 -- an image of the same store, with the same home lines

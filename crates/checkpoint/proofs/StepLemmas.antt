@@ -1,11 +1,7 @@
 -- What a crash leaves of calls that write, one after another, from images on that weren't sure.
-use Rattle.std.proofs.Common.{◌≡◌, ⊎_elim, ℕ, List, [], sym, ap, subst}
+use Rattle.checkpoint.proofs.Common.{◌≡◌, ⊎_elim, ℕ, List, [], sym, ap, subst, Elapses, Follows, IsDurable, Leaves, OnlyAsks, FewerLater, held_of, Writes, written, IsSure}
 use Rattle.std.specs.Prelude.{Option, None, Some, Result, Ok, Err, OnOk, IsSome, IsTrue, unwrap_or}
 use Rattle.outside.specs.declared.world.Outside.{Ghosts}
-use Rattle.outside.specs.Moments.{Elapses, Follows, IsDurable}
-use Rattle.outside.specs.Runs.{Leaves, OnlyAsks, FewerLater, held_of}
-use Rattle.outside.specs.Bytes.{Writes, written}
-use Rattle.outside.specs.Durable.{IsSure}
 
 module _ {W : Type 0} (G : Ghosts W) (fewer_later : FewerLater G) (old mid new : W) (before : Elapses G.moment G.left_since old mid) (time : Elapses G.moment G.left_since mid new) where
   -- each image after a step is one of those before it

@@ -1,2 +1,3 @@
+pub mod Common
 pub mod PromiseLemmas
 pub mod WordLemmas

@@ -1,32 +1,23 @@
 -- A command that has what it needs ends well, by what it did.
-use Rattle.std.proofs.Common.{◌≡◌, ◌⊎◌, ◌+◌, ◌*◌, ◌<◌, ◌≤◌, ◌++◌, get_or, ℕ, List, [], ◌∷◌, length, map, refl, sym, ◌∙◌, ap, subst, arith, inl, inr, ⊎_elim}
+use Rattle.console.proofs.Common.{◌≡◌, ◌⊎◌, ◌+◌, ◌*◌, ◌<◌, ◌≤◌, get_or, ℕ, List, [], ◌∷◌, length, map, refl, sym, ◌∙◌, ap, subst, arith, inl, inr, ⊎_elim, Status, most_lines, Given, call, CanTrace, Global, PageSize, Two, Four, Command, IsForm, Says, new_word, word_of}
 use Rattle.std.specs.Prelude.{codes, nat_eq, Bool, true, false, slice_index, Option, Some, None, IsSome, String, string_bytes, unwrap_or, All, slice_get}
 use Rattle.std.proofs.lemmas.Option.{slice_get_cases}
 use Rattle.call_status.proofs.TextLemmas.{read_whole, too_much}
 use Rattle.outside.specs.Causes.{Rose}
 use Rattle.outside.specs.Runs.{held_of}
-use Rattle.call_status.specs.declared.status.Status.{Status}
-use Rattle.call_status.specs.declared.status.Status.TheVariants as status
 use Rattle.store_calls.specs.Renewed.{IsNotOne, IsOfRenew, Renewed}
-use Rattle.store_format.specs.Header.{most_lines}
-use Rattle.restart.specs.Kept.{KeptStore, number_of}
+use Rattle.restart.specs.Kept.{number_of}
 use Rattle.standby.specs.State.{IsFirstLong, due}
 use Rattle.standby.specs.Text.{Content, IsContent, ShipLine, text_of}
 use Rattle.standby_calls.specs.Followed.{FollowedBy, FollowedFrom, IsNoText, IsOfFollow, OnStore}
 use Rattle.standby_calls.specs.Shipped.{IsOfShip, ShippedFrom}
-use Rattle.call_status.specs.Call.{Given, call}
 use Rattle.call_status.specs.Opening.{IsFaultAt, IsStanding}
 use Rattle.bundle_calls.specs.Audited.{CanAudit}
-use Rattle.bundle_calls.specs.Traced.{CanTrace}
-use Rattle.console.proofs.WordLemmas.{one_from, one_trace}
-use Rattle.std.specs.declared.alloc.Global.{Global}
-use Rattle.line_geometry.specs.declared.directory.PageSize.{PageSize}
-use Rattle.line_geometry.specs.declared.directory.PageSize.TheVariants.{Two, Four}
 use Rattle.outside.specs.declared.world.Outside.{Ghosts}
-use Rattle.console.specs.declared.words.Command.{Command}
-use Rattle.console.specs.declared.words.Command.TheVariants as command
 use Rattle.console.specs.Causes.{CanFollow, CanShip, HasAll, HasOldStore, IsComplete}
-use Rattle.console.specs.Words.{IsForm, Says, new_word, word_of}
+use Rattle.call_status.specs.declared.status.Status.TheVariants as status
+use Rattle.console.proofs.WordLemmas.{one_from, one_trace}
+use Rattle.console.specs.declared.words.Command.TheVariants as command
 
 -- words begin with that of their command
 begins : (form : Command) (words : List (List ℕ)) → Says form words → (rest : List (List ℕ)) × (words ≡ word_of form ∷ rest)

@@ -1,23 +1,12 @@
 -- The words of a command line.
+use Rattle.console.proofs.Common.{Global, ParsesUnsigned, IsNumeral, digits_value, without_leading_plus, nat_tests, take_all, length-map, map-append, pow_pos, PageSize, Two, Four, AreFlags, Header, Range, Command, AreNumbers, AreWithin, IsAlone, IsForm, IsLong, IsNoForm, IsNumbered, IsOnStore, NamesStore, SaysNumber, ends_marked, marked_of, new_word, number_of, number_said, numbers_of, plain, spread, word_of}
 use Rattle.std.proofs.Common.{◌≡◌, ◌≢◌, ℕ, zero, suc, ◌+◌, ◌-◌, ◌*◌, ◌/◌, ◌%◌, ◌^◌, ◌<◌, ◌≤◌, Bool, true, false, List, [], ◌∷◌, length, get_or, map, take, take-suc, drop, refl, sym, ◌∙◌, ap, subst, arith, Option, Some, None}
-use Rattle.std.specs.Prelude.{Result, Ok, Err, MatchResult, MatchOption, String, string_bytes, All, slice_index, ◌==◌, ◌++◌, option_map, codes}
-use Rattle.std.specs.declared.alloc.Global.{Global}
-use Rattle.std.specs.Str.Parse.{ParsesUnsigned, IsNumeral, digits_value, without_leading_plus}
+use Rattle.std.specs.Prelude.{Result, Ok, Err, MatchResult, MatchOption, String, string_bytes, slice_index, ◌==◌, ◌++◌, option_map, codes}
 use Rattle.std.specs.Result.{OkIff}
 use Rattle.std.proofs.lemmas.Bool.{le-leb}
-use Rattle.std.proofs.lemmas.Bool.Decides.{nat_tests}
-use Rattle.std.proofs.lemmas.List.{take_all, take_at, get_or-append_right, length-append, length-map, length-take, map-append}
-use Rattle.std.proofs.lemmas.Nat.{pow_pos}
 use Rattle.asm_parse.specs.Number.{number_in}
 use Rattle.asm_parse.proofs.NumberLemmas.{as_number}
-use Rattle.line_geometry.specs.declared.directory.PageSize.{PageSize}
-use Rattle.line_geometry.specs.declared.directory.PageSize.TheVariants.{Two, Four}
-use Rattle.line_geometry.specs.Legal.{IsInRange, AreFlags}
-use Rattle.store_format.specs.Header.{Header}
-use Rattle.store_calls.specs.declared.show.Range.{Range}
-use Rattle.console.specs.declared.words.Command.{Command}
 use Rattle.console.specs.declared.words.Command.TheVariants as command
-use Rattle.console.specs.Words.{AreNumbers, AreWithin, IsAlone, IsForm, IsLong, IsNoForm, IsNumbered, IsOnStore, NamesStore, SaysNumber, ShipsFrom, ends_marked, marked_of, new_word, number_of, number_said, numbers_of, plain, spread, word_of}
 
 -- a word of at most ten bytes
 short : (word : List ℕ) → length word ≤ 10 → number_of word ≡ number_in 10 word

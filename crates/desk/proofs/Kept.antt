@@ -1,17 +1,10 @@
 -- What the steps of a turn keep: the committed bytes, the order, and who is active as what.
+use Rattle.desk.proofs.Common.{◌==◌, not, map, filter, find, if◌then◌else◌, option_and_then, FlatStore, Plain, Activation, numbered, committing, if_commit, before_commit, Desk, Entry, with_entry, ended, rolled_back, wanted, numbers, waits_for, conflicts_of, is_fine, Word, Fine, ReadFailed, Unwritten, Doubt, Failed, Counts, Ending, Committed, CommitUnwritten, CommitDoubted, Turning, Going, Over, Attempt, Fetching, Fetched, Broken, Contest, Contested, Settled, Lost, attempts, attempts_at, instruction, turns, limited, is_over_limit, turn, turn_of, no_counts, fetched_first, fetches_touched, asks, gets, goes_on, takes_effect, commits, breaks, breaks_cycle, breaks_cycles, contest_ends, ordered, waits_or_gets, with_grants, refused_pages}
 use Rattle.std.proofs.Common.{◌≡◌, ℕ, zero, suc, ◌+◌, Bool, true, false, List, [], ◌∷◌, ◌++◌, length, refl, sym, ◌∙◌, ap, subst, arith, Option, Some, None}
-use Rattle.std.specs.Prelude.{◌==◌, not, map, filter, find, if◌then◌else◌, option_and_then}
 use Rattle.std.proofs.lemmas.Bool.{eqb-true}
-use Rattle.line_geometry.specs.FlatStore.{FlatStore}
-use Rattle.flat_machine.specs.declared.machine.Plain.{Plain}
 use Rattle.flat_machine.specs.Row.{Outcome, On, Commit, Check, row}
 use Rattle.flat_machine.specs.After.{after}
-use Rattle.flat_machine.specs.Serial.{Activation, numbered, committing, if_commit, before_commit}
 use Rattle.lock_rules.specs.Waits.{shown_cycle, victim_of}
-use Rattle.desk.specs.Desk.{Desk, Entry, with_entry, ended, rolled_back}
-use Rattle.desk.specs.Holdings.{wanted, numbers, waits_for, conflicts_of}
-use Rattle.desk.specs.Run.{is_fine}
-use Rattle.desk.specs.Instruction.{Word, Fine, ReadFailed, Unwritten, Doubt, Failed, Counts, Ending, Committed, CommitUnwritten, CommitDoubted, Turning, Going, Over, Attempt, Fetching, Fetched, Broken, Contest, Contested, Settled, Lost, attempts, attempts_at, instruction, turns, limited, is_over_limit, turn, turn_of, no_counts, fetched_first, fetches_touched, asks, gets, goes_on, takes_effect, commits, breaks, breaks_cycle, breaks_cycles, contest_ends, ordered, waits_or_gets, with_grants, refused_pages}
 
 -- each active entry runs the activation of its number
 abbrev pub AreNumbered : List Activation → List Entry → Type 0

@@ -1,24 +1,14 @@
 -- The commits of a run are those of a serial run.
+use Rattle.desk.proofs.Common.{nat_lt, not, slice_get, if◌then◌else◌, IsTrue, option_and_then, flat_map, FlatStore, Plain, Program, Activation, numbered, serial, Begin, Turn, Checkpoint, Crash, Desk, Entry, opened, numbers, Word, Fine, ReadFailed, Unwritten, Doubt, Failed, Counts, Ending, Idle, Limit, Checked, Journal, Disk, Victim, Waits, Committed, CommitUnwritten, CommitDoubted, Turning, Going, Over, turn, number_after, happening_lines, cycle_lines, event_lines}
 use Rattle.std.proofs.Common.{◌≡◌, ℕ, suc, ◌+◌, ◌%◌, ◌^◌, ◌≤◌, ◌⊎◌, inl, inr, Bool, true, false, List, [], ◌∷◌, ◌++◌, length, map, refl, sym, ◌∙◌, ap, subst, arith, Option, Some, None, append_assoc, length-append}
-use Rattle.std.specs.Prelude.{nat_lt, not, slice_get, if◌then◌else◌, IsTrue, option_and_then}
-use Rattle.std.specs.List.{flat_map}
 use Rattle.std.proofs.lemmas.List.{append-nil}
 use Rattle.std.proofs.lemmas.List.Elements.{filter-append}
 use Rattle.std.proofs.lemmas.List.Sums.{sum_by-append}
-use Rattle.line_geometry.specs.FlatStore.{FlatStore}
-use Rattle.flat_machine.specs.declared.machine.Plain.{Plain}
-use Rattle.flat_machine.specs.declared.machine.Program.{Program}
-use Rattle.flat_machine.specs.Serial.{Activation, numbered, serial}
 use Rattle.desk.specs.declared.event.Event.{Event}
-use Rattle.desk.specs.declared.event.Event.TheVariants.{Begin, Turn, Checkpoint, Crash}
-use Rattle.desk.specs.Desk.{Desk, Entry, opened}
-use Rattle.desk.specs.Holdings.{numbers}
-use Rattle.desk.specs.Instruction.{Word, Fine, ReadFailed, Unwritten, Doubt, Failed, Counts, Ending, Idle, Limit, Checked, Journal, Disk, Victim, Waits, Committed, CommitUnwritten, CommitDoubted, Turning, Going, Over, turn}
-use Rattle.desk.specs.Run.{Step, Happening, Nothing, Busy, Turned, CheckpointMade, CheckpointFailed, Crashed, CrashFailed, begin_if, begins, absent_segment, turned, restarted, shut as shut_desk, is_fine, faulted, event_of, step, run, OpenBeforeEach, IsRunOf}
-use Rattle.desk.specs.Lines as line
+use Rattle.desk.specs.Run.{Step, Happening, Nothing, Busy, Turned, CheckpointMade, CheckpointFailed, Crashed, CrashFailed, begin_if, begins, absent_segment, turned, restarted, shut as shut_desk, is_fine, faulted, event_of, step, run, OpenBeforeEach}
 use Rattle.desk.specs.Lines.{Line}
-use Rattle.desk.specs.Report.{number_after, happening_lines, cycle_lines, event_lines}
 use Rattle.desk.specs.Commits.{begun, begun_before, is_commit, commit_lines, serial_lines, line_before, RunsAreSerial}
+use Rattle.desk.specs.Lines as line
 use Rattle.desk.proofs.Kept.{AreNumbered, Moves, Commits, Does, Ends, moves-none, does-turn}
 
 -- one entry more is numbered too

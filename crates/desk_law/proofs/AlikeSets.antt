@@ -1,13 +1,5 @@
 -- What depends on sets of lines as sets alone: pages taken out, grants, and how many lines are written.
-use Rattle.std.specs.Prelude.{◌≡◌, refl, ℕ, ◌&&◌, ◌||◌, not, if◌then◌else◌, Bool, false, List, [], ◌∷◌, ◌++◌, filter}
-use Rattle.std.proofs.Common.{ap, sym, ◌∙◌}
-use Rattle.lock_rules.specs.Sets.{has, size}
-use Rattle.lock_rules.specs.Lines.{Lines, within_page, is_whole_page, lines_of_page, pages_of}
-use Rattle.lock_rules.proofs.Sets.{has-append}
-use Rattle.lock_rules.proofs.Sizes.{size-alike}
-use Rattle.desk.specs.Desk.{Authority}
-use Rattle.desk.specs.Instruction.{Attempt, authority_by, fine_authority_by, given, with_each, granted, to_read, lowered_pages, lowered}
-use Rattle.desk_law.specs.Beside.{AreAlike}
+use Rattle.desk_law.proofs.Common.{◌≡◌, refl, ℕ, ◌&&◌, ◌||◌, not, if◌then◌else◌, Bool, false, List, [], ◌∷◌, ◌++◌, filter, ap, sym, ◌∙◌, has, size, Lines, within_page, is_whole_page, lines_of_page, pages_of, has-append, size-alike, Authority, Attempt, authority_by, fine_authority_by, given, with_each, granted, to_read, lowered_pages, lowered, AreAlike}
 use Rattle.desk_law.proofs.EachPage.{each-same}
 
 pub filter-same : (p q : ℕ → Bool) (xs : List ℕ) → ((x : ℕ) → p x ≡ q x) → filter p xs ≡ filter q xs

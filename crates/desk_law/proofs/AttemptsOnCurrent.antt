@@ -1,30 +1,7 @@
 -- What an attempt over the bytes of all says of the entry's own row, and what follows where its lines were there.
-use Rattle.std.specs.Prelude.{◌≡◌, refl, ℕ, ◌+◌, List, length, Option, Some}
-use Rattle.std.specs.Option.{option_map_or}
-use Rattle.std.proofs.Common.{arith, ap, sym, ◌∙◌, subst}
-use Rattle.line_geometry.specs.Directory.{Layout}
-use Rattle.lock_rules.specs.Lines.{no_lines}
-use Rattle.lock_rules.proofs.Lines.{ArePart}
-use Rattle.flat_machine.specs.declared.machine.Plain.{Plain}
-use Rattle.flat_machine.specs.declared.machine.Plan.{Plan}
-use Rattle.flat_machine.specs.declared.machine.Plan.TheVariants.{Does, Fails}
-use Rattle.flat_machine.specs.declared.machine.Program.{Program}
-use Rattle.flat_machine.specs.Row.{Outcome, On, Commit, Check, plan_at, row}
-use Rattle.flat_machine.specs.Touched.{touched, touched_by}
-use Rattle.flat_machine.specs.After.{after}
-use Rattle.flat_machine.specs.Agreement.{SameWay}
-use Rattle.flat_machine.proofs.SameWay.{row-way}
-use Rattle.flat_machine.proofs.Steps.{lines_of_plan}
-use Rattle.desk.specs.Desk.{Desk, Entry, with_entry}
-use Rattle.desk.specs.Holdings.{wanted, request}
-use Rattle.desk.specs.Instruction.{Word, Fine, Counts, Going, Over, instruction}
-use Rattle.desk_law.specs.Beside.{AreThere, over_all}
-use Rattle.desk_law.specs.Changes.{gone_on}
-use Rattle.desk_law.specs.Consistent.{IsAmong, due_to}
-use Rattle.desk_law.specs.Current.{IsCurrent}
+use Rattle.desk_law.proofs.Common.{◌≡◌, refl, ℕ, ◌+◌, List, length, Option, Some, option_map_or, arith, ap, sym, ◌∙◌, subst, Layout, no_lines, ArePart, Plain, Plan, Does, Fails, Program, Outcome, On, Commit, Check, plan_at, row, touched, touched_by, after, SameWay, row-way, lines_of_plan, Desk, Entry, with_entry, wanted, request, Word, Fine, Counts, Going, Over, instruction, AreThere, over_all, gone_on, IsAmong, due_to, IsCurrent, IsOrderly}
 use Rattle.desk_law.proofs.Entries.{replaced, found-among}
 use Rattle.desk_law.proofs.LinesThere.{there-held}
-use Rattle.desk_law.specs.Orderly.{IsOrderly}
 use Rattle.desk_law.proofs.Permitted.{held-free}
 use Rattle.desk_law.proofs.RowsThere.{open-row}
 use Rattle.desk_law.proofs.SharedBytes.{RunsOn, row-on-current}

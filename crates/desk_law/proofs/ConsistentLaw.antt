@@ -1,18 +1,5 @@
 -- A consistent desk stays so.
-use Rattle.std.specs.Prelude.{◌≡◌, refl, ℕ, ◌+◌, ◌<◌, ◌==◌, nat_lt, if◌then◌else◌, Bool, true, false, List, [], ◌∷◌, length, find, Option, Some, None, slice_get}
-use Rattle.std.proofs.Common.{arith, ap, subst}
-use Rattle.std.proofs.lemmas.Bool.{eqb-true, eq-eqb, both_ways, ltb-true}
-use Rattle.line_geometry.specs.Directory.{page_count}
-use Rattle.flat_machine.specs.declared.machine.Program.{Program}
-use Rattle.desk.specs.declared.event.Event.{Event}
-use Rattle.desk.specs.declared.event.Event.TheVariants.{Begin, Turn, Checkpoint, Crash}
-use Rattle.desk.specs.Desk.{Desk, Entry, opened}
-use Rattle.desk.specs.Instruction.{Word, Fine, ReadFailed, Unwritten, Doubt, Failed, Counts, Turning, Going, Over, Idle, instruction, turns, turn, turn_of, no_counts}
-use Rattle.desk.specs.Run.{turned, begin_if, begins, absent_segment, restarted, event_of, step, run, Busy, Nothing}
-use Rattle.desk_law.specs.Consistent.{IsAmong, Ascend, IsConsistent}
-use Rattle.desk_law.specs.Causes.{desk_of}
-use Rattle.desk_law.specs.Laws.{StaysConsistent, IsActive, IsNotIdle, IdleWhereInactive, RunsStayConsistent}
-use Rattle.desk_law.specs.Orderly.{IsOrderly}
+use Rattle.desk_law.proofs.Common.{◌≡◌, refl, ℕ, ◌+◌, ◌<◌, ◌==◌, nat_lt, if◌then◌else◌, Bool, true, false, List, [], ◌∷◌, length, find, Option, Some, None, slice_get, arith, ap, subst, eqb-true, eq-eqb, both_ways, ltb-true, page_count, Program, Event, Begin, Turn, Checkpoint, Crash, Desk, Entry, opened, Word, Fine, ReadFailed, Unwritten, Doubt, Failed, Counts, Turning, Going, Over, Idle, instruction, turns, turn, turn_of, no_counts, turned, begin_if, begins, absent_segment, restarted, event_of, step, run, Busy, Nothing, IsAmong, Ascend, IsConsistent, desk_of, StaysConsistent, IsActive, IsNotIdle, IdleWhereInactive, RunsStayConsistent, IsOrderly}
 use Rattle.desk_law.proofs.Orderly.{orderly}
 use Rattle.desk_law.proofs.Entries.{among-found, none-found, found-among}
 use Rattle.desk_law.proofs.Endings.{begins-consistent, refused-consistent, quiet-consistent, opened-consistent}

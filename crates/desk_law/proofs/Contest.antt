@@ -1,18 +1,7 @@
 -- Cycles of waits and their victims.
-use Rattle.std.specs.Prelude.{◌≡◌, refl, ℕ, zero, suc, ◌+◌, ◌<◌, ◌≤◌, ◌==◌, ◌⊎◌, not, max, if◌then◌else◌, Bool, true, false, List, [], ◌∷◌, ◌++◌, length, filter, map, find, fold, Option, Some, None, slice_index_or}
-use Rattle.std.proofs.Common.{arith, ap, sym, ◌∙◌, subst, inl, inr, length-append}
-use Rattle.std.proofs.lemmas.Bool.{eqb-true, eq-eqb, ne_eqb, both_ways, and_parts, and_from, or_left, or_right, not_from_false, not-true, false_from_ne_true, cases_lt, not_from_true, cond-false}
-use Rattle.lock_rules.specs.Sets.{has}
-use Rattle.lock_rules.specs.Waits.{leads, shown_after, shown_cycle, victim_of}
-use Rattle.lock_rules.proofs.Cycles.{after-among}
-use Rattle.desk.specs.Desk.{Desk, Entry, Authority, nobody, rolled_back}
-use Rattle.desk.specs.Holdings.{numbers, waits_for}
-use Rattle.desk.specs.Instruction.{Counts, Contest, Contested, Settled, Lost, breaks_cycle, breaks_cycles}
-use Rattle.desk_law.specs.Consistent.{IsAmong}
-use Rattle.desk_law.specs.Orderly.{IsOrderly}
+use Rattle.desk_law.proofs.Common.{◌≡◌, refl, ℕ, zero, suc, ◌+◌, ◌<◌, ◌≤◌, ◌==◌, ◌⊎◌, not, max, if◌then◌else◌, Bool, true, false, List, [], ◌∷◌, ◌++◌, length, filter, map, find, fold, Option, Some, None, slice_index_or, arith, ap, sym, ◌∙◌, subst, inl, inr, length-append, eqb-true, eq-eqb, ne_eqb, both_ways, and_parts, and_from, or_left, or_right, not_from_false, not-true, false_from_ne_true, cases_lt, not_from_true, cond-false, has, leads, shown_after, shown_cycle, victim_of, after-among, Desk, Entry, Authority, nobody, rolled_back, numbers, waits_for, Counts, Contest, Contested, Settled, Lost, breaks_cycle, breaks_cycles, IsAmong, IsOrderly, except, IsContending, KeepsPages}
 use Rattle.desk_law.proofs.Entries.{among-filter, filter-among, among-found, none-found, filter-short}
 use Rattle.desk_law.proofs.Walks.{no-cycle-fewer, no-cycle-from, no-cycle-leaves, walk-short}
-use Rattle.desk_law.specs.UnderWay.{except, IsContending, KeepsPages}
 use Rattle.desk_law.proofs.Others.{rollback-leaves}
 use Rattle.desk_law.proofs.Waiting.{number-of, has-number, fewer-numbers, rollback-waits, waits-by}
 use Rattle.desk_law.proofs.Holding.{held-but, held-others, freed, freed-at}

@@ -1,17 +1,8 @@
 -- A contest round by round: a loop that looks for one cycle at a time goes through the same desks as the definition.
-use Rattle.std.specs.Prelude.{◌≡◌, refl, ℕ, zero, suc, ◌≤◌, ◌<◌, ◌==◌, not, Bool, true, false, List, [], ◌∷◌, ◌++◌, length, find, Option, Some, None}
-use Rattle.std.proofs.Common.{arith, ap, sym, ◌∙◌}
-use Rattle.std.proofs.lemmas.Bool.{eqb-true, eq-eqb, ne_eqb, both_ways, not_from_false, not_from_true, not-true, false_from_ne_true}
-use Rattle.lock_rules.specs.Waits.{leads, shown_cycle, victim_of}
-use Rattle.desk.specs.Desk.{Desk, Entry, with_entry, rolled_back}
-use Rattle.desk.specs.Holdings.{numbers, waits_for}
-use Rattle.desk.specs.Instruction.{Word, Counts, Attempt, Contested, Settled, Lost, breaks_cycle, breaks_cycles, contest_ends, asks}
-use Rattle.desk_law.specs.Consistent.{IsAmong}
+use Rattle.desk_law.proofs.Common.{◌≡◌, refl, ℕ, zero, suc, ◌≤◌, ◌<◌, ◌==◌, not, Bool, true, false, List, [], ◌∷◌, ◌++◌, length, find, Option, Some, None, arith, ap, sym, ◌∙◌, eqb-true, eq-eqb, ne_eqb, both_ways, not_from_false, not_from_true, not-true, false_from_ne_true, leads, shown_cycle, victim_of, Desk, Entry, with_entry, rolled_back, numbers, waits_for, Word, Counts, Attempt, Contested, Settled, Lost, breaks_cycle, breaks_cycles, contest_ends, asks, IsAmong, contest, IsUnderWay, IsOrderly}
 use Rattle.desk_law.proofs.Contest.{contending, settled, rolled-contending, gone-consistent, freed-keeps, stays-settled, stays-lost, filter-shorter, some-active, shown-victim, shown-none, without, left_over}
-use Rattle.desk_law.specs.UnderWay.{contest, IsUnderWay}
 use Rattle.desk_law.proofs.Entries.{among-found, none-found, filter-among, among-filter, new-among}
 use Rattle.desk_law.proofs.GoesOn.{length-replaced, marked-contending}
-use Rattle.desk_law.specs.Orderly.{IsOrderly}
 use Rattle.desk_law.proofs.Waiting.{number-of, has-number}
 use Rattle.desk_law.proofs.Walks.{walk-short}
 

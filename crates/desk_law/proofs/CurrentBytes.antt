@@ -1,28 +1,9 @@
 -- All lines as they are now, end to end.
-use Rattle.std.specs.Prelude.{Bool, true, false, if◌then◌else◌, ◌≡◌, refl, ℕ, zero, suc, ◌+◌, ◌-◌, ◌*◌, ◌/◌, ◌<◌, ◌≤◌, List, [], ◌++◌, length, take, drop, slice_range, min, Option, Some, None}
-use Rattle.std.specs.List.{flat_map, range_with_len}
-use Rattle.std.specs.Option.{option_map_or}
-use Rattle.std.proofs.Common.{arith, ap, sym, ◌∙◌, inl, inr, length-append}
+use Rattle.desk_law.proofs.Common.{Bool, true, false, if◌then◌else◌, ◌≡◌, refl, ℕ, zero, suc, ◌+◌, ◌-◌, ◌*◌, ◌/◌, ◌<◌, ◌≤◌, List, [], ◌++◌, length, take, drop, slice_range, min, Option, Some, None, flat_map, range_with_len, option_map_or, arith, ap, sym, ◌∙◌, inl, inr, length-append, cases_lt, same_number_lists, length-take, length-drop, take_at, line_bytes, Layout, byte_count, FlatStore, IsWhole, line_count, Plain, after, line_in, after-whole, in_line, Desk, Entry, has, laid, bytes_of, writer, current, IsCurrent, current_bytes}
 use Rattle.std.proofs.Math.ListN.{drop_of_length-le}
 use Rattle.std.proofs.Math.Nat.{mul-le-mul_right}
 use Rattle.std.proofs.Math.Seq.{drop-append-add, take-nil}
-use Rattle.std.proofs.lemmas.Bool.{cases_lt}
-use Rattle.std.proofs.lemmas.Grind.{same_number_lists}
-use Rattle.std.proofs.lemmas.List.{length-take, length-drop, take_at}
-use Rattle.line_geometry.specs.Segments.{line_bytes}
-use Rattle.line_geometry.specs.Directory.{Layout, byte_count}
-use Rattle.line_geometry.specs.FlatStore.{FlatStore, IsWhole}
-use Rattle.line_geometry.specs.Lines.{line_count}
 use Rattle.line_geometry.proofs.Within.{byte_count-lines, line-bytes-pos}
-use Rattle.flat_machine.specs.declared.machine.Plain.{Plain}
-use Rattle.flat_machine.specs.After.{after}
-use Rattle.flat_machine.specs.Agreement.{line_in}
-use Rattle.flat_machine.proofs.Agreement.{after-whole}
-use Rattle.flat_machine.proofs.Ranges.{in_line}
-use Rattle.desk.specs.Desk.{Desk, Entry}
-use Rattle.lock_rules.specs.Sets.{has}
-use Rattle.desk_law.specs.Memory.{laid}
-use Rattle.desk_law.specs.Current.{bytes_of, writer, current, IsCurrent, current_bytes}
 
 -- a line of a list of bytes
 line-part : (lb line : ℕ) (xs : List ℕ) → slice_range xs (line * lb) (line * lb + lb) ≡ take lb (drop (line * lb) xs)

@@ -1,21 +1,8 @@
 -- The laws of the bytes as they are now.
-use Rattle.std.specs.Prelude.{◌≡◌, refl, ℕ, ◌+◌, if◌then◌else◌, Bool, true, false, List, [], ◌++◌, Some}
-use Rattle.std.proofs.Common.{arith, ap, sym, ◌∙◌}
-use Rattle.lock_rules.specs.Sets.{has, size}
-use Rattle.flat_machine.specs.declared.machine.Plain.{Plain}
-use Rattle.flat_machine.specs.Row.{On, row}
-use Rattle.flat_machine.specs.After.{after}
-use Rattle.flat_machine.specs.Agreement.{line_in}
-use Rattle.desk.specs.Desk.{Desk, Entry, with_entry, rolled_back}
-use Rattle.desk.specs.Holdings.{wanted, held, conflicts_of}
-use Rattle.line_geometry.specs.FlatStore.{FlatStore, IsWhole}
-use Rattle.desk_law.specs.Changes.{gone_on}
-use Rattle.desk_law.specs.Consistent.{IsAmong, AreConsistent}
-use Rattle.desk_law.specs.Current.{current, current_bytes}
+use Rattle.desk_law.proofs.Common.{◌≡◌, refl, ℕ, ◌+◌, if◌then◌else◌, Bool, true, false, List, [], ◌++◌, Some, arith, ap, sym, ◌∙◌, has, size, Plain, On, row, after, line_in, Desk, Entry, with_entry, rolled_back, wanted, held, conflicts_of, FlatStore, IsWhole, gone_on, IsAmong, AreConsistent, current, current_bytes, touched_of}
 use Rattle.desk_law.specs.CurrentLaws.{OneListIsCurrent, HoldersSeeCurrent, RowsChangeTheirLines, RowsRunOnCurrent, CommitsChangeNoLine, RollbacksGiveBack, CommitsLeaveOthers}
 use Rattle.desk_law.proofs.Entries.{replaced}
 use Rattle.desk_law.proofs.Others.{another-same, after-row}
-use Rattle.desk_law.specs.UnderWay.{touched_of}
 use Rattle.desk_law.proofs.GoesOn.{gone-on-active}
 use Rattle.desk_law.proofs.CurrentLines.{current-held, row-writes, row-leaves, commit-current, rollback-written, rollback-others}
 use Rattle.desk_law.proofs.CurrentBytes.{bytes-current, one-current}

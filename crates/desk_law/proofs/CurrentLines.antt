@@ -1,32 +1,7 @@
 -- What an entry's row, its commit and its rollback do to the lines as they are now.
-use Rattle.std.specs.Prelude.{◌≡◌, refl, ℕ, suc, ◌+◌, ◌==◌, ◌||◌, ◌⊎◌, not, if◌then◌else◌, Bool, true, false, List, [], ◌∷◌, length, find, Option, Some, None}
-use Rattle.std.specs.Option.{option_map_or}
-use Rattle.std.proofs.Common.{arith, ap, sym, ◌∙◌, subst, inl, inr}
-use Rattle.std.proofs.lemmas.Bool.{eqb-true, eq-eqb, both_ways, or_from, or_left, or_right, cases_Bool, not_from_false, not-true, false_from_ne_true}
-use Rattle.line_geometry.specs.Directory.{Layout, byte_count}
-use Rattle.line_geometry.specs.FlatStore.{FlatStore, IsWhole}
-use Rattle.lock_rules.specs.Sets.{has}
-use Rattle.lock_rules.specs.Lines.{Lines}
-use Rattle.lock_rules.proofs.Sets.{has-append, has_right}
-use Rattle.flat_machine.specs.declared.machine.Plain.{Plain}
-use Rattle.flat_machine.specs.declared.machine.Plan.{Plan}
-use Rattle.flat_machine.specs.declared.machine.Plan.TheVariants.{Does, Fails}
-use Rattle.flat_machine.specs.declared.machine.Program.{Program}
-use Rattle.flat_machine.specs.Row.{Outcome, On, plan_at, row}
-use Rattle.flat_machine.specs.Touched.{touched, touched_by}
-use Rattle.flat_machine.specs.After.{after}
-use Rattle.flat_machine.specs.Due.{touched_within, touched_next}
-use Rattle.flat_machine.specs.Agreement.{line_in, AgreeBut, all_of, DoesTheSame}
-use Rattle.flat_machine.proofs.Agreement.{after-whole, after-kept}
-use Rattle.flat_machine.proofs.SameWay.{on}
-use Rattle.flat_machine.proofs.Steps.{Keeps, Steps, lines_of_plan, row-steps}
-use Rattle.desk.specs.Desk.{Entry}
-use Rattle.desk_law.specs.Changes.{gone_on, left_by}
-use Rattle.desk_law.specs.Consistent.{IsAmong, due_to, AreConsistent}
-use Rattle.desk_law.specs.Current.{bytes_of, writer, current_of}
+use Rattle.desk_law.proofs.Common.{◌≡◌, refl, ℕ, suc, ◌+◌, ◌==◌, ◌||◌, ◌⊎◌, not, if◌then◌else◌, Bool, true, false, List, [], ◌∷◌, length, find, Option, Some, None, option_map_or, arith, ap, sym, ◌∙◌, subst, inl, inr, eqb-true, eq-eqb, both_ways, or_from, or_left, or_right, cases_Bool, not_from_false, not-true, false_from_ne_true, Layout, byte_count, FlatStore, IsWhole, has, Lines, has-append, has_right, Plain, Plan, Does, Fails, Program, Outcome, On, plan_at, row, touched, touched_by, after, touched_within, touched_next, line_in, AgreeBut, all_of, DoesTheSame, after-whole, after-kept, on, Keeps, Steps, lines_of_plan, row-steps, Entry, gone_on, left_by, IsAmong, due_to, AreConsistent, bytes_of, writer, current_of, touched_of}
 use Rattle.desk_law.proofs.Entries.{among-found, none-found, among-filter, filter-among, among-replaced, replaced-among, new-among, replaced, one-entry}
 use Rattle.desk_law.proofs.Others.{others, another-same, commit-leaves, rollback-leaves}
-use Rattle.desk_law.specs.UnderWay.{touched_of}
 use Rattle.desk_law.proofs.GoesOn.{apart-turned}
 
 -- where none passes, none is found

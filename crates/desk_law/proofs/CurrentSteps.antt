@@ -1,23 +1,8 @@
 -- What each step does to a list of bytes that has every line as it is now.
-use Rattle.std.specs.Prelude.{◌≡◌, refl, ℕ, ◌+◌, ◌==◌, Bool, true, false, List, [], ◌∷◌, ◌++◌, length, Some}
-use Rattle.std.proofs.Common.{ap, sym, ◌∙◌, inl, inr}
-use Rattle.std.proofs.lemmas.Bool.{eqb-true, both_ways, cases_Bool}
-use Rattle.line_geometry.specs.Directory.{byte_count}
-use Rattle.line_geometry.specs.FlatStore.{FlatStore, IsWhole}
-use Rattle.lock_rules.specs.Sets.{has}
-use Rattle.flat_machine.specs.declared.machine.Plain.{Plain}
-use Rattle.flat_machine.specs.After.{after}
-use Rattle.flat_machine.specs.Agreement.{line_in}
-use Rattle.flat_machine.proofs.Agreement.{after-kept}
-use Rattle.desk.specs.Desk.{Entry}
-use Rattle.desk_law.specs.Beside.{IsLaid}
-use Rattle.desk_law.specs.Changes.{left_by}
-use Rattle.desk_law.specs.Consistent.{IsAmong, due_to, AreConsistent}
-use Rattle.desk_law.specs.Current.{IsCurrent}
+use Rattle.desk_law.proofs.Common.{◌≡◌, refl, ℕ, ◌+◌, ◌==◌, Bool, true, false, List, [], ◌∷◌, ◌++◌, length, Some, ap, sym, ◌∙◌, inl, inr, eqb-true, both_ways, cases_Bool, byte_count, FlatStore, IsWhole, has, Plain, after, line_in, after-kept, Entry, IsLaid, left_by, IsAmong, due_to, AreConsistent, IsCurrent, touched_of}
 use Rattle.desk_law.proofs.CurrentLines.{somebody, current-written, current-unwritten, rollback-written, rollback-others, commit-current}
 use Rattle.desk_law.proofs.Entries.{replaced, among-replaced, replaced-among, new-among, among-push, push-among, one-entry}
 use Rattle.desk_law.proofs.Others.{others}
-use Rattle.desk_law.specs.UnderWay.{touched_of}
 
 -- the same claim entry by entry: where one wrote, the bytes are those of its state, and where none did, the committed ones
 pub record ShowsEach (store : FlatStore) (entries : List Entry) (bytes : List ℕ) : Type 0 where

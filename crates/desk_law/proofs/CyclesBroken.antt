@@ -1,14 +1,5 @@
 -- The members of a shown cycle wait for each other.
-use Rattle.std.specs.Prelude.{◌≡◌, refl, ℕ, zero, suc, ◌==◌, ◌&&◌, if◌then◌else◌, Bool, true, false, List, [], ◌∷◌, ◌++◌, length, find, Option, Some, None}
-use Rattle.std.specs.Option.{option_map_or}
-use Rattle.std.proofs.Common.{ap, sym, subst}
-use Rattle.std.proofs.lemmas.Bool.{and_parts}
-use Rattle.lock_rules.specs.Waits.{leads, next_shown, shown_after, shown_cycle, victim_of}
-use Rattle.lock_rules.proofs.Cycles.{found-passes}
-use Rattle.desk.specs.Desk.{Desk, Entry}
-use Rattle.desk.specs.Holdings.{numbers, waits_for}
-use Rattle.desk.specs.Instruction.{Counts}
-use Rattle.desk_law.specs.Laws.{EachWaits, counts_of, BrokenCyclesWere}
+use Rattle.desk_law.proofs.Common.{◌≡◌, refl, ℕ, zero, suc, ◌==◌, ◌&&◌, if◌then◌else◌, Bool, true, false, List, [], ◌∷◌, ◌++◌, length, find, Option, Some, None, option_map_or, ap, sym, subst, and_parts, leads, next_shown, shown_after, shown_cycle, victim_of, found-passes, Desk, Entry, numbers, waits_for, Counts, EachWaits, counts_of, BrokenCyclesWere}
 use Rattle.desk_law.proofs.Contest.{left_over}
 
 after-waits : (waits : ℕ → ℕ → Bool) (all : List ℕ) (steps first last : ℕ) → EachWaits waits (last ∷ shown_after waits all steps first last)

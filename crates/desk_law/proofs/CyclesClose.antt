@@ -1,22 +1,8 @@
 -- A shown cycle closes, where only the waits of its number close one.
-use Rattle.std.specs.Prelude.{◌≡◌, refl, ℕ, zero, suc, ◌<◌, ◌≤◌, ◌==◌, ◌&&◌, ◌||◌, not, if◌then◌else◌, Bool, true, false, List, [], ◌∷◌, ◌++◌, length, filter, find, Option, Some, None}
-use Rattle.std.specs.Option.{option_map_or}
-use Rattle.std.proofs.Common.{arith, ap, sym, ◌∙◌, subst, inl, inr}
-use Rattle.std.proofs.lemmas.Bool.{eqb-true, both_ways, and_parts, and_from, cases_Bool, not_from_false, cases_lt}
-use Rattle.std.proofs.lemmas.Option.{none-some}
-use Rattle.lock_rules.specs.Sets.{has}
-use Rattle.lock_rules.specs.Waits.{leads, next_shown, shown_after, shown_cycle, victim_of}
-use Rattle.lock_rules.proofs.Cycles.{found-has, found-passes}
-use Rattle.lock_rules.proofs.Sets.{has-filter}
-use Rattle.desk.specs.Desk.{Desk, Entry, with_entry, rolled_back}
-use Rattle.desk.specs.Holdings.{numbers, waits_for}
-use Rattle.desk.specs.Instruction.{Counts, Contested, Settled, Lost, breaks_cycle, breaks_cycles}
-use Rattle.desk_law.specs.Consistent.{IsAmong, HasNoCycle}
-use Rattle.desk_law.specs.Laws.{EndsWith, ContestedCyclesClose}
+use Rattle.desk_law.proofs.Common.{◌≡◌, refl, ℕ, zero, suc, ◌<◌, ◌≤◌, ◌==◌, ◌&&◌, ◌||◌, not, if◌then◌else◌, Bool, true, false, List, [], ◌∷◌, ◌++◌, length, filter, find, Option, Some, None, option_map_or, arith, ap, sym, ◌∙◌, subst, inl, inr, eqb-true, both_ways, and_parts, and_from, cases_Bool, not_from_false, cases_lt, none-some, has, leads, next_shown, shown_after, shown_cycle, victim_of, found-has, found-passes, has-filter, Desk, Entry, with_entry, rolled_back, numbers, waits_for, Counts, Contested, Settled, Lost, breaks_cycle, breaks_cycles, IsAmong, HasNoCycle, EndsWith, ContestedCyclesClose, except, IsContending}
 use Rattle.desk_law.proofs.Entries.{new-among}
 use Rattle.desk_law.proofs.Orderly.{orderly}
 use Rattle.desk_law.proofs.Walks.{first-step, one-step, leads-more, walk-short, all-pass}
-use Rattle.desk_law.specs.UnderWay.{except, IsContending}
 use Rattle.desk_law.proofs.SomebodyGoesOn.{reached, leads-to-fewer}
 use Rattle.desk_law.proofs.Contest.{contending, rolled-contending, stays-settled, stays-lost, left_over}
 use Rattle.desk_law.proofs.ContestRounds.{victim-there, asker-left}

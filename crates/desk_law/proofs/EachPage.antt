@@ -1,11 +1,5 @@
 -- Authority once each of some pages has the one that is told of it.
-use Rattle.std.specs.Prelude.{◌≡◌, refl, ℕ, ◌<◌, ◌==◌, ◌⊎◌, suc, Bool, true, false, List, [], ◌∷◌, length, slice_index_or, slice_set}
-use Rattle.std.proofs.Common.{arith, ap, sym, ◌∙◌, subst, inl, inr}
-use Rattle.std.proofs.lemmas.Bool.{eqb-true, eq-eqb, both_ways, or_cases, or_parts, cases_Bool, cases_lt}
-use Rattle.std.proofs.lemmas.List.{length-set, get_or-set_same, get_or-set_other, get_or_past}
-use Rattle.lock_rules.specs.Sets.{has}
-use Rattle.desk.specs.Desk.{Authority, nobody}
-use Rattle.desk.specs.Instruction.{with_each}
+use Rattle.desk_law.proofs.Common.{◌≡◌, refl, ℕ, ◌<◌, ◌==◌, ◌⊎◌, suc, Bool, true, false, List, [], ◌∷◌, length, slice_index_or, slice_set, arith, ap, sym, ◌∙◌, subst, inl, inr, eqb-true, eq-eqb, both_ways, or_cases, or_parts, cases_Bool, cases_lt, length-set, get_or-set_same, get_or-set_other, get_or_past, has, Authority, nobody, with_each}
 
 pub length-each : (of : ℕ → Authority) (pages : List ℕ) (authority : List Authority) → length (with_each of pages authority) ≡ length authority
 length-each of [] authority = refl

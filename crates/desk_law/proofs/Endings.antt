@@ -1,30 +1,8 @@
 -- A commit, a begin and a crash leave the desk consistent.
-use Rattle.std.specs.Prelude.{Some, ◌≡◌, refl, ℕ, zero, suc, ◌+◌, ◌<◌, ◌==◌, not, Bool, true, false, List, [], ◌∷◌, ◌++◌, length, map, replicate, slice_index_or, Option, None}
-use Rattle.std.specs.Option.{option_map_or}
-use Rattle.std.proofs.Common.{arith, ap, sym, ◌∙◌, subst, inl, inr}
-use Rattle.std.proofs.lemmas.Bool.{eqb-true, ne_eqb, both_ways, and_parts, and_from, or_from, and_right, not-true, false_from_ne_true}
-use Rattle.line_geometry.specs.Directory.{page_count, is_fine_page}
-use Rattle.line_geometry.specs.FlatStore.{FlatStore, IsWhole}
-use Rattle.lock_rules.specs.Sets.{has, meets}
-use Rattle.lock_rules.specs.Lines.{Lines, no_lines, conflicts, both, with_whole_pages}
-use Rattle.std.proofs.lemmas.List.{append-nil}
-use Rattle.lock_rules.specs.Waits.{leads}
+use Rattle.desk_law.proofs.Common.{Some, ◌≡◌, refl, ℕ, zero, suc, ◌+◌, ◌<◌, ◌==◌, not, Bool, true, false, List, [], ◌∷◌, ◌++◌, length, map, replicate, slice_index_or, Option, None, option_map_or, arith, ap, sym, ◌∙◌, subst, inl, inr, eqb-true, ne_eqb, both_ways, and_parts, and_from, or_from, and_right, not-true, false_from_ne_true, page_count, is_fine_page, FlatStore, IsWhole, has, meets, Lines, no_lines, conflicts, both, with_whole_pages, append-nil, leads, Plain, start, after, Outcome, Commit, plan_at, row, touched, touched_by, after-whole, Desk, Entry, Authority, nobody, opened, rolled_back, wanted, request, conflicts_with, numbers, waits_for, Attempt, lowered, locks_with, absent_segment, committed_at, gone_on, left_by, IsAmong, Ascend, due_to, IsLive, AreApart, AreConsistent, IsCovered, IsOwned, IsHeld, IsOrderly, except, touched_of}
 use Rattle.flat_machine.specs.Serial.{Activation}
-use Rattle.flat_machine.specs.declared.machine.Plain.{Plain}
-use Rattle.flat_machine.specs.After.{start, after}
-use Rattle.flat_machine.specs.Row.{Outcome, Commit, plan_at, row}
-use Rattle.flat_machine.specs.Touched.{touched, touched_by}
-use Rattle.flat_machine.proofs.Agreement.{after-whole}
-use Rattle.desk.specs.Desk.{Desk, Entry, Authority, nobody, opened, rolled_back}
-use Rattle.desk.specs.Holdings.{wanted, request, conflicts_with, numbers, waits_for}
-use Rattle.desk.specs.Instruction.{Attempt, lowered, locks_with}
-use Rattle.desk.specs.Run.{absent_segment}
-use Rattle.desk_law.specs.Changes.{committed_at, gone_on, left_by}
-use Rattle.desk_law.specs.Consistent.{IsAmong, Ascend, due_to, IsLive, AreApart, AreConsistent, IsCovered, IsOwned, IsHeld}
-use Rattle.desk_law.specs.Orderly.{IsOrderly}
 use Rattle.desk_law.proofs.Entries.{among-filter, among-push, push-among, ascend-push, between, one-entry, among-replaced, replaced-among, new-among, replaced, filter-short}
 use Rattle.desk_law.proofs.Walks.{no-cycle-fewer, no-cycle-leaves, first-step, one-step}
-use Rattle.desk_law.specs.UnderWay.{except, touched_of}
 use Rattle.desk_law.proofs.Others.{another-stays, commit-leaves, rollback-leaves}
 use Rattle.desk_law.proofs.Waiting.{waits-by, waits-from, has-number, fewer-numbers, rollback-waits, commit-waits}
 use Rattle.desk_law.proofs.Holding.{freed, held-others, other-covers}

@@ -1,17 +1,5 @@
 -- Who ends in a turn: victims, and the turn's own activation.
-use Rattle.std.specs.Prelude.{◌≡◌, refl, ℕ, zero, suc, ◌+◌, ◌==◌, ◌⊎◌, not, Bool, true, false, List, [], ◌∷◌, ◌++◌, length, map, filter, find, Option, Some, None}
-use Rattle.std.proofs.Common.{ap, sym, ◌∙◌, subst, inl, inr}
-use Rattle.std.proofs.lemmas.Bool.{eqb-true, eq-eqb, or_cases, or_left, or_right, not_from_false, cases_Bool}
-use Rattle.lock_rules.specs.Sets.{has}
-use Rattle.lock_rules.specs.Waits.{shown_cycle, victim_of}
-use Rattle.flat_machine.specs.declared.machine.Plain.{Plain}
-use Rattle.flat_machine.specs.Row.{Outcome, On, Commit, Check, row}
-use Rattle.flat_machine.specs.After.{after}
-use Rattle.desk.specs.Desk.{Desk, Entry, with_entry}
-use Rattle.desk.specs.Holdings.{wanted, conflicts_of, numbers, waits_for}
-use Rattle.desk.specs.Instruction.{Word, Fine, ReadFailed, Unwritten, Doubt, Failed, Counts, Turning, Going, Over, Limit, Attempt, Fetching, Fetched, Broken, Contest, Contested, Settled, Lost, attempts, attempts_at, instruction, turns, turn_of, no_counts, limited, is_over_limit, fetched_first, fetches_touched, asks, gets, goes_on, takes_effect, commits, contest_ends, waits_or_gets, with_grants, refused_pages, breaks_cycle, breaks_cycles}
-use Rattle.desk_law.specs.Changes.{gone_on}
-use Rattle.desk_law.specs.Causes.{desk_of, turn_counts, ends_own, IsAccounted, EndsHaveCauses}
+use Rattle.desk_law.proofs.Common.{◌≡◌, refl, ℕ, zero, suc, ◌+◌, ◌==◌, ◌⊎◌, not, Bool, true, false, List, [], ◌∷◌, ◌++◌, length, map, filter, find, Option, Some, None, ap, sym, ◌∙◌, subst, inl, inr, eqb-true, eq-eqb, or_cases, or_left, or_right, not_from_false, cases_Bool, has, shown_cycle, victim_of, Plain, Outcome, On, Commit, Check, row, after, Desk, Entry, with_entry, wanted, conflicts_of, numbers, waits_for, Word, Fine, ReadFailed, Unwritten, Doubt, Failed, Counts, Turning, Going, Over, Limit, Attempt, Fetching, Fetched, Broken, Contest, Contested, Settled, Lost, attempts, attempts_at, instruction, turns, turn_of, no_counts, limited, is_over_limit, fetched_first, fetches_touched, asks, gets, goes_on, takes_effect, commits, contest_ends, waits_or_gets, with_grants, refused_pages, breaks_cycle, breaks_cycles, gone_on, desk_of, turn_counts, ends_own, IsAccounted, EndsHaveCauses}
 use Rattle.desk_law.proofs.Entries.{among-found, filter-among, numbers-replaced}
 use Rattle.desk_law.proofs.Waiting.{number-of, has-number}
 use Rattle.desk_law.proofs.Contest.{breaks-keep, left_over, without}

@@ -1,9 +1,5 @@
 -- Entries among entries, and their numbers.
-use Rattle.std.specs.Prelude.{Option, suc, length, ◌≡◌, refl, ℕ, ◌+◌, ◌<◌, ◌≤◌, ◌==◌, ◌⊎◌, if◌then◌else◌, Bool, true, false, List, [], ◌∷◌, ◌++◌, map, filter, find, Some, None}
-use Rattle.std.proofs.Common.{arith, ap, sym, ◌∙◌, subst, inl, inr}
-use Rattle.std.proofs.lemmas.Bool.{eqb-true, eq-eqb, both_ways}
-use Rattle.desk.specs.Desk.{Entry}
-use Rattle.desk_law.specs.Consistent.{IsAmong, Ascend}
+use Rattle.desk_law.proofs.Common.{Option, suc, length, ◌≡◌, refl, ℕ, ◌+◌, ◌<◌, ◌≤◌, ◌==◌, ◌⊎◌, if◌then◌else◌, Bool, true, false, List, [], ◌∷◌, ◌++◌, map, filter, find, Some, None, arith, ap, sym, ◌∙◌, subst, inl, inr, eqb-true, eq-eqb, both_ways, Entry, IsAmong, Ascend}
 
 -- a filter keeps no more than there are
 pub filter-short : {A : Type 0} (test : A → Bool) (xs : List A) → length (filter test xs) ≤ length xs

@@ -1,17 +1,8 @@
 -- The ends of an entry, from what an attempt over the bytes of all tells: its commit call, its program check, and any rollback.
-use Rattle.std.specs.Prelude.{◌≡◌, ℕ, ◌+◌, List, Some}
-use Rattle.lock_rules.specs.Lines.{Lines}
-use Rattle.flat_machine.specs.declared.machine.Plain.{Plain}
-use Rattle.flat_machine.specs.Row.{Commit, Check, row}
-use Rattle.flat_machine.specs.After.{after}
-use Rattle.desk.specs.Desk.{Desk, Entry, ended, rolled_back}
-use Rattle.desk.specs.Instruction.{Word, Fine, Counts, Over, Checked, Committed, instruction, ordered, commits}
-use Rattle.desk_law.specs.Beside.{IsLaid, IsTold, over_all}
-use Rattle.desk_law.specs.Consistent.{IsAmong, due_to}
+use Rattle.desk_law.proofs.Common.{◌≡◌, ℕ, ◌+◌, List, Some, Lines, Plain, Commit, Check, row, after, Desk, Entry, ended, rolled_back, Word, Fine, Counts, Over, Checked, Committed, instruction, ordered, commits, IsLaid, IsTold, over_all, IsAmong, due_to, IsOrderly}
 use Rattle.desk_law.proofs.AttemptsOnCurrent.{own-commit, own-check, ends-consistent}
 use Rattle.desk_law.proofs.Contest.{rolled-consistent}
 use Rattle.desk_law.proofs.InstructionStages.{attempt_of}
-use Rattle.desk_law.specs.Orderly.{IsOrderly}
 use Rattle.desk_law.proofs.RowsThere.{commit-row, check-row}
 use Rattle.desk_law.proofs.ToldSteps.{HasCommitted, told-commit, told-rollback}
 

@@ -1,11 +1,6 @@
 -- After two pages were fetched into two frames or more, both are there.
+use Rattle.desk_law.proofs.Common.{◌==◌, ◌||◌, not, nat_lt, cond, remove, position, unwrap_or, list_any, position_or_len, nat_tests, position-Some, has, first_out}
 use Rattle.std.proofs.Common.{◌≡◌, ◌≢◌, ℕ, zero, suc, ◌+◌, ◌<◌, ◌≤◌, Bool, true, false, List, [], ◌∷◌, length, refl, sym, ◌∙◌, ap, arith, get_or, Option, Some, None, ◌⊎◌, inl, inr}
-use Rattle.std.specs.Prelude.{◌==◌, ◌||◌, not, nat_lt, cond, remove, position, unwrap_or}
-use Rattle.std.specs.List.{list_any, position_or_len}
-use Rattle.std.proofs.lemmas.Bool.Decides.{nat_tests}
-use Rattle.std.proofs.lemmas.List.Quantifiers.{position-Some}
-use Rattle.lock_rules.specs.Sets.{has}
-use Rattle.lock_rules.specs.Resident.{first_out}
 
 -- where no place passes, no item does
 nowhere : (p : ℕ → Bool) (xs : List ℕ) → position p xs ≡ None → list_any p xs ≡ false

@@ -1,10 +1,5 @@
 -- Pages that are fetched: which words of the event matter, how many are counted, and that at most two are there afterwards.
-use Rattle.std.specs.Prelude.{◌≡◌, ℕ, suc, ◌+◌, ◌≤◌, if◌then◌else◌, Bool, true, false, List, [], ◌∷◌, length}
-use Rattle.std.proofs.Common.{arith}
-use Rattle.lock_rules.specs.Sets.{has}
-use Rattle.lock_rules.specs.Resident.{brought}
-use Rattle.desk.specs.Instruction.{Word, Fine, Fetched, Broken, can't_be_read, fetches}
-use Rattle.desk_law.specs.Beside.{Reads}
+use Rattle.desk_law.proofs.Common.{◌≡◌, ℕ, suc, ◌+◌, ◌≤◌, if◌then◌else◌, Bool, true, false, List, [], ◌∷◌, length, arith, has, brought, Word, Fine, Fetched, Broken, can't_be_read, fetches, Reads}
 
 same-fetched : (one other : List ℕ) (n m : ℕ) → Fetched one n ≡ Fetched other m → (one ≡ other) × (n ≡ m)
 same-fetched one other n m same = (cc, cc)

@@ -1,28 +1,7 @@
 -- A row that goes on leaves the desk consistent.
-use Rattle.std.specs.Prelude.{◌≡◌, refl, ℕ, suc, ◌+◌, ◌≤◌, ◌==◌, not, if◌then◌else◌, Bool, true, false, List, [], ◌∷◌, ◌++◌, length, filter, map, Some, slice_index_or}
-use Rattle.std.specs.List.{list_any}
-use Rattle.std.proofs.Common.{arith, ap, sym, ◌∙◌, subst, inl, inr}
-use Rattle.std.proofs.lemmas.Bool.{eqb-true, eq-eqb, both_ways, or_cases, or_parts, and_cases, not_from_false, false_from_ne_true}
-use Rattle.line_geometry.specs.Directory.{is_fine_page}
-use Rattle.line_geometry.specs.FlatStore.{FlatStore, IsWhole}
-use Rattle.lock_rules.specs.Sets.{has, size, meets}
-use Rattle.lock_rules.specs.Lines.{Lines, both, conflicts, with_whole_pages}
-use Rattle.lock_rules.proofs.Sets.{has-append, has_left, has_right, any-some}
-use Rattle.lock_rules.proofs.Lines.{reaches, whole-reached, part-both, part-whole_pages, has-whole_pages, meets-at}
-use Rattle.flat_machine.specs.declared.machine.Plain.{Plain}
-use Rattle.flat_machine.specs.Row.{On, row}
-use Rattle.flat_machine.specs.After.{after}
-use Rattle.flat_machine.specs.Due.{touched_next, touched_within}
-use Rattle.flat_machine.specs.Agreement.{all_of}
-use Rattle.desk.specs.Desk.{Desk, Entry, nobody, with_entry}
-use Rattle.desk.specs.Holdings.{wanted, held, request, conflicts_with, conflicts_of, numbers, waits_for}
-use Rattle.desk.specs.Instruction.{Attempt, with_grants, with_lowered, locks_with}
-use Rattle.desk_law.specs.Changes.{gone_on, row_done}
-use Rattle.desk_law.specs.Consistent.{IsAmong, due_to, IsLive, AreApart, AreConsistent, IsCovered, IsHeld, HasNoCycle}
-use Rattle.desk_law.specs.Orderly.{IsOrderly}
+use Rattle.desk_law.proofs.Common.{◌≡◌, refl, ℕ, suc, ◌+◌, ◌≤◌, ◌==◌, not, if◌then◌else◌, Bool, true, false, List, [], ◌∷◌, ◌++◌, length, filter, map, Some, slice_index_or, list_any, arith, ap, sym, ◌∙◌, subst, inl, inr, eqb-true, eq-eqb, both_ways, or_cases, or_parts, and_cases, not_from_false, false_from_ne_true, is_fine_page, FlatStore, IsWhole, has, size, meets, Lines, both, conflicts, with_whole_pages, has-append, has_left, has_right, any-some, reaches, whole-reached, part-both, part-whole_pages, has-whole_pages, meets-at, Plain, On, row, after, touched_next, touched_within, all_of, Desk, Entry, nobody, with_entry, wanted, held, request, conflicts_with, conflicts_of, numbers, waits_for, Attempt, with_grants, with_lowered, locks_with, gone_on, row_done, IsAmong, due_to, IsLive, AreApart, AreConsistent, IsCovered, IsHeld, HasNoCycle, IsOrderly, except, touched_of, IsContending, IsReady}
 use Rattle.desk_law.proofs.Entries.{replaced, among-replaced, new-among, ascend-replaced, numbers-replaced}
 use Rattle.desk_law.proofs.Walks.{no-cycle-fewer, no-cycle-leaves}
-use Rattle.desk_law.specs.UnderWay.{except, touched_of, IsContending, IsReady}
 use Rattle.desk_law.proofs.Others.{others, after-row}
 use Rattle.desk_law.proofs.Waiting.{marked-waits, gone-on}
 use Rattle.desk_law.proofs.Holding.{IsHeldBut, held-but, covered-more, held-replaced, held-granted, held-lowered}

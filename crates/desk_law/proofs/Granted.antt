@@ -1,19 +1,5 @@
 -- Once the refused pages are granted, every line of the row is permitted.
-use Rattle.std.specs.Prelude.{◌≡◌, refl, ℕ, ◌<◌, ◌==◌, not, if◌then◌else◌, Bool, true, false, List, [], ◌∷◌, length, filter, slice_index_or}
-use Rattle.std.specs.List.{list_any}
-use Rattle.std.proofs.Common.{ap, ◌∙◌, inl, inr}
-use Rattle.std.proofs.lemmas.Bool.{eq-eqb, both_ways, and_from, or_parts, cases_Bool, not-false, false_from_ne_true}
-use Rattle.lock_rules.specs.Sets.{has}
-use Rattle.lock_rules.specs.Access.{permits}
-use Rattle.lock_rules.specs.Lines.{Lines, within_page, is_whole_page, page_of_line, pages_of}
-use Rattle.lock_rules.proofs.Sets.{any-at, has-filter, has_left, has_right}
-use Rattle.lock_rules.proofs.Lines.{has-within_page, pages_of-line}
-use Rattle.flat_machine.specs.Agreement.{all_of}
-use Rattle.desk.specs.Desk.{Authority, nobody}
-use Rattle.desk.specs.Instruction.{Attempt, authority_by, fine_authority_by, given, granted, refuses, lines_within, touched_pages}
-use Rattle.desk_law.specs.Consistent.{permitted}
-use Rattle.desk_law.specs.Laws.{ArePermitted}
-use Rattle.desk_law.specs.UnderWay.{KeepsPages}
+use Rattle.desk_law.proofs.Common.{◌≡◌, refl, ℕ, ◌<◌, ◌==◌, not, if◌then◌else◌, Bool, true, false, List, [], ◌∷◌, length, filter, slice_index_or, list_any, ap, ◌∙◌, inl, inr, eq-eqb, both_ways, and_from, or_parts, cases_Bool, not-false, false_from_ne_true, has, permits, Lines, within_page, is_whole_page, page_of_line, pages_of, any-at, has-filter, has_left, has_right, has-within_page, pages_of-line, all_of, Authority, nobody, Attempt, authority_by, fine_authority_by, given, granted, refuses, lines_within, touched_pages, permitted, ArePermitted, KeepsPages}
 use Rattle.desk_law.proofs.EachPage.{each-is, each-not}
 
 read-here : (same bit : Bool) → same ≡ true → bit ≡ true → permits same false bit false ≡ true

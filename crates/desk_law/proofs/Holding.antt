@@ -1,17 +1,5 @@
 -- What an authority permits is held, as entries and authorities change.
-use Rattle.std.specs.Prelude.{◌≡◌, refl, ℕ, zero, suc, ◌==◌, ◌&&◌, not, if◌then◌else◌, Bool, true, false, List, [], ◌∷◌, length, map, slice_index_or}
-use Rattle.std.proofs.Common.{ap, sym, ◌∙◌, subst, inl, inr}
-use Rattle.std.proofs.lemmas.Bool.{eqb-true, eq-eqb, ne_eqb, both_ways, and_parts, and_from, or_left, cases_Bool, not-true, not_from_false}
-use Rattle.line_geometry.specs.Directory.{page_count}
-use Rattle.line_geometry.specs.FlatStore.{FlatStore}
-use Rattle.lock_rules.specs.Sets.{has}
-use Rattle.lock_rules.specs.Access.{permits}
-use Rattle.lock_rules.specs.Lines.{Lines, with_whole_pages, within_page, is_whole_page, page_of_line, pages_of}
-use Rattle.lock_rules.proofs.Sets.{has-filter}
-use Rattle.lock_rules.proofs.Lines.{ArePart, has-within_page, whole-has, whole-reached, reaches-coarse}
-use Rattle.desk.specs.Desk.{Entry, Authority, nobody}
-use Rattle.desk.specs.Instruction.{Attempt, authority_by, fine_authority_by, given, granted, lowered, lowered_pages, to_read}
-use Rattle.desk_law.specs.Consistent.{IsAmong, Ascend, due_to, IsCovered, IsOwned, IsHeld}
+use Rattle.desk_law.proofs.Common.{◌≡◌, refl, ℕ, zero, suc, ◌==◌, ◌&&◌, not, if◌then◌else◌, Bool, true, false, List, [], ◌∷◌, length, map, slice_index_or, ap, sym, ◌∙◌, subst, inl, inr, eqb-true, eq-eqb, ne_eqb, both_ways, and_parts, and_from, or_left, cases_Bool, not-true, not_from_false, page_count, FlatStore, has, permits, Lines, with_whole_pages, within_page, is_whole_page, page_of_line, pages_of, has-filter, ArePart, has-within_page, whole-has, whole-reached, reaches-coarse, Entry, Authority, nobody, Attempt, authority_by, fine_authority_by, given, granted, lowered, lowered_pages, to_read, IsAmong, Ascend, due_to, IsCovered, IsOwned, IsHeld}
 use Rattle.desk_law.proofs.EachPage.{length-each, each-at}
 use Rattle.desk_law.proofs.Entries.{among-filter, filter-among, among-replaced, replaced-among, new-among, replaced, one-entry}
 use Rattle.desk_law.proofs.Others.{others}

@@ -1,14 +1,5 @@
 -- Authority that is kept under identifiers of seats, and told under the numbers of the activations in them.
-use Rattle.std.specs.Prelude.{◌≡◌, refl, ℕ, zero, suc, ◌==◌, ◌||◌, not, if◌then◌else◌, Bool, true, false, List, [], ◌∷◌, map, filter, slice_set, slice_index_or}
-use Rattle.std.specs.List.{list_any}
-use Rattle.std.proofs.Common.{ap, sym, ◌∙◌}
-use Rattle.lock_rules.specs.Access.{permits}
-use Rattle.lock_rules.specs.Sets.{has}
-use Rattle.lock_rules.specs.Lines.{Lines, within_page, is_whole_page, pages_of}
-use Rattle.desk.specs.Desk.{Authority, nobody}
-use Rattle.desk.specs.Instruction.{Attempt, authority_by, fine_authority_by, given, with_each, granted, to_read, lowered_pages, lowered, refuses, lines_within}
-use Rattle.desk_law.specs.Beside.{owner_told, owners_told, StandsFor}
-use Rattle.desk_law.specs.Consistent.{permitted}
+use Rattle.desk_law.proofs.Common.{◌≡◌, refl, ℕ, zero, suc, ◌==◌, ◌||◌, not, if◌then◌else◌, Bool, true, false, List, [], ◌∷◌, map, filter, slice_set, slice_index_or, list_any, ap, sym, ◌∙◌, permits, has, Lines, within_page, is_whole_page, pages_of, Authority, nobody, Attempt, authority_by, fine_authority_by, given, with_each, granted, to_read, lowered_pages, lowered, refuses, lines_within, owner_told, owners_told, StandsFor, permitted}
 use Rattle.desk_law.proofs.AlikeSets.{filter-same}
 use Rattle.desk_law.proofs.Holding.{freed}
 

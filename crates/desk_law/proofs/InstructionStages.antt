@@ -1,15 +1,5 @@
 -- An instruction stage by stage, as one that serves a fault goes through them.
-use Rattle.std.specs.Prelude.{◌≡◌, refl, ℕ, ◌+◌, Bool, false, List, length, Option, Some}
-use Rattle.std.proofs.Common.{ap, ◌∙◌}
-use Rattle.line_geometry.specs.Directory.{is_fine_page}
-use Rattle.flat_machine.specs.declared.machine.Plain.{Plain}
-use Rattle.flat_machine.specs.Row.{Outcome, On, Commit, Check, row}
-use Rattle.flat_machine.specs.After.{after}
-use Rattle.desk.specs.Desk.{Desk, Entry, rolled_back}
-use Rattle.desk.specs.Holdings.{wanted, conflicts_of}
-use Rattle.desk.specs.Instruction.{Word, Fine, Counts, Going, Over, Checked, Attempt, Fetched, Broken, Settled, fetches, instruction, attempts, attempts_at, limited, is_over_limit, fetched_first, fetches_touched, asks, gets, goes_on, takes_effect, touched_pages, refused_pages, granted, with_grants, locks_with, commits, breaks, contest_ends, waits_or_gets}
-use Rattle.desk_law.specs.Beside.{Reads}
-use Rattle.desk_law.specs.Changes.{row_done}
+use Rattle.desk_law.proofs.Common.{◌≡◌, refl, ℕ, ◌+◌, Bool, false, List, length, Option, Some, ap, ◌∙◌, is_fine_page, Plain, Outcome, On, Commit, Check, row, after, Desk, Entry, rolled_back, wanted, conflicts_of, Word, Fine, Counts, Going, Over, Checked, Attempt, Fetched, Broken, Settled, fetches, instruction, attempts, attempts_at, limited, is_over_limit, fetched_first, fetches_touched, asks, gets, goes_on, takes_effect, touched_pages, refused_pages, granted, with_grants, locks_with, commits, breaks, contest_ends, waits_or_gets, Reads, row_done}
 
 -- the instruction of an entry at its state
 abbrev pub attempt_of : Desk → Entry → Plain → Attempt

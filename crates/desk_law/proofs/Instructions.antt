@@ -1,15 +1,5 @@
 -- What an instruction of an entry does to the entries and to what is committed.
-use Rattle.std.specs.Prelude.{◌≡◌, refl, ℕ, ◌+◌, ◌==◌, not, Bool, true, false, List, [], ◌∷◌, ◌++◌, find, Option, Some, None}
-use Rattle.std.proofs.Common.{ap, sym, ◌∙◌, inl, inr}
-use Rattle.std.proofs.lemmas.Bool.{eqb-true, eq-eqb, both_ways, not-true}
-use Rattle.lock_rules.specs.Waits.{shown_cycle, victim_of}
-use Rattle.flat_machine.specs.declared.machine.Plain.{Plain}
-use Rattle.flat_machine.specs.Row.{On}
-use Rattle.desk.specs.Desk.{Desk, Entry, with_entry, rolled_back}
-use Rattle.desk.specs.Holdings.{numbers, waits_for}
-use Rattle.desk.specs.Instruction.{Counts, Turning, Going, Over, Committed, Attempt, Contest, Contested, Settled, Lost, breaks_cycle, breaks_cycles}
-use Rattle.desk_law.specs.Changes.{row_done, left_by}
-use Rattle.desk_law.specs.Consistent.{IsAmong, AreConsistent}
+use Rattle.desk_law.proofs.Common.{◌≡◌, refl, ℕ, ◌+◌, ◌==◌, not, Bool, true, false, List, [], ◌∷◌, ◌++◌, find, Option, Some, None, ap, sym, ◌∙◌, inl, inr, eqb-true, eq-eqb, both_ways, not-true, shown_cycle, victim_of, Plain, On, Desk, Entry, with_entry, rolled_back, numbers, waits_for, Counts, Turning, Going, Over, Committed, Attempt, Contest, Contested, Settled, Lost, breaks_cycle, breaks_cycles, row_done, left_by, IsAmong, AreConsistent}
 use Rattle.desk_law.proofs.Entries.{among-filter, among-found, none-found, among-replaced, one-entry}
 use Rattle.desk_law.proofs.Others.{others}
 use Rattle.desk_law.proofs.Contest.{breaks-keep, left_over}

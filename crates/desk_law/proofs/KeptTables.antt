@@ -1,22 +1,5 @@
 -- The locks and the requests of active entries as a supervisor keeps them, and what steps do to them.
-use Rattle.std.specs.Prelude.{◌≡◌, refl, ℕ, ◌==◌, ◌&&◌, ◌||◌, not, if◌then◌else◌, Bool, true, false, List, [], ◌∷◌, ◌++◌, filter, map, Some}
-use Rattle.std.specs.List.{list_any}
-use Rattle.std.proofs.Common.{ap, sym, ◌∙◌, subst, inl, inr}
-use Rattle.std.proofs.lemmas.Bool.{both_ways, not-true}
-use Rattle.line_geometry.specs.Directory.{is_fine_page}
-use Rattle.line_geometry.specs.FlatStore.{FlatStore, IsWhole}
-use Rattle.lock_rules.specs.Sets.{has, meets}
-use Rattle.lock_rules.specs.Lines.{Lines, conflicts, with_whole_pages}
-use Rattle.lock_rules.specs.Waits.{shown_cycle}
-use Rattle.lock_rules.proofs.Sets.{has-append, any-some}
-use Rattle.lock_rules.proofs.Lines.{meets-at}
-use Rattle.flat_machine.specs.declared.machine.Plain.{Plain}
-use Rattle.flat_machine.specs.After.{after}
-use Rattle.desk.specs.Desk.{Desk, Entry}
-use Rattle.desk.specs.Holdings.{request, conflicts_with, conflicts_of, waits_for, numbers}
-use Rattle.desk_law.specs.Beside.{AreAlike, requested, AreKept, IsTableBut, kept_conflict, kept_waits}
-use Rattle.desk_law.specs.Changes.{left_by, gone_on}
-use Rattle.desk_law.specs.Consistent.{IsAmong, due_to, AreConsistent}
+use Rattle.desk_law.proofs.Common.{◌≡◌, refl, ℕ, ◌==◌, ◌&&◌, ◌||◌, not, if◌then◌else◌, Bool, true, false, List, [], ◌∷◌, ◌++◌, filter, map, Some, list_any, ap, sym, ◌∙◌, subst, inl, inr, both_ways, not-true, is_fine_page, FlatStore, IsWhole, has, meets, Lines, conflicts, with_whole_pages, shown_cycle, has-append, any-some, meets-at, Plain, after, Desk, Entry, request, conflicts_with, conflicts_of, waits_for, numbers, AreAlike, requested, AreKept, IsTableBut, kept_conflict, kept_waits, left_by, gone_on, IsAmong, due_to, AreConsistent}
 use Rattle.desk_law.proofs.Entries.{replaced, among-replaced, among-filter}
 use Rattle.desk_law.proofs.Others.{others, another-stays, StaysSame}
 

@@ -1,14 +1,6 @@
 -- Lines that are laid over, byte by byte.
-use Rattle.std.specs.Prelude.{◌≡◌, refl, ℕ, ◌+◌, ◌*◌, ◌/◌, ◌<◌, if◌then◌else◌, Bool, true, false, List, length, slice_index, slice_range}
-use Rattle.std.proofs.Common.{arith, ap, sym, ◌∙◌}
+use Rattle.desk_law.proofs.Common.{◌≡◌, refl, ℕ, ◌+◌, ◌*◌, ◌/◌, ◌<◌, if◌then◌else◌, Bool, true, false, List, length, slice_index, slice_range, arith, ap, sym, ◌∙◌, length-take, length-drop, same_number_lists, line_bytes, FlatStore, has, part, in_line, IsLaid}
 use Rattle.std.proofs.lemmas.Nat.{div-mul-add}
-use Rattle.std.proofs.lemmas.List.{length-take, length-drop}
-use Rattle.std.proofs.lemmas.Grind.{same_number_lists}
-use Rattle.line_geometry.specs.Segments.{line_bytes}
-use Rattle.line_geometry.specs.FlatStore.{FlatStore}
-use Rattle.lock_rules.specs.Sets.{has}
-use Rattle.flat_machine.proofs.Ranges.{part, in_line}
-use Rattle.desk_law.specs.Beside.{IsLaid}
 
 -- a byte of a line that was laid, and of one that wasn't
 module _ (store : FlatStore) (lines from old new : List ℕ) (some : 0 < line_bytes store.directory.page) (is : IsLaid store lines from old new) where

@@ -1,23 +1,6 @@
 -- An instruction all of whose lines are on resident pages that permit them: it takes effect at once.
-use Rattle.std.specs.Prelude.{◌≡◌, refl, ℕ, ◌+◌, ◌==◌, ◌&&◌, not, if◌then◌else◌, Bool, true, false, List, [], ◌∷◌, ◌++◌, filter, slice_index_or}
-use Rattle.std.specs.List.{list_any}
-use Rattle.std.proofs.Common.{ap, sym, ◌∙◌, subst, inl, inr}
-use Rattle.std.proofs.lemmas.Bool.{eqb-true, eq-eqb, and_parts, and_right, or_cases, or_left, or_right, or_from, not_from_true}
-use Rattle.line_geometry.specs.Directory.{is_fine_page}
-use Rattle.lock_rules.specs.Sets.{has}
-use Rattle.lock_rules.specs.Access.{permits}
-use Rattle.lock_rules.specs.Lines.{Lines, both, with_whole_pages, within_page, is_whole_page, page_of_line, pages_of}
-use Rattle.lock_rules.proofs.Sets.{has-append, any-some}
-use Rattle.lock_rules.proofs.Lines.{ArePart, part-both, part-whole_pages, has-within_page, has-pages_of, has-whole}
-use Rattle.desk.specs.Desk.{Desk, Entry, nobody}
-use Rattle.desk.specs.Holdings.{wanted, request}
-use Rattle.desk.specs.Instruction.{Word, Fetched, Broken, can't_be_read, fetches, refuses, lines_within, Attempt, locks_with, with_each, to_read, lowered_pages, with_lowered}
-use Rattle.lock_rules.specs.Resident.{brought}
+use Rattle.desk_law.proofs.Common.{◌≡◌, refl, ℕ, ◌+◌, ◌==◌, ◌&&◌, not, if◌then◌else◌, Bool, true, false, List, [], ◌∷◌, ◌++◌, filter, slice_index_or, list_any, ap, sym, ◌∙◌, subst, inl, inr, eqb-true, eq-eqb, and_parts, and_right, or_cases, or_left, or_right, or_from, not_from_true, is_fine_page, has, permits, Lines, both, with_whole_pages, within_page, is_whole_page, page_of_line, pages_of, has-append, any-some, ArePart, part-both, part-whole_pages, has-within_page, has-pages_of, has-whole, Desk, Entry, nobody, wanted, request, Word, Fetched, Broken, can't_be_read, fetches, refuses, lines_within, Attempt, locks_with, with_each, to_read, lowered_pages, with_lowered, brought, AreThere, IsAmong, due_to, permitted, IsOrderly, touched_of}
 use Rattle.desk_law.proofs.Permitted.{any-none, permitted-held}
-use Rattle.desk_law.specs.Beside.{AreThere}
-use Rattle.desk_law.specs.Consistent.{IsAmong, due_to, permitted}
-use Rattle.desk_law.specs.Orderly.{IsOrderly}
-use Rattle.desk_law.specs.UnderWay.{touched_of}
 
 -- where none passes
 pub filter-none : (test : ℕ → Bool) (xs : List ℕ) → ((x : ℕ) → test x ≡ false) → filter test xs ≡ []

@@ -1,23 +1,9 @@
 -- The lines that are marked as written: those that some active entry has written.
-use Rattle.std.specs.Prelude.{◌≡◌, refl, ℕ, ◌==◌, ◌&&◌, ◌||◌, not, Bool, true, List, Some}
-use Rattle.std.specs.List.{list_any}
-use Rattle.std.proofs.Common.{ap, sym, ◌∙◌, inl, inr}
-use Rattle.std.proofs.lemmas.Bool.{eqb-true, eq-eqb, both_ways, and_parts, and_from, or_cases, or_left, or_right, cases_Bool, not_from_false, not-true, false_from_ne_true}
-use Rattle.line_geometry.specs.FlatStore.{FlatStore, IsWhole}
-use Rattle.lock_rules.specs.Sets.{has}
-use Rattle.lock_rules.specs.Lines.{Lines}
-use Rattle.flat_machine.specs.declared.machine.Plain.{Plain}
-use Rattle.flat_machine.specs.After.{after}
-use Rattle.flat_machine.specs.Due.{touched_next}
-use Rattle.desk.specs.Desk.{Entry}
-use Rattle.desk_law.specs.Beside.{AreMarked}
-use Rattle.desk_law.specs.Changes.{left_by, gone_on}
-use Rattle.desk_law.specs.Consistent.{IsAmong, due_to, AreConsistent}
+use Rattle.desk_law.proofs.Common.{◌≡◌, refl, ℕ, ◌==◌, ◌&&◌, ◌||◌, not, Bool, true, List, Some, list_any, ap, sym, ◌∙◌, inl, inr, eqb-true, eq-eqb, both_ways, and_parts, and_from, or_cases, or_left, or_right, cases_Bool, not_from_false, not-true, false_from_ne_true, FlatStore, IsWhole, has, Lines, Plain, after, touched_next, Entry, AreMarked, left_by, gone_on, IsAmong, due_to, AreConsistent, touched_of}
 use Rattle.desk_law.proofs.CurrentLines.{within-more, wrote-held, holder-or-none}
 use Rattle.desk_law.proofs.Entries.{replaced, among-replaced, replaced-among, new-among, among-filter, filter-among, one-entry}
 use Rattle.desk_law.proofs.KeptTables.{both-imply, any-entries}
 use Rattle.desk_law.proofs.Others.{others, another-stays}
-use Rattle.desk_law.specs.UnderWay.{touched_of}
 use Rattle.desk_law.proofs.Waiting.{any-among, among-any}
 
 module _ (store : FlatStore) (most_lines next : ℕ) (entries : List Entry) (consistent : AreConsistent store most_lines next entries) (marked : ℕ → Bool) (are : AreMarked store entries marked) where

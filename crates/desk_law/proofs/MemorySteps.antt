@@ -1,36 +1,6 @@
 -- What machines side by side do to one memory, step by step.
-use Rattle.std.specs.Prelude.{◌≡◌, refl, ℕ, ◌==◌, ◌||◌, not, if◌then◌else◌, Bool, true, false, List, [], ◌∷◌, ◌++◌, length, filter, Option, Some}
-use Rattle.std.specs.List.{flat_map, range_with_len, list_any}
-use Rattle.std.specs.Option.{option_map_or}
-use Rattle.std.proofs.Common.{ap, sym, ◌∙◌, subst, inl, inr}
-use Rattle.std.proofs.lemmas.Bool.{eq-eqb, both_ways, and_parts, and_from, cases_Bool, not-true, not_from_false, false_from_ne_true, cond-false}
-use Rattle.std.proofs.lemmas.Option.{same_Some}
-use Rattle.line_geometry.specs.Directory.{Layout, byte_count}
-use Rattle.line_geometry.specs.FlatStore.{FlatStore, IsWhole}
-use Rattle.line_geometry.specs.Lines.{line_count}
-use Rattle.lock_rules.specs.Sets.{has}
-use Rattle.lock_rules.specs.Lines.{Lines, no_lines}
-use Rattle.lock_rules.proofs.Sets.{has-append, has-filter, any-at, any-some}
-use Rattle.flat_machine.specs.declared.machine.Plain.{Plain}
-use Rattle.flat_machine.specs.declared.machine.Plan.{Plan}
-use Rattle.flat_machine.specs.declared.machine.Plan.TheVariants.{Does, Fails}
-use Rattle.flat_machine.specs.declared.machine.Program.{Program}
-use Rattle.flat_machine.specs.Row.{Outcome, On, plan_at, row}
-use Rattle.flat_machine.specs.Touched.{touched, touched_by}
-use Rattle.flat_machine.specs.After.{after}
-use Rattle.flat_machine.specs.Due.{due_locks, touched_next}
-use Rattle.flat_machine.specs.Agreement.{line_in}
-use Rattle.flat_machine.proofs.Agreement.{after-whole}
-use Rattle.desk.specs.Desk.{Desk, Entry}
-use Rattle.desk.specs.Holdings.{numbers}
-use Rattle.desk.specs.Instruction.{Attempt}
-use Rattle.desk_law.specs.Beside.{IsLaid}
-use Rattle.desk_law.specs.Changes.{gone_on, row_done, left_by}
-use Rattle.desk_law.specs.Consistent.{IsAmong, due_to, AreConsistent}
-use Rattle.desk_law.specs.Current.{current_of, current, IsCurrent, current_bytes}
-use Rattle.desk_law.specs.Memory.{Machine, Memory, laid, wrote_by, given_back, went_on, does_row, commit_of, IsAlone, IsMemory}
+use Rattle.desk_law.proofs.Common.{◌≡◌, refl, ℕ, ◌==◌, ◌||◌, not, if◌then◌else◌, Bool, true, false, List, [], ◌∷◌, ◌++◌, length, filter, Option, Some, flat_map, range_with_len, list_any, option_map_or, ap, sym, ◌∙◌, subst, inl, inr, eq-eqb, both_ways, and_parts, and_from, cases_Bool, not-true, not_from_false, false_from_ne_true, cond-false, same_Some, Layout, byte_count, FlatStore, IsWhole, line_count, has, Lines, no_lines, has-append, has-filter, any-at, any-some, Plain, Plan, Does, Fails, Program, Outcome, On, plan_at, row, touched, touched_by, after, due_locks, touched_next, line_in, after-whole, Desk, Entry, numbers, Attempt, IsLaid, gone_on, row_done, left_by, IsAmong, due_to, AreConsistent, current_of, current, IsCurrent, current_bytes, Machine, Memory, laid, wrote_by, given_back, went_on, does_row, commit_of, IsAlone, IsMemory, IsOrderly}
 use Rattle.desk_law.proofs.Entries.{replaced, among-filter, among-replaced, one-entry}
-use Rattle.desk_law.specs.Orderly.{IsOrderly}
 use Rattle.desk_law.proofs.Others.{others, another-same, after-row}
 use Rattle.desk_law.proofs.Waiting.{number-of, has-number}
 use Rattle.desk_law.proofs.GoesOn.{IsGranted, due-more}

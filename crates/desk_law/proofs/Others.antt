@@ -1,23 +1,6 @@
 -- A commit of one activation leaves the others as they were.
-use Rattle.std.specs.Prelude.{suc, ◌+◌, Option, option_and_then, ◌≡◌, refl, ℕ, ◌==◌, not, Bool, true, false, List, filter, Some}
-use Rattle.std.proofs.Common.{arith, ap, sym, ◌∙◌, subst, inl, inr}
-use Rattle.std.proofs.lemmas.Bool.{both_ways, false_from_ne_true, or_cases, not-true}
-use Rattle.line_geometry.specs.Directory.{is_fine_page}
-use Rattle.line_geometry.specs.FlatStore.{FlatStore, IsWhole}
-use Rattle.lock_rules.specs.Sets.{has, size}
-use Rattle.lock_rules.specs.Lines.{Lines, with_whole_pages}
-use Rattle.lock_rules.proofs.Sets.{has-append, has_left, has_right}
-use Rattle.flat_machine.specs.declared.machine.Plain.{Plain}
-use Rattle.flat_machine.specs.After.{after, next_state}
-use Rattle.flat_machine.specs.Row.{On, row}
-use Rattle.flat_machine.specs.Due.{touched_next}
-use Rattle.flat_machine.specs.Agreement.{all_of, DoesTheSame}
-use Rattle.flat_machine.proofs.Agreement.{agreement-enough, after-whole, after-kept}
-use Rattle.desk.specs.Desk.{Entry}
-use Rattle.desk_law.specs.Changes.{left_by}
-use Rattle.desk_law.specs.Consistent.{IsAmong, due_to, IsLive, AreApart, AreConsistent}
+use Rattle.desk_law.proofs.Common.{suc, ◌+◌, Option, option_and_then, ◌≡◌, refl, ℕ, ◌==◌, not, Bool, true, false, List, filter, Some, arith, ap, sym, ◌∙◌, subst, inl, inr, both_ways, false_from_ne_true, or_cases, not-true, is_fine_page, FlatStore, IsWhole, has, size, Lines, with_whole_pages, has-append, has_left, has_right, Plain, after, next_state, On, row, touched_next, all_of, DoesTheSame, agreement-enough, after-whole, after-kept, Entry, left_by, IsAmong, due_to, IsLive, AreApart, AreConsistent, touched_of}
 use Rattle.desk_law.proofs.Entries.{among-filter, ascend-filter}
-use Rattle.desk_law.specs.UnderWay.{touched_of}
 
 -- the state after a row more
 pub after-row : (store : FlatStore) (entry : Entry) (now next : Plain) → after entry.runs.program entry.runs.args store entry.rows ≡ Some now

@@ -1,23 +1,6 @@
 -- What is permitted is held, and what is held conflicts with nobody.
-use Rattle.std.specs.Prelude.{◌≡◌, refl, ℕ, ◌==◌, ◌&&◌, ◌||◌, not, if◌then◌else◌, Bool, true, false, List, [], ◌∷◌, ◌++◌, map, filter, slice_index_or}
-use Rattle.std.specs.List.{list_any}
-use Rattle.std.proofs.Common.{ap, sym, ◌∙◌, inl, inr}
-use Rattle.std.proofs.lemmas.Bool.{eqb-true, eq-eqb, both_ways, or_cases, or_from, false_from_ne_true}
-use Rattle.line_geometry.specs.Directory.{is_fine_page}
-use Rattle.lock_rules.specs.Sets.{has, size, meets}
-use Rattle.lock_rules.specs.Lines.{Lines, conflicts, page_of_line}
-use Rattle.lock_rules.proofs.Sets.{has-append, has_left, any-some}
-use Rattle.lock_rules.proofs.Sizes.{size-alike}
-use Rattle.lock_rules.specs.Access.{permits}
-use Rattle.lock_rules.proofs.Lines.{ArePart, reaches, any-or, whole-reached, has-whole_pages}
-use Rattle.flat_machine.specs.Agreement.{all_of}
-use Rattle.desk.specs.Desk.{Desk, Entry, nobody}
-use Rattle.desk.specs.Holdings.{wanted, request, held, conflicts_with, conflicts_of}
-use Rattle.desk_law.specs.Consistent.{IsAmong, due_to, AreApart}
-use Rattle.desk_law.specs.Laws.{ArePermitted, PermittedIsFree, FineRowsAskForTheirLines, WriteBitsHoldPages}
-use Rattle.desk_law.specs.Orderly.{IsOrderly}
+use Rattle.desk_law.proofs.Common.{◌≡◌, refl, ℕ, ◌==◌, ◌&&◌, ◌||◌, not, if◌then◌else◌, Bool, true, false, List, [], ◌∷◌, ◌++◌, map, filter, slice_index_or, list_any, ap, sym, ◌∙◌, inl, inr, eqb-true, eq-eqb, both_ways, or_cases, or_from, false_from_ne_true, is_fine_page, has, size, meets, Lines, conflicts, page_of_line, has-append, has_left, any-some, size-alike, permits, ArePart, reaches, any-or, whole-reached, has-whole_pages, all_of, Desk, Entry, nobody, wanted, request, held, conflicts_with, conflicts_of, IsAmong, due_to, AreApart, ArePermitted, PermittedIsFree, FineRowsAskForTheirLines, WriteBitsHoldPages, IsOrderly, touched_of}
 use Rattle.desk_law.proofs.Orderly.{orderly}
-use Rattle.desk_law.specs.UnderWay.{touched_of}
 
 -- where none passes
 pub any-none : (test : ℕ → Bool) (xs : List ℕ) → ((x : ℕ) → has xs x ≡ true → test x ≡ false) → list_any test xs ≡ false

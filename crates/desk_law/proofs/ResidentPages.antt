@@ -1,13 +1,5 @@
 -- The resident pages fit the frames, each once, and are pages of the store.
-use Rattle.std.specs.Prelude.{◌≡◌, refl, ℕ, zero, suc, ◌+◌, ◌<◌, ◌≤◌, ◌==◌, ◌||◌, nat_lt, not, if◌then◌else◌, Bool, true, false, List, [], ◌∷◌, ◌++◌, length, filter, remove, position, unwrap_or, Option, Some, None}
-use Rattle.std.proofs.Common.{arith, ap, sym, ◌∙◌, inl, inr, length-append}
-use Rattle.std.proofs.lemmas.Bool.{eqb-true, eq-eqb, both_ways, and_parts, or_cases, or_left, or_right, or_parts, or_from, false_from_ne_true, ltb-true, ltb-false, ne_eqb}
-use Rattle.std.proofs.lemmas.List.Quantifiers.{position-Some}
-use Rattle.lock_rules.specs.Sets.{has}
-use Rattle.lock_rules.specs.Resident.{first_out, brought, taken_out}
-use Rattle.lock_rules.proofs.Sets.{has-append, has-filter}
-use Rattle.desk.specs.Instruction.{Word, Fetching, Fetched, Broken, can't_be_read, fetches}
-use Rattle.desk_law.specs.Consistent.{AreDistinct, AreResident}
+use Rattle.desk_law.proofs.Common.{◌≡◌, refl, ℕ, zero, suc, ◌+◌, ◌<◌, ◌≤◌, ◌==◌, ◌||◌, nat_lt, not, if◌then◌else◌, Bool, true, false, List, [], ◌∷◌, ◌++◌, length, filter, remove, position, unwrap_or, Option, Some, None, arith, ap, sym, ◌∙◌, inl, inr, length-append, eqb-true, eq-eqb, both_ways, and_parts, or_cases, or_left, or_right, or_parts, or_from, false_from_ne_true, ltb-true, ltb-false, ne_eqb, position-Some, has, first_out, brought, taken_out, has-append, has-filter, Word, Fetching, Fetched, Broken, can't_be_read, fetches, AreDistinct, AreResident}
 use Rattle.desk_law.proofs.Entries.{filter-short}
 
 -- one page more, which isn't there

@@ -1,26 +1,5 @@
 -- A turn leaves resident pages that fit.
-use Rattle.std.specs.Prelude.{◌≡◌, refl, ℕ, zero, suc, ◌+◌, ◌<◌, ◌≤◌, ◌==◌, Bool, true, false, List, [], ◌∷◌, ◌++◌, length, find, Option, Some, None}
-use Rattle.std.specs.Option.{option_map_or}
-use Rattle.std.proofs.Common.{arith, ap, sym, ◌∙◌}
-use Rattle.std.proofs.lemmas.Bool.{eqb-true}
-use Rattle.line_geometry.specs.Directory.{Layout, page_count}
-use Rattle.line_geometry.specs.Lines.{line_count}
-use Rattle.lock_rules.specs.Sets.{has}
-use Rattle.lock_rules.specs.Lines.{no_lines, page_of_line}
-use Rattle.lock_rules.specs.Waits.{shown_cycle, victim_of}
-use Rattle.lock_rules.proofs.Sets.{any-some}
-use Rattle.lock_rules.proofs.Lines.{has-pages_of}
-use Rattle.flat_machine.specs.declared.machine.Plain.{Plain}
-use Rattle.flat_machine.specs.declared.machine.Program.{Program}
-use Rattle.flat_machine.specs.Row.{Outcome, On, Commit, Check, row}
-use Rattle.flat_machine.specs.After.{after}
-use Rattle.flat_machine.specs.Touched.{touched}
-use Rattle.flat_machine.specs.Agreement.{all_of}
-use Rattle.flat_machine.proofs.Below.{touched-below}
-use Rattle.desk.specs.Desk.{Desk, Entry, with_entry, rolled_back}
-use Rattle.desk.specs.Holdings.{wanted, conflicts_of, numbers, waits_for}
-use Rattle.desk.specs.Instruction.{Word, Unwritten, Counts, Turning, Going, Over, Attempt, Fetching, Fetched, Broken, Contest, Contested, Settled, Lost, attempts, attempts_at, instruction, turns, touched_pages, limited, is_over_limit, fetched_first, fetches_touched, asks, gets, goes_on, takes_effect, commits, contest_ends, waits_or_gets, with_grants, refused_pages, breaks_cycle, breaks_cycles}
-use Rattle.desk_law.specs.Consistent.{AreResident}
+use Rattle.desk_law.proofs.Common.{◌≡◌, refl, ℕ, zero, suc, ◌+◌, ◌<◌, ◌≤◌, ◌==◌, Bool, true, false, List, [], ◌∷◌, ◌++◌, length, find, Option, Some, None, option_map_or, arith, ap, sym, ◌∙◌, eqb-true, Layout, page_count, line_count, has, no_lines, page_of_line, shown_cycle, victim_of, any-some, has-pages_of, Plain, Program, Outcome, On, Commit, Check, row, after, touched, all_of, touched-below, Desk, Entry, with_entry, rolled_back, wanted, conflicts_of, numbers, waits_for, Word, Unwritten, Counts, Turning, Going, Over, Attempt, Fetching, Fetched, Broken, Contest, Contested, Settled, Lost, attempts, attempts_at, instruction, turns, touched_pages, limited, is_over_limit, fetched_first, fetches_touched, asks, gets, goes_on, takes_effect, commits, contest_ends, waits_or_gets, with_grants, refused_pages, breaks_cycle, breaks_cycles, AreResident}
 use Rattle.desk_law.proofs.Contest.{breaks-keep, left_over}
 use Rattle.desk_law.proofs.ResidentPages.{FetchFits, fetches-resident, taken-resident, none-resident}
 

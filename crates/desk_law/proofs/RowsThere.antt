@@ -1,28 +1,8 @@
 -- An instruction of a consistent desk whose lines are all there: nothing is counted but the row, and nothing else changes.
-use Rattle.std.specs.Prelude.{nat_lt, ◌≡◌, refl, ℕ, ◌+◌, Bool, true, false, List, [], ◌++◌, length, filter, Some, slice_index_or}
-use Rattle.std.proofs.Common.{arith, ap, sym, ◌∙◌, subst, inl, inr}
-use Rattle.std.specs.List.{list_any}
-use Rattle.std.proofs.lemmas.Bool.{or_cases}
-use Rattle.line_geometry.specs.Directory.{is_fine_page}
-use Rattle.lock_rules.specs.Sets.{has, size}
-use Rattle.lock_rules.specs.Lines.{Lines, both, with_whole_pages, pages_of}
-use Rattle.lock_rules.proofs.Sets.{has-append, has_left, any-some}
-use Rattle.lock_rules.proofs.Lines.{ArePart, reaches, whole-reached, part-both, part-whole_pages, has-whole_pages}
-use Rattle.flat_machine.specs.declared.machine.Plain.{Plain}
-use Rattle.flat_machine.specs.Row.{On, Commit, Check, row}
-use Rattle.flat_machine.specs.After.{after}
-use Rattle.desk.specs.Desk.{Desk, Entry, nobody, with_entry, rolled_back}
-use Rattle.desk.specs.Holdings.{wanted, request, conflicts_of}
-use Rattle.desk.specs.Instruction.{Word, Counts, Going, Over, Checked, Attempt, Fetched, fetches, instruction, lines_written, refuses, lines_within, gets, takes_effect, commits}
-use Rattle.std.proofs.lemmas.Bool.Decides.{nat_tests}
-use Rattle.desk_law.specs.Beside.{AreThere, AreAlike}
-use Rattle.desk_law.specs.Changes.{gone_on}
-use Rattle.desk_law.specs.Consistent.{IsAmong, due_to}
+use Rattle.desk_law.proofs.Common.{nat_lt, ◌≡◌, refl, ℕ, ◌+◌, Bool, true, false, List, [], ◌++◌, length, filter, Some, slice_index_or, arith, ap, sym, ◌∙◌, subst, inl, inr, list_any, or_cases, is_fine_page, has, size, Lines, both, with_whole_pages, pages_of, has-append, has_left, any-some, ArePart, reaches, whole-reached, part-both, part-whole_pages, has-whole_pages, Plain, On, Commit, Check, row, after, Desk, Entry, nobody, with_entry, rolled_back, wanted, request, conflicts_of, Word, Counts, Going, Over, Checked, Attempt, Fetched, fetches, instruction, lines_written, refuses, lines_within, gets, takes_effect, commits, nat_tests, AreThere, AreAlike, gone_on, IsAmong, due_to, IsOrderly, touched_of}
 use Rattle.desk_law.proofs.GoesOn.{due-more}
 use Rattle.desk_law.proofs.InstructionStages.{attempt_of, GoesOn, instruction-at, stage-check, stage-limit, stage-fetched, stage-gets, stage-on, stage-commit}
 use Rattle.desk_law.proofs.LinesThere.{filter-none, fetches-none, there-resident, there-unrefused, there-held, there-lowered}
-use Rattle.desk_law.specs.Orderly.{IsOrderly}
-use Rattle.desk_law.specs.UnderWay.{touched_of}
 use Rattle.desk_law.proofs.Permitted.{held-free, held-written}
 use Rattle.desk_law.proofs.Endings.{wanted-commit}
 

@@ -1,17 +1,5 @@
 -- Entries that are told from seats: what becomes of them as one seat changes or is left, and tables by seat as tables by number.
-use Rattle.std.specs.Prelude.{◌≡◌, refl, ℕ, ◌==◌, ◌&&◌, ◌||◌, not, if◌then◌else◌, Bool, true, false, List, [], ◌∷◌, map, filter, find, Option, Some}
-use Rattle.std.specs.List.{list_any}
-use Rattle.std.specs.Option.{option_map, option_map_or}
-use Rattle.std.proofs.Common.{ap, sym, ◌∙◌, subst, inl, inr}
-use Rattle.std.proofs.lemmas.Bool.{eqb-true, eq-eqb, both_ways, and_from, and_right, or_left, or_right}
-use Rattle.line_geometry.specs.FlatStore.{FlatStore}
-use Rattle.lock_rules.specs.Sets.{has}
-use Rattle.lock_rules.specs.Lines.{Lines, no_lines, conflicts}
-use Rattle.lock_rules.proofs.Sets.{any-at, any-some}
-use Rattle.lock_rules.proofs.Cycles.{any-named, find-named}
-use Rattle.desk.specs.Desk.{Entry}
-use Rattle.desk_law.specs.Beside.{AreAlike, requested, AreKept, AreSeats, by_number, kept_conflict, kept_waits}
-use Rattle.desk_law.specs.Consistent.{IsAmong, due_to}
+use Rattle.desk_law.proofs.Common.{◌≡◌, refl, ℕ, ◌==◌, ◌&&◌, ◌||◌, not, if◌then◌else◌, Bool, true, false, List, [], ◌∷◌, map, filter, find, Option, Some, list_any, option_map, option_map_or, ap, sym, ◌∙◌, subst, inl, inr, eqb-true, eq-eqb, both_ways, and_from, and_right, or_left, or_right, FlatStore, has, Lines, no_lines, conflicts, any-at, any-some, any-named, find-named, Entry, AreAlike, requested, AreKept, AreSeats, by_number, kept_conflict, kept_waits, IsAmong, due_to}
 use Rattle.desk_law.proofs.Entries.{replaced}
 use Rattle.desk_law.proofs.Others.{others}
 

@@ -1,32 +1,10 @@
 -- The end of an instruction that was served: its pages are granted and there, and its row goes on over the bytes of all.
-use Rattle.std.specs.Prelude.{◌≡◌, refl, ℕ, ◌+◌, ◌<◌, true, List, [], ◌++◌, length, filter, slice_index_or, Option}
-use Rattle.std.specs.Option.{option_map_or}
-use Rattle.std.proofs.Common.{arith, ap, sym, ◌∙◌}
-use Rattle.line_geometry.specs.Directory.{is_fine_page}
-use Rattle.line_geometry.specs.Lines.{line_count}
-use Rattle.lock_rules.specs.Sets.{has}
-use Rattle.lock_rules.specs.Lines.{Lines, no_lines, both, with_whole_pages, page_of_line}
-use Rattle.lock_rules.proofs.Sets.{has_left, has_right}
-use Rattle.lock_rules.proofs.Lines.{pages_of-line}
-use Rattle.flat_machine.specs.declared.machine.Plain.{Plain}
-use Rattle.flat_machine.specs.Row.{On, row}
-use Rattle.flat_machine.specs.Touched.{touched}
-use Rattle.flat_machine.specs.Agreement.{all_of}
-use Rattle.flat_machine.proofs.Below.{touched-below}
-use Rattle.desk.specs.Desk.{Desk, Authority, nobody}
-use Rattle.desk.specs.Holdings.{conflicts_of}
-use Rattle.desk.specs.Instruction.{Word, Counts, Going, Attempt, Fetched, fetches, touched_pages, refuses, lines_within, granted, locks_with, with_grants, gets}
-use Rattle.desk_law.specs.Beside.{AreThere, over_all}
-use Rattle.desk_law.specs.Changes.{gone_on, row_done}
-use Rattle.desk_law.specs.Current.{IsCurrent}
-use Rattle.desk_law.specs.Laws.{ArePermitted}
+use Rattle.desk_law.proofs.Common.{◌≡◌, refl, ℕ, ◌+◌, ◌<◌, true, List, [], ◌++◌, length, filter, slice_index_or, Option, option_map_or, arith, ap, sym, ◌∙◌, is_fine_page, line_count, has, Lines, no_lines, both, with_whole_pages, page_of_line, has_left, has_right, pages_of-line, Plain, On, row, touched, all_of, touched-below, Desk, Authority, nobody, conflicts_of, Word, Counts, Going, Attempt, Fetched, fetches, touched_pages, refuses, lines_within, granted, locks_with, with_grants, gets, AreThere, over_all, gone_on, row_done, IsCurrent, ArePermitted, KeepsPages, touched_of, IsUnderWay, IsReady, IsOrderly}
 use Rattle.desk_law.proofs.AttemptsOnCurrent.{shown-current}
-use Rattle.desk_law.specs.UnderWay.{KeepsPages, touched_of, IsUnderWay, IsReady}
 use Rattle.desk_law.proofs.Entries.{replaced}
 use Rattle.desk_law.proofs.GoesOn.{ready-again, grants-held, row-goes-on}
 use Rattle.desk_law.proofs.Granted.{granted-permits}
 use Rattle.desk_law.proofs.InstructionStages.{stage-gets, stage-on}
-use Rattle.desk_law.specs.Orderly.{IsOrderly}
 use Rattle.desk_law.proofs.SharedBytes.{row-on-current}
 use Rattle.desk_law.proofs.TurnsStay.{resident-granted}
 

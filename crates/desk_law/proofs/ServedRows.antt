@@ -1,23 +1,8 @@
 -- The stages put together: a fault that meets no conflict, and one whose contest left none, go on; and the second attempt of
 -- each finds its lines there.
-use Rattle.std.specs.Prelude.{false, nat_lt, ◌≡◌, refl, ℕ, ◌+◌, true, List, [], ◌∷◌, length, filter, map, Some}
-use Rattle.std.proofs.Common.{ap, sym, ◌∙◌, subst}
-use Rattle.line_geometry.specs.Directory.{is_fine_page}
-use Rattle.lock_rules.specs.Sets.{has}
-use Rattle.lock_rules.specs.Lines.{Lines, with_whole_pages}
-use Rattle.flat_machine.specs.declared.machine.Plain.{Plain}
-use Rattle.flat_machine.specs.Row.{On, row}
-use Rattle.flat_machine.specs.After.{after}
-use Rattle.desk.specs.Desk.{Desk, Entry, with_entry}
-use Rattle.desk.specs.Holdings.{conflicts_of}
-use Rattle.desk.specs.Instruction.{Word, Fine, Counts, Turning, Going, Attempt, Fetched, fetches, instruction, lines_written, touched_pages, refused_pages, gets, asks}
-use Rattle.desk_law.specs.Beside.{AreThere, AreAlike, over_all, requested, IsTableBut, kept_conflict, AreStatesBut, IsTold, Reads}
-use Rattle.desk_law.specs.Changes.{gone_on, row_done}
-use Rattle.desk_law.specs.Consistent.{IsAmong, due_to}
+use Rattle.desk_law.proofs.Common.{false, nat_lt, ◌≡◌, refl, ℕ, ◌+◌, true, List, [], ◌∷◌, length, filter, map, Some, ap, sym, ◌∙◌, subst, is_fine_page, has, Lines, with_whole_pages, Plain, On, row, after, Desk, Entry, with_entry, conflicts_of, Word, Fine, Counts, Turning, Going, Attempt, Fetched, fetches, instruction, lines_written, touched_pages, refused_pages, gets, asks, AreThere, AreAlike, over_all, requested, IsTableBut, kept_conflict, AreStatesBut, IsTold, Reads, gone_on, row_done, IsAmong, due_to, IsReady, served_attempt, IsOrderly}
 use Rattle.desk_law.proofs.AttemptsOnCurrent.{wanted-is}
-use Rattle.desk_law.specs.UnderWay.{IsReady, served_attempt}
 use Rattle.desk_law.proofs.KeptTables.{conflicts-kept}
-use Rattle.desk_law.specs.Orderly.{IsOrderly}
 use Rattle.desk_law.proofs.ServedEffect.{got, served-there}
 use Rattle.desk_law.proofs.ServesConflicts.{IsContesting, contesting-begins}
 use Rattle.desk_law.proofs.ServesToLocks.{asked_for, serve-asks, serve-ready, serve-ends}

@@ -1,22 +1,11 @@
 -- The loop that serves a conflict: what it keeps, how it begins, one turn of it, and its ends.
-use Rattle.std.specs.Prelude.{◌≡◌, refl, ℕ, ◌==◌, true, false, List, [], ◌∷◌, filter, map, find, Option, Some, None}
-use Rattle.std.proofs.Common.{ap, sym, ◌∙◌}
-use Rattle.lock_rules.specs.Lines.{Lines}
-use Rattle.lock_rules.specs.Waits.{shown_cycle, victim_of}
-use Rattle.flat_machine.specs.declared.machine.Plain.{Plain}
-use Rattle.desk.specs.Desk.{Desk, Entry, with_entry, rolled_back}
-use Rattle.desk.specs.Holdings.{numbers, waits_for, conflicts_of}
-use Rattle.desk.specs.Instruction.{Word, Counts, Turning, Over, Victim, Waits, Attempt, contest_ends, waits_or_gets, gets, asks}
-use Rattle.desk_law.specs.Beside.{IsLaid, AreAlike, requested, IsTableBut, kept_conflict, kept_waits, IsTold, Reads}
-use Rattle.desk_law.specs.Consistent.{IsAmong, due_to}
+use Rattle.desk_law.proofs.Common.{◌≡◌, refl, ℕ, ◌==◌, true, false, List, [], ◌∷◌, filter, map, find, Option, Some, None, ap, sym, ◌∙◌, Lines, shown_cycle, victim_of, Plain, Desk, Entry, with_entry, rolled_back, numbers, waits_for, conflicts_of, Word, Counts, Turning, Over, Victim, Waits, Attempt, contest_ends, waits_or_gets, gets, asks, IsLaid, AreAlike, requested, IsTableBut, kept_conflict, kept_waits, IsTold, Reads, IsAmong, due_to, contest, IsUnderWay, IsReady, marked, IsOrderly}
 use Rattle.desk_law.proofs.Contest.{contending}
 use Rattle.desk_law.proofs.ContestRounds.{with_cycle, entry_with, under-way, round-under_way, round-settles, round-breaks, round-loses, asks-contest, settled-consistent, lost-consistent, victim-there}
-use Rattle.desk_law.specs.UnderWay.{contest, IsUnderWay, IsReady, marked}
 use Rattle.desk_law.proofs.Entries.{among-found}
 use Rattle.desk_law.proofs.GoesOn.{marked-contending}
 use Rattle.desk_law.proofs.InstructionStages.{stage-settled}
 use Rattle.desk_law.proofs.KeptTables.{conflicts-kept, cycle-kept}
-use Rattle.desk_law.specs.Orderly.{IsOrderly}
 use Rattle.desk_law.proofs.ServedEffect.{ready-settled}
 use Rattle.desk_law.proofs.ToldSteps.{told-mark, told-rollback}
 

@@ -1,29 +1,12 @@
 -- The first half of serving a fault: the limit, the pages, the refused pages and the conflicts, from what an attempt over the
 -- bytes of all tells.
-use Rattle.std.specs.Prelude.{Bool, true, false, nat_lt, ◌≡◌, refl, ℕ, ◌+◌, ◌≤◌, List, [], ◌++◌, length, filter, map, Some}
-use Rattle.std.proofs.lemmas.Bool.{ltb-false}
-use Rattle.std.proofs.Common.{arith, ap, sym, ◌∙◌, subst}
-use Rattle.line_geometry.specs.Directory.{Layout, is_fine_page}
-use Rattle.lock_rules.specs.Sets.{size}
-use Rattle.lock_rules.specs.Lines.{Lines, with_whole_pages}
-use Rattle.flat_machine.specs.declared.machine.Plain.{Plain}
-use Rattle.flat_machine.specs.Row.{On, row}
-use Rattle.flat_machine.specs.Touched.{touched}
-use Rattle.flat_machine.specs.After.{after}
-use Rattle.desk.specs.Desk.{Desk, Entry, rolled_back}
-use Rattle.desk.specs.Holdings.{wanted, request, conflicts_of}
-use Rattle.desk.specs.Instruction.{Word, Fine, Counts, Turning, Going, Over, Journal, Disk, Attempt, Fetched, Broken, fetches, instruction, attempts, limited, is_over_limit, lines_written, touched_pages, refused_pages, asks, gets}
-use Rattle.desk_law.specs.Beside.{AreAlike, over_all, AreKept, kept_conflict, Reads}
-use Rattle.desk_law.specs.Changes.{row_done}
-use Rattle.desk_law.specs.Consistent.{IsAmong, due_to}
+use Rattle.desk_law.proofs.Common.{Bool, true, false, nat_lt, ◌≡◌, refl, ℕ, ◌+◌, ◌≤◌, List, [], ◌++◌, length, filter, map, Some, ltb-false, arith, ap, sym, ◌∙◌, subst, Layout, is_fine_page, size, Lines, with_whole_pages, Plain, On, row, touched, after, Desk, Entry, rolled_back, wanted, request, conflicts_of, Word, Fine, Counts, Turning, Going, Over, Journal, Disk, Attempt, Fetched, Broken, fetches, instruction, attempts, limited, is_over_limit, lines_written, touched_pages, refused_pages, asks, gets, AreAlike, over_all, AreKept, kept_conflict, Reads, row_done, IsAmong, due_to, IsReady, touched_of, served_attempt, IsOrderly}
 use Rattle.desk_law.proofs.AlikeSets.{written-alike}
 use Rattle.desk_law.proofs.AttemptsOnCurrent.{IsOwnRow, own-row, wanted-is}
 use Rattle.desk_law.proofs.Contest.{contending}
 use Rattle.desk_law.proofs.FetchesCounted.{fetched-for, fetched-few}
-use Rattle.desk_law.specs.UnderWay.{IsReady, touched_of, served_attempt}
 use Rattle.desk_law.proofs.InstructionStages.{GoesOn, instruction-at, stage-limit, stage-broken, stage-fetched}
 use Rattle.desk_law.proofs.KeptTables.{conflicts-kept}
-use Rattle.desk_law.specs.Orderly.{IsOrderly}
 use Rattle.desk_law.proofs.ServedEffect.{got}
 use Rattle.desk_law.proofs.ToldSteps.{HasServed}
 use Rattle.desk_law.proofs.TurnsStay.{resident-consistent}

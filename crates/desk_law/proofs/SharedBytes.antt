@@ -1,32 +1,7 @@
 -- One store of bytes for all entries: it holds every line as it is now, and each row may run over it.
-use Rattle.std.specs.Prelude.{◌≡◌, refl, ℕ, ◌+◌, ◌==◌, not, true, false, List, [], ◌++◌, length, Option, Some}
-use Rattle.std.specs.Option.{option_map_or}
-use Rattle.std.proofs.Common.{ap, sym, ◌∙◌, subst, inl, inr}
-use Rattle.std.proofs.lemmas.Bool.{eqb-true, both_ways, or_cases, or_parts, and_cases, cases_Bool, not_from_false, false_from_ne_true}
-use Rattle.line_geometry.specs.Directory.{byte_count}
-use Rattle.line_geometry.specs.FlatStore.{FlatStore, IsWhole}
-use Rattle.lock_rules.specs.Sets.{has, meets}
-use Rattle.lock_rules.specs.Lines.{Lines, conflicts}
-use Rattle.lock_rules.proofs.Sets.{has-append, has_left, has_right}
-use Rattle.lock_rules.proofs.Lines.{meets-at}
-use Rattle.flat_machine.specs.declared.machine.Plain.{Plain}
-use Rattle.flat_machine.specs.declared.machine.Plan.{Plan}
-use Rattle.flat_machine.specs.declared.machine.Plan.TheVariants.{Does, Fails}
-use Rattle.flat_machine.specs.Row.{Outcome, On, plan_at, row}
-use Rattle.flat_machine.specs.Touched.{touched, touched_by}
-use Rattle.flat_machine.specs.After.{after}
-use Rattle.flat_machine.specs.Agreement.{line_in, all_of}
-use Rattle.flat_machine.proofs.Agreement.{after-whole, after-kept}
-use Rattle.flat_machine.proofs.SameWay.{on}
-use Rattle.flat_machine.proofs.Steps.{Keeps, Steps, lines_of_plan, row-steps}
-use Rattle.desk.specs.Desk.{Desk, Entry}
-use Rattle.desk.specs.Holdings.{wanted, request, held, conflicts_with, conflicts_of}
-use Rattle.desk_law.specs.Changes.{gone_on}
-use Rattle.desk_law.specs.Consistent.{IsAmong, AreConsistent}
-use Rattle.desk_law.specs.Current.{current_of, current, IsCurrent}
+use Rattle.desk_law.proofs.Common.{◌≡◌, refl, ℕ, ◌+◌, ◌==◌, not, true, false, List, [], ◌++◌, length, Option, Some, option_map_or, ap, sym, ◌∙◌, subst, inl, inr, eqb-true, both_ways, or_cases, or_parts, and_cases, cases_Bool, not_from_false, false_from_ne_true, byte_count, FlatStore, IsWhole, has, meets, Lines, conflicts, has-append, has_left, has_right, meets-at, Plain, Plan, Does, Fails, Outcome, On, plan_at, row, touched, touched_by, after, line_in, all_of, after-whole, after-kept, on, Keeps, Steps, lines_of_plan, row-steps, Desk, Entry, wanted, request, held, conflicts_with, conflicts_of, gone_on, IsAmong, AreConsistent, current_of, current, IsCurrent, touched_of}
 use Rattle.desk_law.proofs.Entries.{replaced, one-entry}
 use Rattle.desk_law.proofs.Others.{after-row}
-use Rattle.desk_law.specs.UnderWay.{touched_of}
 use Rattle.desk_law.proofs.GoesOn.{nobody-conflicts}
 use Rattle.desk_law.proofs.CurrentLines.{current-written, current-unwritten, row-writes, row-leaves}
 

@@ -1,14 +1,5 @@
 -- Where nobody waits for himself, somebody waits for nobody.
-use Rattle.std.specs.Prelude.{◌≡◌, refl, ℕ, zero, suc, ◌<◌, ◌≤◌, ◌&&◌, not, Bool, true, false, List, length, filter}
-use Rattle.std.specs.List.{list_any}
-use Rattle.std.proofs.Common.{arith, ap, sym, ◌∙◌, subst, inl, inr}
-use Rattle.std.proofs.lemmas.Bool.{eqb-true, both_ways, and_from, cases_Bool, false_from_ne_true, not_from_false}
-use Rattle.lock_rules.specs.Sets.{has}
-use Rattle.lock_rules.specs.Waits.{leads}
-use Rattle.lock_rules.proofs.Sets.{any-at, any-some}
-use Rattle.desk.specs.Holdings.{numbers, waits_for}
-use Rattle.desk_law.specs.Consistent.{HasNoCycle}
-use Rattle.desk_law.specs.Laws.{SomebodyCanGoOn}
+use Rattle.desk_law.proofs.Common.{◌≡◌, refl, ℕ, zero, suc, ◌<◌, ◌≤◌, ◌&&◌, not, Bool, true, false, List, length, filter, list_any, arith, ap, sym, ◌∙◌, subst, inl, inr, eqb-true, both_ways, and_from, cases_Bool, false_from_ne_true, not_from_false, has, leads, any-at, any-some, numbers, waits_for, HasNoCycle, SomebodyCanGoOn}
 use Rattle.desk_law.proofs.Walks.{one-step, walk-short, count-lt}
 use Rattle.desk_law.proofs.Waiting.{waits-by, number-of, has-number}
 

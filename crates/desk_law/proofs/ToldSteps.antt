@@ -1,26 +1,10 @@
 -- What a supervisor keeps beside a desk: locks and requests by number, states but for their store, and one list of bytes for
 -- all; and what steps do to it.
-use Rattle.std.specs.Prelude.{◌≡◌, ℕ, ◌+◌, ◌==◌, not, Bool, true, List, [], Some}
-use Rattle.std.proofs.Common.{ap, sym, ◌∙◌, subst, inl, inr}
-use Rattle.std.proofs.lemmas.Bool.{not-true}
-use Rattle.line_geometry.specs.FlatStore.{FlatStore, IsWhole}
-use Rattle.lock_rules.specs.Lines.{Lines}
-use Rattle.flat_machine.specs.declared.machine.Plain.{Plain}
-use Rattle.flat_machine.specs.Row.{On, row}
-use Rattle.flat_machine.specs.After.{after}
-use Rattle.flat_machine.proofs.Agreement.{after-whole}
-use Rattle.desk.specs.Desk.{Desk, Entry}
-use Rattle.desk.specs.Holdings.{conflicts_of}
-use Rattle.desk.specs.Instruction.{Word, Counts, Going, Attempt, Fetched, fetches, touched_pages, gets}
-use Rattle.desk_law.specs.Beside.{IsLaid, AreAlike, over_all, requested, IsTableBut, IsState, AreStates, AreStatesBut, IsTold}
-use Rattle.desk_law.specs.Changes.{left_by, gone_on, row_done}
-use Rattle.desk_law.specs.Consistent.{IsAmong, due_to, AreConsistent}
+use Rattle.desk_law.proofs.Common.{◌≡◌, ℕ, ◌+◌, ◌==◌, not, Bool, true, List, [], Some, ap, sym, ◌∙◌, subst, inl, inr, not-true, FlatStore, IsWhole, Lines, Plain, On, row, after, after-whole, Desk, Entry, conflicts_of, Word, Counts, Going, Attempt, Fetched, fetches, touched_pages, gets, IsLaid, AreAlike, over_all, requested, IsTableBut, IsState, AreStates, AreStatesBut, IsTold, left_by, gone_on, row_done, IsAmong, due_to, AreConsistent, IsReady, IsOrderly}
 use Rattle.desk_law.proofs.CurrentSteps.{current-rolled, current-committed, commit-laid, current-marked}
 use Rattle.desk_law.proofs.Entries.{replaced, among-replaced, among-filter}
 use Rattle.desk_law.proofs.GoesOn.{apart-turned}
-use Rattle.desk_law.specs.UnderWay.{IsReady}
 use Rattle.desk_law.proofs.KeptTables.{kept-row, kept-mark, kept-rollback, kept-commit}
-use Rattle.desk_law.specs.Orderly.{IsOrderly}
 use Rattle.desk_law.proofs.Others.{others, another-same, after-row}
 use Rattle.desk_law.proofs.ServedEffect.{got, WasServed, served-goes}
 

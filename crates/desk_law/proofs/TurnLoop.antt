@@ -1,11 +1,5 @@
 -- The loop of a turn: what it keeps, and its ends.
-use Rattle.std.specs.Prelude.{◌≡◌, refl, ℕ, zero, suc, ◌≤◌, ◌==◌, find, Option, Some}
-use Rattle.std.proofs.Common.{arith, ap, ◌∙◌}
-use Rattle.desk.specs.Desk.{Desk, Entry}
-use Rattle.desk.specs.Instruction.{Word, Fine, Counts, Turning, Going, Over, Ending, Limit, Attempt, instruction, turns, commits}
-use Rattle.desk_law.specs.Beside.{Reads}
-use Rattle.desk_law.specs.Consistent.{IsAmong}
-use Rattle.desk_law.specs.Orderly.{IsOrderly}
+use Rattle.desk_law.proofs.Common.{◌≡◌, refl, ℕ, zero, suc, ◌≤◌, ◌==◌, find, Option, Some, arith, ap, ◌∙◌, Desk, Entry, Word, Fine, Counts, Turning, Going, Over, Ending, Limit, Attempt, instruction, turns, commits, Reads, IsAmong, IsOrderly}
 use Rattle.desk_law.proofs.Entries.{found-among}
 
 -- a turn, from wherever it began, is one of so many instructions from here

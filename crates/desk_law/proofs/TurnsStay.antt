@@ -1,22 +1,6 @@
 -- A turn leaves a desk orderly.
-use Rattle.std.specs.Prelude.{◌≡◌, refl, ℕ, zero, suc, ◌+◌, ◌≤◌, ◌==◌, Bool, true, false, List, [], ◌∷◌, ◌++◌, length, find, Option, Some, None}
-use Rattle.std.proofs.Common.{arith, sym, ◌∙◌, subst}
-use Rattle.std.proofs.lemmas.Bool.{eqb-true, eq-eqb, both_ways, ltb-false}
-use Rattle.std.proofs.lemmas.Option.{none-some}
-use Rattle.lock_rules.specs.Sets.{size}
-use Rattle.lock_rules.specs.Lines.{Lines}
-use Rattle.flat_machine.specs.declared.machine.Plain.{Plain}
-use Rattle.flat_machine.specs.Row.{Outcome, On, Commit, Check, row}
-use Rattle.flat_machine.specs.After.{after}
-use Rattle.desk.specs.Desk.{Desk, Entry, with_entry, ended, rolled_back}
-use Rattle.desk.specs.Holdings.{wanted, conflicts_of}
-use Rattle.desk.specs.Instruction.{Word, Fine, Unwritten, Doubt, Counts, Turning, Going, Over, Ending, Idle, Committed, Attempt, Fetching, Fetched, Broken, Contest, Contested, Settled, Lost, attempts, attempts_at, instruction, turns, limited, is_over_limit, lines_written, fetched_first, fetches_touched, asks, gets, goes_on, breaks, ordered, takes_effect, commits, contest_ends, waits_or_gets, with_grants, refused_pages}
-use Rattle.desk_law.specs.Changes.{gone_on}
-use Rattle.desk_law.specs.Consistent.{IsAmong}
-use Rattle.desk_law.specs.Laws.{IsActive}
-use Rattle.desk_law.specs.Orderly.{IsOrderly}
+use Rattle.desk_law.proofs.Common.{◌≡◌, refl, ℕ, zero, suc, ◌+◌, ◌≤◌, ◌==◌, Bool, true, false, List, [], ◌∷◌, ◌++◌, length, find, Option, Some, None, arith, sym, ◌∙◌, subst, eqb-true, eq-eqb, both_ways, ltb-false, none-some, size, Lines, Plain, Outcome, On, Commit, Check, row, after, Desk, Entry, with_entry, ended, rolled_back, wanted, conflicts_of, Word, Fine, Unwritten, Doubt, Counts, Turning, Going, Over, Ending, Idle, Committed, Attempt, Fetching, Fetched, Broken, Contest, Contested, Settled, Lost, attempts, attempts_at, instruction, turns, limited, is_over_limit, lines_written, fetched_first, fetches_touched, asks, gets, goes_on, breaks, ordered, takes_effect, commits, contest_ends, waits_or_gets, with_grants, refused_pages, gone_on, IsAmong, IsActive, IsOrderly, touched_of, IsReady}
 use Rattle.desk_law.proofs.Entries.{among-found, none-found, new-among}
-use Rattle.desk_law.specs.UnderWay.{touched_of, IsReady}
 use Rattle.desk_law.proofs.Contest.{contending, rolled-consistent, breaks-all, Came}
 use Rattle.desk_law.proofs.GoesOn.{ready-again, IsGranted, grants-held, row-goes-on, marked-contending, length-replaced}
 use Rattle.desk_law.proofs.Endings.{granted-rolled, granted-commits, granted-closes}

@@ -1,21 +1,7 @@
 -- Who waits for whom as entries change.
-use Rattle.std.specs.Prelude.{◌≡◌, refl, ℕ, ◌==◌, ◌&&◌, not, Bool, true, false, List, [], ◌∷◌, filter, map, Some}
-use Rattle.std.specs.List.{list_any}
-use Rattle.std.proofs.Common.{ap, sym, ◌∙◌, subst, inl, inr}
-use Rattle.std.proofs.lemmas.Bool.{eqb-true, eq-eqb, both_ways, and_parts, and_from, or_cases, or_left, or_right, not-true, false_from_ne_true}
-use Rattle.line_geometry.specs.Directory.{is_fine_page}
-use Rattle.line_geometry.specs.FlatStore.{IsWhole}
-use Rattle.lock_rules.specs.Sets.{has}
-use Rattle.lock_rules.specs.Lines.{conflicts, with_whole_pages}
-use Rattle.flat_machine.specs.declared.machine.Plain.{Plain}
-use Rattle.flat_machine.specs.After.{after}
-use Rattle.desk.specs.Desk.{Desk, Entry, with_entry, rolled_back}
-use Rattle.desk.specs.Holdings.{conflicts_with, waits_for}
-use Rattle.desk_law.specs.Changes.{committed_at, left_by}
-use Rattle.desk_law.specs.Consistent.{IsAmong, AreConsistent}
+use Rattle.desk_law.proofs.Common.{◌≡◌, refl, ℕ, ◌==◌, ◌&&◌, not, Bool, true, false, List, [], ◌∷◌, filter, map, Some, list_any, ap, sym, ◌∙◌, subst, inl, inr, eqb-true, eq-eqb, both_ways, and_parts, and_from, or_cases, or_left, or_right, not-true, false_from_ne_true, is_fine_page, IsWhole, has, conflicts, with_whole_pages, Plain, after, Desk, Entry, with_entry, rolled_back, conflicts_with, waits_for, committed_at, left_by, IsAmong, AreConsistent, except}
 use Rattle.desk_law.proofs.Entries.{among-filter, among-replaced}
 use Rattle.desk_law.proofs.Walks.{Leaves}
-use Rattle.desk_law.specs.UnderWay.{except}
 use Rattle.desk_law.proofs.Others.{another-stays, StaysSame}
 
 -- an entry that passes a test settles it

@@ -1,14 +1,6 @@
 -- Where waits lead.
-use Rattle.std.specs.Prelude.{◌≡◌, refl, ℕ, zero, suc, ◌<◌, ◌≤◌, ◌==◌, ◌&&◌, ◌||◌, ◌⊎◌, not, if◌then◌else◌, Bool, true, false, List, [], ◌∷◌, length, filter}
-use Rattle.std.specs.List.{list_any}
-use Rattle.std.proofs.Common.{arith, ap, sym, ◌∙◌, subst, inl, inr}
-use Rattle.std.proofs.lemmas.Bool.{eqb-true, eq-eqb, both_ways, and_parts, and_from, or_cases, or_left, or_right, cases_Bool, not_from_false, false_from_ne_true}
-use Rattle.lock_rules.specs.Sets.{has}
-use Rattle.lock_rules.specs.Waits.{leads}
-use Rattle.lock_rules.proofs.Sets.{any-at, any-some}
-use Rattle.desk_law.specs.Consistent.{HasNoCycle}
+use Rattle.desk_law.proofs.Common.{◌≡◌, refl, ℕ, zero, suc, ◌<◌, ◌≤◌, ◌==◌, ◌&&◌, ◌||◌, ◌⊎◌, not, if◌then◌else◌, Bool, true, false, List, [], ◌∷◌, length, filter, list_any, arith, ap, sym, ◌∙◌, subst, inl, inr, eqb-true, eq-eqb, both_ways, and_parts, and_from, or_cases, or_left, or_right, cases_Bool, not_from_false, false_from_ne_true, has, leads, any-at, any-some, HasNoCycle, except}
 use Rattle.desk_law.proofs.Entries.{filter-short}
-use Rattle.desk_law.specs.UnderWay.{except}
 
 -- the first step of a walk
 pub record Steps (waits : ℕ → ℕ → Bool) (all : List ℕ) (steps from to : ℕ) : Type 0 where

@@ -1,14 +1,6 @@
 -- A job that says what another says.
-use Rattle.std.proofs.Common.{◌≡◌, ◌≤◌, ℕ, List, [], ◌∷◌, length, map, get_or, refl, sym, ap, ◌∙◌, subst, arith}
-use Rattle.std.specs.Prelude.{All}
-use Rattle.std.specs.List.{AllZip}
-use Rattle.std.proofs.lemmas.List.{get_or-map, length-map}
-use Rattle.arrayvec.specs.ArrayVec.{ArrayVec}
-use Rattle.desk.specs.declared.event.Event.{Event}
-use Rattle.flat_machine.specs.declared.machine.Program.{Program}
+use Rattle.drills.proofs.Common.{◌≡◌, ◌≤◌, ℕ, List, [], ◌∷◌, length, map, get_or, refl, sym, ap, ◌∙◌, subst, arith, All, AllZip, get_or-map, length-map, ArrayVec, Event, Program, Job, names_of}
 use Rattle.job_text.specs.Ready.{IsName, IsReady, IsEventAmong}
-use Rattle.job_text.specs.declared.job.Job.{Job}
-use Rattle.job_calls.specs.Headline.{names_of}
 
 -- bytes that are copies of others are these
 same_bytes : (xs ys : List ℕ) → AllZip (λ x y. y ≡ x) xs ys → ys ≡ xs

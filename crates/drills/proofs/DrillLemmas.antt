@@ -1,35 +1,17 @@
 -- What a drill's stops come to, and what is put of them.
-use Rattle.std.proofs.Common.{◌≡◌, inl, inr, ℕ, zero, suc, ◌+◌, ◌*◌, ◌%◌, ◌<◌, ◌≤◌, Bool, true, false, List, [], ◌∷◌, ◌++◌, length, refl, sym, ◌∙◌, ap, subst, rules, arith, append_assoc, append-nil, length-append}
-use Rattle.std.specs.Prelude.{◌^◌, min, All, Result, Ok, Vec}
+use Rattle.drills.proofs.Common.{◌≡◌, inl, inr, ℕ, zero, suc, ◌+◌, ◌*◌, ◌%◌, ◌<◌, ◌≤◌, Bool, true, false, List, [], ◌∷◌, ◌++◌, length, refl, sym, ◌∙◌, ap, subst, rules, arith, append_assoc, append-nil, length-append, ◌^◌, min, All, Result, Ok, Vec, FlatStore, HasRanges, fresh, Standing, Stands, stands, Job, Ghosts, FewerLater, puts_on, puts_same, times_on, Status, Stop, Committed, length-map, IsStop, fine_order, Rose, Given, DrilledBy, DrilledTo, IsPair, PutsFirst, PutsStops, PutsWhole, broken, last_line, pair_lines, stop_lines, try_flat, try_order, well, IsStanding}
 use Rattle.std.specs.declared.alloc.Global.{Global}
 use Rattle.std.proofs.lemmas.Bool.{cases_lt}
-use Rattle.line_geometry.specs.FlatStore.{FlatStore}
 use Rattle.line_geometry.specs.Legal.{IsInRange, IsLegal}
-use Rattle.store_format.specs.Header.{HasRanges, fresh}
-use Rattle.store_format.specs.Stands.{Standing, Stands, stands}
 use Rattle.store_format.proofs.Fresh.{fresh_stands}
-use Rattle.job_text.specs.declared.job.Job.{Job}
-use Rattle.outside.specs.declared.world.Outside.{Ghosts}
 use Rattle.outside.specs.declared.failed.Failed.{Failed}
-use Rattle.outside.specs.Runs.{FewerLater}
 use Rattle.listing.specs.Puts.{Puts, PutsTimes}
-use Rattle.listing.proofs.PutsLemmas.{puts_on, puts_same, times_on}
-use Rattle.call_status.specs.declared.status.Status.{Status}
-use Rattle.call_status.specs.declared.status.Status.TheVariants as status
 use Rattle.drills.specs.declared.drill.Pair.{Pair}
-use Rattle.drills.specs.declared.stops.Stop.{Stop}
-use Rattle.desk.specs.declared.answers.Committed.{Committed}
-use Rattle.std.proofs.lemmas.List.{length-map}
-use Rattle.drills.specs.Drill.{IsStop, fine_order}
-use Rattle.outside.specs.Causes.{Rose}
-use Rattle.std.specs.Prelude.{Option}
 use Rattle.job_text.specs.Grammar.{content_of, job_of}
 use Rattle.call_status.specs.Statuses.{IsOfReading}
-use Rattle.call_status.specs.Call.{Given}
 use Rattle.call_status.specs.SourceText.{IsWhole}
-use Rattle.drills.specs.Drilled.{DrilledBy, DrilledTo, IsPair, PutsFirst, PutsStops, PutsWhole, broken, last_line, pair_lines, stop_lines, try_flat, try_order, well}
-use Rattle.call_status.specs.Opening.{IsStanding}
 use Rattle.store_calls.specs.TryStore.{try_layout}
+use Rattle.call_status.specs.declared.status.Status.TheVariants as status
 
 -- what stands for one number and store stands for no other number
 pub one-number : (one two : ℕ) (first second : FlatStore) → Stands one first ≡ Stands two second → one ≡ two

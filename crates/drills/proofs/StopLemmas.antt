@@ -1,46 +1,23 @@
 -- What a run leaves on a disk that stops.
-use Rattle.std.proofs.Common.{◌≡◌, ℕ, ◌+◌, ◌*◌, ◌%◌, ◌≤◌, ◌<◌, ◌⊎◌, inl, inr, Bool, true, false, List, [], ◌∷◌, ◌++◌, length, map, take, rules, cond, refl, sym, ◌∙◌, ap, subst, arith, append-nil, Option, Some, None}
-use Rattle.std.specs.Prelude.{◌↔◌, ◌^◌, IfOk, OnOk, Result, Ok, Err, IsSome, unwrap_or, count_by, not, nat_lt, if◌then◌else◌}
+use Rattle.drills.proofs.Common.{◌≡◌, ℕ, ◌+◌, ◌*◌, ◌%◌, ◌≤◌, ◌<◌, ◌⊎◌, inl, inr, Bool, true, false, List, [], ◌∷◌, ◌++◌, length, map, take, rules, cond, refl, sym, ◌∙◌, ap, subst, arith, append-nil, Option, Some, None, ◌↔◌, ◌^◌, IfOk, OnOk, Result, Ok, Err, IsSome, unwrap_or, count_by, not, nat_lt, if◌then◌else◌, length-map, take_all, length-filter, sum_by-append, Ghosts, Rose, FewerLater, held_of, disk_calls, disk_first, disk_images, disk_moment, images_at, FlatStore, Program, Header, header_of, total, fields, first_fault, most_lines, Standing, Stands, NotAStore, stands, standing_by, standing_if, chosen, Event, Committed, order_told, commits_seen, Job, Status, Stop, IsLeft, IsStop, all_fine, fine_order, ByOpening, HasRun, HasRunFrom, HappenedTo, Refused, StoodForNone, Untouched, job_desk, call, StandsAt}
 use Rattle.std.specs.Option.{option_and_then}
-use Rattle.std.proofs.lemmas.List.{length-map, take_all}
-use Rattle.std.proofs.lemmas.List.Sums.{length-filter, sum_by-append}
-use Rattle.outside.specs.declared.world.Outside.{Ghosts}
 use Rattle.outside.specs.Bytes.{AreTold}
-use Rattle.outside.specs.Causes.{Rose}
-use Rattle.outside.specs.Runs.{FewerLater, held_of}
-use Rattle.outside.specs.MemoryDisk.{disk_calls, disk_first, disk_images, disk_moment}
-use Rattle.outside.specs.Record.{images_at}
 use Rattle.outside.specs.declared.memory_disk.MemoryDisk.{MemoryDisk}
 use Rattle.outside.specs.declared.record.Entry.{Entry}
 use Rattle.std.specs.declared.alloc.AllocError.{AllocError}
-use Rattle.line_geometry.specs.FlatStore.{FlatStore}
 use Rattle.flat_machine.specs.declared.machine.Plain.{Plain}
-use Rattle.flat_machine.specs.declared.machine.Program.{Program}
 use Rattle.flat_machine.specs.Serial.{Activation, committing, serial}
-use Rattle.store_format.specs.Header.{Header, header_of, total, fields, first_fault, most_lines}
 use Rattle.store_format.specs.Bank.{Bank, Holds, Faulty, base_of, bank_of}
-use Rattle.store_format.specs.Stands.{Standing, Stands, NotAStore, stands, standing_by, standing_if, chosen}
-use Rattle.desk.specs.declared.event.Event.{Event}
-use Rattle.desk.specs.declared.answers.Committed.{Committed}
-use Rattle.desk.specs.Answers.{order_told}
 use Rattle.desk.specs.Desk.{Desk, opened}
 use Rattle.desk.specs.Commits.{IsSerial, begun, is_commit, line_before, serial_lines}
 use Rattle.desk.specs.Instruction.{Word, Fine, ReadFailed, Unwritten, Doubt, Failed}
 use Rattle.desk.specs.Kept.{WritesMore}
 use Rattle.desk.specs.Lines.{Line}
 use Rattle.desk.specs.Run.{run, faulted, is_fine}
-use Rattle.desk.specs.Seen.{commits_seen}
 use Rattle.run_law.specs.Headline.{IsPrefix}
 use Rattle.schedule_replay.proofs.PutsLemmas.{PrintedNow}
-use Rattle.job_text.specs.declared.job.Job.{Job}
 use Rattle.supervisor.specs.declared.session.Session.{Session}
-use Rattle.call_status.specs.declared.status.Status.{Status}
 use Rattle.call_status.specs.declared.status.Status.TheVariants as status
-use Rattle.drills.specs.declared.stops.Stop.{Stop}
-use Rattle.drills.specs.Drill.{IsLeft, IsStop, all_fine, fine_order}
-use Rattle.job_calls.specs.Headline.{ByOpening, HasRun, HasRunFrom, HappenedTo, Refused, StoodForNone, Untouched, job_desk}
-use Rattle.call_status.specs.Call.{call}
-use Rattle.call_status.specs.Opening.{StandsAt}
 
 -- a crash now may leave what is held
 abbrev pub HeldNow : {W : Type 0} → Ghosts W → Type 0

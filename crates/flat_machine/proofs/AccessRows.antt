@@ -1,7 +1,5 @@
 -- Rows that load and store, with values worked out by hand.
-use Rattle.std.specs.Prelude.{◌≡◌, refl, ℕ, Some, None, Option, List, [], ◌∷◌, ◌++◌, take, drop, replicate}
-use Rattle.romp_table.specs.Decode.{row_numbered}
-use Rattle.flat_machine.specs.Row.{Outcome, On, Check}
+use Rattle.flat_machine.proofs.Common.{◌≡◌, refl, ℕ, Some, None, Option, List, [], ◌∷◌, ◌++◌, take, drop, replicate, row_numbered, Outcome, On, Check}
 use Rattle.flat_machine.proofs.Rows.{holding, all, outcome, AreRight, stored, as_is}
 
 -- registers 2 and 3 of a state that was gone on to

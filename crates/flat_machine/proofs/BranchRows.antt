@@ -1,9 +1,5 @@
 -- Branches, with values worked out by hand: registers 2, 3 and 15, the status and the address after each.
-use Rattle.std.specs.Prelude.{◌≡◌, refl, ℕ, true, false, Some, None, Option, List, [], ◌∷◌, slice_index}
-use Rattle.romp_table.specs.Decode.{row_numbered}
-use Rattle.flat_machine.specs.declared.machine.Cs.{Cs}
-use Rattle.flat_machine.specs.After.{clear}
-use Rattle.flat_machine.specs.Row.{Outcome, On, Check}
+use Rattle.flat_machine.proofs.Common.{refl, ℕ, true, false, Some, None, Option, List, [], ◌∷◌, slice_index, row_numbered, Cs, clear, Outcome, On, Check}
 use Rattle.flat_machine.proofs.Rows.{holding, status, all, outcome, AreRight, as_is}
 
 -- registers 2, 3 and 15, status and address of a state that was gone on to

@@ -1,16 +1,5 @@
 -- Each row on a few states, with values worked out by hand.
-use Rattle.std.specs.Prelude.{◌≡◌, refl, ℕ, Bool, true, false, Some, None, Option, List, [], ◌∷◌, ◌++◌, map, take, drop, replicate}
-use Rattle.std.proofs.Common.{lit<, lit≤}
-use Rattle.line_geometry.specs.Directory.{Layout}
-use Rattle.line_geometry.specs.declared.directory.PageSize.TheVariants.{Two}
-use Rattle.lock_rules.specs.Lines.{no_lines}
-use Rattle.romp_table.specs.Decode.{row_numbered}
-use Rattle.flat_machine.specs.declared.machine.Cs.{Cs}
-use Rattle.flat_machine.specs.declared.machine.Plain.{Plain}
-use Rattle.flat_machine.specs.declared.machine.Program.{Program}
-use Rattle.flat_machine.specs.After.{clear}
-use Rattle.flat_machine.specs.Row.{Outcome, On, Commit, Check, row, with_link}
-use Rattle.flat_machine.specs.Touched.{touched}
+use Rattle.flat_machine.proofs.Common.{◌≡◌, refl, ℕ, Bool, true, false, Some, None, Option, List, [], ◌∷◌, ◌++◌, map, take, drop, replicate, lit<, lit≤, Layout, Two, no_lines, row_numbered, Cs, Plain, Program, clear, Outcome, On, Commit, Check, row, with_link, touched}
 
 -- one page under register 1 to write, and under register 2 to read
 abbrev pub program : Program

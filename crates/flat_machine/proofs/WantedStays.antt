@@ -1,7 +1,5 @@
 -- What is wanted changes neither registers nor status.
-use Rattle.std.specs.Prelude.{ℕ, List, refl}
-use Rattle.flat_machine.specs.declared.machine.Act.{Act}
-use Rattle.flat_machine.specs.declared.machine.Cs.{Cs}
+use Rattle.flat_machine.proofs.Common.{ℕ, List, refl, Act, Cs}
 use Rattle.flat_machine.specs.Pending.{StaysIfWanting}
 
 pub wanted_stays : (act : Act) (registers : List ℕ) (status : Cs) → StaysIfWanting act registers registers status status

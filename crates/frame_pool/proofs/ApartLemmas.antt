@@ -1,11 +1,5 @@
 -- Lists in which no number stands twice, under a push and a removal.
-use Rattle.std.proofs.Common.{◌≡◌, ℕ, zero, suc, ◌<◌, Bool, true, false, List, [], ◌∷◌, ◌++◌, length, refl, sym, ◌∙◌, ap, arith}
-use Rattle.std.specs.Prelude.{◌==◌, ◌||◌, not, remove, slice_index}
-use Rattle.std.proofs.lemmas.Bool.{and_parts, and_from, or_from, eqb-true, not_from_false}
-use Rattle.std.proofs.lemmas.Bool.Decides.{nat_tests}
-use Rattle.lock_rules.specs.Sets.{has}
-use Rattle.lock_rules.proofs.Sets.{has-append}
-use Rattle.frame_pool.specs.Sound.{is_apart}
+use Rattle.frame_pool.proofs.Common.{◌≡◌, ℕ, zero, suc, ◌<◌, Bool, true, false, List, [], ◌∷◌, ◌++◌, length, refl, sym, ◌∙◌, ap, arith, ◌==◌, ◌||◌, not, remove, slice_index, and_parts, and_from, or_from, eqb-true, not_from_false, nat_tests, has, has-append, is_apart}
 
 pub or_none : (x y : Bool) → (x || y) ≡ false → (x ≡ false) × (y ≡ false)
 or_none true y h = absurd (cc)

@@ -1,22 +1,8 @@
 -- Lines of a page laid one after another, and the page laid at once.
+use Rattle.frame_pool.proofs.Common.{fold, slice_range, range_with_len, option_map_or, length-append, length-take-le, length-drop, append-nil, take-append-drop, drop-drop, take_at, overlaid, length-overlaid, PageSize, page_bytes, passing, lines_of_bits, Pool, frame_count, line_size, line_place, frame_at, marks_at, line_laid, line_kept, with_bytes, laid, IsSeen, pool_of, FramePool}
 use Rattle.std.proofs.Common.{◌≡◌, ℕ, zero, suc, ◌+◌, ◌-◌, ◌*◌, ◌<◌, ◌≤◌, Option, Some, List, [], ◌++◌, length, take, drop, refl, sym, ◌∙◌, ap, arith, append_assoc}
-use Rattle.std.specs.Prelude.{fold, slice_range}
-use Rattle.std.specs.List.{range_with_len}
-use Rattle.std.specs.Option.{option_map_or}
-use Rattle.std.proofs.lemmas.List.{length-append, length-take-le, length-drop, append-nil, take-append-drop, drop-drop, take_at}
 use Rattle.std.proofs.Math.Seq.{take-add, drop-append-add}
-use Rattle.owned_list.specs.Overlay.{overlaid}
-use Rattle.owned_list.proofs.Overlay.{length-overlaid}
-use Rattle.line_geometry.specs.declared.directory.PageSize.{PageSize}
 use Rattle.line_geometry.specs.declared.directory.PageSize.TheVariants.{Two, Four}
-use Rattle.line_geometry.specs.Segments.{page_bytes}
-use Rattle.line_geometry.specs.LineSets.{passing, lines_of_bits}
-use Rattle.frame_pool.specs.declared.model.Pool.{Pool}
-use Rattle.frame_pool.specs.Sizes.{frame_count, line_size, line_place}
-use Rattle.frame_pool.specs.Pool.{frame_at, marks_at, line_laid, line_kept, with_bytes, laid}
-use Rattle.frame_pool.specs.Seen.{IsSeen}
-use Rattle.frame_pool.specs.View.{pool_of}
-use Rattle.frame_pool.specs.declared.pool.FramePool.{FramePool}
 use Rattle.frame_pool.proofs.SoundLemmas.{page_part}
 use Rattle.frame_pool.proofs.PoolLemmas.{frame-within}
 use Rattle.frame_pool.proofs.SeenLemmas.{pool-seen}

@@ -1,14 +1,8 @@
 -- What is seen of a pool once the borrow of bytes of its frames has ended.
+use Rattle.frame_pool.proofs.Common.{with_items_is, length-append, length-take, length-drop, drop-drop, overlaid, option_map_or, union, FramePool, page_at, marks_at, with_marks, marked_in, with_bytes, pool_of}
 use Rattle.std.proofs.Common.{◌≡◌, ℕ, ◌+◌, ◌≤◌, List, ◌++◌, length, take, drop, refl, sym, ◌∙◌, ap, arith, append_assoc, Some, None, Option}
 use Rattle.std.specs.Vec.{with_item, with_items_from}
-use Rattle.std.proofs.lemmas.List.{with_items_is, length-append, length-take, length-drop, drop-drop}
-use Rattle.owned_list.specs.Overlay.{overlaid}
-use Rattle.std.specs.Option.{option_map_or}
-use Rattle.line_geometry.specs.LineSets.{union}
-use Rattle.frame_pool.specs.declared.pool.FramePool.{FramePool}
-use Rattle.frame_pool.specs.Pool.{page_at, marks_at, with_marks, marked_in, with_bytes}
 use Rattle.frame_pool.specs.PoolLending.{with_frame_part, with_marked}
-use Rattle.frame_pool.specs.View.{pool_of}
 
 -- bytes that were lent are written over those of the frames
 lent-bytes :

@@ -1,3 +1,4 @@
+pub mod Common
 pub mod ApartLemmas
 pub mod SoundLemmas
 pub mod PlaceLemmas

@@ -1,15 +1,6 @@
 -- What a step of the places needs and leaves.
-use Rattle.std.proofs.Common.{◌≡◌, ℕ, zero, suc, ◌+◌, ◌<◌, ◌≤◌, Bool, true, false, List, [], ◌∷◌, ◌++◌, length, refl, sym, ◌∙◌, ap, arith, Some, None, vec_len, vec_capacity}
-use Rattle.std.specs.Prelude.{◌==◌, ◌||◌, not, cond, nat_lt, position, slice_index, slice_index_or, if◌then◌else◌, Option, unwrap_or, Result, Ok, Err, is_ok, IsOk, IsSome, option_to_list}
-use Rattle.std.specs.List.{prefix_len, range_with_len}
-use Rattle.std.proofs.lemmas.Bool.{ltb-true, ltb-false, eqb-true}
-use Rattle.std.proofs.lemmas.List.{get_or_read_under}
-use Rattle.lock_rules.specs.Sets.{has}
+use Rattle.frame_pool.proofs.Common.{◌≡◌, ℕ, zero, suc, ◌+◌, ◌<◌, ◌≤◌, Bool, true, false, List, [], ◌∷◌, ◌++◌, length, refl, sym, ◌∙◌, ap, arith, Some, None, vec_len, vec_capacity, ◌==◌, ◌||◌, not, cond, nat_lt, position, slice_index, slice_index_or, if◌then◌else◌, Option, unwrap_or, Result, Ok, Err, is_ok, IsOk, IsSome, option_to_list, prefix_len, range_with_len, ltb-true, ltb-false, eqb-true, get_or_read_under, has, place_of, index_out, IsSound, is_apart, places_of}
 use Rattle.frame_pool.specs.declared.pages.StorePages.{StorePages}
-use Rattle.frame_pool.specs.Places.{place_of, index_out}
-use Rattle.frame_pool.specs.Sizes.{frame_count}
-use Rattle.frame_pool.specs.Sound.{IsSound, is_apart}
-use Rattle.frame_pool.specs.PlacesView.{places_of}
 use Rattle.frame_pool.proofs.ApartLemmas.{has-push_last, first-apart, or_none}
 use Rattle.frame_pool.proofs.SoundLemmas.{resident-in_frame, page-within, frame-of_store}
 

@@ -1,26 +1,6 @@
 -- What a step of the pool needs and leaves.
-use Rattle.std.proofs.Common.{◌≡◌, ℕ, zero, suc, ◌+◌, ◌*◌, ◌<◌, ◌≤◌, Bool, true, false, List, [], ◌∷◌, ◌++◌, length, refl, sym, ◌∙◌, ap, arith, Some, None, All, vec_len}
-use Rattle.std.specs.Prelude.{◌==◌, ◌||◌, not, cond, nat_lt, position, find, fold, remove, IfSome, slice_index, slice_set, if◌then◌else◌, Option, is_some, unwrap_or, option_to_list}
-use Rattle.std.specs.List.{prefix_len, list_any}
-use Rattle.std.specs.Option.{option_map_or}
-use Rattle.owned_list.specs.Overlay.{overlaid}
-use Rattle.std.proofs.lemmas.Bool.{ltb-false}
-use Rattle.std.proofs.lemmas.Bool.Decides.{nat_tests}
-use Rattle.std.proofs.lemmas.List.Elements.{All-from_get_or}
-use Rattle.std.proofs.lemmas.List.Quantifiers.{position-Some}
-use Rattle.line_geometry.specs.Segments.{page_bytes}
-use Rattle.line_geometry.specs.LineSets.{IsOfPage}
+use Rattle.frame_pool.proofs.Common.{◌≡◌, ℕ, zero, suc, ◌+◌, ◌*◌, ◌<◌, ◌≤◌, Bool, true, false, List, [], ◌∷◌, ◌++◌, length, refl, sym, ◌∙◌, ap, arith, Some, None, All, vec_len, ◌==◌, ◌||◌, not, cond, nat_lt, position, find, fold, remove, IfSome, slice_index, slice_set, if◌then◌else◌, Option, is_some, unwrap_or, option_to_list, prefix_len, list_any, option_map_or, overlaid, ltb-false, nat_tests, All-from_get_or, position-Some, page_bytes, IsOfPage, has, first_out, taken_out, FramePool, Pool, private_frames, frame_count, Places, left, index_out, CameIn, places_of, is_apart, frame_at, page_at, marks_at, frame_bytes, kept_after, gone, page_out, with_room, Brought, emptied, pool_of}
 use Rattle.line_geometry.proofs.LineSetLemmas.{of_page-below}
-use Rattle.lock_rules.specs.Sets.{has}
-use Rattle.lock_rules.specs.Resident.{first_out, taken_out}
-use Rattle.frame_pool.specs.declared.pool.FramePool.{FramePool}
-use Rattle.frame_pool.specs.declared.model.Pool.{Pool}
-use Rattle.frame_pool.specs.Sizes.{private_frames, frame_count}
-use Rattle.frame_pool.specs.Places.{Places, left, index_out, CameIn}
-use Rattle.frame_pool.specs.PlacesView.{places_of}
-use Rattle.frame_pool.specs.Sound.{is_apart}
-use Rattle.frame_pool.specs.Pool.{frame_at, page_at, marks_at, frame_bytes, kept_after, gone, page_out, with_room, Brought, emptied}
-use Rattle.frame_pool.specs.View.{pool_of}
 use Rattle.frame_pool.proofs.ApartLemmas.{first-apart, turned, differs, has-at, has-push_last, or_none}
 use Rattle.frame_pool.proofs.SoundLemmas.{resident-in_frame, page-within, frame-of_store, page_part}
 use Rattle.frame_pool.proofs.PlaceLemmas.{none-room, index-out_below}

@@ -1,21 +1,6 @@
 -- What holds of every pool, and stays where a page leaves.
-use Rattle.std.proofs.Common.{◌≡◌, ◌≢◌, ℕ, ◌+◌, ◌*◌, ◌<◌, ◌≤◌, Bool, true, false, List, [], ◌∷◌, length, refl, sym, ◌∙◌, ap, subst, arith, Option, Some, None, ◌⊎◌, inl, inr}
-use Rattle.std.specs.Prelude.{◌==◌, ◌&&◌, ◌||◌, not, cond, if◌then◌else◌, slice_index_or, slice_set, slice_range, is_some}
-use Rattle.std.specs.Option.{option_map_or}
-use Rattle.std.proofs.lemmas.Bool.{cases_lt, cases_eq, eq-eqb, ne_eqb}
-use Rattle.std.proofs.lemmas.List.{length-set, get_or-set_same, get_or-set_other, get_or_past, length-take, length-drop}
-use Rattle.owned_list.specs.Overlay.{overlaid}
-use Rattle.owned_list.proofs.Overlay.{length-overlaid}
-use Rattle.line_geometry.specs.Segments.{page_bytes}
-use Rattle.lock_rules.specs.Sets.{has}
-use Rattle.lock_rules.specs.Resident.{taken_out}
-use Rattle.lock_rules.proofs.Sets.{has-filter}
-use Rattle.frame_pool.specs.Seen.{IsSeen}
-use Rattle.frame_pool.specs.Sizes.{private_frames, frame_count}
-use Rattle.frame_pool.specs.View.{pool_of}
-use Rattle.frame_pool.specs.Pool.{frame_at, page_at, marks_at, frame_bytes, kept_after, gone}
-use Rattle.frame_pool.specs.declared.model.Pool.{Pool}
-use Rattle.frame_pool.specs.declared.pool.FramePool.{FramePool}
+use Rattle.frame_pool.proofs.Common.{◌==◌, ◌&&◌, ◌||◌, not, if◌then◌else◌, slice_index_or, slice_set, is_some, option_map_or, cases_lt, cases_eq, eq-eqb, ne_eqb, length-set, get_or-set_same, get_or-set_other, get_or_past, length-take, length-drop, overlaid, length-overlaid, page_bytes, has, taken_out, has-filter, IsSeen, frame_count, pool_of, frame_at, page_at, marks_at, frame_bytes, kept_after, gone, Pool, FramePool}
+use Rattle.std.proofs.Common.{◌≡◌, ◌≢◌, ℕ, ◌*◌, ◌<◌, ◌≤◌, Bool, true, false, List, [], ◌∷◌, length, refl, sym, ◌∙◌, ap, subst, arith, Option, Some, None, ◌⊎◌, inl, inr}
 use Rattle.frame_pool.proofs.SoundLemmas.{page_part}
 use Rattle.frame_pool.proofs.PoolLemmas.{gone-from}
 

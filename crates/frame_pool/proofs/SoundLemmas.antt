@@ -1,22 +1,9 @@
 -- A pool's pages agree after a page left its frame, and after one came into a frame.
-use Rattle.std.proofs.Common.{◌≡◌, ℕ, zero, suc, ◌+◌, ◌*◌, ◌<◌, ◌≤◌, ◌⊎◌, Bool, true, false, List, [], ◌∷◌, ◌++◌, length, refl, sym, ◌∙◌, ap, arith, inl, inr, Some, None}
-use Rattle.std.specs.Prelude.{◌==◌, nat_le, nat_lt, remove, replicate, slice_index, slice_index_or, slice_set, Option, is_some, unwrap_or}
-use Rattle.std.specs.List.{range_with_len}
-use Rattle.std.proofs.lemmas.Bool.{cases_eq, cases_lt, eqb-true}
-use Rattle.std.proofs.lemmas.Bool.Decides.{nat_tests}
-use Rattle.std.proofs.lemmas.List.{length-set, length-append, get_or-set_same, get_or-set_other}
+use Rattle.frame_pool.proofs.Common.{◌≡◌, ℕ, zero, suc, ◌+◌, ◌*◌, ◌<◌, ◌≤◌, ◌⊎◌, Bool, true, false, List, [], ◌∷◌, ◌++◌, length, refl, sym, ◌∙◌, ap, arith, inl, inr, Some, None, ◌==◌, nat_le, nat_lt, remove, replicate, slice_index, slice_index_or, slice_set, Option, is_some, unwrap_or, range_with_len, cases_eq, cases_lt, eqb-true, and_parts, ltb-true, nat_tests, length-set, length-append, get_or-set_same, get_or-set_other, length-replicate, get_or-replicate, PageSize, has-range, has, private_frames, frame_count, IsSound, IsSized, IsPlaced, IsOfStore, is_apart}
 use Rattle.std.proofs.lemmas.List.Edits.{length-remove}
 use Rattle.std.proofs.Math.ListN.{get_or-eq_default}
-use Rattle.std.proofs.lemmas.List.{length-replicate, get_or-replicate}
 use Rattle.std.proofs.lemmas.List.FromFn.{length-range_with_len}
-use Rattle.std.proofs.lemmas.Bool.{and_parts, ltb-true}
-use Rattle.line_geometry.specs.declared.directory.PageSize.{PageSize}
-use Rattle.lock_rules.proofs.Sets.{has-range}
-use Rattle.lock_rules.specs.Sets.{has}
-use Rattle.frame_pool.specs.Places.{Places}
-use Rattle.frame_pool.specs.Sizes.{private_frames, frame_count}
-use Rattle.frame_pool.specs.Places.{place_of, page_at, resident_at, frame_of_index, fresh_places, left}
-use Rattle.frame_pool.specs.Sound.{IsSound, IsSized, IsPlaced, IsOfStore, is_apart}
+use Rattle.frame_pool.specs.Places.{Places, place_of, page_at, resident_at, frame_of_index, fresh_places, left}
 use Rattle.frame_pool.proofs.ApartLemmas.{apart-cons, has-at, has-removed, has-remove_other, apart-remove, apart-push, apart-front, has-push_last, has-push_other}
 
 -- a page that is somewhere is one of the pages, and a frame one of the frames

@@ -1,12 +1,7 @@
 -- Lists in which no number stands twice.
+use Rattle.inverted_table.proofs.Common.{range_with_len, ◌⊎◌, arith, refl, ap, sym, ◌∙◌, inl, inr, eqb-true, eqb-false, ne_eqb, or_left, or_right, has, distinct, size, has-filter, in_range, before_in}
 use Rattle.std.specs.Prelude.{◌≡◌, ◌≢◌, ℕ, suc, ◌<◌, ◌≤◌, ◌==◌, ◌&&◌, ◌||◌, not, cond, Bool, true, false, List, [], ◌∷◌, length, filter, Some, None}
-use Rattle.std.specs.List.{range_with_len}
-use Rattle.std.proofs.Common.{◌⊎◌, arith, refl, ap, sym, ◌∙◌, inl, inr}
-use Rattle.std.proofs.lemmas.Bool.{eqb-true, eqb-false, ne_eqb, or_left, or_right}
-use Rattle.lock_rules.specs.Sets.{has, distinct, size}
-use Rattle.lock_rules.proofs.Sets.{has-filter, in_range}
 use Rattle.lock_rules.proofs.Sizes.{size-part, size-range}
-use Rattle.inverted_table.specs.Chains.{before_in}
 
 pub equal : (n : ℕ) → (n == n) ≡ true
 equal n = grind arith

@@ -1,14 +1,5 @@
 -- The table stays chained where a frame enters.
-use Rattle.std.proofs.Common.{◌≡◌, ◌≢◌, ◌⊎◌, ℕ, ◌<◌, ◌≤◌, Bool, true, false, List, length, refl, sym, ◌∙◌, ap, arith, inl, inr, Some, None, Option}
-use Rattle.std.specs.Prelude.{◌==◌, ◌||◌, slice_set}
-use Rattle.std.specs.Option.{option_map_or}
-use Rattle.std.proofs.lemmas.List.{get_or-set_same, get_or-set_other, length-set}
-use Rattle.std.proofs.Math.ListN.{get_or-eq_default}
-use Rattle.std.proofs.lemmas.Bool.{eqb-true, eqb-false, ne_eqb, cases_lt}
-use Rattle.lock_rules.specs.Sets.{has, distinct}
-use Rattle.inverted_table.specs.declared.key.Key.{Key}
-use Rattle.inverted_table.specs.Placed.{key_in, look_up}
-use Rattle.inverted_table.specs.Chains.{hash_of, following, chain_from, chain_end, chain_of, IsChain, IsChained}
+use Rattle.inverted_table.proofs.Common.{◌≡◌, ◌≢◌, ◌⊎◌, ℕ, ◌<◌, ◌≤◌, Bool, true, false, List, length, refl, sym, ◌∙◌, ap, arith, inl, inr, Some, None, Option, ◌==◌, ◌||◌, slice_set, option_map_or, get_or-set_same, get_or-set_other, length-set, get_or-eq_default, eqb-true, eqb-false, ne_eqb, cases_lt, has, distinct, Key, key_in, look_up, hash_of, following, chain_from, chain_end, chain_of, IsChain, IsChained}
 use Rattle.inverted_table.proofs.ApartLemmas.{equal, apart-cons, few-apart}
 use Rattle.inverted_table.proofs.FindLemmas.{look_up-none, is-held}
 use Rattle.inverted_table.proofs.WalkLemmas.{chain-untouched, chain-in_front}

@@ -1,16 +1,8 @@
 -- The look-up along a chain is the look-up in the list.
-use Rattle.std.proofs.Common.{◌≡◌, ℕ, zero, suc, ◌+◌, ◌<◌, ◌≤◌, ◌⊎◌, Bool, true, false, List, [], ◌∷◌, length, refl, sym, ◌∙◌, ap, arith, inl, inr, Some, None}
+use Rattle.inverted_table.proofs.Common.{◌≡◌, ℕ, zero, suc, ◌+◌, ◌<◌, ◌≤◌, ◌⊎◌, Bool, true, false, List, [], ◌∷◌, length, refl, sym, ◌∙◌, ap, arith, inl, inr, Some, None, prefix_len, option_map_or, and_parts, eqb-true, ltb-true, ltb-false, cases_lt, get_or-eq_default, has, Key, holds, key_in, look_up, chain_of, hash_of, IsChain, IsChained}
 use Rattle.std.specs.Prelude.{◌==◌, ◌&&◌, ◌||◌, not, cond, find, nat_lt, slice_index_or, Option}
-use Rattle.std.specs.List.{prefix_len}
-use Rattle.std.specs.Option.{option_map_or}
-use Rattle.std.proofs.lemmas.Bool.{and_parts, eqb-true, ltb-true, ltb-false, cases_lt}
 use Rattle.std.proofs.lemmas.List.Quantifiers.{position-Some}
-use Rattle.std.proofs.Math.ListN.{get_or-eq_default}
-use Rattle.lock_rules.specs.Sets.{has}
 use Rattle.inverted_table.proofs.ApartLemmas.{equal}
-use Rattle.inverted_table.specs.declared.key.Key.{Key}
-use Rattle.inverted_table.specs.Placed.{holds, key_in, look_up}
-use Rattle.inverted_table.specs.Chains.{chain_of, hash_of, IsChain, IsChained}
 
 -- whether a frame holds a page
 abbrev pub holds_it : List (Option Key) → Key → ℕ → Bool

@@ -1,15 +1,8 @@
 -- A table with nothing in it.
-use Rattle.std.proofs.Common.{◌≡◌, ℕ, ◌<◌, ◌≤◌, ◌⊎◌, false, List, [], length, sym, ◌∙◌, ap, arith, inl, inr, Some, None}
+use Rattle.inverted_table.proofs.Common.{◌≡◌, ℕ, ◌<◌, ◌≤◌, ◌⊎◌, false, List, [], length, sym, ◌∙◌, ap, arith, inl, inr, Some, None, option_map_or, cases_lt, length-replicate, get_or-replicate, get_or-eq_default, has, distinct, Key, chain_from, chain_end, chain_of, hash_of, IsChain, IsChained}
 use Rattle.std.specs.Prelude.{◌==◌, replicate, slice_index_or, Option}
 use Rattle.std.specs.Int.{IsPowerOfTwo}
-use Rattle.std.specs.Option.{option_map_or}
-use Rattle.std.proofs.lemmas.Bool.{cases_lt}
-use Rattle.std.proofs.lemmas.List.{length-replicate, get_or-replicate}
-use Rattle.std.proofs.Math.ListN.{get_or-eq_default}
-use Rattle.lock_rules.specs.Sets.{has, distinct}
-use Rattle.inverted_table.specs.declared.key.Key.{Key}
 use Rattle.inverted_table.proofs.WalkLemmas.{chain-none, end-none}
-use Rattle.inverted_table.specs.Chains.{chain_from, chain_end, chain_of, hash_of, IsChain, IsChained}
 
 nothing : (X : Type 0) → (count i : ℕ) → slice_index_or (replicate {A = Option X} count None) i None ≡ None
 nothing X count i = by_case (cases_lt i count)

@@ -1,13 +1,5 @@
 -- The table stays chained where a frame leaves.
-use Rattle.std.proofs.Common.{◌≡◌, ◌≢◌, ℕ, zero, suc, ◌<◌, Bool, true, false, List, length, refl, sym, ◌∙◌, ap, arith, Some, None, Option}
-use Rattle.std.specs.Prelude.{◌==◌, ◌&&◌, not, filter, slice_set}
-use Rattle.std.proofs.lemmas.List.{get_or-set_same, get_or-set_other, length-set}
-use Rattle.std.proofs.lemmas.Bool.{eqb-true, eqb-false, ne_eqb, and_right}
-use Rattle.lock_rules.specs.Sets.{has, distinct}
-use Rattle.lock_rules.proofs.Sets.{has-filter}
-use Rattle.inverted_table.specs.declared.key.Key.{Key}
-use Rattle.inverted_table.specs.Placed.{key_in}
-use Rattle.inverted_table.specs.Chains.{hash_of, following, chain_from, chain_end, chain_of, before_in, IsChain, IsChained}
+use Rattle.inverted_table.proofs.Common.{◌≡◌, ◌≢◌, ℕ, zero, suc, ◌<◌, Bool, true, false, List, length, refl, sym, ◌∙◌, ap, arith, Some, None, Option, ◌==◌, ◌&&◌, not, filter, slice_set, get_or-set_same, get_or-set_other, length-set, eqb-true, eqb-false, ne_eqb, and_right, has, distinct, has-filter, Key, key_in, hash_of, following, chain_from, chain_end, chain_of, before_in, IsChain, IsChained}
 use Rattle.inverted_table.proofs.ApartLemmas.{equal, is_other, apart-filter, filter-absent, before-none, before-in}
 use Rattle.inverted_table.proofs.EnterLemmas.{is_hashed, frame-below, held-same, held-other, chain-by, end-by}
 use Rattle.inverted_table.proofs.WalkLemmas.{chain-untouched, chain-headless, chain-unlinked}

@@ -1,13 +1,6 @@
 -- Walks along a chain, frame by frame.
-use Rattle.std.proofs.Common.{◌≡◌, ℕ, zero, suc, ◌+◌, ◌-◌, ◌<◌, ◌≤◌, ◌≢◌, ◌⊎◌, inl, inr, Bool, true, false, List, [], ◌∷◌, length, refl, sym, ◌∙◌, ap, arith, Some, None, Option}
-use Rattle.std.specs.Prelude.{◌==◌, ◌||◌, ◌&&◌, nat_eq, cond, filter, slice_set}
-use Rattle.std.specs.Option.{option_eq}
-use Rattle.std.proofs.lemmas.List.{get_or-set_same, get_or-set_other}
-use Rattle.std.proofs.lemmas.Bool.{eqb-true, eqb-false}
+use Rattle.inverted_table.proofs.Common.{◌≡◌, ℕ, zero, suc, ◌+◌, ◌-◌, ◌<◌, ◌≤◌, ◌≢◌, ◌⊎◌, inl, inr, Bool, true, false, List, [], ◌∷◌, length, refl, sym, ◌∙◌, ap, arith, Some, None, Option, ◌==◌, ◌||◌, ◌&&◌, nat_eq, cond, filter, slice_set, option_eq, get_or-set_same, get_or-set_other, eqb-true, eqb-false, has, distinct, has-filter, following, chain_from, chain_end, before_in}
 use Rattle.inverted_table.proofs.ApartLemmas.{equal, is_other, apart-parts, filter-absent, filter-same, filter-other, other-than, before-cases, before-in}
-use Rattle.lock_rules.specs.Sets.{has, distinct}
-use Rattle.lock_rules.proofs.Sets.{has-filter}
-use Rattle.inverted_table.specs.Chains.{following, chain_from, chain_end, before_in}
 
 -- nothing follows on nothing
 pub chain-none : (next : List (Option ℕ)) (count : ℕ) → chain_from next count None ≡ []

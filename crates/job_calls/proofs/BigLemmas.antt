@@ -1,52 +1,19 @@
 -- A load on the store that a disk stands for.
-use Rattle.std.proofs.Common.{◌≡◌, ℕ, ◌≤◌, ⊎_elim, true, false, List, [], ◌∷◌, ◌++◌, length, take, refl, sym, ◌∙◌, ap, subst, arith, append-nil, append_assoc, Option}
-use Rattle.std.specs.Prelude.{codes, decimal, All, Bool, Some, Result, Ok, Err, IsSome, IsTrue, unwrap_or, count_by}
+use Rattle.job_calls.proofs.Common.{◌≡◌, ℕ, ◌≤◌, ⊎_elim, true, false, List, [], ◌∷◌, ◌++◌, length, refl, sym, ◌∙◌, ap, subst, arith, append-nil, append_assoc, Option, Ghosts, Failed, AreTold, Prints, IsSure, Elapses, CallsDisk, FewerLater, OnlyAsks, held_of, elapses-trans, FlatStore, Program, Activation, Event, begun, is_commit, commit_lines, serial_lines, IsSerial, Desk, Word, Line, printed, spaced, event_lines, run, faulted, Header, total, IsOpened, activity, order_of, Session, ghosts, IsLasting, RunsQuietly, Tells, is_rollback, is_shut, out_after, InDoubt, PrintedNow, to_later, Job, Status, HasBigRun, IsToldBy, Loaded, LoadedBy, RanBig, big_line, last_out, line_for, Call, call, OpensBy, RunsFrom, IsStanding, StandsAt}
+use Rattle.std.specs.Prelude.{codes, decimal, All, Bool, Some, Result, Ok, Err, IsSome, IsTrue, count_by}
 use Rattle.std.specs.List.{fold}
 use Rattle.std.specs.Option.{ForSome}
-use Rattle.outside.specs.declared.world.Outside.{Ghosts}
-use Rattle.outside.specs.declared.failed.Failed.{Failed}
-use Rattle.outside.specs.Bytes.{AreTold, Prints}
-use Rattle.outside.specs.Durable.{IsSure}
-use Rattle.outside.specs.Moments.{Elapses}
-use Rattle.outside.specs.Runs.{CallsDisk, FewerLater, OnlyAsks, held_of}
-use Rattle.outside.proofs.Runs.{elapses-trans}
-use Rattle.line_geometry.specs.FlatStore.{FlatStore}
-use Rattle.flat_machine.specs.declared.machine.Program.{Program}
-use Rattle.flat_machine.specs.Serial.{Activation}
-use Rattle.desk.specs.declared.event.Event.{Event}
-use Rattle.desk.specs.Commits.{begun, is_commit, commit_lines, serial_lines, IsSerial}
-use Rattle.desk.specs.Desk.{Desk}
-use Rattle.desk.specs.Instruction.{Word}
-use Rattle.desk.specs.Lines.{Line, printed, spaced}
 use Rattle.hex.specs.Hex.{encode_lower}
-use Rattle.desk.specs.Lines as line
-use Rattle.desk.specs.Report.{event_lines}
-use Rattle.desk.specs.Run.{run, faulted}
-use Rattle.store_format.specs.Header.{Header, total}
 use Rattle.desk.specs.Kept.{HoldsStore}
-use Rattle.supervisor.specs.Opened.{IsOpened}
-use Rattle.supervisor.specs.Session.{activity, order_of}
-use Rattle.supervisor.specs.declared.session.Session.{Session}
-use Rattle.supervisor.specs.contracts.supervisor.SessionSupervisor.TheImpl.{ghosts}
 use Rattle.schedule_replay.specs.declared.quietly.Quiet.{Quiet}
-use Rattle.schedule_replay.specs.declared.quietly.Quiet.TheVariants as quiet
-use Rattle.schedule_replay.specs.Quiet.{IsLasting, RunsQuietly, Tells, is_rollback, is_shut, out_after}
-use Rattle.schedule_replay.specs.Ran.{InDoubt}
-use Rattle.schedule_replay.proofs.PutsLemmas.{PrintedNow}
-use Rattle.schedule_replay.proofs.RanToLemmas.{to_later}
 use Rattle.listing.specs.Puts.{Puts, PutsTimes}
-use Rattle.job_text.specs.declared.job.Job.{Job}
 use Rattle.job_text.specs.Big.{IsBigJob, big_events}
 use Rattle.job_text.proofs.BigLemmas.{events_all}
-use Rattle.call_status.specs.declared.status.Status.{Status}
-use Rattle.call_status.specs.declared.status.Status.TheVariants as status
-use Rattle.job_calls.specs.Big.{HasBigRun, IsToldBy, Loaded, LoadedBy, RanBig, big_line, last_out, line_for}
-use Rattle.call_status.specs.Call.{Call, call}
 use Rattle.call_status.specs.Statuses.{IsPastOpening}
-use Rattle.job_calls.specs.Causes.{OpensBy}
 use Rattle.call_status.specs.Printed.{put_of, PrintsBy}
-use Rattle.job_calls.specs.Headline.{RunsFrom}
-use Rattle.call_status.specs.Opening.{IsStanding, StandsAt}
+use Rattle.desk.specs.Lines as line
+use Rattle.schedule_replay.specs.declared.quietly.Quiet.TheVariants as quiet
+use Rattle.call_status.specs.declared.status.Status.TheVariants as status
 use Rattle.job_calls.proofs.RunLemmas.{RanFrom, Facts, first_desk, has-opened, given, wanted, these, runs-from}
 
 -- only the commit lines tell what was printed last

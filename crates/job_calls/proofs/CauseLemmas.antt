@@ -1,20 +1,7 @@
 -- The statuses of a run on a disk, by how it was opened and how it ended.
-use Rattle.std.proofs.Common.{◌≡◌, ℕ, inr, refl, ◌∙◌, ap, false}
-use Rattle.std.specs.Prelude.{IsSome, IsTrue}
-use Rattle.outside.specs.declared.world.Outside.{Ghosts}
-use Rattle.outside.specs.Causes.{Rose}
-use Rattle.outside.specs.Runs.{held_of}
-use Rattle.store_format.specs.Header.{Header}
+use Rattle.job_calls.proofs.Common.{◌≡◌, ℕ, inr, refl, ◌∙◌, ap, false, IsSome, IsTrue, Ghosts, Rose, held_of, Header, chosen, HasStood, Session, ghosts, Replayed, EndsBy, Status, status_of_replay, OpensBy}
 use Rattle.store_format.specs.Bank.{Faulty, bank_of}
-use Rattle.store_format.specs.Stands.{chosen}
-use Rattle.supervisor.specs.Opened.{HasStood}
-use Rattle.supervisor.specs.declared.session.Session.{Session}
-use Rattle.supervisor.specs.contracts.supervisor.SessionSupervisor.TheImpl.{ghosts}
-use Rattle.schedule_replay.specs.declared.events.Replayed.{Replayed}
 use Rattle.schedule_replay.specs.declared.events.Replayed.TheVariants as replayed
-use Rattle.schedule_replay.specs.Replays.{EndsBy}
-use Rattle.call_status.specs.declared.status.Status.{Status}
-use Rattle.job_calls.specs.Causes.{status_of_replay, OpensBy}
 
 same-offset : (one two : ℕ) → Status.Store one ≡ Status.Store two → one ≡ two
 same-offset one two is = cc

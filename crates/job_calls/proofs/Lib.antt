@@ -1,3 +1,4 @@
+pub mod Common
 pub mod CauseLemmas
 pub mod RunLemmas
 pub mod BigLemmas

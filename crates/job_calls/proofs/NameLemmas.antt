@@ -1,13 +1,9 @@
 -- The names and events of a job that is ready.
-use Rattle.std.proofs.Common.{◌≢◌, ℕ, suc, ◌<◌, List, [], ◌∷◌, length, refl, arith, All}
+use Rattle.job_calls.proofs.Common.{◌≢◌, ℕ, suc, ◌<◌, List, [], ◌∷◌, length, refl, arith, All, IsUnbroken, Event, IsEventAmong, IsName, IsAsked}
 use Rattle.std.proofs.lemmas.Bool.Decides.{nat_tests}
-use Rattle.desk.specs.Seen.{IsUnbroken}
-use Rattle.desk.specs.declared.event.Event.{Event}
 use Rattle.desk.specs.declared.event.Event.TheVariants.{Begin, Turn, Checkpoint, Crash}
 use Rattle.run_law.proofs.Unbroken.{unbroken_more}
-use Rattle.job_text.specs.Ready.{IsEventAmong, IsName}
 use Rattle.job_text.proofs.NameLemmas.{name_no_feed}
-use Rattle.schedule_replay.specs.Asked.{IsAsked}
 
 bytes-unbroken : (bytes : List ℕ) → All (λ byte. byte ≢ 10) bytes → IsUnbroken bytes
 bytes-unbroken [] none = refl

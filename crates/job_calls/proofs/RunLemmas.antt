@@ -1,57 +1,23 @@
 -- What runs on the store that a disk stands for.
+use Rattle.job_calls.proofs.Common.{Result, Ok, Err, IsErr, IsSome, IsTrue, unwrap_or, Ghosts, Failed, AreTold, Prints, Rose, Elapses, OnlyAsks, FewerLater, Leaves, held_of, elapses-trans, leaves_on, FlatStore, Program, Activation, serial, header_of, most_lines, Standing, Stands, stands, Event, Desk, opened, Word, Doubt, run, faulted, IsRunOf, Line, line_text, Open, report, report_lines, event_lines, number_after, begun, IsSerial, IsOpened, activity, desk_of, order_of, Session, ghosts, Replayed, PrintsEarlier, HasOpened, InDoubt, text_of, Reports, Replays, PrintedNow, to_since, Job, Status, status_of_replay, Call, Given, call, StandsAt, DidBy, HasRun, HasRunFrom, DoubtStands, Happened, HappenedTo, RanJob, RunsFrom, put_by, names_of, job_desk}
 use Rattle.std.proofs.Common.{◌≡◌, ℕ, ◌+◌, ◌%◌, ◌^◌, inl, inr, Bool, true, false, List, [], ◌∷◌, ◌++◌, length, take, refl, sym, ◌∙◌, ap, subst, arith, append-nil, Option, Some, None}
-use Rattle.std.specs.Prelude.{Result, Ok, Err, IsErr, IsSome, IsTrue, unwrap_or}
 use Rattle.std.proofs.lemmas.Bool.{cases_lt}
-use Rattle.outside.specs.declared.world.Outside.{Ghosts}
-use Rattle.outside.specs.declared.failed.Failed.{Failed}
-use Rattle.outside.specs.Bytes.{AreTold, Prints}
-use Rattle.outside.specs.Causes.{Rose}
-use Rattle.outside.specs.Moments.{Elapses}
-use Rattle.outside.specs.Runs.{OnlyAsks, FewerLater, Leaves, held_of}
 use Rattle.outside.proofs.Prints.{prints_well, prints_broken}
-use Rattle.outside.proofs.Runs.{elapses-trans, leaves_on}
-use Rattle.line_geometry.specs.FlatStore.{FlatStore}
-use Rattle.flat_machine.specs.declared.machine.Program.{Program}
-use Rattle.flat_machine.specs.Serial.{Activation, serial}
-use Rattle.store_format.specs.Header.{header_of, most_lines}
-use Rattle.store_format.specs.Stands.{Standing, Stands, stands}
 use Rattle.restart.specs.Kept.{number_of}
-use Rattle.desk.specs.declared.event.Event.{Event}
 use Rattle.desk.specs.Crash.{standing_of}
-use Rattle.desk.specs.Desk.{Desk, opened}
-use Rattle.desk.specs.Instruction.{Word, Doubt}
-use Rattle.desk.specs.Run.{run, faulted, IsRunOf}
-use Rattle.desk.specs.Lines.{Line, line_text, Open}
-use Rattle.desk.specs.Report.{report, report_lines, event_lines, number_after}
-use Rattle.desk.specs.Commits.{begun, IsSerial}
 use Rattle.desk.proofs.SerialLaw.{run-serial}
 use Rattle.run_law.specs.Headline.{IsPrefix}
 use Rattle.run_law.specs.Left.{IsLeft}
 use Rattle.run_law.proofs.HeadlineLemmas.{left_is_prefix, doubt_is_whole}
-use Rattle.supervisor.specs.Opened.{IsOpened}
-use Rattle.supervisor.specs.Session.{activity, desk_of, order_of}
 use Rattle.supervisor.specs.ShownLaws.{shown-stands}
-use Rattle.supervisor.specs.declared.session.Session.{Session}
-use Rattle.supervisor.specs.contracts.supervisor.SessionSupervisor.TheImpl.{ghosts}
-use Rattle.schedule_replay.specs.declared.events.Replayed.{Replayed}
-use Rattle.schedule_replay.specs.declared.events.Replayed.TheVariants as replayed
 use Rattle.schedule_replay.specs.Puts.{PutsTimes, shown_of}
-use Rattle.schedule_replay.specs.Ran.{PrintsEarlier, HasOpened, InDoubt, text_of}
 use Rattle.schedule_replay.specs.RanTo.{RanTo}
-use Rattle.schedule_replay.specs.Replays.{Reports, Replays}
 use Rattle.schedule_replay.proofs.CountLemmas.{on_ok_as}
-use Rattle.schedule_replay.proofs.PutsLemmas.{PrintedNow}
-use Rattle.schedule_replay.proofs.RanToLemmas.{to_since}
-use Rattle.job_text.specs.declared.job.Job.{Job}
 use Rattle.job_text.specs.Grammar.{job_of, content_of}
-use Rattle.call_status.specs.declared.status.Status.{Status}
-use Rattle.call_status.specs.declared.status.Status.TheVariants as status
-use Rattle.job_calls.specs.Causes.{status_of_replay}
-use Rattle.call_status.specs.Call.{Call, Given, call}
-use Rattle.call_status.specs.Opening.{StandsAt}
 use Rattle.call_status.specs.SourceText.{IsWhole}
 use Rattle.job_calls.specs.Handed.{HandedRuns}
-use Rattle.job_calls.specs.Headline.{DidBy, HasRun, HasRunFrom, DoubtStands, Happened, HappenedTo, RanJob, RunsFrom, put_by, names_of, job_desk}
+use Rattle.schedule_replay.specs.declared.events.Replayed.TheVariants as replayed
+use Rattle.call_status.specs.declared.status.Status.TheVariants as status
 
 -- what stands for one number and store stands for no other
 same-number : (one two : ℕ) (first second : FlatStore) → Stands one first ≡ Stands two second → one ≡ two

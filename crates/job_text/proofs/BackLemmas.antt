@@ -1,20 +1,7 @@
 -- A job that some text has can be run, and is the job of what is written of it.
-use Rattle.std.proofs.Common.{◌≡◌, ℕ, suc, ◌+◌, ◌<◌, ◌^◌, map, List, [], ◌∷◌, ◌++◌, length, Ok, Err, Result, sym, ◌∙◌, subst, arith}
-use Rattle.std.specs.List.{All, AllByRecursion, zip}
+use Rattle.job_text.proofs.Common.{◌≡◌, ℕ, suc, ◌+◌, ◌<◌, ◌^◌, map, List, [], ◌∷◌, ◌++◌, length, Ok, Err, Result, sym, ◌∙◌, subst, arith, All, AllByRecursion, zip, length-map, recursion_from_All, ArrayVec, Parts, parts_of, IsByte, Job, JobFault, HasPrograms, IsJobText, content_of, job_of, IsJobAnswer, IsEventAmong, IsReady, AreBytes, written}
 use Rattle.std.specs.Prelude.{IfOk}
-use Rattle.std.proofs.lemmas.List.{length-map}
-use Rattle.std.proofs.lemmas.List.Elements.{recursion_from_All}
-use Rattle.arrayvec.specs.ArrayVec.{ArrayVec}
 use Rattle.flat_machine.specs.declared.machine.Program.{Program}
-use Rattle.romp_asm.specs.Layout.{Parts, parts_of}
-use Rattle.romp_asm.proofs.MadeLemmas.{IsByte}
-use Rattle.job_text.specs.declared.job.Job.{Job}
-use Rattle.job_text.specs.declared.job.JobFault.{JobFault}
-use Rattle.job_text.specs.Form.{HasPrograms, IsJobText}
-use Rattle.job_text.specs.Grammar.{content_of, job_of}
-use Rattle.job_text.specs.JobAnswers.{IsJobAnswer}
-use Rattle.job_text.specs.Ready.{IsEventAmong, IsReady}
-use Rattle.job_text.specs.Written.{AreBytes, written}
 use Rattle.job_text.proofs.FormLemmas.{has_form}
 use Rattle.job_text.proofs.FormReadLemmas.{form_read}
 use Rattle.job_text.proofs.LengthLemmas.{written_short}

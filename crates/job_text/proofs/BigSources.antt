@@ -1,18 +1,10 @@
 -- The sources of `big N`, as the checker reads them.
-use Rattle.std.proofs.Common.{◌≡◌, ℕ, List, [], length, map, refl, ap, ◌∙◌, sym, Option, Some, None, Result, Ok, Err}
-use Rattle.std.proofs.lemmas.List.{length-map}
-use Rattle.desk.specs.declared.event.Event.{Event}
+use Rattle.job_text.proofs.Common.{◌≡◌, ℕ, List, [], length, map, refl, ap, ◌∙◌, sym, Option, Some, None, Result, Ok, Err, length-map, Event, tokens_past, image_behind, parts_of, fault_among, fault_behind, Job, Content, content_of, job_of, read_from, big_sources}
 use Rattle.asm_parse.specs.Form.{form_of}
-use Rattle.asm_parse.specs.Token.{tokens_past}
 use Rattle.romp_table.specs.Names.{mnemonic, op_named}
 use Rattle.romp_table.specs.Rows.{row_of}
-use Rattle.romp_asm.specs.Layout.{image_behind, parts_of}
 use Rattle.romp_asm.specs.Sources.{joined_from}
 use Rattle.romp_asm.specs.Value.{address_from}
-use Rattle.romp_link.specs.Linked.{fault_among, fault_behind}
-use Rattle.job_text.specs.declared.job.Job.{Job}
-use Rattle.job_text.specs.Grammar.{Content, content_of, job_of, read_from}
-use Rattle.job_text.specs.Big.{big_sources}
 
 -- how many programs a reading gives, and the events
 abbrev told_of : Result Content (ℕ × ℕ) → Option (ℕ × List Event)

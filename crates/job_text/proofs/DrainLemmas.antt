@@ -1,9 +1,6 @@
 -- A drain, written out.
-use Rattle.std.proofs.Common.{◌≡◌, ℕ, zero, suc, ◌+◌, ◌*◌, ◌<◌, ◌≤◌, List, [], ◌∷◌, ◌++◌, length, refl, ap, ◌∙◌, arith, append_assoc, add-one, length-append}
+use Rattle.job_text.proofs.Common.{◌≡◌, ℕ, zero, suc, ◌+◌, ◌*◌, ◌<◌, ◌≤◌, List, [], ◌∷◌, ◌++◌, length, refl, ap, ◌∙◌, arith, append_assoc, add-one, length-append, Event, Turn, rounds_of, turns_to}
 use Rattle.std.proofs.Math.Nat.{mul-le-mul_right}
-use Rattle.desk.specs.declared.event.Event.{Event}
-use Rattle.desk.specs.declared.event.Event.TheVariants.{Turn}
-use Rattle.job_text.specs.Reading.{rounds_of, turns_to}
 
 -- no turn
 pub no_turns : (limit : ℕ) → turns_to limit 0 ≡ []

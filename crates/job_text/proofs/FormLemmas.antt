@@ -1,25 +1,5 @@
 -- What is read as a job has the form of one.
-use Rattle.std.proofs.Common.{◌≡◌, inl, inr, ℕ, ◌+◌, ◌*◌, ◌≤◌, ◌&&◌, nat_le, nat_lt, is_some, if◌then◌else◌, Bool, true, false, List, [], ◌∷◌, ◌++◌, length, map, codes, Option, Some, None, Result, Ok, Err, refl, sym, ap, ◌∙◌, subst, arith, append_assoc, append-nil, length-append}
-use Rattle.std.specs.Str.{bytes_eq}
-use Rattle.std.proofs.lemmas.Bool.{and_parts}
-use Rattle.std.proofs.lemmas.Bool.Decides.{nat_tests}
-use Rattle.std.proofs.lemmas.Slice.Eq.{bytes_eq-Decides}
-use Rattle.desk.specs.declared.event.Event.{Event}
-use Rattle.desk.specs.declared.event.Event.TheVariants.{Begin, Turn, Checkpoint, Crash}
-use Rattle.asm_parse.specs.declared.token.Token.{Token}
-use Rattle.asm_parse.specs.declared.token.Token.TheVariants.{Word, Number}
-use Rattle.asm_parse.specs.declared.statement.Statement.{Statement}
-use Rattle.asm_parse.specs.Operand.{place_among}
-use Rattle.asm_parse.specs.Statement.{is_label, line_of}
-use Rattle.asm_parse.specs.Text.{at_line, lines_of, statements_from}
-use Rattle.asm_parse.specs.Token.{tokens}
-use Rattle.romp_asm.specs.Layout.{Parts}
-use Rattle.romp_link.specs.Linked.{linked}
-use Rattle.job_text.specs.declared.stage.Stage.{Stage}
-use Rattle.job_text.specs.declared.stage.Stage.TheVariants.{Frames, Programs, Source, Schedule, Ended}
-use Rattle.job_text.specs.Grammar.{Content, job_of, last_part, read_from, then_read, whole}
-use Rattle.job_text.specs.Reading.{Reading, nothing_read, frames_line, program_begins, programs_line, is_end, is_part, program_ends, source_ends, source_goes_on, source_line, sources_of, with_event, values_of, four_of, begin_of, begin_line, is_limit, turn_line, rounds_of, drain_line, single_line, schedule_line, ended_line, by_tokens, line_read}
-use Rattle.job_text.specs.Form.{IsBlank, AreBlank, IsOnly, HasSources, IsFramesLine, HasPrograms, IsLimit, IsEventLine, HasEvents, IsJobText}
+use Rattle.job_text.proofs.Common.{◌≡◌, inl, inr, ℕ, ◌+◌, ◌*◌, ◌≤◌, ◌&&◌, nat_le, nat_lt, is_some, if◌then◌else◌, Bool, true, false, List, [], ◌∷◌, ◌++◌, length, map, codes, Option, Some, None, Result, Ok, Err, refl, sym, ap, ◌∙◌, subst, arith, append_assoc, append-nil, length-append, bytes_eq, and_parts, nat_tests, bytes_eq-Decides, Event, Begin, Turn, Checkpoint, Crash, Token, Word, Number, Statement, place_among, is_label, line_of, at_line, lines_of, statements_from, tokens, Parts, linked, Stage, Frames, Programs, Source, Schedule, Ended, Content, job_of, last_part, read_from, then_read, whole, Reading, nothing_read, frames_line, program_begins, programs_line, is_end, is_part, program_ends, source_ends, source_goes_on, source_line, sources_of, with_event, values_of, four_of, begin_of, begin_line, is_limit, turn_line, rounds_of, drain_line, single_line, schedule_line, ended_line, by_tokens, line_read, IsBlank, AreBlank, IsOnly, HasSources, IsFramesLine, HasPrograms, IsLimit, IsEventLine, HasEvents, IsJobText}
 use Rattle.job_text.proofs.DrainLemmas.{length-rounds_of}
 
 -- what a reading says

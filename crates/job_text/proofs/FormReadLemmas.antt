@@ -1,23 +1,5 @@
 -- A text that has the form of a job is read as it.
-use Rattle.std.proofs.Common.{◌≡◌, inl, inr, ℕ, ◌+◌, ◌*◌, ◌≤◌, Bool, true, false, List, [], ◌∷◌, ◌++◌, length, map, codes, Option, Some, None, Result, Ok, Err, refl, sym, ap, ◌∙◌, subst, arith, append_assoc, append-nil, length-append}
-use Rattle.std.proofs.lemmas.Bool.{le-leb, lt-ltb, false_from_ne_true}
-use Rattle.desk.specs.declared.event.Event.{Event}
-use Rattle.desk.specs.declared.event.Event.TheVariants.{Begin, Turn, Checkpoint, Crash}
-use Rattle.asm_parse.specs.declared.token.Token.{Token}
-use Rattle.asm_parse.specs.declared.token.Token.TheVariants.{Word, Number}
-use Rattle.asm_parse.specs.declared.statement.Statement.{Statement}
-use Rattle.asm_parse.specs.Operand.{place_among}
-use Rattle.asm_parse.specs.Statement.{is_label, line_of}
-use Rattle.asm_parse.specs.Text.{at_line, statements_from, then_statements}
-use Rattle.asm_parse.specs.Token.{tokens}
-use Rattle.romp_asm.specs.Layout.{Parts}
-use Rattle.romp_link.specs.Linked.{linked}
-use Rattle.job_text.specs.declared.stage.Stage.{Stage}
-use Rattle.job_text.specs.declared.stage.Stage.TheVariants.{Frames, Programs, Source, Schedule, Ended}
-use Rattle.job_text.specs.Grammar.{Content, job_of, read_from, then_read}
-use Rattle.job_text.specs.Reader.{tokens_read}
-use Rattle.job_text.specs.Reading.{Reading, nothing_read, frames_line, programs_line, is_end, is_part, source_goes_on, source_line, with_event, values_of, four_of, is_limit, schedule_line, line_read}
-use Rattle.job_text.specs.Form.{AreBlank, IsOnly, HaveNoMark, HasSources, IsProgram, HasPrograms, IsBegin, IsLimit, IsTurn, IsDrain, IsSingle, IsNoBegin, IsEventLine, HasEvents, IsJobText}
+use Rattle.job_text.proofs.Common.{◌≡◌, inl, inr, ℕ, ◌+◌, ◌*◌, ◌≤◌, true, false, List, [], ◌∷◌, ◌++◌, length, map, codes, Option, Some, None, Result, Ok, Err, refl, sym, ap, ◌∙◌, subst, arith, append_assoc, append-nil, length-append, le-leb, lt-ltb, false_from_ne_true, Event, Begin, Turn, Checkpoint, Crash, Token, Word, Number, Statement, place_among, is_label, line_of, at_line, statements_from, then_statements, tokens, Parts, linked, Stage, Programs, Source, Schedule, Ended, Content, job_of, read_from, then_read, tokens_read, Reading, nothing_read, frames_line, programs_line, is_end, is_part, source_goes_on, source_line, with_event, values_of, four_of, is_limit, schedule_line, line_read, AreBlank, IsOnly, HaveNoMark, HasSources, IsProgram, HasPrograms, IsBegin, IsLimit, IsTurn, IsDrain, IsSingle, IsNoBegin, IsEventLine, HasEvents, IsJobText}
 use Rattle.job_text.proofs.DrainLemmas.{length-rounds_of}
 use Rattle.job_text.proofs.FormLemmas.{end_is, part_is}
 use Rattle.job_text.proofs.GrammarLemmas.{read_line}

@@ -1,16 +1,8 @@
 -- The job of a text, as its lines are read one after the other.
-use Rattle.std.proofs.Common.{◌≡◌, ℕ, ◌+◌, ◌<◌, ◌≤◌, Bool, true, false, cond, nat_lt, List, [], ◌∷◌, length, take, Option, Some, None, Result, Ok, Err, refl, sym, ap, ◌∙◌, arith}
-use Rattle.std.specs.List.{after_first, before_first, position_or_len}
-use Rattle.std.proofs.lemmas.Bool.Decides.{nat_tests}
-use Rattle.std.proofs.lemmas.Grind.{common_steps}
+use Rattle.job_text.proofs.Common.{◌≡◌, ℕ, ◌+◌, ◌<◌, ◌≤◌, Bool, true, false, cond, nat_lt, List, [], ◌∷◌, length, take, Option, Some, None, Result, Ok, Err, refl, sym, ap, ◌∙◌, arith, after_first, before_first, position_or_len, nat_tests, common_steps, is_feed, lines_of, JobFault, Content, job_of, last_part, read_from, then_read, IsJobFaultOf, Reading, line_read}
 use Rattle.asm_parse.specs.Cut.{behind_first}
-use Rattle.asm_parse.specs.Text.{is_feed, lines_of}
 use Rattle.asm_parse.proofs.TextLemmas.{behind_shorter, cut, left_of}
-use Rattle.job_text.specs.declared.job.JobFault.{JobFault}
 use Rattle.job_text.specs.declared.job.JobFault.TheVariants.{Fault, Memory}
-use Rattle.job_text.specs.Grammar.{Content, job_of, last_part, read_from, then_read}
-use Rattle.job_text.specs.JobAnswers.{IsJobFaultOf}
-use Rattle.job_text.specs.Reading.{Reading, line_read}
 
 -- a line and what follows it
 pub read_line : (reading : Reading) (number : ℕ) (line : List ℕ) (next : List ℕ) (lines others : List (List ℕ)) → others ≡ next ∷ lines → read_from reading number (line ∷ others) ≡ then_read (λ more. read_from more (number + 1) others) (line_read reading.stage reading number line)

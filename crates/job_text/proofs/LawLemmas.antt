@@ -1,10 +1,5 @@
 -- Each text has one job or one first fault, which ends its reading.
-use Rattle.std.proofs.Common.{◌≡◌, ◌⊎◌, inl, inr, ℕ, ◌+◌, List, [], ◌∷◌, ◌++◌, length, Result, Ok, Err, refl, sym, ap, ◌∙◌, arith}
-use Rattle.job_text.specs.declared.stage.Stage.{Stage}
-use Rattle.job_text.specs.declared.stage.Stage.TheVariants.{Frames, Programs, Source, Schedule, Ended}
-use Rattle.job_text.specs.Grammar.{Content, job_of, last_part, read_from, then_read, whole}
-use Rattle.job_text.specs.Reading.{Reading, line_read, nothing_read}
-use Rattle.job_text.specs.Form.{FaultsEndTheReading, IsJobText}
+use Rattle.job_text.proofs.Common.{◌≡◌, ◌⊎◌, inl, inr, ℕ, ◌+◌, List, [], ◌∷◌, ◌++◌, length, Result, Ok, Err, refl, sym, ap, ◌∙◌, arith, Stage, Ended, Content, job_of, last_part, read_from, then_read, whole, Reading, line_read, nothing_read, FaultsEndTheReading, IsJobText}
 use Rattle.job_text.proofs.FormLemmas.{has_form}
 use Rattle.job_text.proofs.FormReadLemmas.{form_read, read_some, some_behind}
 

@@ -1,21 +1,7 @@
 -- The text that a job is written as is short.
-use Rattle.std.proofs.Common.{◌≡◌, inl, inr, ℕ, zero, suc, ◌+◌, ◌*◌, ◌<◌, ◌≤◌, ◌^◌, List, [], ◌∷◌, ◌++◌, decimal, length, map, codes, Option, Some, None, sym, subst, arith, length-append}
-use Rattle.std.specs.Int.{from_be_bytes, w32}
-use Rattle.std.specs.List.{AllByRecursion, flat_map, zip}
+use Rattle.job_text.proofs.Common.{◌≡◌, inl, inr, ℕ, zero, suc, ◌+◌, ◌*◌, ◌<◌, ◌≤◌, ◌^◌, List, [], ◌∷◌, ◌++◌, decimal, length, map, codes, Option, Some, None, sym, subst, arith, length-append, from_be_bytes, w32, AllByRecursion, flat_map, zip, Event, Begin, Turn, Checkpoint, Crash, Token, Word, Number, Comma, IsToken, IsWord, Parts, assembled_windows, linked_made, Content, HasPrograms, IsNoBegin, IsEventLine, HasEvents, IsJobText, rounds_of, turns_to, behind_text, end_line, event_line, image_lines, line_text, number_line, program_lines, token_text, window_line, window_lines, written}
 use Rattle.std.proofs.lemmas.Fmt.{length-decimal-le}
-use Rattle.desk.specs.declared.event.Event.{Event}
-use Rattle.desk.specs.declared.event.Event.TheVariants.{Begin, Turn, Checkpoint, Crash}
 use Rattle.flat_machine.specs.declared.machine.Window.{Window as Sight}
-use Rattle.asm_parse.specs.declared.token.Token.{Token}
-use Rattle.asm_parse.specs.declared.token.Token.TheVariants.{Word, Number, Comma}
-use Rattle.asm_parse.proofs.FrontLemmas.{IsToken, IsWord}
-use Rattle.romp_asm.specs.Layout.{Parts}
-use Rattle.romp_asm.proofs.WindowLemmas.{assembled_windows}
-use Rattle.romp_link.proofs.ExportLemmas.{linked_made}
-use Rattle.job_text.specs.Grammar.{Content}
-use Rattle.job_text.specs.Form.{HasPrograms, IsNoBegin, IsEventLine, HasEvents, IsJobText}
-use Rattle.job_text.specs.Reading.{rounds_of, turns_to}
-use Rattle.job_text.specs.Written.{behind_text, end_line, event_line, image_lines, line_text, number_line, program_lines, token_text, window_line, window_lines, written}
 use Rattle.job_text.proofs.WrittenFormLemmas.{AllSound, AreTokens, job_tokens}
 
 word_short : (word : List ℕ) → IsWord word → length word ≤ 31

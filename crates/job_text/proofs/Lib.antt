@@ -1,3 +1,4 @@
+pub mod Common
 pub mod WrittenFormLemmas
 pub mod LawLemmas
 pub mod FormReadLemmas

@@ -1,19 +1,5 @@
 -- The names of a job that some text has are names, and have no line feed.
-use Rattle.std.proofs.Common.{◌≡◌, ℕ, ◌+◌, ◌==◌, nat_eq, ◌&&◌, ◌||◌, not, true, List, [], ◌∷◌, ◌++◌, length, map, codes, arith}
-use Rattle.std.specs.Char.{is_ascii_alphabetic}
-use Rattle.std.specs.List.{All, AllByRecursion, list_all}
-use Rattle.std.proofs.lemmas.Bool.{and_parts}
-use Rattle.std.proofs.lemmas.Bool.Decides.{nat_tests}
-use Rattle.std.proofs.lemmas.List.Elements.{All-from_recursion}
-use Rattle.arrayvec.specs.ArrayVec.{ArrayVec}
-use Rattle.asm_parse.specs.declared.token.Token.TheVariants.{Word}
-use Rattle.asm_parse.specs.Statement.{is_label}
-use Rattle.asm_parse.specs.Token.{begins_word, continues_word}
-use Rattle.asm_parse.proofs.FoundLemmas.{found_tokens}
-use Rattle.asm_parse.proofs.FrontLemmas.{IsWord}
-use Rattle.romp_asm.specs.Layout.{Parts}
-use Rattle.job_text.specs.Form.{HasPrograms}
-use Rattle.job_text.specs.Ready.{IsName}
+use Rattle.job_text.proofs.Common.{◌≡◌, ℕ, ◌+◌, ◌==◌, nat_eq, ◌&&◌, ◌||◌, not, true, List, [], ◌∷◌, ◌++◌, length, map, codes, arith, is_ascii_alphabetic, All, AllByRecursion, list_all, and_parts, nat_tests, All-from_recursion, ArrayVec, Word, is_label, begins_word, continues_word, found_tokens, IsWord, Parts, HasPrograms, IsName}
 
 first_byte : (byte : ℕ) → begins_word byte ≡ true → not (nat_eq 46 byte && true) ≡ true → (is_ascii_alphabetic byte || byte == 95) ≡ true
 first_byte byte begins other = grind (arith, nat_tests)

@@ -1,14 +1,6 @@
 -- Events that can be run.
+use Rattle.job_text.proofs.Common.{bytes_eq, All-append, All-cons, All-nil, position-Some, Event, Begin, Turn, Checkpoint, Crash, Token, IsEventAmong, IsBegin, IsNoBegin, IsEventLine, HasEvents, rounds_of, turns_to, four_of}
 use Rattle.std.proofs.Common.{inl, inr, ℕ, zero, suc, ◌+◌, ◌≤◌, List, [], ◌∷◌, length, All, sym, subst}
-use Rattle.std.specs.Str.{bytes_eq}
-use Rattle.std.proofs.lemmas.List.Elements.{All-append, All-cons, All-nil}
-use Rattle.std.proofs.lemmas.List.Quantifiers.{position-Some}
-use Rattle.desk.specs.declared.event.Event.{Event}
-use Rattle.desk.specs.declared.event.Event.TheVariants.{Begin, Turn, Checkpoint, Crash}
-use Rattle.asm_parse.specs.declared.token.Token.{Token}
-use Rattle.job_text.specs.Ready.{IsEventAmong}
-use Rattle.job_text.specs.Form.{IsBegin, IsNoBegin, IsEventLine, HasEvents}
-use Rattle.job_text.specs.Reading.{rounds_of, turns_to, four_of}
 
 one_event : (programs : ℕ) (event : Event) → IsEventAmong programs event → All (IsEventAmong programs) (event ∷ [])
 one_event programs event is = All-cons (IsEventAmong programs) event [] is (All-nil (IsEventAmong programs))

@@ -1,25 +1,10 @@
 -- The source that a program is written as.
-use Rattle.std.proofs.Common.{◌≡◌, ℕ, pos, ◌+◌, ◌<◌, ◌≤◌, ◌^◌, ◌%◌, Bool, true, false, List, [], ◌∷◌, ◌++◌, length, map, codes, Option, Some, None, Ok, refl, sym, ap, ◌∙◌, subst, arith}
-use Rattle.std.specs.Int.{from_be_bytes, w32}
-use Rattle.std.specs.List.{AllByRecursion, AllZip}
-use Rattle.std.proofs.lemmas.List.{map-append}
+use Rattle.job_text.proofs.Common.{◌≡◌, ℕ, pos, ◌+◌, ◌<◌, ◌≤◌, ◌^◌, ◌%◌, Bool, true, false, List, [], ◌∷◌, ◌++◌, length, map, codes, Option, Some, None, Ok, refl, sym, ap, ◌∙◌, subst, arith, from_be_bytes, w32, AllByRecursion, AllZip, map-append, is_label, statement_of, statements_from, Token, Word, IsToken, IsWord, Parts, IsByte, IsLegalPlace, byte_body, image_bodies, made, plain_at, source_bodies, source_made, window_bodies, word_small, exported, linked_alone, HaveNoMark, IsProgram, is_end, is_part, access_text, end_line, image_lines, number_line, program_lines, tokens_text, window_line, window_lines}
 use Rattle.flat_machine.specs.declared.machine.Window.{Window as Sight}
-use Rattle.asm_parse.specs.Statement.{is_label, statement_of}
-use Rattle.asm_parse.specs.Text.{statements_from}
-use Rattle.asm_parse.specs.declared.token.Token.{Token}
-use Rattle.asm_parse.specs.declared.token.Token.TheVariants.{Word}
 use Rattle.asm_parse.specs.declared.statement.Body.{Body}
 use Rattle.asm_parse.specs.declared.statement.Body.TheVariants.{Data, Window, Entry}
 use Rattle.asm_parse.specs.declared.statement.Expr.TheVariants.{Number}
-use Rattle.asm_parse.proofs.FrontLemmas.{IsToken, IsWord}
 use Rattle.asm_parse.proofs.DirectiveLemmas.{byte_stated, entry_stated, window_stated, word_stated}
-use Rattle.romp_asm.specs.Layout.{Parts}
-use Rattle.romp_asm.proofs.MadeLemmas.{IsByte, IsLegalPlace, byte_body, image_bodies, made, plain_at, source_bodies, source_made, window_bodies, word_small}
-use Rattle.romp_link.specs.Linked.{exported}
-use Rattle.romp_link.proofs.ExportLemmas.{linked_alone}
-use Rattle.job_text.specs.Form.{HaveNoMark, IsProgram}
-use Rattle.job_text.specs.Reading.{is_end, is_part}
-use Rattle.job_text.specs.Written.{access_text, end_line, image_lines, number_line, program_lines, tokens_text, window_line, window_lines}
 use Rattle.job_text.proofs.WrittenLemmas.{written_tokens}
 
 -- what holds of two lists holds of both

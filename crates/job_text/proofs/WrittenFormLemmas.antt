@@ -1,26 +1,5 @@
 -- The text that a job is written as has the form of the job.
-use Rattle.std.proofs.Common.{◌≡◌, inl, inr, ℕ, zero, suc, ◌+◌, ◌<◌, ◌≤◌, ◌^◌, true, List, [], ◌∷◌, ◌++◌, length, map, codes, slice_index_or, Some, refl, sym, ap, ◌∙◌, subst, arith, append_assoc, append-nil, length-append}
-use Rattle.std.specs.Str.{bytes_eq}
-use Rattle.std.specs.List.{AllByRecursion, flat_map, zip}
-use Rattle.std.proofs.lemmas.List.{map-append}
-use Rattle.std.proofs.lemmas.List.Quantifiers.{position-Some}
-use Rattle.std.proofs.lemmas.Slice.Eq.{bytes_eq-Decides}
-use Rattle.desk.specs.declared.event.Event.{Event}
-use Rattle.desk.specs.declared.event.Event.TheVariants.{Begin, Turn, Checkpoint, Crash}
-use Rattle.asm_parse.specs.declared.token.Token.{Token}
-use Rattle.asm_parse.specs.declared.token.Token.TheVariants.{Word, Number}
-use Rattle.asm_parse.specs.Operand.{place_among}
-use Rattle.asm_parse.specs.Statement.{is_label}
-use Rattle.asm_parse.specs.Text.{lines_of}
-use Rattle.asm_parse.proofs.FoundLemmas.{found_tokens}
-use Rattle.asm_parse.proofs.FrontLemmas.{IsToken, IsWord}
-use Rattle.romp_asm.specs.Layout.{Parts}
-use Rattle.romp_asm.proofs.WindowLemmas.{assembled_windows}
-use Rattle.romp_link.proofs.ExportLemmas.{linked_made}
-use Rattle.job_text.specs.Grammar.{Content}
-use Rattle.job_text.specs.Form.{HasPrograms, IsBegin, IsLimit, IsNoBegin, IsEventLine, HasEvents, IsJobText}
-use Rattle.job_text.specs.Reading.{four_of, rounds_of, turns_to}
-use Rattle.job_text.specs.Written.{end_line, event_line, job_lines, line_text, number_line, program_lines, tokens_text, written}
+use Rattle.job_text.proofs.Common.{◌≡◌, inl, inr, ℕ, zero, suc, ◌+◌, ◌<◌, ◌≤◌, ◌^◌, true, List, [], ◌∷◌, ◌++◌, length, map, codes, slice_index_or, Some, refl, sym, ap, ◌∙◌, subst, arith, append_assoc, append-nil, length-append, bytes_eq, AllByRecursion, flat_map, zip, map-append, position-Some, bytes_eq-Decides, Event, Begin, Turn, Checkpoint, Crash, Token, Word, Number, place_among, is_label, lines_of, found_tokens, IsToken, IsWord, Parts, assembled_windows, linked_made, Content, HasPrograms, IsBegin, IsLimit, IsNoBegin, IsEventLine, HasEvents, IsJobText, four_of, rounds_of, turns_to, end_line, event_line, job_lines, line_text, number_line, program_lines, tokens_text, written}
 use Rattle.job_text.proofs.SourceLemmas.{IsSound, all_both, end_tokens, program_form, program_tokens}
 use Rattle.job_text.proofs.WrittenLemmas.{written_line, written_tokens}
 

@@ -1,18 +1,8 @@
 -- A line that was written has its tokens, and no line feed but its own.
-use Rattle.std.proofs.Common.{◌≡◌, ℕ, not, Bool, true, false, List, [], ◌∷◌, ◌++◌, decimal, Ok, refl, sym, ap, ◌∙◌, arith}
-use Rattle.std.specs.Char.{is_ascii_alphanumeric}
-use Rattle.std.specs.List.{AllByRecursion, flat_map, list_all}
-use Rattle.std.proofs.lemmas.Bool.Decides.{nat_tests}
+use Rattle.job_text.proofs.Common.{◌≡◌, ℕ, not, Bool, true, false, List, [], ◌∷◌, ◌++◌, decimal, Ok, refl, sym, ap, ◌∙◌, arith, is_ascii_alphanumeric, AllByRecursion, flat_map, list_all, nat_tests, is_feed, lines_of, before, begins_word, continues_word, tokens, tokens_past, Token, Word, Number, Comma, Open, Close, Colon, Plus, Minus, and_parts, IsToken, IsWord, blank_front, mark_front, number_front, number_pass, word_front, behind_text, token_text, tokens_text}
 use Rattle.std.proofs.lemmas.List.Folds.{list_all-append}
-use Rattle.asm_parse.specs.Text.{is_feed, lines_of}
-use Rattle.asm_parse.specs.Token.{before, begins_word, continues_word, tokens, tokens_past}
-use Rattle.asm_parse.specs.declared.token.Token.{Token}
-use Rattle.asm_parse.specs.declared.token.Token.TheVariants.{Word, Number, Comma, Open, Close, Colon, Plus, Minus}
 use Rattle.asm_parse.proofs.TokenLemmas.{from_none}
-use Rattle.std.proofs.lemmas.Bool.{and_parts}
 use Rattle.asm_parse.proofs.RunLemmas.{Stops, each_also}
-use Rattle.asm_parse.proofs.FrontLemmas.{IsToken, IsWord, blank_front, mark_front, number_front, number_pass, word_front}
-use Rattle.job_text.specs.Written.{behind_text, token_text, tokens_text}
 
 -- no line feed
 abbrev plain : ℕ → Bool

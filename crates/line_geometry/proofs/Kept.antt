@@ -1,11 +1,7 @@
 -- What a directory's fields are made from.
+use Rattle.line_geometry.proofs.Common.{pow_pos, arith, refl, length-append, length-drop, PageSize, IsLegal, AreFlags, flag_count}
 use Rattle.std.specs.Prelude.{◌≡◌, ℕ, List, ◌++◌, length, take, drop, replicate}
-use Rattle.std.proofs.lemmas.Nat.{pow_pos}
-use Rattle.std.proofs.Common.{arith, refl}
 use Rattle.std.proofs.Math.Seq.{take-append_seam, drop-append_seam}
-use Rattle.std.proofs.lemmas.List.{length-append, length-drop}
-use Rattle.line_geometry.specs.declared.directory.PageSize.{PageSize}
-use Rattle.line_geometry.specs.Legal.{IsLegal, AreFlags, flag_count}
 use Rattle.line_geometry.specs.Kept.{IsKept}
 
 -- no flags are flags of any segments

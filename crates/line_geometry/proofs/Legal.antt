@@ -1,17 +1,9 @@
 -- Segments have no fault exactly where they are a directory's.
-use Rattle.std.specs.Prelude.{◌≡◌, ℕ, zero, suc, ◌+◌, ◌*◌, ◌/◌, ◌<◌, ◌≤◌, ◌==◌, nat_lt, nat_le, Bool, true, false, List, [], ◌∷◌, length, map, sum_by, slice_index, All, Option, Some, None, cond}
+use Rattle.line_geometry.proofs.Common.{arith, refl, ap, sym, ◌∙◌, add-one, sum_by-cons, nat_tests, Order, Range, TooMany, PageSize, Two, Four, page_bytes, Layout, page_count, byte_count, fault_of, fault_after, is_strange, IsInRange, IsLegal}
+use Rattle.std.specs.Prelude.{◌≡◌, ℕ, zero, suc, ◌+◌, ◌*◌, ◌<◌, ◌≤◌, ◌==◌, nat_lt, nat_le, Bool, true, false, List, [], ◌∷◌, length, map, sum_by, slice_index, All, Option, Some, None, cond}
 use Rattle.std.specs.List.Sorted.{IsStrictlyIncreasing}
-use Rattle.std.proofs.Common.{arith, refl, ap, sym, ◌∙◌, add-one}
-use Rattle.std.proofs.lemmas.List.Sums.{sum_by-cons}
 use Rattle.std.proofs.lemmas.List.Elements.{All-nil, All-cons, All-head, All-tail}
-use Rattle.std.proofs.lemmas.Bool.Decides.{nat_tests}
 use Rattle.line_geometry.specs.declared.directory.DirectoryFault.{DirectoryFault}
-use Rattle.line_geometry.specs.declared.directory.DirectoryFault.TheVariants.{Order, Range, TooMany}
-use Rattle.line_geometry.specs.declared.directory.PageSize.{PageSize}
-use Rattle.line_geometry.specs.declared.directory.PageSize.TheVariants.{Two, Four}
-use Rattle.line_geometry.specs.Segments.{page_bytes}
-use Rattle.line_geometry.specs.Directory.{Layout, page_count, byte_count}
-use Rattle.line_geometry.specs.Legal.{fault_of, fault_after, is_strange, IsInRange, IsLegal}
 use Rattle.line_geometry.proofs.Within.{byte_count-pages}
 
 -- the identifiers of segments

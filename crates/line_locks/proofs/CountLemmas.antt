@@ -1,12 +1,6 @@
 -- How many lines are held to write.
+use Rattle.line_locks.proofs.Common.{arith, sym, ◌∙◌, sum_by-le, sum_by-replicate, length-replicate, All-replicate, nothing, IsCounted}
 use Rattle.std.specs.Prelude.{◌≡◌, ℕ, ◌*◌, ◌<◌, ◌≤◌, List, length, replicate}
-use Rattle.std.proofs.Common.{arith, sym, ◌∙◌}
-use Rattle.std.proofs.lemmas.List.Sums.{sum_by-le}
-use Rattle.std.proofs.lemmas.List.Folds.{sum_by-replicate}
-use Rattle.std.proofs.lemmas.List.{length-replicate}
-use Rattle.std.proofs.lemmas.List.Elements.{All-replicate}
-use Rattle.line_locks.specs.Held.{nothing}
-use Rattle.line_locks.specs.Counted.{IsCounted}
 
 -- they are few
 pub all_few : (pages : List (List ℕ × List ℕ)) (written : ℕ) → IsCounted pages written → written ≤ 16 * 65535

@@ -1,19 +1,7 @@
 -- What a seat holds page by page, and what it holds in flat lines.
+use Rattle.line_locks.proofs.Common.{flat_map, list_any, ◌⊎◌, inl, inr, arith, ap, sym, subst, ◌∙◌, get_or-set_same, get_or-set_other, eqb-true, eqb-false, or_left, or_right, nat_tests, append-nil, append_assoc, length-set, All-head, All-tail, list_any-append, has, meets, has-append, IsOfPage, union, of_page-below, is_in_where-below, Want, nothing, of_page, together, with_want, with_wants, AreWithin, conflicts_with}
 use Rattle.std.specs.Prelude.{◌≡◌, ◌≢◌, refl, ℕ, ◌+◌, ◌*◌, ◌<◌, ◌==◌, ◌||◌, Bool, true, false, List, [], ◌∷◌, ◌++◌, length, All}
-use Rattle.std.specs.List.{flat_map, list_any}
-use Rattle.std.proofs.Common.{◌⊎◌, inl, inr, arith, ap, sym, subst, ◌∙◌, get_or-set_same, get_or-set_other}
-use Rattle.std.proofs.lemmas.Bool.{eqb-true, eqb-false, or_left, or_right}
-use Rattle.std.proofs.lemmas.Bool.Decides.{nat_tests}
-use Rattle.std.proofs.lemmas.List.{append-nil, append_assoc, length-set}
-use Rattle.std.proofs.lemmas.List.Elements.{All-head, All-tail}
-use Rattle.std.proofs.lemmas.List.Folds.{list_any-append}
-use Rattle.lock_rules.specs.Sets.{has, meets}
 use Rattle.lock_rules.specs.Lines.{Lines, both, conflicts}
-use Rattle.lock_rules.proofs.Sets.{has-append}
-use Rattle.line_geometry.specs.LineSets.{IsOfPage, union}
-use Rattle.line_geometry.proofs.LineSetLemmas.{of_page-below, is_in_where-below}
-use Rattle.line_locks.specs.declared.request.Want.{Want}
-use Rattle.line_locks.specs.Held.{nothing, of_page, together, with_want, with_wants, AreWithin, conflicts_with}
 use Rattle.line_locks.specs.Flat.{flat_lines, lines_wanted, IsFlat}
 use Rattle.line_locks.proofs.MeetsLemmas.{or-parts}
 

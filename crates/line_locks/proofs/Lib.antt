@@ -1,3 +1,4 @@
+pub mod Common
 pub mod MeetsLemmas
 pub mod CountLemmas
 pub mod SeatLemmas

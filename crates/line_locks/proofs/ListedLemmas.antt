@@ -1,17 +1,6 @@
 -- The pages of which something is held, as they are listed.
+use Rattle.line_locks.proofs.Common.{range_with_len, arith, ap, sym, ◌∙◌, subst, inl, inr, get_or, get_or-set_same, get_or-set_other, eqb-true, eqb-false, eq-eqb, both_ways, or_cases, or_parts, or_left, or_right, not-true, not-false, cond-false, cases_lt, cases_Bool, get_or-replicate, length_push, nil_from_length, get_or_past, same_lists, get_or_default, length-replicate, has, distinct, meets, size, has-append, in_range, size-part, size-range, size-apart, IsOfPage, union, is_in_where-below, of_page-below, Want, nothing, of_page, holds_some, together, conflicts_in, conflicts_with, AreListed}
 use Rattle.std.specs.Prelude.{◌≡◌, refl, ℕ, zero, suc, ◌+◌, ◌<◌, ◌==◌, ◌&&◌, ◌||◌, not, if◌then◌else◌, Bool, true, false, List, [], ◌∷◌, ◌++◌, length, replicate, slice_set}
-use Rattle.std.specs.List.{range_with_len}
-use Rattle.std.proofs.Common.{arith, ap, sym, ◌∙◌, subst, inl, inr, get_or, get_or-set_same, get_or-set_other}
-use Rattle.std.proofs.lemmas.Bool.{eqb-true, eqb-false, eq-eqb, both_ways, or_cases, or_parts, or_left, or_right, not-true, not-false, cond-false, cases_lt, cases_Bool}
-use Rattle.std.proofs.lemmas.List.{get_or-replicate, length_push, nil_from_length, get_or_past, same_lists, get_or_default, length-replicate}
-use Rattle.lock_rules.specs.Sets.{has, distinct, meets, size}
-use Rattle.lock_rules.proofs.Sets.{has-append, in_range}
-use Rattle.lock_rules.proofs.Sizes.{size-part, size-range, size-apart}
-use Rattle.line_geometry.specs.LineSets.{IsOfPage, union}
-use Rattle.line_geometry.proofs.LineSetLemmas.{is_in_where-below, of_page-below}
-use Rattle.line_locks.specs.declared.request.Want.{Want}
-use Rattle.line_locks.specs.Held.{nothing, of_page, holds_some, together, conflicts_in, conflicts_with}
-use Rattle.line_locks.specs.Counted.{AreListed}
 
 -- where nothing is held, no line is
 pub none-held : (held : List ℕ × List ℕ) → holds_some held ≡ false → held ≡ nothing

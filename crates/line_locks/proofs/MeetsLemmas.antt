@@ -1,15 +1,9 @@
 -- Whether two sets of a page's lines meet, by the bits that they are told by.
+use Rattle.line_locks.proofs.Common.{arith, ap, sym, ◌∙◌, or_left, nat_tests, has, meets, has-append, any-at, any-some, lines_of_bits, is_in-where, none-bits}
 use Rattle.std.specs.Prelude.{◌≡◌, refl, ℕ, ◌<◌, ◌==◌, ◌||◌, ◌&&◌, nat_lt, not, min, Bool, true, false, List, [], ◌∷◌, ◌++◌, length, bit_and}
 use Rattle.std.specs.Int.{bit_at}
-use Rattle.std.proofs.Common.{arith, ap, sym, ◌∙◌}
-use Rattle.std.proofs.lemmas.Bool.{or_left}
-use Rattle.std.proofs.lemmas.Bool.Decides.{nat_tests}
 use Rattle.std.proofs.lemmas.Nat.Bits.{bit_at-lt, bit_at_and}
-use Rattle.lock_rules.specs.Sets.{has, meets}
-use Rattle.lock_rules.proofs.Sets.{has-append, any-at, any-some}
-use Rattle.line_geometry.specs.LineSets.{lines_of_bits}
 use Rattle.line_geometry.specs.LineBits.{is_on}
-use Rattle.line_geometry.proofs.LineSetLemmas.{is_in-where, none-bits}
 
 and-on : (p q : ℕ) → p < 2 → q < 2 → (min p q == 1) ≡ ((p == 1) && (q == 1))
 and-on p q small other = grind (arith, nat_tests)

@@ -1,17 +1,10 @@
 -- The pages of which something is held, as they ascend.
+use Rattle.line_locks.proofs.Common.{insert, IsPermutation, IsBinarySearchResult, arith, ap, sym, ◌∙◌, inl, inr, get_or, subst, both_ways, cases_lt, get_or_default, has, size-alike, AreListed, Ascend}
 use Rattle.std.specs.Prelude.{◌≡◌, ◌≢◌, ℕ, ◌+◌, ◌-◌, ◌<◌, ◌≤◌, ◌==◌, ◌⊎◌, false, List, [], ◌∷◌, ◌++◌, length, Result, Ok, Err}
-use Rattle.std.specs.List.{insert}
-use Rattle.std.specs.List.Sorted.{IsPermutation, IsBinarySearchResult}
 use Rattle.std.specs.Ordering.{nat_cmp}
 use Rattle.std.specs.Result.{MatchResult}
-use Rattle.std.proofs.Common.{arith, ap, sym, ◌∙◌, inl, inr, get_or, subst}
-use Rattle.std.proofs.lemmas.Bool.{both_ways, cases_lt}
 use Rattle.std.proofs.lemmas.List.Edits.{get_or-insert_below, get_or-insert_at, get_or-insert_above, length-insert}
 use Rattle.std.proofs.lemmas.List.Sorted.{IsPermutation-trans, IsPermutation-to_front, IsPermutation-insert, list_any-IsPermutation, length_permutation, searched}
-use Rattle.std.proofs.lemmas.List.{get_or_default}
-use Rattle.lock_rules.specs.Sets.{has}
-use Rattle.lock_rules.proofs.Sizes.{size-alike}
-use Rattle.line_locks.specs.Counted.{AreListed, Ascend}
 use Rattle.line_locks.proofs.ListedLemmas.{has-at}
 
 -- a page comes between those before it and those behind it

@@ -1,12 +1,8 @@
 -- The number in which the bits of some seats are on, seat by seat.
+use Rattle.line_locks.proofs.Common.{range_with_len, arith, ap, sym, ◌∙◌, sum_by-cons, passing, bits_of_seats}
 use Rattle.std.specs.Prelude.{◌≡◌, refl, ℕ, zero, suc, ◌+◌, ◌*◌, ◌%◌, ◌^◌, ◌<◌, cond, Bool, true, false, List, [], ◌∷◌, filter, bit_or}
-use Rattle.std.specs.List.{range_with_len}
 use Rattle.std.specs.Int.Bits.{or_shifted_r}
-use Rattle.std.proofs.Common.{arith, ap, sym, ◌∙◌}
-use Rattle.std.proofs.lemmas.List.Sums.{sum_by-cons}
 use Rattle.std.proofs.Math.Pow.{pow-lt}
-use Rattle.line_geometry.specs.LineSets.{passing}
-use Rattle.line_locks.specs.Holding.{bits_of_seats}
 
 more-filter :
     (p : ℕ → Bool) (low n : ℕ)

@@ -1,3 +1,4 @@
+pub mod Common
 pub mod PutsLemmas
 pub mod RowLemmas
 mod Worked

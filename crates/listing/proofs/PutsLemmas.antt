@@ -1,15 +1,11 @@
 -- Puts, one after another.
-use Rattle.std.proofs.Common.{◌≡◌, ⊎_elim, ℕ, ◌+◌, ◌<◌, List, [], ◌++◌, length, take, drop, get_or, sym, ◌∙◌, ap, subst, rules, arith}
-use Rattle.std.specs.Prelude.{Option, None, Some, IsSome, Result, Ok, Err, IsErr}
-use Rattle.std.proofs.lemmas.List.{take_more, take-append-drop, flat_map_more}
+use Rattle.listing.proofs.Common.{◌≡◌, ⊎_elim, ℕ, ◌+◌, ◌<◌, List, [], ◌++◌, length, take, drop, get_or, sym, ◌∙◌, ap, subst, rules, arith, Option, None, Some, IsSome, Result, Ok, Err, IsErr, take_more, take-append-drop, flat_map_more, flat_map, Puts, PutsTimes}
 use Rattle.std.proofs.lemmas.Grind.{flat_map-append}
-use Rattle.std.specs.List.{flat_map}
 use Rattle.outside.specs.declared.failed.Failed.{Failed}
 use Rattle.outside.specs.declared.world.Outside.{Ghosts}
 use Rattle.outside.specs.Bytes.{Prints}
 use Rattle.outside.specs.Runs.{FewerLater}
 use Rattle.outside.proofs.Prints.{prints_on, prints_stop, only_on}
-use Rattle.listing.specs.Puts.{Puts, PutsTimes}
 
 -- puts that went well
 abbrev pub done : Result (Unit {0}) Failed

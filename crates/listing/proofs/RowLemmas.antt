@@ -1,9 +1,5 @@
 -- The rows of bytes, and of bytes and more.
-use Rattle.std.proofs.Common.{◌≡◌, ℕ, zero, suc, ◌+◌, ◌*◌, ◌≤◌, List, [], ◌∷◌, ◌++◌, length, take, drop, refl, sym, ◌∙◌, ap, append_assoc, arith, add-zero, length-append, length-drop}
-use Rattle.std.specs.Int.{div_ceil}
-use Rattle.std.specs.List.{flat_map, range_with_len}
-use Rattle.std.proofs.lemmas.List.{drop-drop, take-append-le, drop-append-le}
-use Rattle.listing.specs.Listing.{row_line, row_lines}
+use Rattle.listing.proofs.Common.{◌≡◌, ℕ, zero, suc, ◌+◌, ◌*◌, ◌≤◌, List, [], ◌∷◌, ◌++◌, length, take, drop, refl, sym, ◌∙◌, ap, append_assoc, arith, add-zero, length-append, length-drop, div_ceil, flat_map, range_with_len, drop-drop, take-append-le, drop-append-le, row_line, row_lines}
 
 -- the row with this number
 abbrev line_at : ℕ → List ℕ → ℕ → List ℕ

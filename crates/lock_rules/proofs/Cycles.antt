@@ -1,13 +1,8 @@
 -- The members of a shown cycle; and where each number is given another name of its own, what leads where and the shown cycle are the same in
 -- these names.
-use Rattle.std.specs.Prelude.{◌≡◌, refl, ℕ, zero, suc, ◌==◌, ◌&&◌, ◌||◌, if◌then◌else◌, Bool, true, false, List, [], ◌∷◌, length, map, find, Option, Some, None}
-use Rattle.std.specs.List.{list_any}
+use Rattle.lock_rules.proofs.Common.{◌≡◌, refl, ℕ, zero, suc, ◌==◌, ◌&&◌, ◌||◌, if◌then◌else◌, Bool, true, false, List, [], ◌∷◌, length, map, find, Option, Some, None, list_any, ap, sym, ◌∙◌, eqb-true, eq-eqb, or_left, or_right, has, leads, next_shown, shown_after, shown_cycle}
 use Rattle.std.specs.Option.{option_map, option_map_or}
-use Rattle.std.proofs.Common.{ap, sym, ◌∙◌}
 use Rattle.std.proofs.lemmas.List.{length-map}
-use Rattle.std.proofs.lemmas.Bool.{eqb-true, eq-eqb, or_left, or_right}
-use Rattle.lock_rules.specs.Sets.{has}
-use Rattle.lock_rules.specs.Waits.{leads, next_shown, shown_after, shown_cycle}
 
 -- what is found is one of them
 pub found-has : (p : ℕ → Bool) (xs : List ℕ) (x : ℕ) → find p xs ≡ Some x → has xs x ≡ true

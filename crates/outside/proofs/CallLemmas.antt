@@ -1,12 +1,6 @@
 -- The calls of runs, and of one call more.
-use Rattle.std.proofs.Common.{◌≡◌, ℕ, zero, suc, ◌+◌, List, [], ◌∷◌, ◌++◌, length, refl, sym, ◌∙◌, ap, append_assoc, append-nil, arith, ◌≤◌, length-append}
-use Rattle.std.proofs.lemmas.List.{replicate-append-replicate, length-replicate}
+use Rattle.outside.proofs.Common.{◌≡◌, ℕ, zero, suc, ◌+◌, List, [], ◌∷◌, ◌++◌, length, refl, sym, ◌∙◌, ap, append_assoc, append-nil, arith, ◌≤◌, length-append, replicate-append-replicate, length-replicate, replicate, count_by, if◌then◌else◌, cond, Result, Ok, Err, is_ok, IsOk, Run, Entry, Asked, calls_of, is_write}
 use Rattle.std.proofs.lemmas.List.Sums.{sum_by-cons}
-use Rattle.std.specs.Prelude.{replicate, count_by, if◌then◌else◌, cond, Result, Ok, Err, is_ok, IsOk}
-use Rattle.outside.specs.declared.calls.Run.{Run}
-use Rattle.outside.specs.declared.record.Entry.{Entry}
-use Rattle.outside.specs.declared.record.Entry.TheVariants.{Asked}
-use Rattle.outside.specs.Record.{calls_of, is_write}
 
 -- one more that asked alone
 pub calls_of-asked : (runs : List Run) (asked : ℕ) → calls_of runs (asked + 1) ≡ calls_of runs asked ++ Asked ∷ []

@@ -1,10 +1,6 @@
 -- What a crash leaves of bytes that were sure.
+use Rattle.outside.proofs.Common.{Option, None, Some, unwrap_or, Ghosts, AreTold, Torn, Follows, Leaves, held_of}
 use Rattle.std.proofs.Common.{◌≡◌, ℕ, List, [], refl, subst, IsSome}
-use Rattle.std.specs.Prelude.{Option, None, Some, unwrap_or}
-use Rattle.outside.specs.declared.world.Outside.{Ghosts}
-use Rattle.outside.specs.Bytes.{AreTold, Torn}
-use Rattle.outside.specs.Moments.{Follows}
-use Rattle.outside.specs.Runs.{Leaves, held_of}
 use Rattle.outside.specs.Durable.{IsSure}
 
 pub told_is : (told : Option (List ℕ)) (bytes : List ℕ) → IsSome told → AreTold told bytes → bytes ≡ unwrap_or told []

@@ -1,12 +1,6 @@
 -- Puts, one after another.
-use Rattle.std.proofs.Common.{◌≡◌, ℕ, ◌+◌, ◌<◌, List, [], ◌∷◌, ◌++◌, length, get_or, take, drop, min, refl, sym, ◌∙◌, ap, subst, append_assoc, append-nil, arith, rules}
-use Rattle.std.specs.Prelude.{Option, None, Some, Result, Ok, Err, IsErr}
+use Rattle.outside.proofs.Common.{◌≡◌, ℕ, ◌+◌, ◌<◌, List, [], ◌∷◌, ◌++◌, length, get_or, take, min, refl, sym, ◌∙◌, ap, subst, append_assoc, append-nil, arith, rules, Option, None, Some, Result, Ok, Err, IsErr, take-append-le, take_min, take_more, Failed, Ghosts, Prints, FewerLater, OnlyPuts}
 use Rattle.std.proofs.Math.Seq.{take-append-add}
-use Rattle.std.proofs.lemmas.List.{take-append-le, take_min, take_more, take-append-drop}
-use Rattle.outside.specs.declared.failed.Failed.{Failed}
-use Rattle.outside.specs.declared.world.Outside.{Ghosts}
-use Rattle.outside.specs.Bytes.{Prints}
-use Rattle.outside.specs.Runs.{FewerLater, OnlyPuts}
 use Rattle.outside.proofs.Counts.{cause_since}
 use Rattle.outside.proofs.Runs.{elapses-trans}
 

@@ -1,6 +1,5 @@
 -- What `retain_mut` leaves, where the closure's captures keep what they are.
-use Rattle.std.proofs.Common.{◌≡◌, Bool, List, [], ◌∷◌, ◌∙◌, ap}
-use Rattle.std.specs.Prelude.{cond}
+use Rattle.outside.proofs.Common.{◌≡◌, Bool, List, [], ◌∷◌, ◌∙◌, ap, cond}
 use Rattle.std.specs.List.{retain_mut}
 use Rattle.std.specs.List.Retain.{RetainsInTurn}
 

@@ -1,10 +1,5 @@
 -- Calls that ask the disk, and puts, one after another.
-use Rattle.std.proofs.Common.{◌≡◌, inl, ⊎_elim, ℕ, List, [], ◌++◌, take, refl, sym, ◌∙◌, ap, subst, arith}
-use Rattle.std.specs.Prelude.{Option, None, Some, IsSome, Result, Ok, Err, unwrap_or}
-use Rattle.outside.specs.declared.failed.Failed.{Failed}
-use Rattle.outside.specs.declared.world.Outside.{Ghosts}
-use Rattle.outside.specs.Bytes.{Prints}
-use Rattle.outside.specs.Runs.{AsksAndPuts, FewerLater, OnlyAsks, OnlyPuts, held_of}
+use Rattle.outside.proofs.Common.{◌≡◌, inl, ⊎_elim, ℕ, List, [], ◌++◌, take, refl, sym, ◌∙◌, ap, subst, arith, Option, None, Some, IsSome, Result, Ok, Err, unwrap_or, Failed, Ghosts, Prints, AsksAndPuts, FewerLater, OnlyAsks, OnlyPuts, held_of}
 use Rattle.outside.proofs.Runs.{elapses-trans}
 
 -- a put leaves printed bytes told

@@ -1,27 +1,9 @@
 -- What the images of an append stand for.
-use Rattle.std.proofs.Common.{◌≡◌, inl, inr, ℕ, zero, suc, ◌+◌, ◌*◌, ◌-◌, ◌%◌, ◌^◌, ◌<◌, ◌≤◌, Bool, true, false, List, [], ◌∷◌, ◌++◌, length, take, drop, refl, sym, ◌∙◌, ap, subst, arith, slice_index, slice_set}
+use Rattle.redo_journal.proofs.Common.{◌≡◌, inl, inr, ℕ, zero, suc, ◌+◌, ◌*◌, ◌-◌, ◌%◌, ◌^◌, ◌<◌, ◌≤◌, Bool, true, false, List, [], ◌∷◌, ◌++◌, length, take, drop, refl, sym, ◌∙◌, ap, subst, arith, slice_index, slice_set, option_map, drop-drop, take_all, take-set-le, drop-set-lt, length-set, get_or-set_same, length-take-le, line_count, PageSize, Which, Header, number_at, home_at, bank_at, entry_bytes, RecordLine, lines_from, wrong_line, record_bytes, area_of, IsStore, stands, one_more, same_number_at, same_lines, same_byte, later_front, shorter_front, Around, area_within, store_same, stands_same, stands_more, store_more, Ghosts, held_of, Inside, is_open, HasBody, IsSafe, KeptBank, place_of, end_of, area_end, begun_of, needed_end, with_record, noted, AreNewest, buffered, begun_count, begun_lines, kept_of, IsWhole, Tracks, IsEither, HoldsOneOf}
 use Rattle.std.specs.Prelude.{Option, None, Some, unwrap_or, IsSome, ◌==◌}
-use Rattle.std.specs.Option.{option_map}
-use Rattle.std.proofs.lemmas.List.{drop-drop, take_all, take-set-le, drop-set-lt, length-set, get_or-set_same, length-take-le}
-use Rattle.line_geometry.specs.Lines.{line_count}
-use Rattle.line_geometry.specs.declared.directory.PageSize.{PageSize}
-use Rattle.store_format.specs.declared.header.Which.{Which}
 use Rattle.store_format.specs.declared.header.Which.TheVariants.{A, B}
-use Rattle.store_format.specs.Header.{Header, number_at, home_at, bank_at, entry_bytes}
-use Rattle.store_format.specs.Bank.{RecordLine, lines_from, wrong_line, record_bytes, area_of}
-use Rattle.store_format.specs.Stands.{IsStore, stands, one_more}
 use Rattle.store_format.specs.Body.{IsBody}
-use Rattle.store_format.proofs.Fronts.{same_number_at, same_lines, same_byte, later_front, shorter_front}
-use Rattle.store_format.proofs.Stores.{Around, area_within, store_same, stands_same, stands_more, store_more}
 use Rattle.store_format.proofs.Stores as stores
-use Rattle.outside.specs.declared.world.Outside.{Ghosts}
-use Rattle.outside.specs.Runs.{held_of}
-use Rattle.redo_journal.specs.declared.bank.Bank.TheInside.{Inside}
-use Rattle.redo_journal.specs.Gate.{is_open, HasBody, IsSafe}
-use Rattle.redo_journal.specs.Kept.{KeptBank, place_of, end_of, area_end, begun_of, needed_end, with_record}
-use Rattle.redo_journal.specs.Noted.{noted, AreNewest}
-use Rattle.redo_journal.specs.Inside.{buffered, begun_count, begun_lines, kept_of, IsWhole}
-use Rattle.redo_journal.specs.Tracks.{Tracks, IsEither, HoldsOneOf}
 
 -- a store, and a body that adds these lines to it
 pub record Ready (held : List ℕ) (header : Header) (which : Which) (base gate : ℕ) (records : List (List RecordLine)) (count : ℕ) (lines : List RecordLine) (body : List ℕ) : Type 0 where

@@ -1,13 +1,6 @@
 -- The head of a record and the closed gate behind it, laid over a buffer.
-use Rattle.std.proofs.Common.{◌≡◌, ℕ, ◌+◌, ◌*◌, ◌^◌, ◌<◌, ◌≤◌, List, [], ◌∷◌, ◌++◌, length, take, drop, refl, ◌∙◌, ap, arith, append_assoc, length-append}
-use Rattle.std.proofs.lemmas.List.{drop_at, length-drop}
-use Rattle.byteorder.specs.Endian.{big_bytes, big_number}
-use Rattle.byteorder.specs.Numbers.{big_number-reads_back}
-use Rattle.owned_list.specs.Overlay.{overlaid}
-use Rattle.line_geometry.specs.declared.directory.PageSize.{PageSize}
+use Rattle.redo_journal.proofs.Common.{◌≡◌, ℕ, ◌+◌, ◌*◌, ◌^◌, ◌<◌, ◌≤◌, List, [], ◌∷◌, ◌++◌, length, take, drop, refl, ◌∙◌, ap, arith, append_assoc, length-append, drop_at, length-drop, big_bytes, big_number, big_number-reads_back, overlaid, PageSize, number_at, entry_bytes, same_number_at, later_front}
 use Rattle.redo_journal.proofs.Overlaid.{take-overlaid}
-use Rattle.store_format.specs.Header.{number_at, entry_bytes}
-use Rattle.store_format.proofs.Fronts.{same_number_at, later_front}
 
 module _ (page : PageSize) (body head : List ℕ) (count : ℕ) (room : 11 + entry_bytes page * count ≤ length body) (ten : length head ≡ 10) where
   headed : List ℕ

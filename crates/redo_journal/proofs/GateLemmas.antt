@@ -1,10 +1,5 @@
 -- A body that is written behind a shut gate, and the gate after it.
-use Rattle.std.proofs.Common.{◌≡◌, ℕ, ◌+◌, ◌≤◌, true, false, List, [], ◌∷◌, ◌++◌, length, take, drop, refl, sym, ◌∙◌, ap, arith, append_assoc, slice_index}
-use Rattle.std.specs.Prelude.{Option, None, Some, ◌==◌, unwrap_or, option_map}
-use Rattle.std.proofs.lemmas.List.{take_at, drop_at, drop-drop, length-take-le, get_or-drop}
-use Rattle.outside.specs.Bytes.{written, Torn}
-use Rattle.store_format.proofs.Fronts.{shorter_front, same_byte}
-use Rattle.redo_journal.specs.Gate.{is_open, HasBody, IsSafe}
+use Rattle.redo_journal.proofs.Common.{◌≡◌, ℕ, ◌+◌, ◌≤◌, true, false, List, [], ◌∷◌, ◌++◌, length, take, drop, refl, sym, ◌∙◌, ap, arith, append_assoc, slice_index, Option, Some, ◌==◌, unwrap_or, take_at, drop_at, drop-drop, length-take-le, get_or-drop, written, Torn, shorter_front, same_byte, is_open, HasBody, IsSafe}
 use Rattle.outside.proofs.Torn.{torn_by_written}
 
 pub drop-written : (held : List ℕ) (at : ℕ) (bytes : List ℕ) → at ≤ length held → drop at (written held at bytes) ≡ bytes ++ drop (at + length bytes) held

@@ -1,14 +1,5 @@
 -- The head of a bank that was written.
-use Rattle.std.proofs.Common.{◌≡◌, ℕ, ◌+◌, ◌^◌, ◌<◌, ◌≤◌, false, List, [], ◌∷◌, ◌++◌, length, drop, refl, sym, ◌∙◌, ap, slice_index, append_assoc}
-use Rattle.std.specs.Prelude.{◌==◌}
-use Rattle.std.proofs.lemmas.List.{drop_at, get_or-drop}
-use Rattle.byteorder.specs.Endian.{big_bytes, big_number}
-use Rattle.byteorder.specs.Numbers.{big_number-reads_back}
-use Rattle.store_format.specs.declared.header.Which.{Which}
-use Rattle.store_format.specs.Header.{Header, bank_at}
-use Rattle.store_format.specs.Bank.{area_at, base_of}
-use Rattle.outside.specs.Bytes.{written}
-use Rattle.redo_journal.specs.Turned.{head_bytes}
+use Rattle.redo_journal.proofs.Common.{◌≡◌, ℕ, ◌+◌, ◌^◌, ◌<◌, ◌≤◌, false, List, [], ◌∷◌, ◌++◌, length, drop, refl, sym, ◌∙◌, ap, slice_index, append_assoc, ◌==◌, drop_at, get_or-drop, big_bytes, big_number, big_number-reads_back, Which, Header, bank_at, area_at, base_of, written, head_bytes}
 use Rattle.redo_journal.proofs.GateLemmas.{drop-written}
 
 -- a bank that begins with a head

@@ -1,3 +1,4 @@
+pub mod Common
 pub mod Overlaid
 pub mod GateLemmas
 pub mod FillLemmas

@@ -1,18 +1,5 @@
 -- One line more in a record that is begun.
-use Rattle.std.proofs.Common.{◌≡◌, ℕ, suc, ◌+◌, ◌*◌, ◌^◌, ◌<◌, ◌≤◌, List, [], ◌∷◌, ◌++◌, length, take, drop, refl, sym, ◌∙◌, ap, arith}
-use Rattle.std.specs.Prelude.{All}
-use Rattle.std.proofs.lemmas.List.{take_at, drop-drop}
-use Rattle.std.proofs.lemmas.List.Elements.{All-head, All-tail}
-use Rattle.byteorder.specs.Endian.{big_bytes, big_number}
-use Rattle.byteorder.specs.Numbers.{big_number-reads_back, big_from-take}
-use Rattle.owned_list.specs.Overlay.{overlaid}
-use Rattle.owned_list.proofs.Overlay.{length-overlaid}
-use Rattle.line_geometry.specs.declared.directory.PageSize.{PageSize}
-use Rattle.line_geometry.specs.Segments.{line_bytes}
-use Rattle.store_format.specs.Header.{entry_bytes}
-use Rattle.store_format.specs.Bank.{RecordLine, lines_from, record_bytes}
-use Rattle.store_format.proofs.Fronts.{same_lines, later_front, shorter_front}
-use Rattle.store_format.proofs.Lines.{line_at, lines_more, least_after}
+use Rattle.redo_journal.proofs.Common.{◌≡◌, ℕ, suc, ◌+◌, ◌*◌, ◌^◌, ◌<◌, ◌≤◌, List, [], ◌∷◌, ◌++◌, length, take, drop, refl, sym, ◌∙◌, ap, arith, All, take_at, drop-drop, All-head, All-tail, big_bytes, big_number, big_number-reads_back, big_from-take, overlaid, length-overlaid, PageSize, line_bytes, entry_bytes, RecordLine, lines_from, record_bytes, same_lines, later_front, shorter_front, line_at, lines_more, least_after}
 use Rattle.redo_journal.proofs.Overlaid.{take-overlaid, drop-overlaid}
 
 module _ (page : PageSize) (body piece : List ℕ) (count gate line : ℕ) (whole : length piece ≡ line_bytes page) (small : line < 2 ^ 32) (room : 10 + entry_bytes page * count + entry_bytes page ≤ length body) where

@@ -1,28 +1,8 @@
 -- The newest place of a line has its bytes of the store.
-use Rattle.std.proofs.Common.{◌≡◌, inl, inr, ℕ, zero, suc, ◌+◌, ◌*◌, ◌-◌, ◌<◌, ◌≤◌, List, [], ◌∷◌, ◌++◌, length, take, drop, refl, sym, ◌∙◌, ap, subst, arith}
-use Rattle.std.specs.Prelude.{Option, None, Some, fold, Bool, true, false, if◌then◌else◌}
-use Rattle.std.specs.Option.{option_or}
-use Rattle.std.proofs.lemmas.Bool.Decides.{nat_tests}
-use Rattle.std.proofs.lemmas.Bool.{cases_lt, cases_eq}
-use Rattle.std.proofs.lemmas.List.{take_at, drop-drop, take-append-drop, length-drop, length-take-le}
-use Rattle.owned_list.specs.Overlay.{overlaid}
-use Rattle.std.specs.Prelude.{◌%◌, ◌^◌, ◌==◌, slice_index}
-use Rattle.byteorder.specs.Endian.{big_number}
-use Rattle.line_geometry.specs.Lines.{line_count}
-use Rattle.line_geometry.specs.declared.directory.PageSize.{PageSize}
-use Rattle.store_format.specs.declared.header.Which.{Which}
-use Rattle.line_geometry.specs.Segments.{line_bytes}
-use Rattle.store_format.specs.Header.{Header, home_at, bank_at, number_at, entry_bytes}
-use Rattle.store_format.specs.Bank.{RecordLine, lines_from, wrong_line, lines_of, count_of, Area, Gate, Closed, Wrong, Sound, Holds, gate_at, holds_from, bank_held}
-use Rattle.store_format.proofs.Stores.{area_within}
-use Rattle.store_format.specs.Stands.{laid, home_of, IsStore}
-use Rattle.store_format.proofs.Fronts.{shorter_front, rest_front}
-use Rattle.store_format.proofs.Walk.{sound_is, preceded_is}
-use Rattle.owned_list.proofs.Overlay.{length-overlaid}
+use Rattle.redo_journal.proofs.Common.{◌≡◌, inl, inr, ℕ, zero, suc, ◌+◌, ◌*◌, ◌-◌, ◌<◌, ◌≤◌, List, [], ◌∷◌, ◌++◌, length, take, drop, refl, sym, ◌∙◌, ap, subst, arith, option_or, nat_tests, cases_lt, cases_eq, take_at, drop-drop, take-append-drop, length-drop, length-take-le, overlaid, big_number, line_count, PageSize, Which, line_bytes, Header, home_at, bank_at, number_at, entry_bytes, RecordLine, lines_from, wrong_line, lines_of, count_of, Area, Gate, Closed, Wrong, Sound, Holds, gate_at, holds_from, bank_held, area_within, laid, home_of, IsStore, shorter_front, rest_front, sound_is, preceded_is, length-overlaid, lines-below, place_in, newest_place}
+use Rattle.std.specs.Prelude.{Option, None, Some, fold, Bool, true, false, if◌then◌else◌, ◌%◌, ◌^◌, ◌==◌, slice_index}
 use Rattle.redo_journal.proofs.Overlaid.{take-overlaid, drop-overlaid, behind-overlaid}
 use Rattle.redo_journal.proofs.NoteLemmas.{first_in_order}
-use Rattle.store_format.proofs.Widths.{lines-below}
-use Rattle.redo_journal.specs.Noted.{place_in, newest_place}
 use Rattle.redo_journal.proofs.Places.{or_assoc, or_none, last_of, if_some, AreBelow, AllBelow}
 
 -- the bytes of a line in a list of lines

@@ -1,19 +1,10 @@
 -- The newest places that are noted are those in the last records.
-use Rattle.std.proofs.Common.{◌≡◌, ◌⊎◌, inl, inr, ℕ, ◌+◌, ◌-◌, ◌<◌, ◌≤◌, List, [], ◌∷◌, ◌++◌, length, get_or, refl, sym, ◌∙◌, ap, subst, arith, replicate}
-use Rattle.std.specs.Prelude.{Bool, true, false, ◌==◌, ◌≢◌, if◌then◌else◌, true, false, Option, None, Some, fold, All}
-use Rattle.std.specs.Option.{option_or}
-use Rattle.std.proofs.lemmas.Bool.{cases_lt, cases_eq}
-use Rattle.std.proofs.lemmas.Bool.Decides.{nat_tests}
-use Rattle.std.proofs.lemmas.List.{get_or-take, get_or-drop, get_or-replicate, length-replicate}
+use Rattle.redo_journal.proofs.Common.{◌≡◌, ◌⊎◌, inl, inr, ℕ, ◌+◌, ◌-◌, ◌<◌, ◌≤◌, List, [], ◌∷◌, ◌++◌, length, get_or, refl, sym, ◌∙◌, ap, subst, arith, replicate, option_or, cases_lt, cases_eq, nat_tests, get_or-take, get_or-drop, get_or-replicate, length-replicate, All-nil, All-cons, All-head, All-tail, overlaid, length-overlaid, RecordLine, wrong_line, noted, place_in, newest_place, AreNewest, IsNowhere}
+use Rattle.std.specs.Prelude.{Bool, true, false, ◌==◌, ◌≢◌, if◌then◌else◌, Option, None, Some, fold, All}
 use Rattle.std.proofs.lemmas.Option.{slice_get-get_or}
-use Rattle.std.proofs.lemmas.List.Elements.{All-nil, All-cons, All-head, All-tail}
-use Rattle.owned_list.specs.Overlay.{overlaid}
-use Rattle.owned_list.proofs.Overlay.{length-overlaid}
-use Rattle.store_format.specs.Bank.{RecordLine, wrong_line}
+use Rattle.redo_journal.specs.Opened.{NewestLaw}
 use Rattle.redo_journal.proofs.Overlaid.{take-overlaid, drop-overlaid, behind-overlaid}
 use Rattle.redo_journal.proofs.NoteLemmas.{first_in_order}
-use Rattle.redo_journal.specs.Noted.{noted, place_in, newest_place, AreNewest, IsNowhere}
-use Rattle.redo_journal.specs.Opened.{NewestLaw}
 
 pub same_place : (newest : List (Option ℕ)) (j place : ℕ) → j < length newest → get_or (overlaid newest j (Some place ∷ [])) j None ≡ Some place
 same_place newest j place within =

@@ -1,20 +1,6 @@
 -- Records that are read.
-use Rattle.std.proofs.Common.{◌≡◌, ℕ, suc, ◌+◌, ◌*◌, ◌-◌, ◌<◌, ◌≤◌, Bool, true, false, List, [], ◌∷◌, take, drop, refl, sym, ◌∙◌, ap, arith, slice_index}
+use Rattle.redo_journal.proofs.Common.{◌≡◌, ℕ, suc, ◌+◌, ◌*◌, ◌-◌, ◌<◌, ◌≤◌, Bool, true, false, List, [], ◌∷◌, take, drop, refl, sym, ◌∙◌, ap, arith, slice_index, nat_tests, drop-drop, take-take, get_or-take, get_or-drop, big_number, big_from-take, overlaid, PageSize, line_bytes, entry_bytes, RecordLine, lines_from, wrong_line, count_of, number_of, lines_of, record_bytes, head_fault, lined_gate, headed_gate, gate_if, Wrong, same_number_at, fault_none, not_less, ForSome, bytes_at, noted}
 use Rattle.std.specs.Prelude.{Option, None, Some, ◌&&◌, nat_le, nat_lt, ◌==◌, length}
-use Rattle.std.proofs.lemmas.Bool.Decides.{nat_tests}
-use Rattle.std.proofs.lemmas.List.{drop-drop, take-take, get_or-take, get_or-drop}
-use Rattle.byteorder.specs.Endian.{big_number}
-use Rattle.byteorder.specs.Numbers.{big_from-take}
-use Rattle.owned_list.specs.Overlay.{overlaid}
-use Rattle.line_geometry.specs.declared.directory.PageSize.{PageSize}
-use Rattle.line_geometry.specs.Segments.{line_bytes}
-use Rattle.store_format.specs.Header.{entry_bytes}
-use Rattle.store_format.specs.Bank.{RecordLine, lines_from, wrong_line, count_of, number_of, lines_of, record_bytes, head_fault, lined_gate, headed_gate, gate_if, Wrong}
-use Rattle.store_format.proofs.Fronts.{same_number_at}
-use Rattle.store_format.proofs.Stores.{fault_none, not_less}
-use Rattle.std.specs.Option.{ForSome}
-use Rattle.outside.specs.Bytes.{bytes_at}
-use Rattle.redo_journal.specs.Noted.{noted}
 
 -- the lines from one on
 abbrev pub lines_after : (page : PageSize) (count i at : ℕ) → List ℕ → List RecordLine

@@ -1,17 +1,8 @@
 -- The records of a bank, each at its place.
+use Rattle.redo_journal.proofs.Common.{drop-drop, big_number, line_bytes, PageSize, entry_bytes, number_at, RecordLine, lines_from, lines_of, count_of, record_bytes, wrong_line, Area, Gate, Closed, Wrong, Sound, Holds, gate_at, holds_from, IsSound, sound_is, preceded_is, KeptBank, place_of, area_bytes, IsRecordAt, IsCounted, IsLine, IsLineOf, Record}
 use Rattle.std.proofs.Common.{None, ◌≡◌, ℕ, zero, suc, ◌+◌, ◌*◌, ◌<◌, List, [], ◌∷◌, ◌++◌, length, take, drop, refl, sym, subst, ◌∙◌, ap, arith, slice_index}
 use Rattle.std.specs.Prelude.{◌%◌, ◌^◌, ◌==◌, Some, slice_get, Result, Ok, Err, IfOk}
-use Rattle.std.proofs.lemmas.List.{drop-drop}
-use Rattle.byteorder.specs.Endian.{big_number}
-use Rattle.line_geometry.specs.Segments.{line_bytes}
-use Rattle.line_geometry.specs.declared.directory.PageSize.{PageSize}
-use Rattle.store_format.specs.Header.{entry_bytes, number_at}
-use Rattle.store_format.specs.Bank.{RecordLine, lines_from, lines_of, count_of, record_bytes, wrong_line, Area, Gate, Closed, Wrong, Sound, Holds, gate_at, holds_from}
-use Rattle.store_format.proofs.Walk.{IsSound, sound_is, preceded_is}
 use Rattle.redo_journal.proofs.AppendLemmas.{length-lines_from}
-use Rattle.redo_journal.specs.Kept.{KeptBank, place_of}
-use Rattle.redo_journal.specs.Records.{area_bytes, IsRecordAt, IsCounted, IsLine, IsLineOf}
-use Rattle.redo_journal.specs.declared.find.Record.{Record}
 
 -- where a record with these lines stands, in an area with this end, of a store with so many lines
 pub record StandsAt (page : PageSize) (image : List ℕ) (bound end at : ℕ) (lines : List RecordLine) : Type 0 where

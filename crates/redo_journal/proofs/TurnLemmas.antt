@@ -1,24 +1,8 @@
 -- Lines that are placed anew.
-use Rattle.std.proofs.Common.{◌≡◌, ℕ, zero, suc, ◌+◌, ◌*◌, List, [], ◌∷◌, length, take, drop, refl, ◌∙◌, ap, arith, replicate}
+use Rattle.redo_journal.proofs.Common.{◌≡◌, ℕ, zero, suc, ◌+◌, ◌*◌, List, [], ◌∷◌, length, take, drop, refl, ◌∙◌, ap, arith, replicate, option_map, All-replicate, big_number, overlaid, PageSize, Which, line_bytes, entry_bytes, in_order, RecordLine, lines_from, wrong_line, Standing, Stands, NotAStore, Damaged, laid, one_more, Inside, buffered, kept_of, KeptBank, place_of, AreWithin, placed, turned}
 use Rattle.std.specs.Prelude.{Option, None, Some, IfSome, ◌%◌, ◌^◌, ◌≤◌}
-use Rattle.std.specs.Option.{option_map}
-use Rattle.std.proofs.lemmas.List.Elements.{All-replicate}
-use Rattle.byteorder.specs.Endian.{big_number}
-use Rattle.owned_list.specs.Overlay.{overlaid}
-use Rattle.line_geometry.specs.declared.directory.PageSize.{PageSize}
-use Rattle.store_format.specs.declared.header.Which.{Which}
-use Rattle.line_geometry.specs.Segments.{line_bytes}
-use Rattle.store_format.specs.Header.{entry_bytes}
-use Rattle.store_format.proofs.Lines.{in_order}
-use Rattle.redo_journal.proofs.NoteLemmas.{first_in_order, low_of}
-use Rattle.store_format.specs.Bank.{RecordLine, lines_from, wrong_line}
-use Rattle.store_format.specs.Stands.{Standing, Stands, NotAStore, Damaged, laid, one_more}
 use Rattle.line_geometry.specs.FlatStore.{FlatStore}
-use Rattle.redo_journal.specs.declared.bank.Bank.TheInside.{Inside}
-use Rattle.redo_journal.specs.Inside.{buffered, kept_of}
-use Rattle.redo_journal.specs.Kept.{KeptBank, place_of}
-use Rattle.redo_journal.specs.Noted.{AreWithin}
-use Rattle.redo_journal.specs.Turned.{placed, turned}
+use Rattle.redo_journal.proofs.NoteLemmas.{first_in_order, low_of}
 
 -- the same bytes read from another offset are the lines placed there
 pub lines_placed : (page : PageSize) (count at from : ℕ) (bytes : List ℕ) → lines_from page count at bytes ≡ placed page at (lines_from page count from bytes)

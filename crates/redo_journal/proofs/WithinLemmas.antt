@@ -1,11 +1,5 @@
 -- Newest places that lie in front of an end.
-use Rattle.std.proofs.Common.{ℕ, ◌+◌, ◌≤◌, List, [], ◌∷◌, ◌++◌, length, take, drop}
-use Rattle.std.specs.Prelude.{Option, Some, IfSome}
-use Rattle.std.proofs.lemmas.List.Elements.{All-nil, All-cons, All-append, All-take, All-drop}
-use Rattle.owned_list.specs.Overlay.{overlaid}
-use Rattle.line_geometry.specs.declared.directory.PageSize.{PageSize}
-use Rattle.line_geometry.specs.Segments.{line_bytes}
-use Rattle.redo_journal.specs.Noted.{AreWithin}
+use Rattle.redo_journal.proofs.Common.{ℕ, ◌+◌, ◌≤◌, List, [], ◌∷◌, ◌++◌, length, take, drop, Option, Some, IfSome, All-nil, All-cons, All-append, All-take, All-drop, overlaid, PageSize, line_bytes, AreWithin}
 
 abbrev IsIn : PageSize → ℕ → Option ℕ → Type 0
 IsIn page end place = IfSome place (λ at. at + line_bytes page ≤ end)

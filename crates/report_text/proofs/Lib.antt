@@ -1,3 +1,4 @@
+pub mod Common
 pub mod LineLemmas
 pub mod Listed
 pub mod PartLemmas

@@ -1,20 +1,10 @@
 -- The bytes of a line are its words, and its only line feed is its last byte.
-use Rattle.std.proofs.Common.{◌≡◌, ◌≢◌, ℕ, ◌+◌, ◌-◌, ◌/◌, ◌%◌, ◌^◌, ◌<◌, ◌≤◌, ◌==◌, nat_lt, not, Bool, true, false, List, [], ◌∷◌, ◌++◌, length, map, take, decimal, position, get_or, Some, None, refl, sym, ◌∙◌, ap, append_assoc, append-nil, length-append, arith}
-use Rattle.std.specs.List.{AllByRecursion, flat_map, list_all, join_with_byte, prefix_len}
-use Rattle.std.proofs.lemmas.Bool.{lt-ltb}
-use Rattle.std.proofs.lemmas.Bool.Decides.{nat_tests}
-use Rattle.std.proofs.lemmas.List.{take_at}
+use Rattle.report_text.proofs.Common.{◌≡◌, ◌≢◌, ℕ, ◌+◌, ◌-◌, ◌/◌, ◌%◌, ◌^◌, ◌<◌, ◌≤◌, ◌==◌, nat_lt, not, Bool, true, false, List, [], ◌∷◌, ◌++◌, length, map, take, decimal, position, get_or, Some, None, refl, sym, ◌∙◌, ap, append_assoc, append-nil, length-append, arith, AllByRecursion, flat_map, list_all, join_with_byte, prefix_len, lt-ltb, nat_tests, take_at, All-get_or, recursion_from_All, each_also, run_length, big_bytes, Line, Open, Begin, Busy, NoSegment, Idle, Turn, Cycle, Victim, Commit, Check, Wait, Journal, Disk, Doubt, Closed, Stored, Lost, Left, End, printed, line_text, IsLine, owned_told, IsOneWord, is_feed, kind_of, parts_of}
 use Rattle.std.proofs.lemmas.List.Concat.{flat_map-append}
-use Rattle.std.proofs.lemmas.List.Elements.{All-get_or, recursion_from_All}
 use Rattle.std.proofs.lemmas.List.Folds.{list_all-append}
 use Rattle.std.proofs.lemmas.List.Sums.{AllPass-from_list_all}
-use Rattle.asm_parse.proofs.RunLemmas.{each_also, run_length}
-use Rattle.byteorder.specs.Endian.{big_bytes}
 use Rattle.hex.specs.Hex.{encode_lower, encode_with, lower_digits}
-use Rattle.desk.specs.Lines.{Line, Open, Begin, Busy, NoSegment, Idle, Turn, Cycle, Victim, Commit, Check, Wait, Journal, Disk, Doubt, Closed, Stored, Lost, Left, End, printed, line_text}
 use Rattle.report_text.specs.declared.owned.OwnedLine.{OwnedLine}
-use Rattle.report_text.specs.ReadLines.{IsLine, owned_told}
-use Rattle.report_text.specs.Words.{IsOneWord, is_feed, kind_of, parts_of}
 use Rattle.report_text.proofs.PartLemmas.{name_word, number_word}
 
 -- the bytes of a line are its words with a space between each two, and a line feed

@@ -1,21 +1,12 @@
 -- The parts of a line: which of them are words, and what they are read as.
-use Rattle.std.proofs.Common.{◌≡◌, ◌≢◌, ℕ, zero, suc, ◌^◌, ◌<◌, ◌==◌, ◌||◌, nat_lt, true, false, List, [], ◌∷◌, ◌++◌, length, map, codes, decimal, get_or, Ok, Err, MatchResult, refl, sym, ◌∙◌, ap, append_assoc, append-nil, arith}
+use Rattle.report_text.proofs.Common.{◌≡◌, ◌≢◌, ℕ, ◌^◌, ◌<◌, ◌==◌, ◌||◌, nat_lt, true, List, [], ◌∷◌, ◌++◌, length, map, codes, decimal, Ok, Err, MatchResult, refl, sym, ◌∙◌, ap, append_assoc, append-nil, arith, All, AllByRecursion, join_with_byte, nat_tests, recursion_from_All, each_also, big_bytes, big_number, encode_lower, decode_of, decode_sized, IsBytes, printed, IsOneWord, each_byte}
 use Rattle.std.specs.Char.{digit_value, is_ascii_alphabetic}
-use Rattle.std.specs.List.{All, AllByRecursion, join_with_byte}
 use Rattle.std.specs.Str.Parse.{AllDigits}
-use Rattle.std.proofs.lemmas.Bool.Decides.{nat_tests}
 use Rattle.std.proofs.lemmas.Fmt.{decimal_is_IsNumeral, decimal_nonempty}
-use Rattle.std.proofs.lemmas.List.Elements.{recursion_from_All}
 use Rattle.asm_parse.specs.Token.{continues_word}
-use Rattle.asm_parse.proofs.RunLemmas.{each_also}
-use Rattle.byteorder.specs.Endian.{big_bytes, big_number}
-use Rattle.hex.specs.Hex.{encode_lower, decode_of, decode_sized, IsBytes}
 use Rattle.hex.specs.declared.error.FromHexError.{FromHexError}
 use Rattle.hex.proofs.HexLemmas.{decode_of-encode_lower, decode_of-odd, decode_sized-encode_lower}
-use Rattle.desk.specs.Lines.{printed}
 use Rattle.job_text.specs.Ready.{IsName}
-use Rattle.report_text.specs.Words.{IsOneWord}
-use Rattle.text_line.proofs.Bytes.{each_byte}
 
 digit_inside : (digit : ℕ) → digit_value digit < 10 → nat_lt 32 digit ≡ true
 digit_inside digit small = grind (arith, nat_tests)

@@ -1,11 +1,5 @@
 -- Words with a space between each two: where the first ends.
-use Rattle.std.proofs.Common.{◌≡◌, ℕ, ◌+◌, ◌==◌, nat_lt, not, true, List, [], ◌∷◌, ◌++◌, length, take, drop, position, Some, None, refl, ap, append_assoc, append-nil, length-append, arith}
-use Rattle.std.specs.List.{join_with_byte, prefix_len}
-use Rattle.std.proofs.lemmas.Bool.{lt-ltb}
-use Rattle.std.proofs.lemmas.Bool.Decides.{nat_tests}
-use Rattle.std.proofs.lemmas.List.{drop_at, take_at}
-use Rattle.asm_parse.proofs.RunLemmas.{each_also, run_length}
-use Rattle.report_text.specs.Words.{IsOneWord, is_space}
+use Rattle.report_text.proofs.Common.{◌≡◌, ℕ, ◌+◌, ◌==◌, nat_lt, not, true, List, [], ◌∷◌, ◌++◌, length, take, drop, position, Some, None, refl, ap, append_assoc, append-nil, length-append, arith, join_with_byte, prefix_len, lt-ltb, nat_tests, drop_at, take_at, each_also, run_length, IsOneWord, is_space}
 
 inside_space : (byte : ℕ) → nat_lt 32 byte ≡ true → not (byte == 32) ≡ true
 inside_space byte inside = grind (arith, nat_tests)

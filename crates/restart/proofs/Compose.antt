@@ -1,26 +1,11 @@
 -- A page whose home lines have the newest lines over them.
-use Rattle.std.proofs.Common.{◌≡◌, inl, inr, ℕ, ◌+◌, ◌*◌, ◌-◌, ◌<◌, ◌≤◌, List, length, take, drop, get_or, refl, sym, ◌∙◌, ap, arith}
-use Rattle.std.specs.Prelude.{Option, None, Some, IfSome, fold, slice_range, is_some, true, false}
+use Rattle.restart.proofs.Common.{◌≡◌, inl, inr, ℕ, ◌+◌, ◌*◌, ◌-◌, ◌<◌, ◌≤◌, List, length, take, drop, get_or, refl, sym, ◌∙◌, ap, arith, Option, None, Some, IfSome, fold, slice_range, is_some, true, false, drop-drop, drop-take, take-take, length-drop, length-take-le, places, page_count, line_count, PageSize, page-lines, line_bytes, Header, home_at, Standing, laid, home_of, stands, stands_is, bytes_at, bytes_of_line, newest_bytes, same_line, other_line, same_lines, Agree, store_agrees, KeptStore, Shows, page_in, newest_over}
 use Rattle.std.specs.List.{list_any}
 use Rattle.std.proofs.lemmas.List.Folds.{list_any_at}
 use Rattle.std.proofs.lemmas.Bool.{cases_eq}
-use Rattle.std.proofs.lemmas.List.{drop-drop, drop-take, take-take, length-drop, length-take-le, places}
-use Rattle.line_geometry.specs.Directory.{page_count}
-use Rattle.line_geometry.specs.Lines.{line_count}
-use Rattle.line_geometry.specs.declared.directory.PageSize.{PageSize}
-use Rattle.line_geometry.proofs.Within.{page-lines}
 use Rattle.store_format.proofs.Widths.{lines-below, lines-within}
-use Rattle.line_geometry.specs.Segments.{line_bytes}
-use Rattle.store_format.specs.Header.{Header, home_at}
-use Rattle.store_format.specs.Stands.{Standing, laid, home_of, stands}
-use Rattle.store_format.proofs.Stores.{stands_is}
-use Rattle.outside.specs.Bytes.{bytes_at}
 use Rattle.redo_journal.specs.Noted.{newest_place}
-use Rattle.redo_journal.proofs.Newest.{bytes_of_line, newest_bytes, same_line, other_line, same_lines, Agree, store_agrees}
-use Rattle.restart.specs.Kept.{KeptStore}
-use Rattle.restart.specs.Shows.{Shows, page_in}
 use Rattle.restart.proofs.ShowLemmas.{shown_store}
-use Rattle.restart.specs.Page.{newest_over}
 
 -- the lines up to one are the newest, and those from it on are at home
 pub record Composed (size : PageSize) (image home : List ℕ) (newest : List (Option ℕ)) (first i : ℕ) (page : List ℕ) : Type 0 where

@@ -1,3 +1,4 @@
+pub mod Common
 pub mod ShowLemmas
 pub mod PageLemmas
 pub mod Compose

@@ -1,6 +1,5 @@
 -- A page that is put together from lines.
-use Rattle.std.proofs.Common.{◌≡◌, ℕ, ◌+◌, ◌++◌, List, length, take, drop, sym, ◌∙◌, ap, append_assoc}
-use Rattle.std.proofs.lemmas.List.{drop-drop}
+use Rattle.restart.proofs.Common.{◌≡◌, ℕ, ◌+◌, ◌++◌, List, length, take, drop, sym, ◌∙◌, ap, append_assoc, drop-drop}
 use Rattle.owned_list.specs.Overlay.{overlaid}
 
 -- a part of a list written over in place

@@ -1,35 +1,20 @@
 -- What a store shows of bytes, and what these stand for.
-use Rattle.std.proofs.Common.{◌≡◌, ⊎_elim, ℕ, ◌+◌, ◌*◌, ◌%◌, ◌^◌, ◌≤◌, List, [], ◌∷◌, ◌++◌, length, take, refl, sym, ◌∙◌, ap, subst, arith, IsSome, IsTrue}
-use Rattle.std.specs.Prelude.{Option, None, fold, unwrap_or, Result, Ok, Err, IfErr}
-use Rattle.line_geometry.specs.Lines.{line_count}
+use Rattle.restart.proofs.Common.{◌≡◌, ⊎_elim, ℕ, ◌+◌, ◌*◌, ◌%◌, ◌^◌, ◌≤◌, List, [], ◌∷◌, ◌++◌, length, take, refl, sym, ◌∙◌, ap, subst, arith, IsSome, IsTrue, Option, None, fold, unwrap_or, Result, Ok, Err, IfErr, line_count, line_bytes, Header, bank_at, number_at, header_of, total, PageSize, Stands, Damaged, stands, standing_if, standing_by, HasHeader, IsStore, chosen, laid, home_of, stands_is, not_less, OnlyAsks, FewerLater, held_of, AreTold, IsChosen, other, emptied, HoldsCommitted, ReopenFault, IsOpenFault, IsReopenFault, KeptStore, Fits, number_of, with_begun, Shows, IsIntact, IsReopened, Tracks, ShownStands}
 use Rattle.store_format.specs.declared.header.Which.{Which}
 use Rattle.store_format.specs.declared.header.Which.TheVariants.{A, B}
-use Rattle.line_geometry.specs.Segments.{line_bytes}
-use Rattle.store_format.specs.Header.{Header, bank_at, number_at, header_of, total}
-use Rattle.line_geometry.specs.declared.directory.PageSize.{PageSize}
 use Rattle.store_format.specs.Bank.{RecordLine, Holds, Faulty, base_of, bank_of, bank_held}
-use Rattle.store_format.specs.Stands.{Stands, Damaged, stands, standing_if, standing_by, HasHeader, IsStore, chosen, laid, home_of}
-use Rattle.store_format.proofs.Stores.{stands_is, not_less}
 use Rattle.outside.specs.declared.world.Outside.{Ghosts}
-use Rattle.outside.specs.Runs.{OnlyAsks, FewerLater, held_of}
-use Rattle.outside.specs.Bytes.{AreTold}
 use Rattle.outside.specs.Durable.{IsSure}
 use Rattle.redo_journal.specs.Kept.{KeptBank, place_of, end_of, begun_of, number_of as number_in}
 use Rattle.redo_journal.specs.Opened.{bank_in}
 use Rattle.redo_journal.proofs.AppendLemmas.{place_is}
-use Rattle.checkpoint.specs.Chosen as opened
-use Rattle.checkpoint.specs.Chosen.{IsChosen, IsOneOf, other}
-use Rattle.checkpoint.specs.Committed.{emptied, HoldsCommitted}
-use Rattle.redo_journal.specs.declared.fault.ReopenFault.{ReopenFault}
-use Rattle.redo_journal.specs.declared.fault.ReopenFault.TheVariants as reopening
 use Rattle.redo_journal.specs.declared.fault.OpenFault.{OpenFault}
-use Rattle.redo_journal.specs.declared.fault.OpenFault.TheVariants as opening
-use Rattle.redo_journal.specs.Tracks as journal
 use Rattle.redo_journal.specs.Tracks.{HoldsRecords, HoldsOneOf}
 use Rattle.checkpoint.specs.Home.{store_bytes}
-use Rattle.restart.specs.Faults.{IsOpenFault, IsReopenFault}
-use Rattle.restart.specs.Kept.{KeptStore, Fits, number_of, with_begun}
-use Rattle.restart.specs.Shows.{Shows, IsIntact, IsReopened, Tracks, ShownStands}
+use Rattle.checkpoint.specs.Chosen as opened
+use Rattle.redo_journal.specs.declared.fault.ReopenFault.TheVariants as reopening
+use Rattle.redo_journal.specs.declared.fault.OpenFault.TheVariants as opening
+use Rattle.redo_journal.specs.Tracks as journal
 
 -- the bank of a header is the one that such a bank's size says
 pub bank_is : (held : List ℕ) (header : Header) (which : Which) (page : PageSize) (bytes bound : ℕ) → header.directory.page ≡ page → header.bank_bytes ≡ bytes → line_count header.directory ≡ bound → bank_of held header which ≡ bank_in held page which bytes bound

@@ -1,14 +1,6 @@
 -- The committed bytes of a store that bytes show.
-use Rattle.std.proofs.Common.{◌≡◌, ℕ, ◌+◌, ◌%◌, ◌^◌, List, length, sym, ◌∙◌, ap}
-use Rattle.std.specs.Prelude.{fold}
-use Rattle.line_geometry.specs.Directory.{byte_count}
+use Rattle.restart.proofs.Common.{◌≡◌, ℕ, ◌+◌, ◌%◌, ◌^◌, List, length, sym, ◌∙◌, ap, fold, byte_count, byte_count-lines, Stands, stands, laid, home_of, stands_is, store_agrees, KeptStore, number_of, Shows}
 use Rattle.line_geometry.specs.FlatStore.{FlatStore}
-use Rattle.line_geometry.proofs.Within.{byte_count-lines}
-use Rattle.store_format.specs.Stands.{Stands, stands, laid, home_of}
-use Rattle.store_format.proofs.Stores.{stands_is}
-use Rattle.redo_journal.proofs.Newest.{store_agrees}
-use Rattle.restart.specs.Kept.{KeptStore, number_of}
-use Rattle.restart.specs.Shows.{Shows}
 use Rattle.restart.proofs.ShowLemmas.{shown_store}
 
 -- the committed bytes of a store that bytes show

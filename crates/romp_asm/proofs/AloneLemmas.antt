@@ -1,13 +1,5 @@
 -- Labels that stand nowhere before.
-use Rattle.std.proofs.Common.{◌≡◌, ℕ, ◌+◌, ◌<◌, ◌≤◌, ◌||◌, Bool, true, false, List, length, get_or, Bor, Option, Some, None, refl, sym, ap, ◌∙◌, subst, arith, inl, inr}
-use Rattle.std.specs.Option.{option_map_or}
-use Rattle.std.specs.BTreeMap.{BTreeMap}
-use Rattle.std.proofs.lemmas.Bool.{le-ltb, cases_lt}
-use Rattle.std.proofs.lemmas.List.{get_or_default}
-use Rattle.asm_parse.specs.declared.statement.Statement.{Statement}
-use Rattle.romp_asm.specs.declared.value.Place.{Place}
-use Rattle.romp_asm.specs.Value.{is_labelled}
-use Rattle.romp_asm.specs.Labels.{found_in, stands_before, repeated_in, noted, IsNew, AreAlone}
+use Rattle.romp_asm.proofs.Common.{◌≡◌, ℕ, ◌+◌, ◌<◌, ◌≤◌, ◌||◌, Bool, true, false, List, length, get_or, Bor, Option, Some, None, refl, sym, ap, ◌∙◌, arith, inl, inr, option_map_or, BTreeMap, le-ltb, cases_lt, get_or_default, Statement, Place, is_labelled, found_in, stands_before, repeated_in, noted, IsNew, AreAlone}
 
 -- neither of two
 pub or_none : (one two : Bool) → (one || two) ≡ false → (one ≡ false) × (two ≡ false)

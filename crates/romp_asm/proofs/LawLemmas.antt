@@ -1,10 +1,5 @@
 -- What the definitions say of all statements and sources.
-use Rattle.std.proofs.Common.{◌≡◌, ℕ, ◌⊎◌, Result, Ok, Err, refl, ap, inl, inr}
-use Rattle.asm_parse.specs.declared.statement.Body.{Body}
-use Rattle.asm_parse.specs.declared.statement.Body.TheVariants.{Nothing, Inst, Data, Space, Window, Entry, Export}
-use Rattle.asm_parse.specs.Form.{form_of}
-use Rattle.romp_asm.specs.Layout.{Parts}
-use Rattle.romp_asm.specs.Size.{SameMnemonic, form_size, size_of}
+use Rattle.romp_asm.proofs.Common.{◌≡◌, ℕ, ◌⊎◌, Result, Ok, Err, refl, ap, inl, inr, Body, Nothing, Inst, Data, Space, Window, Entry, Export, form_of, Parts, SameMnemonic, form_size, size_of}
 
 -- statements of the same mnemonic have the same size
 pub same_size : (one other : Body) → SameMnemonic one other → size_of one ≡ size_of other

@@ -1,32 +1,13 @@
 -- A program, as its statements are laid one after the other.
-use Rattle.std.proofs.Common.{◌≡◌, ℕ, ℤ, pos, suc, zero, ◌+◌, ◌<◌, ◌≤◌, nat_lt, Bool, true, false, is_some, cond, List, [], ◌∷◌, ◌++◌, length, take, drop, get_or, Option, Some, None, Result, Ok, Err, refl, sym, ap, subst, ◌∙◌, arith, append_assoc, append-nil, add-one, length-append, replicate, unwrap_or}
-use Rattle.std.specs.Option.{option_map, option_map_or, option_or}
-use Rattle.std.proofs.Math.Path.{fun_ext}
-use Rattle.std.proofs.Math.Seq.{drop-cons}
-use Rattle.std.proofs.lemmas.Bool.Decides.{nat_tests}
-use Rattle.std.proofs.lemmas.List.{drop_all, get_or_default, take_all, take_more}
-use Rattle.std.proofs.lemmas.List.Sums.{sum_by_push, fold_push}
-use Rattle.asm_parse.specs.declared.statement.Statement.{Statement}
-use Rattle.asm_parse.specs.declared.statement.Body.{Body}
+use Rattle.romp_asm.proofs.Common.{◌≡◌, ℕ, ℤ, pos, suc, zero, ◌+◌, ◌<◌, ◌≤◌, nat_lt, Bool, true, false, is_some, cond, List, [], ◌∷◌, ◌++◌, length, take, drop, get_or, Option, Some, None, Result, Ok, Err, refl, sym, ap, subst, ◌∙◌, arith, append_assoc, append-nil, add-one, length-append, replicate, unwrap_or, option_map, option_map_or, option_or, fun_ext, drop-cons, nat_tests, drop_all, get_or_default, take_all, take_more, sum_by_push, fold_push, Statement, Body, Place, BTreeMap, addresses_in, found_in, place_from, place_of, repeated_in, stands_before, AreReadAs, IsLaid, IsReadAs, LaidTo, image_joined, Scope, Table, option_and_then, slice_get, Parts, assembled, entry_of, has_label_of, image_behind, parts_of, piece_before, piece_of, windows_of, with_entry, with_image, with_window, size_of, total, address_from, address_of, addresses_of, is_labelled}
 use Rattle.asm_parse.specs.declared.fault.AsmFault.{AsmFault}
 use Rattle.asm_parse.specs.declared.fault.AsmFault.TheVariants.{Fault, Memory}
-use Rattle.std.proofs.lemmas.Grind.{common_steps}
 use Rattle.flat_machine.specs.declared.machine.Program.{Program}
 use Rattle.flat_machine.specs.declared.machine.Window.{Window as Sight}
 use Rattle.asm_parse.specs.Answers.{IsTextFaultOf}
 use Rattle.asm_parse.specs.Text.{at_line}
-use Rattle.romp_asm.specs.declared.value.Place.{Place}
 use Rattle.romp_asm.specs.declared.output.Output.{Output}
-use Rattle.std.specs.BTreeMap.{BTreeMap}
 use denote.Ref.{Bor}
-use Rattle.romp_asm.specs.Labels.{addresses_in, found_in, place_from, place_of, repeated_in, stands_before}
-use Rattle.romp_asm.specs.Laid.{AreReadAs, IsLaid, IsReadAs, LaidTo, image_joined}
-use Rattle.romp_asm.specs.declared.value.Scope.{Scope}
-use Rattle.romp_asm.specs.declared.value.Table.{Table}
-use Rattle.std.specs.Prelude.{option_and_then, slice_get}
-use Rattle.romp_asm.specs.Layout.{Parts, assembled, entry_of, has_label_of, image_behind, parts_of, piece_before, piece_of, windows_of, with_entry, with_image, with_window}
-use Rattle.romp_asm.specs.Size.{size_of, total}
-use Rattle.romp_asm.specs.Value.{address_from, address_of, addresses_of, is_labelled}
 
 -- a label's address is that of its place
 pub address_same : (index at : ℕ) (statements : List Statement) (word : List ℕ) → option_map (λ (place : Place). place.address) (place_from index at statements word) ≡ option_map pos (address_from at statements word)

@@ -1,17 +1,13 @@
 -- The instruction of a form is one that the table has.
-use Rattle.std.proofs.Common.{◌≡◌, ℕ, ℤ, ◌≤◌, ◌<◌, ◌^◌, true, Option, Some, None, refl, sym, ap, ◌∙◌, arith}
-use Rattle.std.specs.Option.{option_map, IsSomeAnd}
-use Rattle.std.proofs.lemmas.Bool.{le-leb}
+use Rattle.romp_asm.proofs.Common.{◌≡◌, ℕ, ℤ, ◌≤◌, ◌<◌, ◌^◌, true, Option, Some, None, refl, sym, ap, ◌∙◌, arith, option_map, IsSomeAnd, le-leb, Use, form_of}
 use Rattle.romp_table.specs.declared.inst.Op.{Op}
 use Rattle.romp_table.specs.declared.inst.Inst.{Inst}
 use Rattle.romp_table.specs.declared.table.Format.{Format}
-use Rattle.romp_table.specs.declared.table.Use.{Use}
 use Rattle.romp_table.specs.declared.table.Row.{Row}
 use Rattle.romp_table.specs.Decode.{is_used}
 use Rattle.romp_table.specs.Legal.{IsLegal, IsRowOf, IsSigned}
 use Rattle.romp_table.specs.Rows.{row_of}
 use Rattle.asm_parse.specs.declared.form.Form.{Form}
-use Rattle.asm_parse.specs.Form.{form_of}
 
 -- a row's format and what its register fields are for
 pub record Shape : Type 0 where

@@ -1,3 +1,4 @@
+pub mod Common
 pub mod LegalLemmas
 pub mod ValueLemmas
 pub mod NoteLemmas

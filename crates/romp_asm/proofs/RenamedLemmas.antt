@@ -1,23 +1,12 @@
 -- A statement whose labels are replaced by other words is read as it was.
-use Rattle.std.proofs.Common.{◌≡◌, ℕ, ℤ, Bool, true, false, is_some, cond, List, [], ◌∷◌, map, Option, Some, None, Result, Ok, Err, refl, ap, ◌∙◌}
-use Rattle.std.specs.Prelude.{◌&&◌, ◌||◌, if◌then◌else◌}
-use Rattle.std.specs.Option.{option_map}
+use Rattle.romp_asm.proofs.Common.{◌≡◌, ℕ, ℤ, Bool, true, false, List, [], ◌∷◌, map, Option, Some, None, Result, Ok, Err, refl, ap, ◌∙◌, option_map, form_of, Body, Nothing, Inst, Data, Space, Window, Entry, Export, code_bytes, data_bytes, encoding_of, in_range, then_value, even_at_most, entry_by, fitted, piece_of, with_entry, with_window, size_of, renamed_body, renamed_expr, renamed_operand, known_before, known_of, knowns_of, result_map, value_of}
 use Rattle.flat_machine.specs.declared.machine.Window.{Window as Sight}
 use Rattle.romp_table.specs.Encode.{encoded}
-use Rattle.asm_parse.specs.Form.{form_of}
-use Rattle.asm_parse.specs.declared.statement.Body.{Body}
-use Rattle.asm_parse.specs.declared.statement.Body.TheVariants.{Nothing, Inst, Data, Space, Window, Entry, Export}
 use Rattle.asm_parse.specs.declared.statement.Operand.{Operand}
-use Rattle.asm_parse.specs.declared.statement.Operand.TheVariants as operand
 use Rattle.asm_parse.specs.declared.statement.Expr.{Expr}
-use Rattle.asm_parse.specs.declared.statement.Expr.TheVariants as expr
-use Rattle.romp_asm.specs.Encoding.{code_bytes, data_bytes, encoding_of, in_range, then_value}
-use Rattle.romp_asm.specs.Field.{even_at_most}
 use Rattle.romp_asm.specs.Instruction.{inst_by}
-use Rattle.romp_asm.specs.Layout.{entry_by, fitted, piece_of, with_entry, with_window}
-use Rattle.romp_asm.specs.Size.{size_of}
-use Rattle.romp_asm.specs.Sources.{renamed_body, renamed_expr, renamed_operand}
-use Rattle.romp_asm.specs.Value.{known_before, known_of, knowns_of, result_map, value_of}
+use Rattle.asm_parse.specs.declared.statement.Operand.TheVariants as operand
+use Rattle.asm_parse.specs.declared.statement.Expr.TheVariants as expr
 use Rattle.romp_asm.specs.declared.value.Known.TheVariants as known
 
 module _ (addresses : List ℕ → Option ℤ) (name : List ℕ → List ℕ) where

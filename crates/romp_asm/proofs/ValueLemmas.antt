@@ -1,14 +1,7 @@
 -- Labels and values, as they are collected one after the other.
-use Rattle.std.proofs.Common.{◌≡◌, ℕ, pos, suc, ◌+◌, ◌^◌, ◌<◌, Bool, true, false, cond, List, [], ◌∷◌, ◌++◌, length, take, get_or, Option, Some, None, Result, Ok, Err, min, refl, ap, append_assoc, arith, length-take-le, to_z, w64}
-use Rattle.std.proofs.lemmas.Int.{ints}
-use Rattle.std.proofs.lemmas.List.{take_more}
-use Rattle.std.proofs.lemmas.List.Sums.{sum_by-cons, sum_by_push}
-use Rattle.asm_parse.specs.declared.statement.Statement.{Statement}
+use Rattle.romp_asm.proofs.Common.{ints, take_more, sum_by-cons, sum_by_push, Statement, Place, noted, place_from, size_of, total, is_labelled}
+use Rattle.std.proofs.Common.{◌≡◌, ℕ, pos, suc, ◌+◌, ◌^◌, ◌<◌, Bool, true, false, cond, List, [], ◌∷◌, ◌++◌, length, take, get_or, Option, Some, None, Result, Ok, Err, min, refl, arith, length-take-le, to_z, w64}
 use Rattle.romp_asm.specs.declared.value.Known.{Known}
-use Rattle.romp_asm.specs.declared.value.Place.{Place}
-use Rattle.romp_asm.specs.Labels.{noted, place_from}
-use Rattle.romp_asm.specs.Size.{size_of, total}
-use Rattle.romp_asm.specs.Value.{is_labelled, known_before, least_kind}
 
 -- operands behind those that were read, of which some may have had no value
 abbrev pub knowns_behind : List Known → Option ℕ → Result (List Known) ℕ → Result (List Known) ℕ

@@ -1,15 +1,7 @@
 -- The windows of a program that was assembled.
+use Rattle.romp_asm.proofs.Common.{AllByRecursion, fold, nat_tests, Statement, Body, Window, encoding_of, Parts, assembled, entry_of, fitted, has_label_of, image_behind, is_entry, is_free, piece_before, piece_of, takes_window, windows_of, with_image, with_window, size_of, total, addresses_of}
 use Rattle.std.proofs.Common.{◌≡◌, ℕ, zero, suc, ◌+◌, ◌-◌, ◌≤◌, ◌&&◌, ◌||◌, nat_lt, nat_le, if◌then◌else◌, Bool, true, false, is_some, List, [], ◌∷◌, ◌++◌, length, replicate, slice_get, slice_set, Option, Some, None, Result, Ok, Err, refl, sym, ap, ◌∙◌, subst, arith, append_assoc, append-nil, length-set}
-use Rattle.std.specs.List.{AllByRecursion, fold}
-use Rattle.std.proofs.lemmas.Bool.Decides.{nat_tests}
 use Rattle.flat_machine.specs.declared.machine.Window.{Window as Sight}
-use Rattle.asm_parse.specs.declared.statement.Statement.{Statement}
-use Rattle.asm_parse.specs.declared.statement.Body.{Body}
-use Rattle.asm_parse.specs.declared.statement.Body.TheVariants.{Window}
-use Rattle.romp_asm.specs.Encoding.{encoding_of}
-use Rattle.romp_asm.specs.Layout.{Parts, assembled, entry_of, fitted, has_label_of, image_behind, is_entry, is_free, piece_before, piece_of, takes_window, windows_of, with_image, with_window}
-use Rattle.romp_asm.specs.Size.{size_of, total}
-use Rattle.romp_asm.specs.Value.{addresses_of}
 use Rattle.romp_asm.proofs.MadeLemmas.{IsLegalPlace, windows_push}
 
 set_legal : (windows : List (Option Sight)) (place : ℕ) (window : Option Sight) → AllByRecursion IsLegalPlace windows → IsLegalPlace window → AllByRecursion IsLegalPlace (slice_set windows place window)

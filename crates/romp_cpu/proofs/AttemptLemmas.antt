@@ -1,33 +1,13 @@
 -- An attempt gives the row of every plain state that agrees, by the kinds of act.
+use Rattle.romp_cpu.proofs.Common.{option_map_or, arith, ap, sym, ◌∙◌, subst, leb-true, get_or-drop, length-append, get_or-map-range_with_len, length-map-range_with_len, big_number, overlaid, Layout, Act, Cs, Private, Shared, Refused, Plan, Does, Fails, Program, Attempt, Cpu, Access, Probe, bytes_from, halfword_of, access_to, Seen, seen_in, linked, undone, refused_by, unless_refused, tried, access_of, access_of_plan, place_of, bytes_in, ChecksAlike, ShowsSame, IsCpuOf, left_by, GivesAll, GivesBy, GivesOver, lines_of_access, TouchesAccess, GivesPlan, GivesEveryRow}
 use Rattle.std.specs.Prelude.{◌≡◌, refl, ℕ, ◌+◌, ◌≤◌, nat_le, nat_lt, cond, Bool, true, false, List, [], ◌∷◌, ◌++◌, length, drop, slice_index, slice_range, Option, Some, None}
-use Rattle.std.specs.Option.{option_map_or}
 use mathlib.Core.Path.{fun_ext}
-use Rattle.std.proofs.Common.{arith, ap, sym, ◌∙◌, subst}
-use Rattle.std.proofs.lemmas.Bool.{leb-true}
-use Rattle.std.proofs.lemmas.List.{get_or-drop, length-append}
-use Rattle.std.proofs.lemmas.List.FromFn.{get_or-map-range_with_len, length-map-range_with_len}
-use Rattle.byteorder.specs.Endian.{big_number}
-use Rattle.owned_list.specs.Overlay.{overlaid}
-use Rattle.line_geometry.specs.Directory.{Layout}
 use Rattle.lock_rules.specs.Lines.{no_lines}
-use Rattle.flat_machine.specs.declared.machine.Act.{Act}
-use Rattle.flat_machine.specs.declared.machine.Cs.{Cs}
 use Rattle.flat_machine.specs.declared.machine.Located.{Located}
-use Rattle.flat_machine.specs.declared.machine.Located.TheVariants.{Private, Shared, Refused}
 use Rattle.flat_machine.specs.declared.machine.Plain.{Plain}
-use Rattle.flat_machine.specs.declared.machine.Plan.{Plan}
-use Rattle.flat_machine.specs.declared.machine.Plan.TheVariants.{Does, Fails}
-use Rattle.flat_machine.specs.declared.machine.Program.{Program}
 use Rattle.flat_machine.specs.Effect.{filled}
 use Rattle.flat_machine.specs.Row.{Outcome, On, Check, halfword, plan, plan_at, located, loads, stores, stored_bytes, moved, acts, with_link, row_by}
 use Rattle.flat_machine.specs.Touched.{lines_of_act, touched_by}
-use Rattle.romp_cpu.specs.declared.cpu.Attempt.{Attempt}
-use Rattle.romp_cpu.specs.declared.cpu.Cpu.{Cpu}
-use Rattle.romp_cpu.specs.declared.storage.Access.{Access}
-use Rattle.romp_cpu.specs.declared.storage.Probe.{Probe}
-use Rattle.romp_cpu.specs.Shown.{bytes_from, halfword_of, access_to}
-use Rattle.romp_cpu.specs.Tried.{Seen, seen_in, linked, undone, refused_by, unless_refused, tried}
-use Rattle.romp_cpu.specs.Attempts.{access_of, access_of_plan, place_of, bytes_in, ChecksAlike, ShowsSame, IsCpuOf, left_by, GivesAll, GivesBy, GivesOver, lines_of_access, TouchesAccess, GivesPlan, GivesEveryRow}
 
 -- a halfword of the private bytes that are shown is the halfword shown
 halfword-shown :

@@ -1,3 +1,4 @@
+pub mod Common
 mod UndoneLemmas
 pub mod WholeLemmas
 pub mod AttemptLemmas

@@ -1,23 +1,11 @@
 -- A storage that is one list of bytes under register 0 answers, shows and stores as a storage does.
+use Rattle.romp_cpu.proofs.Common.{arith, ap, sym, ◌∙◌, inl, inr, cases_lt, leb-true, nat_tests, get_or-take, get_or-drop, length-take, length-drop, get_or-map-range_with_len, length-map-range_with_len, overlaid, Check, Virtual, virtual_at, located_under, located_by, Access, Probe, bytes_from, bytes_of_range, unless_absent_at, answered_at, answered, IsOutside}
 use Rattle.std.specs.Prelude.{◌≡◌, refl, ℕ, zero, suc, ◌+◌, ◌-◌, ◌*◌, ◌/◌, ◌%◌, ◌^◌, ◌<◌, ◌≤◌, nat_le, not, ◌&&◌, cond, Bool, true, false, List, [], ◌∷◌, length, find, take, drop, slice_index, slice_index_or, None, Result, Ok, Err}
-use Rattle.std.proofs.Common.{arith, ap, sym, ◌∙◌, inl, inr}
-use Rattle.std.proofs.lemmas.Bool.{cases_lt, leb-true}
-use Rattle.std.proofs.lemmas.Bool.Decides.{nat_tests}
 use Rattle.std.proofs.lemmas.Nat.{div-add-mod'}
-use Rattle.std.proofs.lemmas.List.{get_or-take, get_or-drop, length-take, length-drop}
-use Rattle.std.proofs.lemmas.List.FromFn.{get_or-map-range_with_len, length-map-range_with_len}
 use Rattle.std.proofs.lemmas.Grind.{same_number_lists}
-use Rattle.owned_list.specs.Overlay.{overlaid}
 use Rattle.owned_list.proofs.Overlay.{overlaid_before, overlaid_within, overlaid_behind}
 use Rattle.line_geometry.specs.declared.directory.PageSize.TheVariants.{Two}
-use Rattle.segment_regs.specs.declared.registers.Check.{Check}
-use Rattle.segment_regs.specs.declared.registers.Virtual.{Virtual}
-use Rattle.segment_regs.specs.Registers.{virtual_at, located_under, located_by}
-use Rattle.romp_cpu.specs.declared.storage.Access.{Access}
 use Rattle.romp_cpu.specs.declared.storage.Fault.{Fault}
-use Rattle.romp_cpu.specs.declared.storage.Probe.{Probe}
-use Rattle.romp_cpu.specs.Shown.{bytes_from}
-use Rattle.romp_cpu.specs.Answers.{bytes_of_range, unless_absent_at, answered_at, answered, IsOutside}
 use Rattle.romp_cpu.specs.Memory.{one_register}
 
 -- a range that is shown

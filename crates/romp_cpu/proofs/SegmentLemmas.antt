@@ -1,21 +1,5 @@
 -- A storage with a program's segment registers checks accesses as the plain machine does.
-use Rattle.std.specs.Prelude.{refl, ℕ, zero, suc, ◌+◌, ◌/◌, ◌%◌, ◌^◌, nat_le, ◌&&◌, not, cond, Bool, true, false, slice_index_or, Option, Some, None, option_map, Result, Ok, Err}
-use Rattle.std.proofs.Common.{sym, subst}
-use Rattle.std.proofs.Math.ListN.{get_or-map}
-use Rattle.line_geometry.specs.declared.directory.PageSize.{PageSize}
-use Rattle.line_geometry.specs.Directory.{Layout, length_of, start_of}
-use Rattle.segment_regs.specs.declared.registers.Check.{Check}
-use Rattle.segment_regs.specs.declared.registers.SegmentRegister.{SegmentRegister}
-use Rattle.segment_regs.specs.declared.registers.Virtual.{Virtual}
-use Rattle.segment_regs.specs.Registers.{virtual_at, located_under}
-use Rattle.flat_machine.specs.declared.machine.Located.TheVariants.{Private, Shared, Refused}
-use Rattle.flat_machine.specs.declared.machine.Program.{Program}
-use Rattle.flat_machine.specs.declared.machine.Window.{Window}
-use Rattle.flat_machine.specs.Row.{in_segment, in_window, in_register}
-use Rattle.romp_cpu.specs.declared.storage.Access.{Access}
-use Rattle.romp_cpu.specs.Answers.{unless_absent_at, answered_at, answered}
-use Rattle.romp_cpu.specs.Attempts.{ChecksAlike, place_of}
-use Rattle.romp_cpu.specs.Segments.{register_of_window, registers_of_program}
+use Rattle.romp_cpu.proofs.Common.{refl, ℕ, zero, suc, ◌+◌, ◌/◌, ◌%◌, ◌^◌, nat_le, ◌&&◌, not, cond, Bool, true, false, slice_index_or, Option, Some, None, option_map, Result, Ok, Err, sym, subst, get_or-map, PageSize, Layout, length_of, start_of, Check, SegmentRegister, Virtual, virtual_at, located_under, Private, Shared, Refused, Program, Window, in_segment, in_window, in_register, Access, unless_absent_at, answered_at, answered, ChecksAlike, place_of, register_of_window, registers_of_program}
 
 -- an access that lies somewhere gets no check
 no-check : (absent refused : Option Virtual) (at : ℕ) → ChecksAlike (unless_absent_at absent refused) (Private at) × ChecksAlike (unless_absent_at absent refused) (Shared at)

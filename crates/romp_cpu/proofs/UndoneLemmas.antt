@@ -1,15 +1,5 @@
 -- What an attempt undoes.
-use Rattle.std.specs.Prelude.{refl, ℕ, nat_lt, cond, Bool, true, false}
-use Rattle.flat_machine.specs.declared.machine.Act.{Act}
-use Rattle.flat_machine.specs.declared.machine.Plan.{Plan}
-use Rattle.flat_machine.specs.declared.machine.Plan.TheVariants.{Does, Fails}
-use Rattle.romp_cpu.specs.declared.cpu.Attempt.{Attempt}
-use Rattle.romp_cpu.specs.declared.cpu.Cpu.{Cpu}
-use Rattle.romp_cpu.specs.declared.storage.Access.{Access}
-use Rattle.romp_cpu.specs.declared.storage.Probe.{Probe}
-use Rattle.romp_cpu.specs.Shown.{access_to}
-use Rattle.romp_cpu.specs.Tried.{Seen, Tried, undone, refused_by, unless_refused, tried}
-use Rattle.romp_cpu.specs.Attempts.{UndoesUnlessWent}
+use Rattle.romp_cpu.proofs.Common.{refl, ℕ, nat_lt, cond, Bool, true, false, Act, Plan, Does, Fails, Attempt, Cpu, Access, Probe, access_to, Seen, Tried, undone, refused_by, unless_refused, tried, UndoesUnlessWent}
 
 module _ {S : Type 0} (seen : Seen S) (cpu : Cpu) where
   -- an attempt undoes unless it went

@@ -1,19 +1,11 @@
 -- A store has as many bytes as its access.
+use Rattle.romp_cpu.proofs.Common.{◌==◌, ◌||◌, nat_lt, slice_index, IsTrue, nat_tests, length-take, length-drop, big_bytes, Act, Cs, planned, IsSoundPending, stored_bytes, StoresAll}
 use Rattle.std.proofs.Common.{◌≡◌, ℕ, ◌/◌, ◌%◌, ◌≤◌, Bool, true, false, List, length, take, drop, refl, arith, cond}
-use Rattle.std.specs.Prelude.{◌==◌, ◌||◌, nat_lt, slice_index, IsTrue}
 use Rattle.std.specs.List.{flat_map}
-use Rattle.std.proofs.lemmas.Bool.Decides.{nat_tests}
-use Rattle.std.proofs.lemmas.List.{length-take, length-drop}
-use Rattle.byteorder.specs.Endian.{big_bytes}
 use Rattle.byteorder.specs.Numbers.{length-bytes_high_first}
-use Rattle.flat_machine.specs.declared.machine.Act.{Act}
-use Rattle.flat_machine.specs.declared.machine.Cs.{Cs}
 use Rattle.flat_machine.specs.declared.machine.Pending.{Pending}
 use Rattle.flat_machine.specs.Access.{FitsFrom}
-use Rattle.flat_machine.specs.Pending.{planned, IsSoundPending}
-use Rattle.flat_machine.specs.Row.{stored_bytes}
 use Rattle.flat_machine.proofs.Steps.{length-words}
-use Rattle.romp_cpu.specs.Attempts.{StoresAll}
 
 pub stored_bytes-long : (registers : List ℕ) (bytes from : ℕ) → length registers ≡ 16 → FitsFrom bytes from → length (stored_bytes registers bytes from) ≡ bytes
 stored_bytes-long registers bytes from sixteen fits = by_test (nat_lt bytes 4) refl

@@ -1,19 +1,10 @@
 -- What stands under a program's segment registers, and which segments a legal directory has.
-use Rattle.std.specs.Prelude.{◌≡◌, refl, ℕ, suc, ◌+◌, ◌<◌, ◌≤◌, ◌^◌, cond, Bool, true, false, List, [], ◌∷◌, All, find, slice_index_or, Option, Some, None, option_map}
-use Rattle.std.proofs.Common.{arith, sym, ◌∙◌}
-use Rattle.std.proofs.Math.ListN.{get_or-map}
+use Rattle.romp_cpu.proofs.Common.{◌≡◌, refl, ℕ, suc, ◌+◌, ◌<◌, ◌≤◌, ◌^◌, cond, Bool, true, false, List, [], ◌∷◌, All, find, slice_index_or, Option, Some, None, option_map, arith, sym, ◌∙◌, get_or-map, nat_tests, PageSize, Layout, length_of, start_of, byte_count, SegmentRegister, Program, Window, register_of_window, registers_of_program}
 use Rattle.std.proofs.lemmas.List.Elements.{All-head, All-tail}
-use Rattle.std.proofs.lemmas.Bool.Decides.{nat_tests}
-use Rattle.line_geometry.specs.declared.directory.PageSize.{PageSize}
-use Rattle.line_geometry.specs.Directory.{Layout, length_of, start_of, byte_count}
 use Rattle.line_geometry.specs.Legal.{IsInRange, IsLegal}
 use Rattle.line_geometry.specs.Segments.{page_bytes, bytes_of, is_named}
 use Rattle.line_geometry.proofs.Legal.{legal-bytes}
 use Rattle.line_geometry.proofs.Within.{segment-within}
-use Rattle.segment_regs.specs.declared.registers.SegmentRegister.{SegmentRegister}
-use Rattle.flat_machine.specs.declared.machine.Program.{Program}
-use Rattle.flat_machine.specs.declared.machine.Window.{Window}
-use Rattle.romp_cpu.specs.Segments.{register_of_window, registers_of_program}
 
 -- what stands under the register of a window is a segment of the store with its bytes
 window-segment :

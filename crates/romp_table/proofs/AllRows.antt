@@ -1,11 +1,7 @@
 -- An instruction of each of the 85 rows, and its bytes and halfwords in literal numbers.
+use Rattle.romp_table.proofs.Common.{Inst, decoded, row_numbered, encoded, row_of}
 use Rattle.std.specs.Prelude.{◌≡◌, ℕ, refl, ◌+◌, ◌*◌, List, [], ◌∷◌, map, Some, negsuc, pos}
-use Rattle.romp_table.specs.declared.inst.Inst.{Inst}
 use Rattle.romp_table.specs.declared.inst.Op.TheVariants as Op
-use Rattle.romp_table.specs.Decode.{decoded, row_numbered}
-use Rattle.romp_table.specs.Encode.{encoded}
-use Rattle.romp_table.specs.declared.inst.Code.{Code}
-use Rattle.romp_table.specs.Rows.{row_of}
 
 -- an instruction, how many bytes it has, and these, filled up with zeros
 abbrev rows : List (Inst × ℕ × ℕ × ℕ × ℕ × ℕ)

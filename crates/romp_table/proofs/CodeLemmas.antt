@@ -1,14 +1,6 @@
 -- Reading and writing instructions are inverse.
-use Rattle.std.proofs.Common.{◌≡◌, ℕ, ◌/◌, ◌^◌, ◌<◌, false, cond, Option, Some, None, take, refl, sym, ap, ◌∙◌, subst}
-use Rattle.std.specs.Prelude.{IsSomeAnd, IfNone, IsTrue, option_and_then}
-use Rattle.std.specs.Option.{option_map_or}
-use Rattle.romp_table.specs.Decode.{number_unit, instruction_by, row_numbered, has_uses, if_used, decoded}
-use Rattle.romp_table.specs.Rows.{place_of, row_of}
-use Rattle.romp_table.specs.Legal.{HasWidths, IsLegal, IsRowOf, op_of, format_of}
-use Rattle.romp_table.specs.Encode.{number_of, first_with, first_of, second_of, bytes_in, bytes_of, encoded, BeginWith}
+use Rattle.romp_table.proofs.Common.{◌≡◌, ℕ, ◌/◌, ◌^◌, ◌<◌, false, cond, Option, Some, None, take, refl, sym, ap, ◌∙◌, subst, IsSomeAnd, IfNone, IsTrue, option_and_then, option_map_or, number_unit, instruction_by, row_numbered, has_uses, if_used, decoded, place_of, row_of, HasWidths, IsLegal, IsRowOf, op_of, format_of, number_of, first_with, first_of, second_of, bytes_in, bytes_of, encoded, BeginWith, Inst, Row}
 use Rattle.romp_table.specs.declared.inst.Code.{Code}
-use Rattle.romp_table.specs.declared.inst.Inst.{Inst}
-use Rattle.romp_table.specs.declared.table.Row.{Row}
 use Rattle.romp_table.proofs.TableLemmas.{number_fits, row_of_place, op_at_place, row_unique, row_found}
 use Rattle.romp_table.proofs.FieldLemmas.{numbered, read-written, written-read, first_told, read_alike, op_kept, format_kept}
 

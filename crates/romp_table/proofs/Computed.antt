@@ -1,13 +1,6 @@
 -- What the checker computes over the whole table, once.
+use Rattle.romp_table.proofs.Common.{range_with_len, position_or_len, list_all, number_unit, is_row_at, place_of, op_named, mnemonic, Format, Row, TABLE, PLACES, NAMES}
 use Rattle.std.specs.Prelude.{◌≡◌, ℕ, ◌+◌, ◌*◌, ◌/◌, ◌^◌, ◌==◌, Bool, true, List, map, refl, Some, nat_lt, slice_index}
-use Rattle.std.specs.List.{range_with_len, position_or_len, list_all}
-use Rattle.romp_table.specs.Decode.{number_unit}
-use Rattle.romp_table.specs.Rows.{is_row_at, place_of}
-use Rattle.romp_table.specs.Names.{op_named, mnemonic}
-use Rattle.romp_table.specs.declared.table.Format.{Format}
-use Rattle.romp_table.specs.declared.table.Row.{Row}
-use Rattle.romp_table.specs.declared.table.TheConstants.{TABLE, PLACES}
-use Rattle.romp_table.specs.declared.names.TheConstants.{NAMES}
 
 -- how many high bytes a row of this format has
 abbrev pub span : Format → ℕ

@@ -1,11 +1,6 @@
 -- The fields of each format, written and read again.
+use Rattle.romp_table.proofs.Common.{number_unit, instruction_by, signed, nibble, HasWidths, op_of, format_of, bits_of, first_with, second_of, bytes_in, bytes_of, Op, Inst, Format}
 use Rattle.std.proofs.Common.{◌≡◌, ℕ, ◌+◌, ◌*◌, ◌/◌, ◌%◌, ◌^◌, ◌<◌, List, ◌∷◌, [], take, get_or, refl, ap, ◌∙◌, arith}
-use Rattle.romp_table.specs.Decode.{number_unit, instruction_by, signed, nibble}
-use Rattle.romp_table.specs.Legal.{HasWidths, op_of, format_of}
-use Rattle.romp_table.specs.Encode.{bits_of, first_with, second_of, bytes_in, bytes_of}
-use Rattle.romp_table.specs.declared.inst.Op.{Op}
-use Rattle.romp_table.specs.declared.inst.Inst.{Inst}
-use Rattle.romp_table.specs.declared.table.Format.{Format}
 use Rattle.romp_table.proofs.SignLemmas.{bits-signed_8, bits-signed_20, bits_small_8, bits_small_20, signed-bits_8, signed-bits_20}
 
 -- the number of a first halfword is that of its row

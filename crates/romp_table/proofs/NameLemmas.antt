@@ -1,16 +1,8 @@
 -- The mnemonics, from what was computed of them.
+use Rattle.romp_table.proofs.Common.{IfSome, IfNone, slice_get, option_map, slice_get-map, place_of, mnemonic, op_named, Op, TABLE, NAMES}
 use Rattle.std.proofs.Common.{◌≡◌, ◌≢◌, ℕ, true, List, Option, Some, None, map, sym, ap, ◌∙◌, subst, arith}
-use Rattle.std.specs.Prelude.{IfSome, IfNone}
-use Rattle.std.specs.List.{slice_get}
-use Rattle.std.specs.Option.{option_map}
 use Rattle.std.specs.Str.{bytes_eq}
-use Rattle.std.proofs.lemmas.Option.{slice_get-map}
 use Rattle.std.proofs.lemmas.Slice.Eq.{bytes_eq-Decides}
-use Rattle.romp_table.specs.Rows.{place_of}
-use Rattle.romp_table.specs.Names.{mnemonic, op_named}
-use Rattle.romp_table.specs.declared.inst.Op.{Op}
-use Rattle.romp_table.specs.declared.table.TheConstants.{TABLE}
-use Rattle.romp_table.specs.declared.names.TheConstants.{NAMES}
 use Rattle.romp_table.proofs.Computed.{names_ordered, names_computed}
 use Rattle.romp_table.proofs.Lists.{find_passes, found_within}
 use Rattle.romp_table.proofs.TableLemmas.{place_below, op_at_place}

@@ -1,11 +1,7 @@
 -- Bits with a sign and without.
+use Rattle.romp_table.proofs.Common.{◌-ℤ◌, nat_lt, nat_tests, signed, IsSigned, bits_of}
 use Rattle.std.proofs.Common.{◌≡◌, ℕ, ℤ, pos, negsuc, suc, ◌-◌, ◌^◌, ◌<◌, Bool, true, false, cond, refl, ap, ◌∙◌, arith}
-use Rattle.std.specs.Prelude.{◌-ℤ◌, nat_lt}
 use Rattle.std.proofs.lemmas.Int.{ints}
-use Rattle.std.proofs.lemmas.Bool.Decides.{nat_tests}
-use Rattle.romp_table.specs.Decode.{signed}
-use Rattle.romp_table.specs.Legal.{IsSigned}
-use Rattle.romp_table.specs.Encode.{bits_of}
 
 below_zero : (a b : ℕ) → a < b → pos a -ℤ pos b ≡ negsuc (b - suc a)
 below_zero a b h = omega (arith, ints)

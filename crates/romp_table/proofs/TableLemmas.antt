@@ -1,23 +1,12 @@
 -- The rules of the table at each row, from what was computed over all rows.
+use Rattle.romp_table.proofs.Common.{nat_tests, get_or-range_with_len, slice_get-map, nat_lt, range_with_len, position_or_len, slice_get, option_map, number_unit, has_number, row_numbered, is_row_at, place_of, row_of, Op, Format, Row, TABLE, PLACES}
 use Rattle.std.proofs.Common.{◌≡◌, ℕ, ◌+◌, ◌*◌, ◌/◌, ◌%◌, ◌^◌, ◌<◌, ◌==◌, true, List, Some, sym, ap, ◌∙◌, map, find, slice_index, zero-add, arith}
 use mathlib.Core.Path.{fun_ext}
 use denote.Enum.Bare.{tag_one}
 use denote.Enum.Declared.{variants}
 use denote.Enum.Enum.{tag_below}
-use Rattle.std.proofs.lemmas.Bool.Decides.{nat_tests}
-use Rattle.std.proofs.lemmas.List.FromFn.{get_or-range_with_len}
-use Rattle.std.proofs.lemmas.Option.{slice_get-map}
 use Rattle.romp_table.specs.contracts.inst.Op.{the_type}
-use Rattle.std.specs.Prelude.{nat_lt}
-use Rattle.std.specs.List.{range_with_len, position_or_len, slice_get}
-use Rattle.std.specs.Option.{option_map}
 use Rattle.std.proofs.lemmas.List.Folds.{find_at}
-use Rattle.romp_table.specs.Decode.{number_unit, has_number, row_numbered}
-use Rattle.romp_table.specs.Rows.{is_row_at, place_of, row_of}
-use Rattle.romp_table.specs.declared.inst.Op.{Op}
-use Rattle.romp_table.specs.declared.table.Format.{Format}
-use Rattle.romp_table.specs.declared.table.Row.{Row}
-use Rattle.romp_table.specs.declared.table.TheConstants.{TABLE, PLACES}
 use Rattle.romp_table.proofs.Computed.{span, has_high, leads_back, places_computed, highs_computed, order_computed, ops_computed, widths_computed}
 use Rattle.romp_table.proofs.Lists.{find_passes, all_at, value_at, range_at, range_found}
 

@@ -1,22 +1,9 @@
 -- What a crash leaves of a run from an opening.
-use Rattle.std.proofs.Common.{◌≡◌, ℕ, ◌+◌, ◌≤◌, List, [], ◌∷◌, ◌++◌, length, map, take, refl, sym, ap, ◌∙◌, subst, arith, length-append, append-nil, append_assoc, Option, Some, IsTrue}
-use Rattle.std.specs.Prelude.{false, true, not, Bool, ◌%◌, ◌^◌}
-use Rattle.std.proofs.lemmas.List.{take_at, map-append}
+use Rattle.run_law.proofs.Common.{false, true, not, Bool, ◌%◌, ◌^◌, take_at, map-append, Program, serial, Stands, Event, begun, IsSerial, standing_of, fine_step, Desk, opened, Word, Fine, Doubt, event_lines, run, step, IsRunOf, OpenBeforeEach}
+use Rattle.std.proofs.Common.{◌≡◌, ℕ, ◌+◌, List, [], ◌∷◌, ◌++◌, length, map, take, refl, sym, ap, ◌∙◌, arith, length-append, append-nil, append_assoc, Some, IsTrue}
 use Rattle.line_geometry.specs.FlatStore.{FlatStore}
-use Rattle.flat_machine.specs.declared.machine.Program.{Program}
-use Rattle.flat_machine.specs.Serial.{Activation, serial}
-use Rattle.store_format.specs.Stands.{Standing, Stands}
-use Rattle.desk.specs.declared.event.Event.{Event}
-use Rattle.desk.specs.Commits.{begun, IsSerial}
-use Rattle.desk.specs.Crash.{standing_of, fine_step}
-use Rattle.desk.specs.Desk.{Desk, opened}
-use Rattle.desk.specs.Instruction.{Word, Fine, Doubt}
-use Rattle.desk.specs.Report.{event_lines}
-use Rattle.desk.specs.Run.{run, step, IsRunOf, OpenBeforeEach}
-use Rattle.desk.specs.Seen.{commits_seen}
 use Rattle.desk.proofs.SerialLaw.{run-serial}
-use Rattle.run_law.specs.Headline.{IsPrefix, LeftIsPrefix, DoubtIsWhole}
-use Rattle.run_law.specs.Left.{IsLeft}
+use Rattle.run_law.specs.Headline.{LeftIsPrefix, DoubtIsWhole}
 use Rattle.run_law.proofs.RunLemmas.{run_on}
 use Rattle.run_law.proofs.StepLemmas.{Stepped, step_by}
 

@@ -1,20 +1,6 @@
 -- What a crash leaves of a run, from what it leaves of its parts.
-use Rattle.std.proofs.Common.{◌≡◌, ℕ, ◌+◌, ◌≤◌, List, [], ◌∷◌, ◌++◌, length, map, take, min, refl, sym, ap, ◌∙◌, subst, arith, append-nil, append_assoc, length-append, ⊎_elim, IsTrue, ◌⊎◌}
-use Rattle.std.specs.Prelude.{true, false, not, Bool}
+use Rattle.run_law.proofs.Common.{◌≡◌, ℕ, ◌+◌, ◌≤◌, List, [], ◌∷◌, ◌++◌, length, map, take, min, refl, sym, ap, ◌∙◌, subst, arith, append-nil, append_assoc, length-append, ⊎_elim, ◌⊎◌, false, not, take-append-le, take_min, map-append, Program, stands, Event, Desk, Word, Fine, Step, run, step, OpenBeforeEach, commits_seen, standing_of, fine_step, IsEitherOf, IsLeft}
 use Rattle.std.proofs.Math.Seq.{take-append-add}
-use Rattle.std.proofs.lemmas.List.{take-append-le, take_min, take_all, map-append}
-use Rattle.std.specs.List.{flat_map}
-use Rattle.flat_machine.specs.declared.machine.Program.{Program}
-use Rattle.store_format.specs.Stands.{Standing, stands}
-use Rattle.desk.specs.declared.event.Event.{Event}
-use Rattle.desk.specs.Desk.{Desk}
-use Rattle.desk.specs.Instruction.{Word, Fine}
-use Rattle.desk.specs.Run.{Step, run, step, OpenBeforeEach, IsRunOf}
-use Rattle.desk.specs.Lines.{Line, line_text}
-use Rattle.desk.specs.Report.{number_after, happening_lines, event_lines}
-use Rattle.desk.specs.Seen.{commits_seen}
-use Rattle.desk.specs.Crash.{standing_of, fine_step, IsEitherOf}
-use Rattle.run_law.specs.Left.{IsLeft}
 use Rattle.run_law.proofs.SeenLemmas.{seen_cut}
 use Rattle.run_law.proofs.StepLemmas.{Stepped, step_by}
 use Rattle.run_law.proofs.RunLemmas.{run_on, open_on}

@@ -1,3 +1,4 @@
+pub mod Common
 pub mod Unbroken
 pub mod SeenLemmas
 pub mod TurnLemmas

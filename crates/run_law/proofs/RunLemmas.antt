@@ -1,16 +1,6 @@
 -- Runs, one after another.
-use Rattle.std.proofs.Common.{◌≡◌, ℕ, ◌+◌, List, [], ◌∷◌, ◌++◌, refl, sym, ap, ◌∙◌, append_assoc, cond}
-use Rattle.std.specs.Prelude.{not}
-use Rattle.std.specs.List.{flat_map}
-use Rattle.std.proofs.lemmas.List.Sums.{sum_by-append}
+use Rattle.run_law.proofs.Common.{◌≡◌, ℕ, ◌+◌, List, [], ◌∷◌, ◌++◌, refl, sym, ap, ◌∙◌, append_assoc, cond, not, flat_map, sum_by-append, Program, Event, Desk, Word, run, step, is_fine, faulted, OpenBeforeEach, Line, Open, line_text, number_after, happening_lines, closing_lines, lines_from, report, event_lines}
 use Rattle.std.proofs.lemmas.Grind.{flat_map-append}
-use Rattle.flat_machine.specs.declared.machine.Program.{Program}
-use Rattle.desk.specs.declared.event.Event.{Event}
-use Rattle.desk.specs.Desk.{Desk}
-use Rattle.desk.specs.Instruction.{Word}
-use Rattle.desk.specs.Run.{run, step, is_fine, faulted, OpenBeforeEach}
-use Rattle.desk.specs.Lines.{Line, Open, line_text}
-use Rattle.desk.specs.Report.{number_after, happening_lines, closing_lines, lines_from, report, event_lines}
 
 module _ (programs : List Program) where
   pub run_on : (xs ys : List (Event × Word)) (desk : Desk) → run programs (xs ++ ys) desk ≡ run programs ys (run programs xs desk)

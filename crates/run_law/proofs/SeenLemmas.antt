@@ -1,13 +1,7 @@
 -- The commits that the bytes of a report tell of, also where it is cut.
-use Rattle.std.proofs.Common.{◌≡◌, ℕ, ◌+◌, ◌≤◌, Bool, true, false, List, [], ◌∷◌, ◌++◌, length, take, drop, map, refl, sym, ap, ◌∙◌, subst, append_assoc, append-nil, cond, codes, arith}
-use Rattle.std.specs.Prelude.{◌==◌, if◌then◌else◌, count_by, nat_eq}
-use Rattle.std.specs.List.{flat_map, starts_with}
-use Rattle.std.proofs.lemmas.List.{take-append-drop}
-use Rattle.std.proofs.lemmas.List.Sums.{sum_by-append}
-use Rattle.desk.specs.Lines.{Line, line_text}
+use Rattle.run_law.proofs.Common.{◌==◌, if◌then◌else◌, count_by, nat_eq, flat_map, starts_with, take-append-drop, sum_by-append, Line, line_text, is_commit, whole_lines, commits_seen, IsUnbroken}
+use Rattle.std.proofs.Common.{◌≡◌, ℕ, ◌+◌, ◌≤◌, Bool, true, false, List, [], ◌∷◌, ◌++◌, take, drop, refl, sym, ap, ◌∙◌, append_assoc, append-nil, cond, codes, arith}
 use Rattle.desk.specs.Lines as line
-use Rattle.desk.specs.Commits.{is_commit}
-use Rattle.desk.specs.Seen.{whole_lines, commits_seen, IsUnbroken}
 use Rattle.run_law.proofs.Unbroken.{unbroken_first, unbroken_rest, body_of, text_is, IsPlain, body-unbroken}
 
 -- whether a line without its line feed is a commit's

@@ -1,20 +1,8 @@
 -- What a step of an open desk does to its order, and the lines that it has.
-use Rattle.std.proofs.Common.{◌≡◌, ℕ, ◌+◌, ◌≤◌, List, [], ◌∷◌, ◌++◌, length, map, get_or, refl, sym, ap, ◌∙◌, subst, arith, append-nil, append_assoc, length-append, zero, suc, cond, inl, inr, ⊎_elim, ◌⊎◌}
+use Rattle.run_law.proofs.Common.{◌≡◌, ℕ, ◌+◌, ◌≤◌, List, [], ◌∷◌, ◌++◌, length, map, refl, sym, ap, ◌∙◌, subst, arith, append-nil, append_assoc, length-append, inl, inr, ⊎_elim, ◌⊎◌, flat_map, Program, Activation, Event, Desk, numbers, Word, Fine, ReadFailed, Unwritten, Doubt, Failed, Counts, Ending, Idle, Limit, Checked, Journal, Disk, Victim, Waits, Committed, CommitUnwritten, CommitDoubted, Turning, Going, Over, turn, Happening, Nothing, Begun, Busy, NoSegment, Turned, CheckpointMade, CheckpointFailed, Crashed, CrashFailed, Step, event_of, step, turned, run, begins, begin_if, absent_segment, OpenBeforeEach, Line, number_after, happening_lines, turn_lines, ending_lines, cycle_lines, event_lines, IsUnbroken, EndsInDoubt}
 use Rattle.std.specs.Prelude.{Bool, true, false, not, if◌then◌else◌, Some, None, Option, IsTrue, slice_get, slice_index_or, nat_lt}
-use Rattle.std.specs.List.{flat_map}
-use Rattle.flat_machine.specs.declared.machine.Program.{Program}
-use Rattle.flat_machine.specs.Serial.{Activation}
-use Rattle.desk.specs.declared.event.Event.{Event}
 use Rattle.desk.specs.declared.event.Event.TheVariants as event
-use Rattle.desk.specs.Desk.{Desk}
-use Rattle.desk.specs.Holdings.{numbers}
-use Rattle.desk.specs.Instruction.{Word, Fine, ReadFailed, Unwritten, Doubt, Failed, Counts, Ending, Idle, Limit, Checked, Journal, Disk, Victim, Waits, Committed, CommitUnwritten, CommitDoubted, Turning, Going, Over, turn}
-use Rattle.desk.specs.Run.{Happening, Nothing, Begun, Busy, NoSegment, Turned, CheckpointMade, CheckpointFailed, Crashed, CrashFailed, Step, event_of, step, turned, run, begins, begin, begin_if, absent_segment, OpenBeforeEach}
-use Rattle.desk.specs.Lines.{Line}
 use Rattle.desk.specs.Lines as line
-use Rattle.desk.specs.Report.{number_after, happening_lines, turn_lines, ending_lines, cycle_lines, event_lines}
-use Rattle.desk.specs.Seen.{IsUnbroken}
-use Rattle.run_law.specs.Left.{EndsInDoubt}
 use Rattle.run_law.proofs.SeenLemmas.{ArePlain, plain_on, commits_in, commits_on}
 use Rattle.run_law.proofs.TurnLemmas.{StaysOpen, Ended, Ends, turn_ends}
 

@@ -1,13 +1,10 @@
 -- What a turn leaves of a desk: whether it is closed, and what its order is.
-use Rattle.std.proofs.Common.{◌≡◌, ℕ, zero, suc, List, [], ◌∷◌, refl, ap, ◌+◌, ◌++◌}
+use Rattle.run_law.proofs.Common.{◌≡◌, ℕ, zero, suc, List, [], ◌∷◌, refl, ap, ◌+◌, ◌++◌, Desk, Entry, with_entry, rolled_back, wanted, conflicts_of, numbers, waits_for, Word, Fine, ReadFailed, Unwritten, Doubt, Failed, Counts, Ending, Committed, CommitUnwritten, CommitDoubted, Turning, Going, Over, Attempt, Contest, Contested, Settled, Lost, Fetching, Fetched, Broken, commits, takes_effect, goes_on, gets, with_grants, fetches_touched, breaks_cycle, breaks_cycles, waits_or_gets, contest_ends, asks, refused_pages, fetched_first, limited, is_over_limit, attempts, attempts_at, instruction, turns, turn, turn_of, no_counts}
 use Rattle.std.specs.Prelude.{Bool, true, false, Option, Some, None, find, ◌==◌, length}
 use Rattle.lock_rules.specs.Waits.{shown_cycle, victim_of}
 use Rattle.flat_machine.specs.declared.machine.Plain.{Plain}
 use Rattle.flat_machine.specs.Row.{Outcome, On, Commit, Check, row}
 use Rattle.flat_machine.specs.After.{after}
-use Rattle.desk.specs.Desk.{Desk, Entry, with_entry, rolled_back}
-use Rattle.desk.specs.Holdings.{wanted, conflicts_of, numbers, waits_for}
-use Rattle.desk.specs.Instruction.{Word, Fine, ReadFailed, Unwritten, Doubt, Failed, Counts, Ending, Committed, CommitUnwritten, CommitDoubted, Turning, Going, Over, Attempt, Contest, Contested, Settled, Lost, Fetching, Fetched, Broken, commits, takes_effect, goes_on, gets, with_grants, fetches_touched, breaks_cycle, breaks_cycles, waits_or_gets, contest_ends, asks, refused_pages, fetched_first, limited, is_over_limit, attempts, attempts_at, instruction, turns, turn, turn_of, no_counts}
 
 -- an open desk with this order
 abbrev pub StaysOpen : List (ℕ × ℕ) → Desk → Type 0

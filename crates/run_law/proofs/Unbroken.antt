@@ -1,14 +1,11 @@
 -- Bytes without a line feed, and the lines of a report.
-use Rattle.std.proofs.Common.{◌≡◌, ℕ, zero, suc, ◌+◌, ◌/◌, ◌%◌, Bool, true, false, List, [], ◌∷◌, ◌++◌, map, refl, eqb, ltb, cond, codes, arith}
-use Rattle.std.specs.Prelude.{◌==◌, ◌||◌, nat_lt, if◌then◌else◌, slice_index, decimal}
-use Rattle.std.specs.List.{list_any, join_with_byte}
+use Rattle.run_law.proofs.Common.{◌==◌, ◌||◌, nat_lt, if◌then◌else◌, slice_index, decimal, list_any, join_with_byte, Line, line_text, printed, IsUnbroken}
+use Rattle.std.proofs.Common.{◌≡◌, ℕ, zero, suc, ◌+◌, ◌/◌, ◌%◌, Bool, true, false, List, [], ◌∷◌, ◌++◌, map, refl, codes, arith}
 use Rattle.std.specs.Fmt.{digits, digits_onto, digit_glyph}
 use Rattle.std.proofs.lemmas.Bool.{ne_eqb}
 use Rattle.byteorder.specs.Endian.{big_bytes}
 use Rattle.hex.specs.Hex.{encode_with, encode_lower, lower_digits}
-use Rattle.desk.specs.Lines.{Line, line_text, printed}
 use Rattle.desk.specs.Lines as line
-use Rattle.desk.specs.Seen.{IsUnbroken}
 
 or_parts : (a b : Bool) → a || b ≡ false → (a ≡ false) × (b ≡ false)
 or_parts true b is = cc

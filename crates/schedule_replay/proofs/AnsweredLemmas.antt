@@ -1,29 +1,7 @@
 -- Events, one after another.
-use Rattle.std.proofs.Common.{◌≡◌, ℕ, zero, suc, ◌+◌, ◌<◌, ◌≤◌, List, [], ◌∷◌, ◌++◌, length, get_or, take, drop, cond, refl, sym, ◌∙◌, ap, subst, arith, rules, IsSome}
-use Rattle.std.specs.Prelude.{false, Option, Result, Ok, Err, IsErr, All}
-use Rattle.std.specs.Option.{ForSome}
-use Rattle.std.proofs.lemmas.List.{length-take, take_all, take_more, take-append-drop}
-use Rattle.std.proofs.lemmas.List.Sums.{count_by-le-length, sum_by-append}
-use Rattle.outside.specs.declared.failed.Failed.{Failed}
-use Rattle.outside.specs.declared.world.Outside.{Ghosts}
-use Rattle.outside.specs.Causes.{HasCause}
-use Rattle.outside.proofs.Counts.{cause_since}
-use Rattle.outside.specs.Runs.{FewerLater}
-use Rattle.outside.proofs.Runs.{elapses-trans}
-use Rattle.flat_machine.specs.declared.machine.Program.{Program}
-use Rattle.store_format.specs.Header.{Header, total}
-use Rattle.store_format.specs.Bank.{bank_of}
-use Rattle.store_format.specs.Stands.{chosen}
-use Rattle.std.specs.Prelude.{unwrap_or}
-use Rattle.desk.specs.declared.event.Event.{Event}
+use Rattle.schedule_replay.proofs.Common.{◌≡◌, ℕ, zero, suc, ◌+◌, ◌<◌, ◌≤◌, List, [], ◌∷◌, ◌++◌, length, get_or, take, drop, cond, refl, sym, ◌∙◌, ap, subst, arith, rules, IsSome, false, Option, Result, Ok, Err, IsErr, All, unwrap_or, ForSome, take_all, take_more, take-append-drop, sum_by-append, Failed, Ghosts, HasCause, cause_since, FewerLater, elapses-trans, Program, Header, total, bank_of, chosen, Event, HoldsStore, Line, Going, IsAsked, is_begin, is_turn, begins_in, turns_in, IsReady, Answered, GoesBy, GoesShut, Puts}
 use Rattle.desk.specs.declared.supervisor.Supervisor as desk
-use Rattle.desk.specs.Kept.{HoldsStore}
-use Rattle.desk.specs.Lines.{Line}
-use Rattle.schedule_replay.specs.declared.events.Going.{Going}
 use Rattle.schedule_replay.specs.declared.events.Going.TheVariants as going
-use Rattle.schedule_replay.specs.Asked.{IsAsked, is_begin, is_turn, begins_in, turns_in}
-use Rattle.schedule_replay.specs.Answered.{IsReady, Answered, GoesBy, GoesShut}
-use Rattle.schedule_replay.specs.Puts.{Puts}
 use Rattle.schedule_replay.proofs.PutsLemmas.{done, no_time}
 
 begins_split : (xs ys : List Event) → begins_in (xs ++ ys) ≡ begins_in xs + begins_in ys

@@ -1,27 +1,12 @@
 -- What lines tell of records and of faults of the disk, and how many puts they are.
-use Rattle.std.proofs.Common.{◌≡◌, ◌≢◌, ℕ, ◌+◌, ◌≤◌, List, [], ◌∷◌, ◌++◌, map, cond, refl, ap, ◌∙◌, arith, rules}
-use Rattle.std.specs.Prelude.{Bool, true, false, if◌then◌else◌, count_by, Some, None, Result, Ok, Err, IsErr, OnOk}
-use Rattle.std.specs.List.{flat_map}
-use Rattle.std.proofs.lemmas.List.Sums.{sum_by-append}
-use Rattle.outside.specs.declared.failed.Failed.{Failed}
-use Rattle.desk.specs.declared.answers.Begun.{Begun}
-use Rattle.desk.specs.declared.answers.Begun.TheVariants as begun
-use Rattle.desk.specs.declared.answers.Turn.{Turn}
-use Rattle.desk.specs.declared.answers.TurnEnd.{TurnEnd}
-use Rattle.desk.specs.declared.answers.TurnEnd.TheVariants as end
-use Rattle.desk.specs.declared.answers.Stored.{Stored}
-use Rattle.desk.specs.declared.answers.Stored.TheVariants as stored
-use Rattle.desk.specs.declared.answers.Reopened.{Reopened}
-use Rattle.desk.specs.declared.answers.Reopened.TheVariants as reopened
-use Rattle.desk.specs.Answers.{begun_told, turn_told, counts_told, stored_told, reopened_told}
-use Rattle.desk.specs.Commits.{is_commit}
-use Rattle.desk.specs.Instruction.{Counts, Ending}
-use Rattle.desk.specs.Instruction as turn
-use Rattle.desk.specs.Kept.{most_records, records_after, is_stored, tells_fault, turn_fails}
-use Rattle.desk.specs.Lines.{Line}
-use Rattle.desk.specs.Lines as line
-use Rattle.desk.specs.Report.{cycle_lines, turn_lines, happening_lines}
+use Rattle.schedule_replay.proofs.Common.{◌≡◌, ◌≢◌, ℕ, ◌+◌, ◌≤◌, List, [], ◌∷◌, ◌++◌, map, cond, refl, ap, ◌∙◌, arith, rules, Bool, true, false, if◌then◌else◌, count_by, Some, None, Result, Ok, Err, IsErr, OnOk, flat_map, sum_by-append, Failed, Begun, Turn, TurnEnd, Stored, Reopened, begun_told, turn_told, counts_told, stored_told, reopened_told, is_commit, Counts, Ending, most_records, records_after, is_stored, tells_fault, turn_fails, Line, cycle_lines, turn_lines, happening_lines}
 use Rattle.desk.specs.Run.{Happening, Nothing, Begun as begins, Busy, NoSegment, Turned, CheckpointMade, CheckpointFailed, Crashed, CrashFailed}
+use Rattle.desk.specs.declared.answers.Begun.TheVariants as begun
+use Rattle.desk.specs.declared.answers.TurnEnd.TheVariants as end
+use Rattle.desk.specs.declared.answers.Stored.TheVariants as stored
+use Rattle.desk.specs.declared.answers.Reopened.TheVariants as reopened
+use Rattle.desk.specs.Instruction as turn
+use Rattle.desk.specs.Lines as line
 
 -- how many lines tell of a fault
 abbrev pub faults_in : List Line → ℕ

@@ -1,40 +1,9 @@
 -- What one event keeps, how it goes on, and the numbers in its lines.
-use Rattle.std.proofs.Common.{◌≡◌, ℕ, ◌+◌, ◌≤◌, List, [], length, refl, sym, ap, ◌∙◌, subst, arith, inl, IsSome}
-use Rattle.std.specs.Prelude.{true, false, Bool, Option, Some, None, unwrap_or, Result, ◌↔◌}
-use Rattle.std.specs.Option.{ForSome}
-use Rattle.outside.specs.declared.failed.Failed.{Failed}
-use Rattle.outside.specs.declared.world.Outside.{Ghosts}
-use Rattle.outside.specs.Causes.{Rose}
-use Rattle.outside.specs.Durable.{IsSure}
-use Rattle.outside.specs.Runs.{CallsDisk, FewerLater, held_of}
-use Rattle.outside.proofs.Counts.{cause_since}
-use Rattle.outside.proofs.Durable.{leaves_held}
-use Rattle.outside.proofs.Runs.{elapses-trans}
-use Rattle.flat_machine.specs.declared.machine.Program.{Program}
-use Rattle.store_format.specs.Header.{total}
-use Rattle.store_format.specs.Bank.{Faulty, bank_of}
-use Rattle.store_format.specs.Stands.{stands, chosen}
-use Rattle.desk.specs.declared.event.Event.{Event}
-use Rattle.desk.specs.declared.answers.Turn.{Turn}
-use Rattle.desk.specs.declared.answers.TurnEnd.{TurnEnd}
+use Rattle.schedule_replay.proofs.Common.{◌≡◌, ℕ, ◌+◌, ◌≤◌, List, [], length, refl, sym, ap, ◌∙◌, subst, arith, inl, IsSome, true, false, Bool, Option, Some, None, unwrap_or, Result, ◌↔◌, ForSome, Failed, Ghosts, Rose, IsSure, CallsDisk, FewerLater, held_of, cause_since, leaves_held, elapses-trans, Program, total, Faulty, bank_of, stands, chosen, Event, Turn, TurnEnd, Stored, Reopened, turn_told, stored_told, reopened_told, reopened_closes, HasNumbers, StoredNumber, IsReopened, Did, standing_of, Desk, Fine, HoldsStore, StillTold, IsDamage, records_in, records_after, Line, happening_lines, step, Happening, Answered, GoesBy, begins_in, turns_in, Puts, number_told, stored_number, reopened_number, going_if, going_by, is_damaged}
 use Rattle.desk.specs.declared.answers.TurnEnd.TheVariants as end
-use Rattle.desk.specs.declared.answers.Stored.{Stored}
 use Rattle.desk.specs.declared.answers.Stored.TheVariants as stored
-use Rattle.desk.specs.declared.answers.Reopened.{Reopened}
 use Rattle.desk.specs.declared.answers.Reopened.TheVariants as reopened
 use Rattle.desk.specs.declared.supervisor.Supervisor as desk
-use Rattle.desk.specs.Answers.{turn_told, stored_told, reopened_told, reopened_closes, HasNumbers, StoredNumber, IsReopened}
-use Rattle.desk.specs.Crash.{Did, standing_of}
-use Rattle.desk.specs.Desk.{Desk}
-use Rattle.desk.specs.Instruction.{Fine}
-use Rattle.desk.specs.Kept.{HoldsStore, StillTold, IsDamage, records_in, records_after}
-use Rattle.desk.specs.Lines.{Line}
-use Rattle.desk.specs.Report.{happening_lines}
-use Rattle.desk.specs.Run.{step, Happening}
-use Rattle.schedule_replay.specs.Answered.{Answered, GoesBy}
-use Rattle.schedule_replay.specs.Asked.{begins_in, turns_in}
-use Rattle.schedule_replay.specs.Puts.{Puts, number_told, stored_number, reopened_number}
-use Rattle.schedule_replay.specs.Replays.{going_if, going_by, is_damaged}
 use Rattle.schedule_replay.proofs.PutsLemmas.{no_time}
 
 -- the number that the answer tells is the store's

@@ -1,3 +1,4 @@
+pub mod Common
 pub mod CountLemmas
 pub mod PutsLemmas
 pub mod WriteLemmas

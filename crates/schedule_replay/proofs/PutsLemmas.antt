@@ -1,22 +1,6 @@
 -- Puts of lines, one after another.
-use Rattle.std.proofs.Common.{◌≡◌, ⊎_elim, ℕ, ◌+◌, ◌<◌, List, [], ◌∷◌, ◌++◌, length, map, get_or, take, drop, min, refl, sym, ◌∙◌, ap, subst, append_assoc, append-nil, length-append, arith, rules, inl, IsSome}
-use Rattle.std.specs.Prelude.{Option, None, Some, Result, Ok, Err, IsErr, unwrap_or}
+use Rattle.schedule_replay.proofs.Common.{◌≡◌, ⊎_elim, ℕ, ◌+◌, ◌<◌, List, [], ◌∷◌, ◌++◌, length, map, get_or, take, drop, min, refl, sym, ◌∙◌, ap, subst, append_assoc, append-nil, length-append, arith, rules, inl, IsSome, Option, None, Some, Result, Ok, Err, IsErr, unwrap_or, map-append, take_more, take-append-drop, take_min, take-append-le, flat_map-append, flat_map, Failed, Ghosts, Prints, AreTold, Elapses, Shows, OnlyPuts, FewerLater, prints_on, prints_stop, prints_same, prints_well, only_on, leaves_on, told_is, Cycle, Line, line_text, Left, Lost, cycle_lines, Puts, PutsTimes, shown_of, BeginsWith}
 use Rattle.std.proofs.Math.Seq.{take-append-add}
-use Rattle.std.proofs.lemmas.List.{map-append, take_more, take-append-drop, take_min, take-append-le}
-use Rattle.std.proofs.lemmas.Grind.{flat_map-append}
-use Rattle.std.specs.List.{flat_map}
-use Rattle.outside.specs.declared.failed.Failed.{Failed}
-use Rattle.outside.specs.declared.world.Outside.{Ghosts}
-use Rattle.outside.specs.Bytes.{Prints, AreTold}
-use Rattle.outside.specs.Moments.{Elapses, Shows}
-use Rattle.outside.specs.Runs.{OnlyPuts, FewerLater}
-use Rattle.outside.proofs.Prints.{prints_on, prints_stop, prints_same, prints_well, only_on}
-use Rattle.outside.proofs.Runs.{leaves_on}
-use Rattle.outside.proofs.Durable.{told_is}
-use Rattle.desk.specs.declared.answers.Cycle.{Cycle}
-use Rattle.desk.specs.Lines.{Line, line_text, Left, Lost}
-use Rattle.desk.specs.Report.{cycle_lines}
-use Rattle.schedule_replay.specs.Puts.{Puts, PutsTimes, shown_of, BeginsWith}
 
 -- a put that went well
 abbrev pub done : Result ℕ Failed

@@ -1,38 +1,10 @@
 -- Events without a report, one after another.
-use Rattle.std.proofs.Common.{◌≡◌, ℕ, ◌+◌, ◌<◌, List, [], ◌∷◌, ◌++◌, length, cond, take, get_or, refl, sym, ap, ◌∙◌, subst, arith}
-use Rattle.std.specs.Prelude.{true, false, not, count_by, Option, None, Some, IfSome}
-use Rattle.std.specs.List.{flat_map, fold}
-use Rattle.std.proofs.lemmas.List.{map-append, length-map, take_more}
-use Rattle.std.proofs.lemmas.List.Sums.{fold-append, sum_by-append}
-use Rattle.outside.specs.declared.world.Outside.{Ghosts}
-use Rattle.outside.specs.Durable.{IsSure}
-use Rattle.outside.specs.Runs.{CallsDisk, FewerLater, held_of}
-use Rattle.outside.proofs.Durable.{leaves_held}
-use Rattle.flat_machine.specs.declared.machine.Program.{Program}
-use Rattle.store_format.specs.Stands.{stands}
-use Rattle.desk.specs.declared.answers.Turn.{Turn}
-use Rattle.desk.specs.declared.answers.TurnEnd.{TurnEnd}
-use Rattle.desk.specs.declared.answers.TurnEnd.TheVariants as end
-use Rattle.desk.specs.declared.event.Event.{Event}
-use Rattle.desk.specs.declared.supervisor.Supervisor as desk
-use Rattle.desk.specs.declared.answers.Begun.{Begun}
-use Rattle.desk.specs.declared.answers.Begun.TheVariants as begun
-use Rattle.desk.specs.Answers.{begun_told, turn_told, counts_told}
-use Rattle.desk.specs.Commits.{is_commit}
-use Rattle.desk.specs.Crash.{standing_of, IsEitherOf}
-use Rattle.desk.specs.Desk.{Desk}
-use Rattle.desk.specs.Instruction.{Word, Doubt}
-use Rattle.desk.specs.Lines.{Line}
-use Rattle.desk.specs.Lines as line
-use Rattle.desk.specs.Report.{cycle_lines, event_lines, happening_lines, number_after}
-use Rattle.desk.specs.Run.{Step, run, step, faulted}
-use Rattle.run_law.proofs.LeftLemmas.{left_none, left_quiet}
-use Rattle.run_law.proofs.RunLemmas.{run_on, open_on, lines_on, faulted_on}
-use Rattle.run_law.proofs.StepLemmas.{Grew, Stepped, counted_quiet, run_grew, step_by}
-use Rattle.schedule_replay.specs.Quiet.{RanQuietly, Tells, WentQuietly, is_rollback, last_by, out_after, tally_begun, tally_by}
-use Rattle.schedule_replay.specs.Ran.{InDoubt}
-use Rattle.schedule_replay.specs.RanTo.{RanTo}
+use Rattle.schedule_replay.proofs.Common.{◌≡◌, ℕ, ◌+◌, ◌<◌, List, [], ◌∷◌, ◌++◌, length, cond, take, get_or, refl, sym, ap, ◌∙◌, subst, arith, false, not, count_by, Option, None, Some, IfSome, flat_map, fold, map-append, length-map, take_more, fold-append, sum_by-append, Ghosts, IsSure, CallsDisk, FewerLater, held_of, leaves_held, Program, stands, Turn, TurnEnd, Event, Begun, begun_told, turn_told, counts_told, is_commit, standing_of, IsEitherOf, Desk, Word, Doubt, Line, cycle_lines, event_lines, happening_lines, number_after, Step, run, step, faulted, left_none, left_quiet, run_on, open_on, lines_on, faulted_on, Grew, Stepped, counted_quiet, run_grew, step_by, RanQuietly, Tells, WentQuietly, is_rollback, last_by, out_after, tally_begun, tally_by, InDoubt, RanTo}
 use Rattle.schedule_replay.specs.declared.quietly.Tally.{Tally}
+use Rattle.desk.specs.declared.answers.TurnEnd.TheVariants as end
+use Rattle.desk.specs.declared.supervisor.Supervisor as desk
+use Rattle.desk.specs.declared.answers.Begun.TheVariants as begun
+use Rattle.desk.specs.Lines as line
 use Rattle.schedule_replay.proofs.RanLemmas.{images_join, none_last}
 use Rattle.schedule_replay.proofs.RanToLemmas.{to_did, to_none, to_on}
 use Rattle.schedule_replay.proofs.WentLemmas.{last_is, one_event}

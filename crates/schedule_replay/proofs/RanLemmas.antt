@@ -1,37 +1,6 @@
 -- The runs of a supervisor, one event after another.
-use Rattle.std.proofs.Common.{◌≡◌, ℕ, ◌+◌, ◌<◌, ◌≤◌, List, [], ◌∷◌, ◌++◌, length, map, get_or, take, refl, sym, ap, ◌∙◌, subst, arith, length-append, append-nil, append_assoc, inl, inr}
-use Rattle.std.specs.Prelude.{false, Option, None, Some, Result, Ok, IsErr}
-use Rattle.std.specs.List.{flat_map}
-use Rattle.std.proofs.lemmas.List.{map-append, take_more}
-use Rattle.std.proofs.lemmas.Grind.{flat_map-append}
-use Rattle.outside.specs.declared.failed.Failed.{Failed}
-use Rattle.outside.specs.declared.world.Outside.{Ghosts}
-use Rattle.outside.specs.Bytes.{Prints}
-use Rattle.outside.specs.Moments.{Elapses}
-use Rattle.outside.specs.Durable.{IsSure}
-use Rattle.outside.specs.Runs.{FewerLater, Leaves, held_of}
-use Rattle.outside.proofs.Durable.{told_is, leaves_held}
-use Rattle.store_format.specs.Stands.{stands}
-use Rattle.desk.specs.Crash.{standing_of}
-use Rattle.outside.proofs.Runs.{elapses-trans, leaves_on}
-use Rattle.outside.proofs.Prints.{prints_same, prints_on}
-use Rattle.flat_machine.specs.declared.machine.Program.{Program}
-use Rattle.desk.specs.declared.event.Event.{Event}
+use Rattle.schedule_replay.proofs.Common.{◌≡◌, ℕ, ◌+◌, ◌<◌, ◌≤◌, List, [], ◌∷◌, ◌++◌, length, map, get_or, take, refl, sym, ap, ◌∙◌, subst, arith, length-append, append-nil, append_assoc, inl, inr, false, Option, None, Some, Result, Ok, IsErr, flat_map, map-append, take_more, flat_map-append, Failed, Ghosts, Prints, Elapses, IsSure, FewerLater, Leaves, held_of, told_is, leaves_held, stands, standing_of, elapses-trans, leaves_on, prints_same, prints_on, Program, Event, Desk, Word, Doubt, run, faulted, OpenBeforeEach, Line, line_text, event_lines, commits_seen, IsLeft, ArePlain, seen_lines, seen_all, AreNames, Grew, run_grew, run_plain, run_on, open_on, lines_on, faulted_on, left_none, left_more, left_behind, BeginsWith, PutsTimes, shown_of, Ran, PrintsEarlier, InDoubt, text_of, RanTo}
 use Rattle.desk.specs.declared.supervisor.Supervisor as desk
-use Rattle.desk.specs.Desk.{Desk}
-use Rattle.desk.specs.Instruction.{Word, Doubt}
-use Rattle.desk.specs.Run.{run, faulted, OpenBeforeEach}
-use Rattle.desk.specs.Lines.{Line, line_text}
-use Rattle.desk.specs.Report.{event_lines}
-use Rattle.desk.specs.Seen.{commits_seen}
-use Rattle.run_law.specs.Left.{IsLeft}
-use Rattle.run_law.proofs.SeenLemmas.{ArePlain, seen_lines, seen_all}
-use Rattle.run_law.proofs.StepLemmas.{AreNames, Grew, run_grew, run_plain}
-use Rattle.run_law.proofs.RunLemmas.{run_on, open_on, lines_on, faulted_on}
-use Rattle.run_law.proofs.LeftLemmas.{left_none, left_more, left_behind}
-use Rattle.schedule_replay.specs.Puts.{BeginsWith, PutsTimes, shown_of}
-use Rattle.schedule_replay.specs.Ran.{Ran, PrintsEarlier, InDoubt, text_of}
-use Rattle.schedule_replay.specs.RanTo.{RanTo}
 use Rattle.schedule_replay.proofs.CountLemmas.{on_ok_as}
 use Rattle.schedule_replay.proofs.PutsLemmas.{PrintedNow, done, no_time, times_on, shown_after, begins_none, begins_on, begins_behind}
 use Rattle.schedule_replay.proofs.WentLemmas.{last_is}

@@ -1,22 +1,7 @@
 -- What runs leave, one after another.
-use Rattle.std.proofs.Common.{◌≡◌, ℕ, ◌+◌, ◌*◌, ◌≤◌, ◌⊎◌, List, [], ◌∷◌, ◌++◌, refl, sym, ap, ◌∙◌, subst, arith, ⊎_elim}
-use Rattle.std.specs.Prelude.{false, Option, unwrap_or}
-use Rattle.outside.specs.declared.world.Outside.{Ghosts}
-use Rattle.outside.specs.Causes.{Rose, RoseBy}
-use Rattle.outside.specs.Durable.{IsSure}
-use Rattle.outside.specs.Runs.{held_of}
-use Rattle.flat_machine.specs.declared.machine.Program.{Program}
-use Rattle.desk.specs.declared.event.Event.{Event}
-use Rattle.desk.specs.declared.supervisor.Supervisor as desk
-use Rattle.desk.specs.Crash.{Did}
-use Rattle.desk.specs.Desk.{Desk}
+use Rattle.schedule_replay.proofs.Common.{◌≡◌, ℕ, ◌+◌, ◌*◌, ◌≤◌, ◌⊎◌, List, [], ◌∷◌, ◌++◌, refl, sym, ap, ◌∙◌, subst, arith, ⊎_elim, false, Option, unwrap_or, Ghosts, Rose, RoseBy, IsSure, held_of, Program, Event, Did, Desk, WritesMore, records_in, most_records, Line, number_after, happening_lines, Happening, faulted, commits_in, commits_on, RanTo}
 use Rattle.desk.specs.Instruction.{Word, Fine, ReadFailed, Unwritten, Doubt, Failed as broken_word}
-use Rattle.desk.specs.Kept.{WritesMore, records_in, most_records}
-use Rattle.desk.specs.Lines.{Line}
-use Rattle.desk.specs.Report.{number_after, happening_lines}
-use Rattle.desk.specs.Run.{Happening, faulted}
-use Rattle.run_law.proofs.SeenLemmas.{commits_in, commits_on}
-use Rattle.schedule_replay.specs.RanTo.{RanTo}
+use Rattle.desk.specs.declared.supervisor.Supervisor as desk
 use Rattle.schedule_replay.proofs.CountLemmas.{faults_in, faults_front, faults_behind, happened_keep, most_on, most_le}
 use Rattle.schedule_replay.proofs.WriteLemmas.{writes_on, writes_same}
 

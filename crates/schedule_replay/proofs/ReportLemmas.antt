@@ -1,38 +1,7 @@
 -- The report of a run, from its parts.
-use Rattle.std.proofs.Common.{◌≡◌, ℕ, ◌*◌, List, [], ◌∷◌, ◌++◌, length, map, refl, sym, ap, ◌∙◌, subst, inl, inr, arith, rules, append-nil, IsSome}
-use Rattle.std.specs.Prelude.{Option, unwrap_or, Bool, true, false, if◌then◌else◌, Result, Ok, Err, IsErr, IfOk, OnOk}
-use Rattle.std.specs.List.{flat_map}
-use Rattle.outside.specs.declared.failed.Failed.{Failed}
-use Rattle.outside.specs.declared.world.Outside.{Ghosts}
-use Rattle.outside.specs.Bytes.{Prints}
-use Rattle.outside.specs.Durable.{IsSure}
-use Rattle.outside.specs.Moments.{Elapses}
-use Rattle.outside.specs.Runs.{FewerLater, Leaves, held_of}
-use Rattle.outside.proofs.Prints.{prints_broken, prints_same, prints_well, prints_on, prints_stop}
-use Rattle.outside.proofs.Durable.{leaves_held}
-use Rattle.outside.proofs.Runs.{elapses-trans, leaves_on}
-use Rattle.flat_machine.specs.declared.machine.Program.{Program}
-use Rattle.store_format.specs.Stands.{stands}
-use Rattle.desk.specs.declared.event.Event.{Event}
+use Rattle.schedule_replay.proofs.Common.{◌≡◌, ℕ, List, [], ◌∷◌, ◌++◌, length, map, refl, sym, ap, ◌∙◌, subst, inl, inr, arith, rules, append-nil, IsSome, Option, Bool, true, false, if◌then◌else◌, Result, Ok, Err, IsErr, IfOk, OnOk, flat_map, Failed, Ghosts, Prints, IsSure, Elapses, FewerLater, Leaves, held_of, prints_broken, prints_same, prints_well, prints_on, prints_stop, leaves_held, elapses-trans, leaves_on, Program, stands, Event, standing_of, Desk, numbers, Word, Line, Open, Left, End, line_text, number_after, closing_lines, report, event_lines, run, faulted, commits_seen, IsLeft, ArePlain, plain_on, commits_in, commits_on, seen_all, AreNames, Grew, run_grew, run_plain, report_parts, lines_end, left_none, left_more, Going, Puts, PutsTimes, BeginsWith, shown_of, Ran, HasOpened, PrintsEarlier, text_of, Reports, is_closed}
 use Rattle.desk.specs.declared.supervisor.Supervisor as desk
-use Rattle.desk.specs.Crash.{standing_of}
-use Rattle.desk.specs.Desk.{Desk}
-use Rattle.desk.specs.Holdings.{numbers}
-use Rattle.desk.specs.Instruction.{Word}
-use Rattle.desk.specs.Lines.{Line, Open, Left, End, line_text}
-use Rattle.desk.specs.Report.{number_after, closing_lines, report, event_lines}
-use Rattle.desk.specs.Run.{run, faulted}
-use Rattle.desk.specs.Seen.{commits_seen}
-use Rattle.run_law.specs.Left.{IsLeft}
-use Rattle.run_law.proofs.SeenLemmas.{ArePlain, plain_on, commits_in, commits_on, seen_all}
-use Rattle.run_law.proofs.StepLemmas.{AreNames, Grew, run_grew, run_plain}
-use Rattle.run_law.proofs.RunLemmas.{report_parts, lines_end}
-use Rattle.run_law.proofs.LeftLemmas.{left_none, left_more}
-use Rattle.schedule_replay.specs.declared.events.Going.{Going}
 use Rattle.schedule_replay.specs.declared.events.Going.TheVariants as going
-use Rattle.schedule_replay.specs.Puts.{Puts, PutsTimes, BeginsWith, shown_of}
-use Rattle.schedule_replay.specs.Ran.{Ran, HasOpened, PrintsEarlier, text_of}
-use Rattle.schedule_replay.specs.Replays.{Reports, is_closed}
 use Rattle.schedule_replay.proofs.PutsLemmas.{PrintedNow, times_on, shown_after, begins_none, begins_on, begins_behind}
 use Rattle.schedule_replay.proofs.WentLemmas.{sure_puts, image_is}
 use Rattle.schedule_replay.proofs.RanLemmas.{leaves_join, seen_behind, seen_few}

@@ -1,33 +1,6 @@
 -- One event of a run, and its lines.
-use Rattle.std.proofs.Common.{◌≡◌, ℕ, zero, suc, ◌+◌, ◌*◌, ◌≤◌, List, [], ◌∷◌, ◌++◌, length, map, take, refl, sym, ap, ◌∙◌, subst, arith, length-append, ⊎_elim, append-nil, inr, IsTrue, IsSome}
-use Rattle.std.specs.Prelude.{true, false, not, Bool, Option, unwrap_or, Result, Ok, Err, All}
-use Rattle.std.specs.List.{flat_map}
-use Rattle.outside.specs.declared.failed.Failed.{Failed}
-use Rattle.outside.specs.declared.world.Outside.{Ghosts}
-use Rattle.outside.specs.Bytes.{Prints, AreTold}
-use Rattle.outside.specs.Durable.{IsSure}
-use Rattle.outside.specs.Runs.{CallsDisk, Leaves, FewerLater, held_of}
-use Rattle.outside.proofs.Runs.{elapses-trans, leaves_on}
-use Rattle.outside.proofs.Durable.{told_is}
-use Rattle.flat_machine.specs.declared.machine.Program.{Program}
-use Rattle.store_format.specs.Stands.{stands}
-use Rattle.desk.specs.declared.event.Event.{Event}
+use Rattle.schedule_replay.proofs.Common.{◌≡◌, ℕ, zero, suc, ◌+◌, ◌*◌, ◌≤◌, List, [], ◌∷◌, ◌++◌, length, map, take, refl, sym, ap, ◌∙◌, subst, arith, length-append, ⊎_elim, append-nil, inr, IsTrue, IsSome, true, false, not, Bool, Option, unwrap_or, Result, Ok, Err, All, flat_map, Failed, Ghosts, Prints, AreTold, IsSure, CallsDisk, Leaves, FewerLater, held_of, elapses-trans, leaves_on, told_is, Program, stands, Event, Did, IsEitherOf, standing_of, Desk, WritesMore, Word, Doubt, Step, Happening, step, faulted, Line, line_text, number_after, happening_lines, event_lines, commits_seen, IsUnbroken, IsLeft, seen_cut, seen_all, commits_in, AreNames, Stepped, step_by, run_plain, left_quiet, left_open, Puts, PutsTimes, shown_of, Ran, InDoubt, text_of, RanTo}
 use Rattle.desk.specs.declared.supervisor.Supervisor as desk
-use Rattle.desk.specs.Crash.{Did, IsEitherOf, standing_of}
-use Rattle.desk.specs.Desk.{Desk}
-use Rattle.desk.specs.Kept.{WritesMore}
-use Rattle.desk.specs.Instruction.{Word, Doubt}
-use Rattle.desk.specs.Run.{Step, Happening, step, faulted}
-use Rattle.desk.specs.Lines.{Line, line_text}
-use Rattle.desk.specs.Report.{number_after, happening_lines, event_lines}
-use Rattle.desk.specs.Seen.{commits_seen, IsUnbroken}
-use Rattle.run_law.specs.Left.{IsLeft}
-use Rattle.run_law.proofs.SeenLemmas.{seen_cut, seen_all, commits_in}
-use Rattle.run_law.proofs.StepLemmas.{AreNames, Stepped, step_by, run_plain}
-use Rattle.run_law.proofs.LeftLemmas.{left_quiet, left_open}
-use Rattle.schedule_replay.specs.Puts.{Puts, PutsTimes, shown_of}
-use Rattle.schedule_replay.specs.Ran.{Ran, InDoubt, text_of}
-use Rattle.schedule_replay.specs.RanTo.{RanTo}
 use Rattle.schedule_replay.proofs.CountLemmas.{faults_in}
 use Rattle.schedule_replay.proofs.PutsLemmas.{PrintedNow, puts_same, begins_none}
 use Rattle.schedule_replay.proofs.RanToLemmas.{to_did, to_later}

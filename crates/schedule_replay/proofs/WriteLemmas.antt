@@ -1,22 +1,10 @@
 -- How many writes succeeded, and what one event wants.
-use Rattle.std.proofs.Common.{◌≡◌, ℕ, ◌+◌, ◌*◌, ◌≤◌, List, [], ◌∷◌, refl, subst, arith}
-use Rattle.std.specs.Prelude.{Option, None, Some}
-use Rattle.desk.specs.declared.answers.Begun.{Begun}
+use Rattle.schedule_replay.proofs.Common.{◌≡◌, ℕ, ◌+◌, ◌*◌, ◌≤◌, List, [], ◌∷◌, refl, subst, arith, Option, None, Some, Begun, Turn, TurnEnd, Stored, Reopened, begun_told, turn_told, counts_told, stored_told, reopened_told, WritesMore, writes_due, happening_lines, commits_in, counted_quiet, lost_behind}
 use Rattle.desk.specs.declared.answers.Begun.TheVariants as begun
-use Rattle.desk.specs.declared.answers.Turn.{Turn}
-use Rattle.desk.specs.declared.answers.TurnEnd.{TurnEnd}
 use Rattle.desk.specs.declared.answers.TurnEnd.TheVariants as end
-use Rattle.desk.specs.declared.answers.Stored.{Stored}
 use Rattle.desk.specs.declared.answers.Stored.TheVariants as stored
-use Rattle.desk.specs.declared.answers.Reopened.{Reopened}
 use Rattle.desk.specs.declared.answers.Reopened.TheVariants as reopened
-use Rattle.desk.specs.Answers.{begun_told, turn_told, counts_told, stored_told, reopened_told}
-use Rattle.desk.specs.Kept.{WritesMore, writes_due}
-use Rattle.desk.specs.Lines.{Line}
 use Rattle.desk.specs.Lines as line
-use Rattle.desk.specs.Report.{happening_lines}
-use Rattle.run_law.proofs.SeenLemmas.{commits_in}
-use Rattle.run_law.proofs.StepLemmas.{counted_quiet, lost_behind}
 
 -- as many as before
 pub writes_same : (told : Option ℕ) → WritesMore told told 0

@@ -1,13 +1,7 @@
 -- Seats in which numbers ascend: each stands once, its number is its own, and sixteen of them are all there are.
+use Rattle.seats.proofs.Common.{range_with_len, AllPairs, arith, ap, sym, ◌∙◌, subst, inl, inr, eqb-true, eq-eqb, ne_eqb, or_cases, not-true, not-false, and_parts, ltb-true, cond-false, All-head, All-tail, has, distinct, size, has-range, in_range, found-has, found-passes, none-passes}
 use Rattle.std.specs.Prelude.{◌≡◌, refl, ℕ, suc, ◌+◌, ◌<◌, ◌≤◌, ◌==◌, not, nat_le, nat_lt, Bool, true, false, List, [], ◌∷◌, length, All, Some, None, find}
-use Rattle.std.specs.List.{range_with_len, AllPairs}
-use Rattle.std.proofs.Common.{arith, ap, sym, ◌∙◌, subst, inl, inr}
-use Rattle.std.proofs.lemmas.Bool.{eqb-true, eq-eqb, ne_eqb, or_cases, not-true, not-false, and_parts, ltb-true, cond-false}
-use Rattle.std.proofs.lemmas.List.Elements.{All-head, All-tail}
-use Rattle.lock_rules.specs.Sets.{has, distinct, size}
-use Rattle.lock_rules.proofs.Sets.{has-range, in_range}
 use Rattle.lock_rules.proofs.Sizes.{IsPart, size-part, size-range}
-use Rattle.lock_rules.proofs.Cycles.{found-has, found-passes, none-passes}
 
 -- what holds of each number holds of one that is there
 pub all-has : (P : ℕ → Type 0) (xs : List ℕ) (x : ℕ) → All P xs → has xs x ≡ true → P x

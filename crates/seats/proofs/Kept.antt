@@ -1,19 +1,8 @@
 -- Sixteen seats stay what they are as one is taken, left, or holds more.
+use Rattle.seats.proofs.Common.{ForSome, arith, ap, sym, ◌∙◌, inl, inr, get_or-set_same, get_or-set_other, eqb-true, eqb-false, eq-eqb, both_ways, or_left, or_right, or_parts, and_cases, not_from_false, length-set, length-replicate, All-set, All-push, All-filter, All-get_or, has, has-append, has-filter, Want, with_want, with_wants, AreWithin, Holding, IsWhole, no_lines_of, of_seat, with_seat, Seat, Seating, IsSeating, newcomer, number_in, seated, left, took}
 use Rattle.std.specs.Prelude.{◌≡◌, refl, ℕ, zero, suc, ◌<◌, ◌≤◌, ◌==◌, ◌&&◌, not, Bool, true, false, List, [], ◌∷◌, length, All, slice_index_or}
-use Rattle.std.specs.Option.{ForSome}
-use Rattle.std.proofs.Common.{arith, ap, sym, ◌∙◌, inl, inr, get_or-set_same, get_or-set_other}
-use Rattle.std.proofs.lemmas.Bool.{eqb-true, eqb-false, eq-eqb, both_ways, or_left, or_right, or_parts, and_cases, not_from_false}
-use Rattle.std.proofs.lemmas.List.{length-set, length-replicate}
-use Rattle.std.proofs.lemmas.List.Elements.{All-set, All-push, All-filter, All-get_or}
 use Rattle.std.proofs.lemmas.List.Kept.{AllPairs-filter}
 use Rattle.std.proofs.lemmas.List.Quantifiers.{all_pairs_push}
-use Rattle.lock_rules.specs.Sets.{has}
-use Rattle.lock_rules.proofs.Sets.{has-append, has-filter}
-use Rattle.line_locks.specs.declared.request.Want.{Want}
-use Rattle.line_locks.specs.Held.{with_want, with_wants, AreWithin}
-use Rattle.line_locks.specs.Holding.{Holding, IsWhole, no_lines_of, of_seat, with_seat}
-use Rattle.seats.specs.declared.seat.Seat.{Seat}
-use Rattle.seats.specs.Seating.{Seating, IsSeating, newcomer, number_in, seated, left, took}
 use Rattle.seats.proofs.Ascending.{all-has, few}
 
 -- what stands at a place is there

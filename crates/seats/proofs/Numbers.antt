@@ -1,19 +1,9 @@
 -- What is said of seats, said of the numbers in them and of flat lines: holders, waits and the shown cycle.
+use Rattle.seats.proofs.Common.{option_map_or, ap, sym, ◌∙◌, eqb-true, eq-eqb, both_ways, or_left, or_right, has, shown_cycle, found-has, found-passes, none-passes, cycle-named, Request, Want, of_seat, is_in_conflict, Seating, IsSeating, sitter, number_in, numbers, seat_of, holders, seat_waits, cycle_of, AreOfPage}
 use Rattle.std.specs.Prelude.{◌≡◌, refl, ℕ, ◌==◌, ◌&&◌, not, cond, Bool, true, false, List, [], ◌∷◌, map, filter, Option, Some, None}
-use Rattle.std.specs.Option.{option_map_or}
-use Rattle.std.proofs.Common.{ap, sym, ◌∙◌}
-use Rattle.std.proofs.lemmas.Bool.{eqb-true, eq-eqb, both_ways, or_left, or_right}
-use Rattle.lock_rules.specs.Sets.{has}
 use Rattle.lock_rules.specs.Lines.{Lines, conflicts}
-use Rattle.lock_rules.specs.Waits.{shown_cycle}
-use Rattle.lock_rules.proofs.Cycles.{found-has, found-passes, none-passes, cycle-named}
-use Rattle.line_locks.specs.declared.request.Request.{Request}
-use Rattle.line_locks.specs.declared.request.Want.{Want}
-use Rattle.line_locks.specs.Holding.{of_seat, is_in_conflict}
 use Rattle.line_locks.specs.Flat.{lines_wanted, IsFlat}
 use Rattle.line_locks.proofs.FlatLemmas.{conflict-flat}
-use Rattle.seats.specs.Seating.{Seating, IsSeating, sitter, number_in, numbers, seat_of}
-use Rattle.seats.specs.Waiting.{holders, seat_waits, cycle_of, AreOfPage}
 use Rattle.seats.proofs.Ascending.{apart}
 
 module _ (seating : Seating) (is : IsSeating seating) where

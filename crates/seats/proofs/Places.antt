@@ -1,19 +1,8 @@
 -- Places among the taken seats, and the shown cycle by places.
+use Rattle.seats.proofs.Common.{range_with_len, option_map, inl, inr, arith, ap, sym, ◌∙◌, eq-eqb, ne_eqb, ltb-true, and_parts, cases_eq, cases_lt, same_lists, get_or_default, has, shown_cycle, has-range, in_range, cycle-named, cycle-among, waits_in, places_of, Seating, IsSeating, number_in, seat_waits, seat_at, cycle_of}
 use Rattle.std.specs.Prelude.{◌≡◌, ℕ, ◌+◌, ◌<◌, ◌==◌, nat_le, nat_lt, true, List, length, map, Some, None}
-use Rattle.std.specs.List.{range_with_len}
-use Rattle.std.specs.Option.{option_map}
-use Rattle.std.proofs.Common.{inl, inr, arith, ap, sym, ◌∙◌}
-use Rattle.std.proofs.lemmas.Bool.{eq-eqb, ne_eqb, ltb-true, and_parts, cases_eq, cases_lt}
 use Rattle.std.proofs.lemmas.Simd.{map-map}
-use Rattle.std.proofs.lemmas.List.{same_lists, get_or_default}
 use Rattle.std.proofs.lemmas.List.FromFn.{length-map-range_with_len, get_or-map-range_with_len}
-use Rattle.lock_rules.specs.Sets.{has}
-use Rattle.lock_rules.specs.Waits.{shown_cycle}
-use Rattle.lock_rules.proofs.Sets.{has-range, in_range}
-use Rattle.lock_rules.proofs.Cycles.{cycle-named, cycle-among}
-use Rattle.wait_cycles.specs.Rows.{waits_in, places_of}
-use Rattle.seats.specs.Seating.{Seating, IsSeating, number_in}
-use Rattle.seats.specs.Waiting.{seat_waits, seat_at, cycle_of}
 
 range-below : (n x : ℕ) → has (range_with_len 0 n) x ≡ true → x < n
 range-below n x inside =

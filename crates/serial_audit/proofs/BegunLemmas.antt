@@ -1,9 +1,5 @@
 -- The activations that begins make, from a place among the events on.
-use Rattle.std.proofs.Common.{◌≡◌, ◌≢◌, ℕ, zero, suc, ◌+◌, ◌<◌, List, [], ◌∷◌, length, drop, get_or, slice_get, Some, None, refl, sym, ap, add-one, drop-cons, arith}
-use Rattle.flat_machine.specs.declared.machine.Program.{Program}
-use Rattle.desk.specs.declared.event.Event.{Event}
-use Rattle.desk.specs.declared.event.Event.TheVariants.{Begin, Turn, Checkpoint, Crash}
-use Rattle.desk.specs.Commits.{begun}
+use Rattle.serial_audit.proofs.Common.{◌≡◌, ◌≢◌, ℕ, zero, suc, ◌+◌, ◌<◌, List, [], ◌∷◌, length, drop, get_or, slice_get, Some, None, refl, sym, ap, add-one, drop-cons, arith, Program, Event, Begin, Turn, Checkpoint, Crash, begun}
 
 -- a begin of a program that is there
 pub begun_here : (programs : List Program) (events : List Event) (i place : ℕ) (args : List ℕ) (program : Program) (d : Event)

@@ -1,11 +1,7 @@
 -- The first line of a bundle.
-use Rattle.std.proofs.Common.{◌≡◌, ℕ, ◌+◌, ◌≤◌, List, [], ◌∷◌, ◌++◌, length, take, drop, codes, decimal, position, Some, None, refl, sym, append_assoc, length-append, arith}
-use Rattle.std.specs.List.{AllByRecursion, join_with_byte}
-use Rattle.std.proofs.lemmas.List.{length-drop, length-take, take_at, take-append-drop}
+use Rattle.serial_audit.proofs.Common.{◌≡◌, ℕ, ◌+◌, ◌≤◌, List, [], ◌∷◌, ◌++◌, length, take, drop, codes, decimal, position, Some, None, refl, sym, append_assoc, length-append, arith, AllByRecursion, join_with_byte, length-drop, length-take, take_at, take-append-drop, feed_of_words, AreAllowed, HasHead, Sizes, head_text, head_words}
 use Rattle.report_text.specs.Words.{IsOneWord, is_feed}
-use Rattle.report_text.proofs.LineLemmas.{feed_of_words}
 use Rattle.report_text.proofs.PartLemmas.{number_word}
-use Rattle.serial_audit.specs.Bundle.{AreAllowed, HasHead, Sizes, head_text, head_words}
 
 -- the first line without its line feed
 abbrev pub head_inner : Sizes → List ℕ

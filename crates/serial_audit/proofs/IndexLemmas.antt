@@ -1,18 +1,7 @@
 -- What a job says of its activations: the begins first, then the turns, then the marks of commits.
-use Rattle.std.proofs.Common.{◌≡◌, ◌≢◌, ℕ, zero, suc, ◌+◌, ◌-◌, ◌^◌, ◌<◌, ◌==◌, ◌||◌, ◌↔◌, Bool, true, false, IsTrue, List, [], ◌∷◌, ◌++◌, length, map, min, set, sum, take, get_or, slice_get, Option, Some, None, option_map, MatchOption, ◌⊎◌, inl, inr, refl, sym, ◌∙◌, ap, add-zero, zero-add, eq-eqb, ne_eqb, eqb, eqb-true, arith}
-use Rattle.std.specs.List.{All, Contains}
-use Rattle.std.proofs.lemmas.Bool.{eqb-false}
-use Rattle.std.proofs.lemmas.List.{get_or-set_same, length-set, map-append, take_more}
+use Rattle.serial_audit.proofs.Common.{◌≡◌, ◌≢◌, ℕ, zero, suc, ◌+◌, ◌-◌, ◌^◌, ◌<◌, ◌==◌, ◌||◌, ◌↔◌, Bool, true, false, IsTrue, List, [], ◌∷◌, ◌++◌, length, map, min, set, sum, take, get_or, slice_get, Option, Some, None, option_map, MatchOption, ◌⊎◌, inl, inr, refl, sym, ◌∙◌, ap, add-zero, zero-add, eq-eqb, ne_eqb, eqb, eqb-true, arith, All, Contains, eqb-false, get_or-set_same, length-set, map-append, take_more, slice_get-get_or, slice_get_within, Activation, numbered, Event, Begin, Turn, Checkpoint, Crash, Job, Entry, Told, activations_of, limit_of, IsEntry, IsFresh, IsIndex, activation_in, marked, with_turns}
 use Rattle.std.proofs.lemmas.List.Elements.{All-append, Contains-append_cases, Contains-append_left, Contains-append_right}
 use Rattle.std.proofs.lemmas.List.Sums.{sum_by-append}
-use Rattle.std.proofs.lemmas.Option.{slice_get-get_or, slice_get_within}
-use Rattle.flat_machine.specs.Serial.{Activation, numbered}
-use Rattle.desk.specs.declared.event.Event.{Event}
-use Rattle.desk.specs.declared.event.Event.TheVariants.{Begin, Turn, Checkpoint, Crash}
-use Rattle.job_text.specs.declared.job.Job.{Job}
-use Rattle.serial_audit.specs.declared.index.Entry.{Entry}
-use Rattle.serial_audit.specs.Audit.{Told, activations_of, limit_of}
-use Rattle.serial_audit.specs.Index.{IsEntry, IsFresh, IsIndex, activation_in, marked, with_turns}
 
 -- the element written, and another one
 set_here : {X : Type 0} → (xs : List X) (i : ℕ) (y : X) → i < length xs → slice_get (set xs i y) i ≡ Some y

@@ -1,3 +1,4 @@
+pub mod Common
 pub mod BegunLemmas
 pub mod BundleLemmas
 pub mod IndexLemmas

@@ -1,8 +1,7 @@
 -- A bundle has one splitting.
-use Rattle.std.proofs.Common.{◌≡◌, ℕ, List, [], ◌∷◌, ◌++◌, length, codes, decimal, inl, inr, sym, ◌∙◌, ap, append_assoc, arith}
+use Rattle.serial_audit.proofs.Common.{◌≡◌, ℕ, List, ◌∷◌, ◌++◌, length, codes, decimal, inl, inr, sym, ◌∙◌, ap, append_assoc, arith, HasHead, HasOneSplitting, IsBundle, IsWrongAt, Sizes, bundle_from, head_text, size_of}
 use Rattle.text_line.proofs.Words.{same_number}
 use Rattle.serial_audit.specs.declared.bundle.Bundle.{Bundle}
-use Rattle.serial_audit.specs.Bundle.{AreAllowed, HasHead, HasOneSplitting, IsBundle, IsWrongAt, Sizes, bundle_from, head_text, size_of}
 
 -- the first line and what stands behind it, number by number
 abbrev parts : Sizes → List ℕ → List ℕ

@@ -1,13 +1,7 @@
 -- A program that comes to the commit call, or doesn't.
-use Rattle.std.proofs.Common.{◌≡◌, ◌≢◌, ℕ, zero, suc, ◌+◌, ◌-◌, ◌<◌, List, Some, None, option_and_then, refl, ◌∙◌, zero-add, arith}
-use Rattle.line_geometry.specs.FlatStore.{FlatStore}
-use Rattle.flat_machine.specs.declared.machine.Plain.{Plain}
-use Rattle.flat_machine.specs.declared.machine.Program.{Program}
+use Rattle.serial_audit.proofs.Common.{◌≡◌, ◌≢◌, ℕ, zero, suc, ◌+◌, ◌-◌, ◌<◌, List, Some, None, option_and_then, refl, ◌∙◌, zero-add, arith, FlatStore, Plain, Program, row, outcome_by, after, next_state, before_commit, if_commit}
 use Rattle.flat_machine.specs.declared.machine.Went.{Went}
 use Rattle.flat_machine.specs.declared.machine.Went.TheVariants as went
-use Rattle.flat_machine.specs.Row.{row, outcome_by}
-use Rattle.flat_machine.specs.After.{after, next_state}
-use Rattle.flat_machine.specs.Serial.{before_commit, if_commit}
 
 -- a row that doesn't go on has no state behind it
 pub stopped : (result : Went) (new : Plain) → result ≢ went.On → next_state (outcome_by result new) ≡ None

@@ -1,7 +1,5 @@
 -- Equal directories.
-use Rattle.std.proofs.Common.{◌≡◌, ℕ, ◌==◌, ◌&&◌, ap, Decides}
-use Rattle.std.proofs.lemmas.Bool.Decides.{Decides-and, Decides-eqb}
-use Rattle.line_geometry.specs.Directory.{Layout}
+use Rattle.serial_audit.proofs.Common.{◌≡◌, ℕ, ◌==◌, ◌&&◌, ap, Decides, Decides-and, Decides-eqb, Layout}
 
 -- pairs are the same where their parts are
 pub pair_decides : (a b : ℕ × ℕ) → Decides ((a.0 == b.0) && (a.1 == b.1)) (a ≡ b)

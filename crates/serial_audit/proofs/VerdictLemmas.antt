@@ -1,21 +1,10 @@
 -- Commit lines one after another, and whether they are sound.
-use Rattle.std.proofs.Common.{◌≡◌, ℕ, ◌+◌, ◌%◌, ◌^◌, ◌<◌, ◌≤◌, Bool, true, false, List, [], ◌∷◌, ◌++◌, length, map, take, drop, get_or, slice_get, Option, Some, None, option_and_then, ◌⊎◌, inl, inr, refl, sym, ◌∙◌, ap, length-append, add-one, drop-cons, arith}
-use Rattle.std.proofs.lemmas.List.{map-append, take-append-drop, take_more}
-use Rattle.std.proofs.lemmas.Option.{option_and_then_some}
-use Rattle.line_geometry.specs.Directory.{Layout}
-use Rattle.line_geometry.specs.FlatStore.{FlatStore}
-use Rattle.flat_machine.specs.declared.machine.Plain.{Plain}
-use Rattle.flat_machine.specs.Serial.{Activation, before_commit, committing, numbered, serial}
+use Rattle.serial_audit.proofs.Common.{◌≡◌, ℕ, ◌+◌, ◌%◌, ◌^◌, ◌<◌, ◌≤◌, Bool, true, false, List, [], ◌∷◌, ◌++◌, length, map, take, drop, get_or, slice_get, Option, Some, None, option_and_then, ◌⊎◌, inl, inr, refl, sym, ◌∙◌, ap, length-append, add-one, drop-cons, arith, map-append, take-append-drop, take_more, option_and_then_some, Layout, FlatStore, Plain, Activation, before_commit, committing, numbered, serial, Job, Entry, AreSound, IsSound, Told, activations_of, commits_told, flat_of, pair_of, report_told, steps_allowed, told_before, IsIndex, activation_in, IsTaken, MayFollow, Replays, Stands}
 use Rattle.desk.specs.Lines.{Line, Commit}
-use Rattle.job_text.specs.declared.job.Job.{Job}
 use Rattle.report_text.specs.declared.owned.OwnedLine.{OwnedLine}
 use Rattle.report_text.specs.ReadLines.{owned_told}
 use Rattle.serial_audit.specs.declared.auditing.KeptStore.{KeptStore}
 use Rattle.serial_audit.specs.declared.auditing.Progress.{Progress}
-use Rattle.serial_audit.specs.declared.index.Entry.{Entry}
-use Rattle.serial_audit.specs.Audit.{AreSound, IsSound, Told, activations_of, commits_told, flat_of, pair_of, report_told, steps_allowed, told_before}
-use Rattle.serial_audit.specs.Index.{IsIndex, activation_in}
-use Rattle.serial_audit.specs.Progress.{IsTaken, MayFollow, Replays, Stands}
 use Rattle.serial_audit.proofs.IndexLemmas.{begun_at, entry_at}
 
 -- the commits of lines behind others come behind theirs

@@ -1,12 +1,6 @@
 -- The lines of a record of a text.
-use Rattle.std.proofs.Common.{◌≡◌, ℕ, zero, suc, ◌+◌, ◌-◌, ◌*◌, ◌/◌, ◌<◌, ◌≤◌, List, [], ◌∷◌, length, take, drop, get_or, refl, sym, ◌∙◌, ap, arith}
-use Rattle.std.specs.Prelude.{All}
-use Rattle.std.proofs.lemmas.List.{drop-drop}
-use Rattle.line_geometry.specs.declared.directory.PageSize.{PageSize}
+use Rattle.standby.proofs.Common.{◌≡◌, ℕ, zero, suc, ◌+◌, ◌-◌, ◌*◌, ◌/◌, ◌<◌, ◌≤◌, List, [], ◌∷◌, length, take, drop, get_or, refl, sym, ◌∙◌, ap, arith, All, drop-drop, PageSize, RecordLine, record_bytes, entry_bytes, ShipLine, AreLines, parted, told}
 use Rattle.line_geometry.specs.declared.directory.PageSize.TheVariants.{Two, Four}
-use Rattle.store_format.specs.Bank.{RecordLine, record_bytes}
-use Rattle.store_format.specs.Header.{entry_bytes}
-use Rattle.standby.specs.Text.{ShipLine, AreLines, parted, told}
 
 pub length-parted : (bytes : ℕ) (lines all : List ℕ) → length (parted bytes lines all) ≡ length lines
 length-parted bytes [] all = refl

@@ -1,22 +1,9 @@
 -- What is shipped is in the ranges of a ship text.
+use Rattle.standby.proofs.Common.{if◌then◌else◌, Option, None, Some, nat_tests, All-drop, All-map, recursion_from_All, AllByRecursion, line_count, line_bytes, RecordLine, wrong_line, KeptBank, area_bytes, KeptStore, Shows, HasBytes, shipped, behind, AreLines, IsContent, ShipLine, told}
 use Rattle.std.proofs.Common.{All, ◌≡◌, ℕ, ◌+◌, ◌^◌, ◌<◌, ◌≤◌, ◌&&◌, nat_le, nat_lt, Bool, true, false, List, [], ◌∷◌, length, take, drop, get_or, refl, ◌∙◌, ap, arith}
-use Rattle.std.specs.Prelude.{if◌then◌else◌, Option, None, Some}
-use Rattle.std.proofs.lemmas.Bool.Decides.{nat_tests}
-use Rattle.std.proofs.lemmas.List.Elements.{All-drop, All-map, recursion_from_All}
-use Rattle.std.specs.List.{AllByRecursion}
-use Rattle.line_geometry.specs.Lines.{line_count}
-use Rattle.line_geometry.specs.Segments.{line_bytes}
-use Rattle.store_format.specs.Bank.{RecordLine, wrong_line}
 use Rattle.store_format.proofs.Widths.{line-few, line-some}
-use Rattle.redo_journal.specs.Kept.{KeptBank}
 use Rattle.redo_journal.specs.Opened.{IsRead}
-use Rattle.redo_journal.specs.Records.{area_bytes}
 use Rattle.redo_journal.proofs.RecordLemmas.{stands_there}
-use Rattle.restart.specs.Kept.{KeptStore}
-use Rattle.restart.specs.Shows.{Shows}
-use Rattle.standby.specs.Shipped.{HasBytes, shipped}
-use Rattle.standby.specs.State.{behind}
-use Rattle.standby.specs.Text.{AreLines, IsContent, ShipLine, told}
 use Rattle.standby.proofs.ShipLemmas.{split_at}
 
 by_test : (test : Bool) (rest : Option ℕ) (at : ℕ) → (if test then rest else Some at) ≡ None → (test ≡ true) × (rest ≡ None)

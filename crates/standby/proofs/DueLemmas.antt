@@ -1,20 +1,7 @@
 -- The records of a text that are due.
-use Rattle.std.proofs.Common.{◌≡◌, ℕ, zero, suc, ◌-◌, ◌≤◌, List, [], ◌∷◌, length, map, take, drop, get_or, refl, sym, subst, ◌∙◌, ap, arith}
-use Rattle.std.specs.Prelude.{All, Option}
-use Rattle.std.specs.Option.{option_map}
+use Rattle.standby.proofs.Common.{◌≡◌, ℕ, zero, suc, ◌-◌, ◌≤◌, List, [], ◌∷◌, length, map, take, drop, get_or, refl, sym, subst, ◌∙◌, ap, arith, All, Option, option_map, drop-map, length-map, take_rest, All-drop, All-map, slice_get-map, line_count, Header, most_lines, line_bytes, IsAlike, IsFirstLong, IsLongAt, IsFitting, AreLines, IsPacked, IsShip, ShipLine, content_of, record_of, ShipRecord}
 use Rattle.std.proofs.Math.ListN.{get_or-map}
-use Rattle.std.proofs.lemmas.List.{drop-map, length-map, take_rest}
-use Rattle.std.proofs.lemmas.List.Elements.{All-drop, All-map}
-use Rattle.std.proofs.lemmas.Option.{slice_get-map}
-use Rattle.line_geometry.specs.Lines.{line_count}
-use Rattle.store_format.specs.Header.{Header, most_lines}
-use Rattle.line_geometry.specs.Segments.{line_bytes}
-use Rattle.standby.specs.Followed.{IsAlike}
-use Rattle.standby.specs.State.{IsFirstLong, IsLongAt}
-use Rattle.standby.specs.Step.{IsFitting}
-use Rattle.standby.specs.Text.{AreLines, IsPacked, IsShip, ShipLine, content_of, record_of}
 use Rattle.standby.specs.declared.text.Ship.{Ship}
-use Rattle.standby.specs.declared.text.ShipRecord.{ShipRecord}
 use Rattle.standby.proofs.BeginLemmas.{length-parted}
 
 all_unmap : {X Y : Type 0} (P : Y → Type 0) (f : X → Y) (xs : List X) → All P (map f xs) → All (λ x. P (f x)) xs

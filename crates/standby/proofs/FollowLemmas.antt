@@ -1,27 +1,6 @@
 -- Records that are kept and told, one after another.
-use Rattle.std.proofs.Common.{◌≡◌, ℕ, suc, ◌+◌, ◌-◌, ◌<◌, List, [], ◌++◌, length, take, get_or, refl, sym, ◌∙◌, ap, subst, arith, append-nil}
-use Rattle.std.proofs.lemmas.Option.{IfSome_then}
-use Rattle.std.specs.Prelude.{Option, Some, None, Result, Ok, Err, OnErr}
-use Rattle.std.proofs.lemmas.List.{take_all}
-use Rattle.line_geometry.specs.FlatStore.{FlatStore}
-use Rattle.store_format.specs.Stands.{Stands, stands}
-use Rattle.outside.specs.declared.failed.Failed.{Failed}
-use Rattle.outside.specs.declared.world.Outside.{Ghosts}
-use Rattle.outside.specs.Bytes.{Prints}
+use Rattle.standby.proofs.Common.{◌≡◌, ℕ, suc, ◌+◌, ◌-◌, ◌<◌, List, [], ◌++◌, length, take, get_or, refl, sym, ◌∙◌, ap, subst, arith, append-nil, IfSome_then, Option, Result, Ok, Err, OnErr, take_all, FlatStore, Stands, stands, Failed, Ghosts, Prints, FewerLater, Leaves, held_of, told_is, prints_none, prints_on, prints_same, prints_stop, leaves_on, KeptStore, Shows, Tracks, FollowsBy, IsAtNumber, IsStopped, Follows, Keeps, SoFar, broken, kept_text, well, Puts, laid_by, Steps, followed_of, over, put_of, ShipLine, end_line, kept_line, later, next, Followed, Done, DiskFault, PutFault}
 use Rattle.outside.specs.Moments.{Elapses}
-use Rattle.outside.specs.Runs.{FewerLater, Leaves, held_of}
-use Rattle.outside.proofs.Durable.{told_is}
-use Rattle.outside.proofs.Prints.{prints_none, prints_on, prints_same, prints_stop}
-use Rattle.outside.proofs.Runs.{leaves_on}
-use Rattle.restart.specs.Kept.{KeptStore}
-use Rattle.restart.specs.Shows.{Shows, Tracks}
-use Rattle.standby.specs.Followed.{FollowsBy, IsAtNumber, IsStopped, Follows, Keeps, SoFar, broken, kept_text, well}
-use Rattle.standby.specs.Puts.{Puts}
-use Rattle.standby.specs.State.{laid_by}
-use Rattle.standby.specs.Step.{Steps, followed_of, over, put_of}
-use Rattle.standby.specs.Text.{ShipLine, end_line, kept_line, later, next}
-use Rattle.standby.specs.declared.following.Followed.{Followed}
-use Rattle.standby.specs.declared.following.Followed.TheVariants.{Done, DiskFault, PutFault, Geometry, NotKept, Long}
 use Rattle.standby.proofs.PutLemmas.{PrintedNow, image_is, sure_puts}
 use Rattle.standby.proofs.TellLemmas.{at_end, at_some, at_step, kept_front, later_more, laid_more}
 

@@ -1,14 +1,6 @@
 -- Calls and puts, one after another.
-use Rattle.std.proofs.Common.{◌≡◌, ◌≤◌, ℕ, List, length, refl, sym, ◌∙◌, subst, arith, inl, IsSome}
-use Rattle.std.specs.Prelude.{Option, Result}
-use Rattle.std.specs.Option.{ForSome}
-use Rattle.outside.specs.declared.world.Outside.{Ghosts}
-use Rattle.outside.specs.declared.failed.Failed.{Failed}
-use Rattle.outside.specs.Runs.{FewerLater}
-use Rattle.outside.proofs.Runs.{elapses-trans}
+use Rattle.standby.proofs.Common.{◌≡◌, ◌≤◌, ℕ, List, length, refl, sym, ◌∙◌, subst, arith, inl, IsSome, Option, Result, ForSome, Ghosts, Failed, FewerLater, elapses-trans, OnlyGoesOn, Puts}
 use Rattle.redo_journal.specs.Held.{IsMoreBy, OnlyWrites}
-use Rattle.standby.specs.Followed.{OnlyGoesOn}
-use Rattle.standby.specs.Puts.{Puts}
 
 more_on : (first second third : Option ℕ) → IsMoreBy 0 first second → IsMoreBy 0 second third → IsMoreBy 0 first third
 more_on first second third one two before is =

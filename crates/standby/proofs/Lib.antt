@@ -1,3 +1,4 @@
+pub mod Common
 pub mod PutLemmas
 pub mod GoLemmas
 pub mod TellLemmas

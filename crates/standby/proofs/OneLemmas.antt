@@ -1,8 +1,6 @@
 -- A text holds one content.
+use Rattle.standby.proofs.Common.{AllByRecursion, recursion_from_All, AreLines, Content, HoldsOne, ShipLine, end_line, head_line, later, line_line, lines_text, next, records_text}
 use Rattle.std.proofs.Common.{All, ◌≡◌, ℕ, ◌+◌, ◌^◌, ◌<◌, List, [], ◌∷◌, ◌++◌, length, codes, decimal, refl, sym, ◌∙◌, ap, subst, append_assoc, append-nil, arith}
-use Rattle.std.specs.List.{AllByRecursion}
-use Rattle.std.proofs.lemmas.List.Elements.{recursion_from_All}
-use Rattle.standby.specs.Text.{AreLines, Content, HoldsOne, ShipLine, end_line, head_line, later, line_line, lines_text, next, records_text}
 use Rattle.standby.proofs.PartLemmas.{end_parts, record_parts}
 use Rattle.standby.proofs.TailLemmas.{first_is, records_are, room_left, same_head, same_line, same_record}
 

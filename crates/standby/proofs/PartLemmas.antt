@@ -1,20 +1,9 @@
 -- The parts of a line of a ship text: where each ends, and that none holds a line feed.
-use Rattle.std.proofs.Common.{◌≡◌, ℕ, zero, suc, ◌+◌, ◌/◌, ◌%◌, ◌^◌, ◌<◌, ◌≤◌, ◌==◌, nat_lt, not, true, false, cond, List, [], ◌∷◌, ◌++◌, length, codes, decimal, get_or, position, Some, None, Ok, take, drop, refl, sym, ◌∙◌, ap, append_assoc, length-append, arith}
-use Rattle.std.specs.Prelude.{All, slice_index}
-use Rattle.std.specs.List.{AllByRecursion, prefix_len}
-use Rattle.std.proofs.lemmas.Bool.{lt-ltb}
-use Rattle.std.proofs.lemmas.Bool.Decides.{nat_tests}
-use Rattle.std.proofs.lemmas.List.{drop_at, take_at}
+use Rattle.standby.proofs.Common.{All, slice_index, AllByRecursion, prefix_len, lt-ltb, nat_tests, drop_at, take_at, All-get_or, recursion_from_All, AllPass-from_list_all, sum_by-append, decode_of-encode_lower, IsWord, number_word, word_cut, feeds, end_line, head_line, line_line, record_line, each_byte}
+use Rattle.std.proofs.Common.{◌≡◌, ℕ, ◌+◌, ◌/◌, ◌%◌, ◌^◌, ◌<◌, ◌≤◌, ◌==◌, nat_lt, not, true, false, cond, List, [], ◌∷◌, ◌++◌, length, codes, decimal, get_or, position, Some, None, Ok, take, drop, refl, sym, ◌∙◌, ap, append_assoc, length-append, arith}
 use Rattle.std.proofs.lemmas.List.Quantifiers.{position-Some}
-use Rattle.std.proofs.lemmas.List.Elements.{All-get_or, recursion_from_All}
-use Rattle.std.proofs.lemmas.List.Sums.{AllPass-from_list_all, sum_by-append}
 use Rattle.hex.specs.Hex.{encode_lower, encode_with, lower_digits, decode_of}
-use Rattle.hex.proofs.HexLemmas.{decode_of-encode_lower}
-use Rattle.text_line.proofs.Words.{IsWord, number_word, same_number, word_cut}
 use Rattle.standby.proofs.ShipLemmas.{split_at}
-use Rattle.standby.specs.Read.{feeds}
-use Rattle.standby.specs.Text.{end_line, head_line, line_line, record_line}
-use Rattle.text_line.proofs.Bytes.{each_byte}
 
 behind_space : (byte : ℕ) → nat_lt 32 byte ≡ true → 32 < byte
 behind_space byte is = grind (arith, nat_tests)

@@ -1,14 +1,5 @@
 -- One line that is put, and what a crash leaves of it.
-use Rattle.std.proofs.Common.{◌≡◌, ⊎_elim, ℕ, List, [], ◌++◌, take, sym, ◌∙◌, ap, subst, IsSome, IsTrue}
-use Rattle.std.specs.Prelude.{Option, None, Some, IfSome, Result, Ok, unwrap_or}
-use Rattle.std.proofs.lemmas.Option.{IfSome_then}
-use Rattle.outside.specs.declared.failed.Failed.{Failed}
-use Rattle.outside.specs.declared.world.Outside.{Ghosts}
-use Rattle.outside.specs.Bytes.{Prints, AreTold}
-use Rattle.outside.specs.Durable.{IsSure}
-use Rattle.outside.specs.Runs.{CallsDisk, FewerLater, Leaves, held_of}
-use Rattle.outside.proofs.Durable.{told_is}
-use Rattle.standby.specs.Puts.{Puts, SeesPart}
+use Rattle.standby.proofs.Common.{◌≡◌, ⊎_elim, ℕ, List, [], ◌++◌, take, sym, ◌∙◌, ap, subst, IsSome, IsTrue, Option, None, Some, IfSome, Result, Ok, unwrap_or, IfSome_then, Failed, Ghosts, Prints, AreTold, IsSure, CallsDisk, FewerLater, Leaves, held_of, told_is, Puts, SeesPart}
 
 -- a crash leaves the bytes printed
 abbrev pub PrintedNow : {W : Type 0} → Ghosts W → Type 0

@@ -1,12 +1,5 @@
 -- The lines of a record that are read, one after another, and the records.
-use Rattle.std.proofs.Common.{◌≡◌, ◌≢◌, ℕ, suc, ◌+◌, ◌-◌, ◌*◌, ◌^◌, ◌<◌, ◌≤◌, ◌==◌, true, false, List, [], ◌∷◌, ◌++◌, length, take, drop, refl, sym, ◌∙◌, ap, subst, append_assoc, append-nil, arith}
-use Rattle.std.specs.Prelude.{All}
-use Rattle.std.proofs.lemmas.List.{length-drop, drop-append-le, take-append-le, take_all}
-use Rattle.std.proofs.lemmas.Bool.Decides.{nat_tests}
-use Rattle.std.proofs.lemmas.Grind.{flat_map-append}
-use Rattle.std.proofs.lemmas.Grind.{common_steps}
-use Rattle.standby.specs.Read.{IsFirstBad, IsRead, Tail}
-use Rattle.standby.specs.Text.{AreLines, ShipLine, end_line, later, line_line, lines_text, next, parted, record_line, record_text, records_text}
+use Rattle.standby.proofs.Common.{◌≡◌, ◌≢◌, ℕ, suc, ◌+◌, ◌-◌, ◌*◌, ◌^◌, ◌<◌, ◌≤◌, List, [], ◌∷◌, ◌++◌, length, take, drop, refl, sym, ◌∙◌, ap, subst, append_assoc, append-nil, arith, All, length-drop, drop-append-le, take-append-le, take_all, flat_map-append, common_steps, IsFirstBad, IsRead, Tail, AreLines, ShipLine, end_line, later, line_line, lines_text, next, parted, record_line, record_text, records_text}
 use Rattle.standby.proofs.PartLemmas.{line_parts, record_parts}
 use Rattle.standby.proofs.ShipLemmas.{records_append}
 use Rattle.standby.proofs.TailLemmas.{bad_here, read_count, read_one}

@@ -1,22 +1,8 @@
 -- The records of a bank, as they are shipped.
+use Rattle.standby.proofs.Common.{Some, slice_get, flat_map-append, All-push, get_or_from_slice_get, take_more, get_or-map, length-map, length-take-le, take-append-drop, PageSize, RecordLine, record_bytes, Record, KeptBank, IsCounted, IsRecordAt, area_bytes, Ghosts, held_of, KeptStore, IsShown, ShipLine, later, line_line, lines_text, next, record_text, records_text, told}
 use Rattle.std.proofs.Common.{All, ◌≡◌, ℕ, zero, suc, ◌+◌, ◌<◌, List, [], ◌∷◌, ◌++◌, length, map, take, drop, get_or, refl, sym, ◌∙◌, ap, subst, arith, append_assoc, append-nil}
-use Rattle.std.specs.Prelude.{Some, slice_get}
-use Rattle.std.proofs.lemmas.Grind.{flat_map-append}
-use Rattle.std.proofs.lemmas.List.Elements.{All-push}
-use Rattle.std.proofs.lemmas.Option.{get_or_from_slice_get}
-use Rattle.std.proofs.lemmas.List.{take_more, get_or-map, length-map, length-take-le, take-append-drop}
-use Rattle.line_geometry.specs.declared.directory.PageSize.{PageSize}
-use Rattle.store_format.specs.Bank.{RecordLine, record_bytes}
-use Rattle.redo_journal.specs.declared.find.Record.{Record}
-use Rattle.redo_journal.specs.Kept.{KeptBank}
 use Rattle.redo_journal.specs.Opened.{IsRead}
-use Rattle.redo_journal.specs.Records.{IsCounted, IsRecordAt, area_bytes}
-use Rattle.outside.specs.declared.world.Outside.{Ghosts}
-use Rattle.outside.specs.Runs.{held_of}
-use Rattle.restart.specs.Kept.{KeptStore}
-use Rattle.restart.specs.Shows.{IsShown}
 use Rattle.standby.proofs.ShowLemmas.{still_shown}
-use Rattle.standby.specs.Text.{ShipLine, later, line_line, lines_text, next, record_text, records_text, told}
 
 area_append : (page : PageSize) (xs : List (List RecordLine)) (lines : List RecordLine) → area_bytes page (xs ++ lines ∷ []) ≡ area_bytes page xs + record_bytes page (length lines)
 area_append page [] lines = omega arith

@@ -1,20 +1,5 @@
 -- Calls that ask the disk, and puts, one after another.
-use Rattle.std.proofs.Common.{◌≡◌, inl, ⊎_elim, ℕ, List, [], ◌++◌, length, take, refl, sym, ◌∙◌, ap, subst, arith, append-nil, IsSome}
-use Rattle.std.specs.Prelude.{Option, None, Some, Result, Ok, Err, unwrap_or}
-use Rattle.outside.specs.declared.failed.Failed.{Failed}
-use Rattle.outside.specs.declared.world.Outside.{Ghosts}
-use Rattle.outside.specs.Bytes.{Prints}
-use Rattle.outside.specs.Runs.{AsksAndPuts, OnlyAsks, held_of}
-use Rattle.outside.proofs.Shows.{shows_puts}
-use Rattle.store_format.specs.Header.{number_at}
-use Rattle.store_format.specs.Stands.{HasHeader, chosen}
-use Rattle.redo_journal.specs.Kept.{place_of}
-use Rattle.redo_journal.specs.Opened.{bank_in}
-use Rattle.restart.specs.Kept.{KeptStore}
-use Rattle.restart.specs.Shows.{IsShown, Shows}
-use Rattle.standby.specs.Puts.{Puts}
-use Rattle.standby.specs.Shipped.{PrintsBy}
-use Rattle.standby.specs.Step.{put_of}
+use Rattle.standby.proofs.Common.{◌≡◌, ℕ, List, [], length, refl, sym, ◌∙◌, ap, subst, IsSome, Option, Result, Ok, Err, unwrap_or, Failed, Ghosts, Prints, AsksAndPuts, held_of, shows_puts, number_at, HasHeader, chosen, place_of, bank_in, KeptStore, IsShown, Shows, Puts, PrintsBy, put_of}
 use Rattle.standby.specs.declared.shipping.Shipped.{Shipped}
 
 module _ {W : Type 0} (G : Ghosts W) where

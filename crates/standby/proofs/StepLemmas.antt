@@ -1,33 +1,10 @@
 -- One record that is kept and told.
-use Rattle.std.proofs.Common.{◌≡◌, inl, inr, ⊎_elim, ℕ, ◌+◌, ◌*◌, List, [], ◌∷◌, ◌++◌, take, refl, sym, ◌∙◌, ap, subst, append-nil}
-use Rattle.std.proofs.lemmas.Option.{IfSome_then}
+use Rattle.standby.proofs.Common.{◌≡◌, inl, inr, ⊎_elim, ℕ, ◌+◌, ◌*◌, List, [], ◌∷◌, refl, sym, ◌∙◌, ap, subst, append-nil, IfSome_then, FlatStore, line_bytes, PageSize, RecordLine, Standing, Stands, home_of, stands, one_more, Failed, Ghosts, AreTold, Prints, IsSure, CallsDisk, FewerLater, Leaves, held_of, leaves_on, begun_of, IsEither, KeptStore, with_begun, Shows, Tracks, Puts, SeesPart, laid, well, broken, IsStep, Steps, over, put_of, Followed, DiskFault, PutFault, ShipLine, next, kept_line, told}
 use Rattle.std.specs.Prelude.{◌%◌, ◌^◌, length, Option, Result, Ok, Err, OnErr, fold}
 use Rattle.owned_list.specs.Overlay.{overlaid}
-use Rattle.line_geometry.specs.FlatStore.{FlatStore}
-use Rattle.line_geometry.specs.Segments.{line_bytes}
-use Rattle.line_geometry.specs.declared.directory.PageSize.{PageSize}
-use Rattle.store_format.specs.Bank.{RecordLine}
-use Rattle.store_format.specs.Stands as format
-use Rattle.store_format.specs.Stands.{Standing, Stands, home_of, stands, one_more}
 use Rattle.store_format.proofs.Stores.{stands_is}
 use Rattle.restart.proofs.ShowLemmas.{shown_store, shows_begun}
-use Rattle.outside.specs.declared.failed.Failed.{Failed}
-use Rattle.outside.specs.declared.world.Outside.{Ghosts}
-use Rattle.outside.specs.Bytes.{AreTold, Prints}
-use Rattle.outside.specs.Durable.{IsSure}
-use Rattle.outside.specs.Runs.{CallsDisk, FewerLater, Leaves, held_of}
-use Rattle.outside.proofs.Runs.{leaves_on}
-use Rattle.redo_journal.specs.Kept.{begun_of}
-use Rattle.redo_journal.specs.Tracks.{IsEither}
-use Rattle.restart.specs.Kept.{KeptStore, with_begun}
-use Rattle.restart.specs.Shows.{Shows, Tracks}
-use Rattle.standby.specs.Puts.{Puts, SeesPart}
-use Rattle.standby.specs.State.{laid}
-use Rattle.standby.specs.Followed.{well, broken}
-use Rattle.standby.specs.Step.{IsStep, Steps, over, put_of}
-use Rattle.standby.specs.declared.following.Followed.{Followed}
-use Rattle.standby.specs.declared.following.Followed.TheVariants.{DiskFault, PutFault}
-use Rattle.standby.specs.Text.{ShipLine, next, kept_line, told}
+use Rattle.store_format.specs.Stands as format
 use Rattle.standby.proofs.PutLemmas.{PrintedNow, quiet_is, image_is, sure_puts}
 
 -- the lines of a record lie over a store wherever they stand in the bank

@@ -1,13 +1,6 @@
 -- What may stand behind lines that were read, a line at a time.
-use Rattle.std.proofs.Common.{◌≡◌, ◌≢◌, ◌⊎◌, inl, inr, ℕ, zero, suc, ◌+◌, ◌^◌, ◌<◌, ◌≤◌, List, [], ◌∷◌, ◌++◌, length, codes, decimal, refl, sym, ◌∙◌, ap, subst, append_assoc, append-nil, arith}
-use Rattle.std.specs.Prelude.{All}
-use Rattle.std.specs.List.{AllByRecursion}
-use Rattle.std.proofs.lemmas.List.Elements.{All-from_recursion, recursion_from_All}
-use Rattle.hex.specs.Hex.{encode_lower}
-use Rattle.standby.specs.Read.{AreWhole, feeds, GoesOn, IsFirstBad, IsRead, Tail}
-use Rattle.standby.specs.Text.{AreLines, Content, ShipLine, end_line, head_line, later, line_line, lines_text, next, record_line, record_text, records_text, text_of}
+use Rattle.standby.proofs.Common.{◌≡◌, ◌≢◌, ◌⊎◌, inl, inr, ℕ, zero, suc, ◌+◌, ◌^◌, ◌<◌, ◌≤◌, List, [], ◌∷◌, ◌++◌, length, codes, decimal, refl, sym, ◌∙◌, ap, subst, append_assoc, append-nil, arith, All, AllByRecursion, All-from_recursion, recursion_from_All, encode_lower, AreWhole, feeds, GoesOn, IsFirstBad, IsRead, Tail, AreLines, Content, ShipLine, end_line, head_line, later, line_line, lines_text, next, record_line, record_text, records_text, text_of, same_number}
 use Rattle.standby.proofs.PartLemmas.{IsLine, end_is_line, end_parts, feeds_append, head_is_line, head_parts, line_is_line, line_parts, record_is_line, record_parts, same_hex}
-use Rattle.text_line.proofs.Words.{same_number}
 
 -- lines that ascend below a bound are no more than lie between
 pub room_left : (bytes bound least : ℕ) (lines : List ShipLine) → AreLines bytes bound least lines → least ≤ bound → least + length lines ≤ bound

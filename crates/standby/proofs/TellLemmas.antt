@@ -1,19 +1,7 @@
 -- The lines that tell of records, and what a crash leaves of them.
-use Rattle.std.proofs.Common.{◌≡◌, inl, inr, ⊎_elim, ℕ, zero, suc, ◌+◌, ◌-◌, ◌<◌, ◌≤◌, List, [], ◌∷◌, ◌++◌, length, take, get_or, min, refl, sym, ◌∙◌, ap, arith, append_assoc, append-nil, length-append}
+use Rattle.standby.proofs.Common.{◌≡◌, inl, inr, ⊎_elim, ℕ, zero, suc, ◌+◌, ◌-◌, ◌<◌, ◌≤◌, List, [], ◌∷◌, ◌++◌, length, take, get_or, min, refl, sym, ◌∙◌, ap, arith, append_assoc, append-nil, length-append, IfSome_then, cases_lt, take_more, take-append-le, take_min, fold-append, FlatStore, Stands, stands, Prints, kept_text, followed_text, IsAtNumber, well, SeesPart, laid, laid_by, IsStep, over, ShipLine, next, later, end_line, kept_line}
 use Rattle.std.specs.Prelude.{fold, codes, decimal, Option, IfSome}
-use Rattle.std.proofs.lemmas.Option.{IfSome_then}
-use Rattle.std.proofs.lemmas.Bool.{cases_lt}
 use Rattle.std.proofs.Math.Seq.{take-append-add, take-append_seam}
-use Rattle.std.proofs.lemmas.List.{take_more, take-append-le, take_min}
-use Rattle.std.proofs.lemmas.List.Sums.{fold-append}
-use Rattle.line_geometry.specs.FlatStore.{FlatStore}
-use Rattle.store_format.specs.Stands.{Stands, stands}
-use Rattle.outside.specs.Bytes.{Prints}
-use Rattle.standby.specs.Followed.{kept_text, followed_text, IsAtNumber, well}
-use Rattle.standby.specs.Puts.{SeesPart}
-use Rattle.standby.specs.State.{laid, laid_by}
-use Rattle.standby.specs.Step.{IsStep, over}
-use Rattle.standby.specs.Text.{ShipLine, next, later, end_line, kept_line}
 use Rattle.standby.proofs.PutLemmas.{on_printed}
 
 -- a line has bytes

@@ -1,7 +1,7 @@
 -- A call over an opening that follows a text.
 use Rattle.std.proofs.Common.{◌≡◌, inl, inr, ℕ, ◌-◌, ◌^◌, ◌<◌, ◌≤◌, List, [], ◌++◌, length, refl, sym, ◌∙◌, ap, subst, arith, append-nil, IsSome, IsTrue}
 use Rattle.std.proofs.lemmas.Option.{IfSome_then}
-use Rattle.std.specs.Prelude.{Option, Some, None, Result, unwrap_or}
+use Rattle.std.specs.Prelude.{Option, Result, unwrap_or}
 use Rattle.std.proofs.lemmas.List.{take_all, length-drop}
 use Rattle.line_geometry.specs.FlatStore.{FlatStore}
 use Rattle.store_format.specs.Stands.{Stands, stands}
@@ -13,7 +13,6 @@ use Rattle.outside.specs.Runs.{FewerLater, Leaves, OnlyAsks, held_of}
 use Rattle.outside.proofs.Prints.{prints_on, prints_same, prints_unput}
 use Rattle.outside.proofs.Runs.{leaves_on}
 use Rattle.redo_journal.specs.declared.fault.OpenFault.{OpenFault}
-use Rattle.redo_journal.specs.declared.fault.OpenFault.TheVariants as open_fault
 use Rattle.restart.specs.Faults.{IsOpenFault}
 use Rattle.restart.specs.Kept.{KeptStore, number_of}
 use Rattle.restart.specs.Shows.{Shows, Tracks}
@@ -29,8 +28,9 @@ use Rattle.call_status.specs.Call.{call}
 use Rattle.call_status.specs.Opening.{StandsAt}
 use Rattle.call_status.specs.Statuses.{status_of_open}
 use Rattle.call_status.specs.declared.status.Status.{Status}
-use Rattle.call_status.specs.declared.status.Status.TheVariants as status
 use Rattle.standby_calls.specs.Followed.{FollowsOn, HasFollowed, OnStore}
+use Rattle.redo_journal.specs.declared.fault.OpenFault.TheVariants as open_fault
+use Rattle.call_status.specs.declared.status.Status.TheVariants as status
 
 -- the lines of some of the records
 prints_some : (old new : Option (List ℕ)) (number count all : ℕ) → count < all → Prints old new (kept_text number count) well → Prints old new (followed_text number all) broken

@@ -1,28 +1,27 @@
 -- What shipping the records of a store did.
-use Rattle.std.proofs.Common.{◌≡◌, ◌<◌, ◌≤◌, ℕ, List, [], inl, inr, refl, sym, ◌∙◌, ap, subst}
+use Rattle.std.proofs.Common.{◌≡◌, ◌<◌, ◌≤◌, ℕ, List, [], inl, inr, refl, sym, subst}
 use Rattle.std.specs.Prelude.{Option, IsSome, Result}
 use Rattle.std.proofs.lemmas.Bool.{cases_lt}
 use Rattle.outside.specs.declared.failed.Failed.{Failed}
 use Rattle.outside.specs.declared.world.Outside.{Ghosts}
 use Rattle.outside.specs.Bytes.{Prints}
-use Rattle.outside.specs.Runs.{FewerLater, OnlyAsks, held_of}
+use Rattle.outside.specs.Runs.{FewerLater, OnlyAsks, held_of, AsksAndPuts}
 use Rattle.store_format.specs.Bank.{RecordLine}
 use Rattle.restart.specs.Kept.{KeptStore, number_of}
 use Rattle.restart.specs.Shows.{IsShown, Shows}
 use Rattle.standby.specs.Followed.{well, broken}
-use Rattle.outside.specs.Runs.{AsksAndPuts}
 use Rattle.standby.specs.Shipped.{ShipsBy, shipped}
 use Rattle.standby.specs.State.{behind}
 use Rattle.standby.specs.Text.{IsContent, text_of}
 use Rattle.standby.specs.declared.shipping.Shipped.{Shipped}
-use Rattle.standby.specs.declared.shipping.Shipped.TheVariants as how
 use Rattle.outside.proofs.Shows.{shows_asks, shows_on}
 use Rattle.standby.proofs.ShowLemmas.{still_shown}
 use Rattle.call_status.specs.Call.{call}
 use Rattle.call_status.specs.Printed.{PrintsBy}
 use Rattle.call_status.specs.declared.status.Status.{Status}
+use Rattle.standby_calls.specs.Shipped.{PutsText, ShippedFrom}
+use Rattle.standby.specs.declared.shipping.Shipped.TheVariants as how
 use Rattle.call_status.specs.declared.status.Status.TheVariants as status
-use Rattle.standby_calls.specs.Shipped.{IsNotKept, PutsText, ShippedFrom}
 
 -- all is kept unless the answer is that it isn't
 pub all_kept : (answer : Shipped) (count far : ℕ) → (count < far → answer ≡ how.NotKept) → (answer ≡ how.NotKept → ⊥) → far ≤ count

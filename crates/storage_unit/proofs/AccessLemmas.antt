@@ -1,13 +1,5 @@
 -- Where an access that is permitted begins.
-use Rattle.std.proofs.Common.{◌≡◌, ℕ, Bool, false, sym, ◌∙◌, subst, Ok}
-use Rattle.segment_regs.specs.declared.registers.Virtual.{Virtual}
-use Rattle.segment_regs.specs.Registers.{located_by}
-use Rattle.romp_cpu.specs.declared.storage.Probe.{Probe}
-use Rattle.romp_cpu.specs.Answers.{answered}
-use Rattle.romp_cpu.specs.Shown.{access_to}
-use Rattle.storage_unit.specs.declared.model.Reach.{Reach}
-use Rattle.storage_unit.specs.Reach.{is_in_frame, refuses}
-use Rattle.storage_unit.specs.Reached.{IsSound, Lies, AreThere}
+use Rattle.storage_unit.proofs.Common.{◌≡◌, ℕ, Bool, false, sym, ◌∙◌, subst, Ok, Virtual, located_by, Probe, answered, access_to, Reach, is_in_frame, refuses, IsSound, Lies, AreThere}
 use Rattle.storage_unit.proofs.PlaceLemmas.{Under, under, lies, first-byte}
 use Rattle.storage_unit.proofs.AnswerLemmas.{permitted-located, permitted-bytes}
 

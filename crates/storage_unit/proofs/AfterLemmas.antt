@@ -1,35 +1,5 @@
 -- What is shown before and after a store.
-use Rattle.std.proofs.Common.{◌≡◌, ℕ, ◌+◌, ◌-◌, ◌*◌, ◌/◌, ◌%◌, ◌<◌, ◌≤◌, ◌^◌, Bool, true, false, List, length, refl, sym, ◌∙◌, ap, arith, replicate, Option, Some, None, Result, Ok, Err, inl, inr}
-use Rattle.std.specs.Prelude.{nat_le, cond, slice_index, slice_index_or, is_some}
-use Rattle.std.specs.Option.{option_map_or}
-use Rattle.std.proofs.lemmas.Bool.{cases_lt}
-use Rattle.std.proofs.lemmas.Bool.Decides.{nat_tests}
-use Rattle.std.proofs.lemmas.List.{get_or-replicate, get_or_past}
-use Rattle.std.proofs.lemmas.List.FromFn.{get_or-map-range_with_len, length-map-range_with_len}
-use Rattle.std.proofs.lemmas.Grind.{same_number_lists}
-use Rattle.owned_list.specs.Overlay.{overlaid}
-use Rattle.line_geometry.specs.declared.directory.PageSize.{PageSize}
-use Rattle.line_geometry.specs.Segments.{page_bytes}
-use Rattle.line_geometry.specs.Directory.{start_of}
-use Rattle.line_geometry.specs.Lines.{page_of}
-use Rattle.flat_machine.specs.declared.machine.Located.{Located}
-use Rattle.flat_machine.specs.declared.machine.Located.TheVariants.{Private, Shared, Refused}
-use Rattle.segment_regs.specs.declared.registers.Check.{Check}
-use Rattle.segment_regs.specs.declared.registers.SegmentRegister.{SegmentRegister}
-use Rattle.segment_regs.specs.declared.registers.Virtual.{Virtual}
-use Rattle.segment_regs.specs.Registers.{virtual_at, bytes_on, located_under, located_by}
-use Rattle.inverted_table.specs.declared.key.Key.{Key}
-use Rattle.inverted_table.specs.Keys.{key_to}
-use Rattle.frame_pool.specs.Pool.{frame_at}
-use Rattle.romp_cpu.specs.declared.storage.Access.{Access}
-use Rattle.romp_cpu.specs.Answers.{IsOutside, answer_in}
-use Rattle.romp_cpu.specs.Shown.{bytes_from}
-use Rattle.storage_unit.specs.declared.model.Reach.{Reach}
-use Rattle.storage_unit.specs.Places.{private_segment, offset_of, place_of, place_at, on, key_of_page}
-use Rattle.storage_unit.specs.Held.{AreReached}
-use Rattle.storage_unit.specs.Bytes.{byte_in_frame}
-use Rattle.storage_unit.specs.Reach.{byte_of, byte_at, is_there, is_in_frame, refuses, put_byte, put_in_store, put_at}
-use Rattle.storage_unit.specs.Reached.{IsSound, Lies, AreThere, bytes_shown}
+use Rattle.storage_unit.proofs.Common.{◌≡◌, ℕ, ◌+◌, ◌-◌, ◌*◌, ◌/◌, ◌%◌, ◌<◌, ◌≤◌, ◌^◌, Bool, true, false, List, length, refl, sym, ◌∙◌, ap, arith, Option, Some, None, Result, Ok, Err, nat_le, cond, slice_index, slice_index_or, is_some, option_map_or, nat_tests, get_or-map-range_with_len, length-map-range_with_len, same_number_lists, overlaid, PageSize, page_bytes, start_of, page_of, Located, Private, Shared, Refused, Check, Virtual, virtual_at, bytes_on, located_under, located_by, Key, key_to, frame_at, Access, IsOutside, answer_in, bytes_from, Reach, private_segment, offset_of, place_of, place_at, on, key_of_page, AreReached, byte_in_frame, byte_of, byte_at, is_there, is_in_frame, refuses, put_byte, put_in_store, put_at, IsSound, Lies, AreThere, bytes_shown}
 use Rattle.storage_unit.proofs.SizeLemmas.{rest-below, place-is, frame-high, page-of-line}
 use Rattle.storage_unit.proofs.KeyLemmas.{key-of-place}
 use Rattle.storage_unit.proofs.FillLemmas.{over-part, in-part}

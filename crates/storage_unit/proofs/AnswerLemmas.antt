@@ -1,21 +1,6 @@
 -- The answer to an access, by the lines of its bytes.
-use Rattle.std.proofs.Common.{◌≡◌, ℕ, ◌+◌, ◌<◌, Bool, true, false, refl, sym, ◌∙◌, ap, arith, Option, Some, None, Result, Ok, Err}
-use Rattle.std.specs.Prelude.{not, find, option_map}
-use Rattle.std.specs.List.{range_with_len}
-use Rattle.line_geometry.specs.Lines.{line_of}
-use Rattle.flat_machine.specs.declared.machine.Located.{Located}
-use Rattle.flat_machine.specs.declared.machine.Located.TheVariants.{Private, Shared}
-use Rattle.segment_regs.specs.declared.registers.Check.{Check}
-use Rattle.segment_regs.specs.declared.registers.Virtual.{Virtual}
-use Rattle.segment_regs.specs.Registers.{Registers, bytes_on, located_by}
-use Rattle.romp_cpu.specs.declared.storage.Access.{Access}
-use Rattle.romp_cpu.specs.declared.storage.Probe.{Probe}
-use Rattle.romp_cpu.specs.Answers.{bytes_of_range, unless_refused_at, unless_absent_at, answered_at, answered}
-use Rattle.storage_unit.specs.Places.{place_of, on}
-use Rattle.storage_unit.specs.Reach.{is_resident, is_refused, is_there, is_kept_from, is_in_frame, refuses}
-use Rattle.storage_unit.specs.declared.model.Reach.{Reach}
+use Rattle.storage_unit.proofs.Common.{◌≡◌, ℕ, ◌+◌, ◌<◌, Bool, true, false, refl, sym, ◌∙◌, ap, arith, Option, Some, None, Result, Ok, Err, not, find, option_map, range_with_len, line_of, Located, Private, Shared, Check, Virtual, Registers, bytes_on, located_by, Access, Probe, bytes_of_range, unless_refused_at, unless_absent_at, answered_at, answered, place_of, on, is_resident, is_refused, is_there, is_kept_from, is_in_frame, refuses, Reach, IsSound, AreThere}
 use Rattle.storage_unit.proofs.FindLemmas.{find-map, find-same, none-passes, none-found}
-use Rattle.storage_unit.specs.Reached.{IsSound, AreThere}
 use Rattle.storage_unit.proofs.PlaceLemmas.{place-on, registers-page}
 
 module _ (f : Reach) (first : Virtual) (n : ℕ) where

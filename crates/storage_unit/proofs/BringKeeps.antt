@@ -1,18 +1,5 @@
 -- A page that comes in leaves the bytes as they were.
-use Rattle.std.proofs.Common.{◌≡◌, ℕ, ◌+◌, ◌*◌, ◌%◌, ◌<◌, false, List, length, sym, ◌∙◌, ap, subst, arith, Option, inl, inr}
-use Rattle.std.specs.Prelude.{if◌then◌else◌, slice_index}
-use Rattle.std.proofs.lemmas.Bool.{cases_eq}
-use Rattle.std.proofs.lemmas.List.{length-take, length-drop}
-use Rattle.line_geometry.specs.Segments.{page_bytes}
-use Rattle.line_geometry.specs.Directory.{Layout, byte_count, page_count}
-use Rattle.line_geometry.specs.Lines.{page_of}
-use Rattle.line_geometry.proofs.Within.{byte_count-pages}
-use Rattle.lock_rules.specs.Sets.{has}
-use Rattle.frame_pool.specs.declared.model.Pool.{Pool}
-use Rattle.frame_pool.specs.Pool.{frame_at, Brought, with_room}
-use Rattle.frame_pool.proofs.SoundLemmas.{page_part}
-use Rattle.storage_unit.specs.Bytes.{is_marked, byte_over, IsClean}
-use Rattle.storage_unit.specs.Laws.{Fits, Keeps, filled, page_in, BringKeeps}
+use Rattle.storage_unit.proofs.Common.{◌≡◌, ℕ, ◌+◌, ◌*◌, ◌%◌, ◌<◌, false, List, length, sym, ◌∙◌, ap, subst, arith, Option, inl, inr, if◌then◌else◌, slice_index, cases_eq, length-take, length-drop, page_bytes, Layout, byte_count, page_count, page_of, byte_count-pages, has, Pool, frame_at, Brought, with_room, page_part, is_marked, byte_over, IsClean, Fits, Keeps, filled, page_in, BringKeeps}
 use Rattle.storage_unit.proofs.SizeLemmas.{rest-below, place-is}
 use Rattle.storage_unit.proofs.ByteLemmas.{in-range, same-bytes, over-none}
 use Rattle.storage_unit.proofs.LeaveLemmas.{clean-of, clean-shows}

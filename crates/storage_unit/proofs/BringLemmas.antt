@@ -1,23 +1,6 @@
 -- The bytes that a pool shows once a page came in and its frame was filled.
-use Rattle.std.proofs.Common.{◌≡◌, ◌≢◌, ℕ, ◌+◌, ◌*◌, ◌/◌, ◌%◌, ◌<◌, ◌≤◌, false, List, [], length, refl, sym, ◌∙◌, ap, subst, arith, Option, Some, None, All}
-use Rattle.std.specs.Prelude.{if◌then◌else◌, slice_index, slice_index_or, slice_set, is_some, fold, option_to_list}
-use Rattle.std.specs.Option.{option_map_or}
-use Rattle.std.proofs.lemmas.List.{get_or-set_same, get_or-set_other}
-use Rattle.owned_list.specs.Overlay.{overlaid}
-use Rattle.owned_list.proofs.Overlay.{length-overlaid}
-use Rattle.line_geometry.specs.Segments.{page_bytes}
-use Rattle.line_geometry.specs.Directory.{Layout, page_count}
-use Rattle.line_geometry.specs.Lines.{line_of, page_of}
-use Rattle.line_geometry.specs.LineSets.{IsOfPage}
-use Rattle.lock_rules.specs.Sets.{has}
+use Rattle.storage_unit.proofs.Common.{◌≡◌, ◌≢◌, ℕ, ◌+◌, ◌*◌, ◌/◌, ◌%◌, ◌<◌, ◌≤◌, false, List, [], length, refl, sym, ◌∙◌, ap, subst, arith, Option, Some, None, All, if◌then◌else◌, slice_index, slice_index_or, slice_set, is_some, fold, option_to_list, option_map_or, get_or-set_same, get_or-set_other, overlaid, length-overlaid, page_bytes, Layout, page_count, line_of, page_of, IsOfPage, has, Pool, frame_count, line_size, frame_at, page_at, marks_at, with_room, Brought, line_laid, page_part, lines-below, is_marked, byte_in_frame, byte_over, IsClean, Fits, filled}
 use Rattle.lock_rules.specs.Resident.{brought}
-use Rattle.frame_pool.specs.declared.model.Pool.{Pool}
-use Rattle.frame_pool.specs.Sizes.{frame_count, line_size}
-use Rattle.frame_pool.specs.Pool.{frame_at, page_at, marks_at, with_room, Brought, line_laid}
-use Rattle.frame_pool.proofs.SoundLemmas.{page_part}
-use Rattle.frame_pool.proofs.PoolLemmas.{lines-below}
-use Rattle.storage_unit.specs.Bytes.{is_marked, byte_in_frame, byte_over, IsClean}
-use Rattle.storage_unit.specs.Laws.{Fits, filled}
 use Rattle.storage_unit.proofs.SizeLemmas.{rest-below, place-is, spot-same, line-in-page}
 use Rattle.storage_unit.proofs.ByteLemmas.{over-some, marked-is}
 use Rattle.storage_unit.proofs.LeaveLemmas.{Fewer, room-fewer}

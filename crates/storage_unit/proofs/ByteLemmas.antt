@@ -1,25 +1,5 @@
 -- The bytes of a store that a pool shows, place by place.
-use Rattle.std.proofs.Common.{◌≡◌, ◌≢◌, ℕ, ◌+◌, ◌-◌, ◌*◌, ◌%◌, ◌<◌, ◌≤◌, Bool, true, false, List, [], ◌∷◌, length, drop, refl, sym, ◌∙◌, ap, subst, arith, Option, Some, None, inl, inr}
-use Rattle.std.specs.Prelude.{◌==◌, ◌&&◌, not, if◌then◌else◌, slice_index, slice_index_or, slice_range}
-use Rattle.std.specs.Option.{option_map_or}
-use Rattle.std.proofs.lemmas.Bool.{cases_lt, ne_eqb, eqb-true, eqb-false}
-use Rattle.std.proofs.lemmas.List.{get_or-take, get_or-drop}
-use Rattle.std.proofs.lemmas.List.FromFn.{get_or-map-range_with_len, length-map-range_with_len}
-use Rattle.std.proofs.lemmas.Grind.{same_number_lists}
-use Rattle.owned_list.specs.Overlay.{overlaid}
-use Rattle.owned_list.proofs.Overlay.{overlaid_before, overlaid_within, overlaid_behind}
-use Rattle.line_geometry.specs.Segments.{page_bytes}
-use Rattle.line_geometry.specs.Directory.{Layout, byte_count}
-use Rattle.line_geometry.specs.Lines.{line_of, page_of}
-use Rattle.lock_rules.specs.Sets.{has}
-use Rattle.lock_rules.specs.Lines.{page_of_line}
-use Rattle.frame_pool.specs.declared.model.Pool.{Pool}
-use Rattle.frame_pool.specs.Seen.{IsSeen}
-use Rattle.frame_pool.specs.Pool.{frame_at, marks_at, frame_bytes, kept_after, gone}
-use Rattle.frame_pool.proofs.SoundLemmas.{page_part}
-use Rattle.frame_pool.proofs.PoolLemmas.{gone-from}
-use Rattle.frame_pool.proofs.SeenLemmas.{some-within, gone-frame, gone-stays, gone-absent, frame-long}
-use Rattle.storage_unit.specs.Bytes.{is_marked, byte_in_frame, byte_over, bytes_over}
+use Rattle.storage_unit.proofs.Common.{◌≡◌, ◌≢◌, ℕ, ◌+◌, ◌-◌, ◌*◌, ◌%◌, ◌<◌, ◌≤◌, Bool, true, false, List, [], ◌∷◌, length, drop, refl, sym, ◌∙◌, ap, subst, arith, Option, Some, None, inl, inr, ◌==◌, ◌&&◌, not, if◌then◌else◌, slice_index, slice_index_or, slice_range, option_map_or, cases_lt, ne_eqb, eqb-true, eqb-false, get_or-take, get_or-drop, get_or-map-range_with_len, length-map-range_with_len, same_number_lists, overlaid, overlaid_before, overlaid_within, overlaid_behind, page_bytes, Layout, byte_count, line_of, page_of, has, page_of_line, Pool, IsSeen, frame_at, marks_at, frame_bytes, kept_after, gone, page_part, gone-from, some-within, gone-frame, gone-stays, gone-absent, frame-long, is_marked, byte_in_frame, byte_over, bytes_over}
 use Rattle.storage_unit.proofs.SizeLemmas.{rest-below, place-is, spot-same, page-of-line}
 
 -- a byte of a part of a list

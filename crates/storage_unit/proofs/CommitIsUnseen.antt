@@ -1,6 +1,5 @@
 -- A commit of marked lines isn't seen.
-use Rattle.std.proofs.Common.{sym, ◌∙◌}
-use Rattle.storage_unit.specs.Laws.{CommitIsUnseen}
+use Rattle.storage_unit.proofs.Common.{sym, ◌∙◌, CommitIsUnseen}
 use Rattle.storage_unit.proofs.ByteLemmas.{same-bytes, byte-unseen}
 
 pub commit-is-unseen : CommitIsUnseen

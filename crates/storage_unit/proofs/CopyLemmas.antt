@@ -1,27 +1,5 @@
 -- Bytes that are copied out of frames are those that are shown.
-use Rattle.std.proofs.Common.{◌≡◌, ℕ, ◌+◌, ◌-◌, ◌*◌, ◌/◌, ◌%◌, ◌<◌, ◌≤◌, true, false, ◌++◌, length, refl, sym, ◌∙◌, ap, arith, Option, Some, None, inl, inr}
-use Rattle.std.specs.Prelude.{slice_index, slice_range, is_some}
-use Rattle.std.specs.Option.{option_map_or}
-use Rattle.std.proofs.lemmas.List.{length-append, length-take, length-drop, get_or_append_left, get_or-append_right}
-use Rattle.std.proofs.lemmas.List.FromFn.{get_or-map-range_with_len, length-map-range_with_len}
-use Rattle.std.proofs.lemmas.Bool.{cases_lt, cases_Bool}
-use Rattle.std.proofs.lemmas.Grind.{same_number_lists}
-use Rattle.line_geometry.specs.Segments.{page_bytes}
-use Rattle.line_geometry.specs.Directory.{start_of}
-use Rattle.line_geometry.specs.Lines.{page_of}
-use Rattle.flat_machine.specs.declared.machine.Located.{Located}
-use Rattle.segment_regs.specs.declared.registers.Virtual.{Virtual}
-use Rattle.inverted_table.specs.Keys.{key_of}
-use Rattle.inverted_table.specs.Placed.{look_up}
-use Rattle.frame_pool.specs.Pool.{frame_at, part_of}
-use Rattle.frame_pool.specs.Sizes.{frame_count}
-use Rattle.frame_pool.proofs.SoundLemmas.{page_part}
-use Rattle.inverted_table.proofs.FindLemmas.{look_up-held}
-use Rattle.storage_unit.specs.declared.model.Reach.{Reach}
-use Rattle.storage_unit.specs.Places.{is_private, offset_of, place_of, on}
-use Rattle.storage_unit.specs.Held.{seat_pages, table_of, pages_begun}
-use Rattle.storage_unit.specs.Reach.{byte_of}
-use Rattle.storage_unit.specs.Reached.{IsSound, Lies, AreThere, bytes_shown}
+use Rattle.storage_unit.proofs.Common.{◌≡◌, ℕ, ◌+◌, ◌-◌, ◌*◌, ◌/◌, ◌%◌, ◌<◌, ◌≤◌, true, false, ◌++◌, length, refl, sym, ◌∙◌, ap, arith, Option, Some, None, inl, inr, slice_index, slice_range, is_some, option_map_or, length-append, length-take, length-drop, get_or_append_left, get_or-append_right, get_or-map-range_with_len, length-map-range_with_len, cases_lt, cases_Bool, same_number_lists, page_bytes, start_of, page_of, Located, Virtual, key_of, look_up, frame_at, part_of, frame_count, page_part, look_up-held, Reach, is_private, offset_of, place_of, on, seat_pages, table_of, pages_begun, byte_of, IsSound, Lies, AreThere, bytes_shown}
 use Rattle.storage_unit.proofs.SizeLemmas.{same-page-on, rest-on, seat-bytes}
 use Rattle.storage_unit.proofs.ByteLemmas.{in-range}
 use Rattle.storage_unit.proofs.HeldLemmas.{keys-long}

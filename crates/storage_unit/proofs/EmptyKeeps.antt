@@ -1,11 +1,7 @@
 -- Pages that all go out leave the bytes as they were.
-use Rattle.std.proofs.Common.{◌≡◌, Bool, true, false, refl, sym, ◌∙◌}
-use Rattle.std.specs.Prelude.{if◌then◌else◌, slice_index}
-use Rattle.storage_unit.specs.Bytes.{is_marked, byte_over}
-use Rattle.storage_unit.specs.Laws.{EmptyKeeps}
+use Rattle.storage_unit.proofs.Common.{◌≡◌, Bool, true, false, refl, sym, ◌∙◌, if◌then◌else◌, slice_index, is_marked, byte_over, EmptyKeeps, emptied}
 use Rattle.storage_unit.proofs.ByteLemmas.{same-bytes}
 use Rattle.storage_unit.proofs.LeaveLemmas.{emptied-over, emptied-clean, clean-shows}
-use Rattle.frame_pool.specs.Pool.{emptied}
 
 pub empty-keeps : EmptyKeeps
 empty-keeps = λ d pool committed fits clean. record {

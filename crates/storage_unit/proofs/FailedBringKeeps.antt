@@ -1,16 +1,5 @@
 -- A page whose read failed leaves the bytes as they were.
-use Rattle.std.proofs.Common.{◌≡◌, ℕ, ◌%◌, ◌<◌, Bool, true, false, List, length, refl, sym, ◌∙◌, ap, subst, Option, inl, inr}
-use Rattle.std.specs.Prelude.{if◌then◌else◌, slice_index}
-use Rattle.std.proofs.lemmas.Bool.{cases_eq}
-use Rattle.line_geometry.specs.Segments.{page_bytes}
-use Rattle.line_geometry.specs.Directory.{Layout, byte_count, page_count}
-use Rattle.line_geometry.specs.Lines.{page_of}
-use Rattle.lock_rules.specs.Sets.{has}
-use Rattle.frame_pool.specs.declared.model.Pool.{Pool}
-use Rattle.frame_pool.specs.Seen.{IsSeen}
-use Rattle.frame_pool.specs.Pool.{frame_at, Brought, with_room, emptied}
-use Rattle.storage_unit.specs.Bytes.{is_marked, byte_over, IsClean}
-use Rattle.storage_unit.specs.Laws.{Fits, Keeps, filled, FailedBringKeeps}
+use Rattle.storage_unit.proofs.Common.{◌≡◌, ℕ, ◌%◌, ◌<◌, Bool, true, false, List, length, refl, sym, ◌∙◌, ap, subst, Option, inl, inr, if◌then◌else◌, slice_index, cases_eq, page_bytes, Layout, byte_count, page_count, page_of, has, Pool, IsSeen, frame_at, Brought, with_room, emptied, is_marked, byte_over, IsClean, Fits, Keeps, filled, FailedBringKeeps}
 use Rattle.storage_unit.proofs.ByteLemmas.{same-bytes, over-none}
 use Rattle.storage_unit.proofs.LeaveLemmas.{clean-shows, emptied-over, emptied-clean}
 use Rattle.storage_unit.proofs.BringLemmas.{full, fewer, size, not-there, bytes-long, filled-is, full-here, full-elsewhere, full-marked}

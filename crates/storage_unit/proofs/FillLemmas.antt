@@ -1,17 +1,5 @@
 -- A page that came in: its frame filled, and its kept lines laid over it.
-use Rattle.std.proofs.Common.{◌≡◌, ℕ, ◌+◌, ◌-◌, ◌*◌, ◌/◌, ◌<◌, ◌≤◌, Bool, true, false, List, [], ◌∷◌, length, refl, sym, ◌∙◌, ap, arith, All, inl, inr}
-use Rattle.std.specs.Prelude.{◌==◌, ◌||◌, if◌then◌else◌, slice_index, slice_range, fold}
-use Rattle.std.proofs.lemmas.Bool.{cases_lt, cases_eq, eq-eqb, ne_eqb}
-use Rattle.std.proofs.lemmas.List.{length-take, length-drop}
-use Rattle.std.proofs.lemmas.List.Elements.{All-head, All-tail}
-use Rattle.owned_list.specs.Overlay.{overlaid}
-use Rattle.owned_list.proofs.Overlay.{overlaid_before, overlaid_within, overlaid_behind, length-overlaid}
-use Rattle.line_geometry.specs.declared.directory.PageSize.{PageSize}
-use Rattle.line_geometry.specs.Segments.{page_bytes}
-use Rattle.lock_rules.specs.Sets.{has}
-use Rattle.frame_pool.specs.declared.model.Pool.{Pool}
-use Rattle.frame_pool.specs.Sizes.{line_size, line_place}
-use Rattle.frame_pool.specs.Pool.{line_laid, line_kept}
+use Rattle.storage_unit.proofs.Common.{◌≡◌, ℕ, ◌+◌, ◌-◌, ◌*◌, ◌/◌, ◌<◌, ◌≤◌, Bool, true, false, List, [], ◌∷◌, length, refl, sym, ◌∙◌, ap, arith, All, inl, inr, ◌==◌, ◌||◌, if◌then◌else◌, slice_index, slice_range, fold, cases_lt, cases_eq, eq-eqb, ne_eqb, length-take, length-drop, All-head, All-tail, overlaid, overlaid_before, overlaid_within, overlaid_behind, length-overlaid, PageSize, page_bytes, has, Pool, line_size, line_place, line_laid, line_kept}
 use Rattle.storage_unit.proofs.SizeLemmas.{line-of-rest, rest-of-line, line-within}
 use Rattle.storage_unit.proofs.ByteLemmas.{in-range}
 

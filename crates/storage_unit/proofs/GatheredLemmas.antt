@@ -1,16 +1,5 @@
 -- The bytes of registers, stored at an address whose bytes lie somewhere.
-use Rattle.std.proofs.Common.{◌≡◌, ℕ, ◌<◌, Bool, false, List, length, sym, ◌∙◌, ap, arith, Ok}
-use Rattle.std.specs.Prelude.{◌==◌, if◌then◌else◌}
-use Rattle.std.proofs.lemmas.Bool.Decides.{nat_tests}
-use Rattle.segment_regs.specs.declared.registers.Virtual.{Virtual}
-use Rattle.segment_regs.specs.Registers.{located_by}
-use Rattle.flat_machine.specs.Access.{FitsFrom}
-use Rattle.flat_machine.specs.Row.{stored_bytes}
-use Rattle.romp_cpu.proofs.WholeLemmas.{stored_bytes-long}
-use Rattle.storage_unit.specs.declared.model.Reach.{Reach}
-use Rattle.storage_unit.specs.Places.{place_at, place_of}
-use Rattle.storage_unit.specs.Reach.{put_at, stored}
-use Rattle.storage_unit.specs.Reached.{IsSound}
+use Rattle.storage_unit.proofs.Common.{◌≡◌, ℕ, ◌<◌, Bool, false, List, length, sym, ◌∙◌, ap, arith, Ok, ◌==◌, if◌then◌else◌, nat_tests, Virtual, located_by, FitsFrom, stored_bytes, stored_bytes-long, Reach, place_at, place_of, put_at, stored, IsSound}
 use Rattle.storage_unit.proofs.PlaceLemmas.{first-byte}
 
 some-of : (n m : ℕ) → n ≡ m → 0 < m → (n == 0) ≡ false

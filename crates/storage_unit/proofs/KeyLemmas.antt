@@ -1,19 +1,8 @@
 -- The pages of segments and the flat pages of a store, by each other.
+use Rattle.storage_unit.proofs.Common.{not, cond, nat_lt, if◌then◌else◌, find, take_while, sum_by, option_map, slice_index, prefix_len, nat_tests, PageSize, Two, Four, page_bytes, bytes_of, is_named, Layout, length_of, start_of, page_count, IsLegal, Key, key_to, named-low, key_among, key_of_page}
 use Rattle.std.proofs.Common.{◌≡◌, ℕ, suc, ◌+◌, ◌-◌, ◌*◌, ◌/◌, ◌%◌, ◌<◌, ◌≤◌, Bool, true, false, List, [], ◌∷◌, map, take, refl, sym, ◌∙◌, ap, arith, add-one, Option, Some}
-use Rattle.std.specs.Prelude.{not, cond, nat_lt, if◌then◌else◌, find, take_while, sum_by, option_map, slice_index}
-use Rattle.std.specs.List.{prefix_len}
 use Rattle.std.specs.List.Sorted.{IsStrictlyIncreasing}
-use Rattle.std.proofs.lemmas.Bool.Decides.{nat_tests}
 use Rattle.std.proofs.lemmas.List.Sums.{sum_by-cons}
-use Rattle.line_geometry.specs.declared.directory.PageSize.{PageSize}
-use Rattle.line_geometry.specs.declared.directory.PageSize.TheVariants.{Two, Four}
-use Rattle.line_geometry.specs.Segments.{page_bytes, bytes_of, is_named}
-use Rattle.line_geometry.specs.Directory.{Layout, length_of, start_of, page_count}
-use Rattle.line_geometry.specs.Legal.{IsLegal}
-use Rattle.inverted_table.specs.declared.key.Key.{Key}
-use Rattle.inverted_table.specs.Keys.{key_to}
-use Rattle.romp_cpu.proofs.WindowLemmas.{named-low}
-use Rattle.storage_unit.specs.Places.{key_among, key_of_page}
 use Rattle.storage_unit.proofs.SizeLemmas.{pages-past, pages-rest, page-less, page-fits, page-same, pages-left}
 
 -- the bytes of segments, by the size of a page, and where they begin

@@ -1,21 +1,5 @@
 -- What pages that leave, lines that are settled and pages that come in do to the bytes that a pool shows.
-use Rattle.std.proofs.Common.{◌≡◌, ℕ, ◌%◌, ◌<◌, Bool, true, false, List, [], ◌∷◌, length, refl, sym, ◌∙◌, ap, arith, Option, Some, None, inl, inr}
-use Rattle.std.specs.Prelude.{◌==◌, ◌&&◌, ◌||◌, not, if◌then◌else◌, slice_index, slice_index_or, slice_set, is_some, fold}
-use Rattle.std.specs.Option.{option_map_or}
-use Rattle.std.proofs.lemmas.Bool.{cases_eq, eq-eqb, ne_eqb}
-use Rattle.std.proofs.lemmas.List.{length-set, get_or-set_same, get_or-set_other}
-use Rattle.line_geometry.specs.Directory.{Layout, byte_count}
-use Rattle.line_geometry.specs.Lines.{line_of, page_of}
-use Rattle.line_geometry.specs.LineSets.{difference}
-use Rattle.line_geometry.proofs.LineSetLemmas.{is_in_where-below}
-use Rattle.lock_rules.specs.Sets.{has}
-use Rattle.lock_rules.specs.Lines.{page_of_line}
-use Rattle.frame_pool.specs.declared.model.Pool.{Pool}
-use Rattle.frame_pool.specs.Seen.{IsSeen}
-use Rattle.frame_pool.specs.Pool.{frame_at, marks_at, gone, page_out, with_room, emptied, settled}
-use Rattle.frame_pool.proofs.SeenLemmas.{gone-frame, gone-stays, seen-gone, Stays}
-use Rattle.storage_unit.specs.Bytes.{is_marked, byte_over, IsClean}
-use Rattle.storage_unit.specs.Laws.{is_among}
+use Rattle.storage_unit.proofs.Common.{◌≡◌, ℕ, ◌%◌, ◌<◌, Bool, true, false, List, [], ◌∷◌, length, refl, sym, ◌∙◌, ap, arith, Option, Some, None, inl, inr, ◌==◌, ◌&&◌, ◌||◌, not, if◌then◌else◌, slice_index, slice_index_or, slice_set, is_some, fold, option_map_or, cases_eq, eq-eqb, ne_eqb, length-set, get_or-set_same, get_or-set_other, Layout, byte_count, line_of, page_of, difference, is_in_where-below, has, page_of_line, Pool, IsSeen, frame_at, marks_at, gone, page_out, with_room, emptied, settled, gone-frame, gone-stays, seen-gone, Stays, is_marked, byte_over, IsClean, is_among}
 use Rattle.storage_unit.proofs.ByteLemmas.{over-none, over-some, gone-over}
 
 -- a pool is clean where it shows the committed byte of each place that isn't marked

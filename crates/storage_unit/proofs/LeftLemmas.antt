@@ -1,28 +1,5 @@
 -- What a permitted store leaves of the two lists of plain bytes, and of the marks.
-use Rattle.std.proofs.Common.{◌≡◌, ◌≢◌, ℕ, ◌+◌, ◌-◌, ◌*◌, ◌/◌, ◌%◌, ◌<◌, ◌≤◌, Bool, true, false, List, [], length, drop, refl, sym, ◌∙◌, ap, arith, Option, Some, None, inl, inr}
-use Rattle.std.specs.Prelude.{◌||◌, if◌then◌else◌, slice_index, slice_range, is_some}
-use Rattle.std.proofs.lemmas.Bool.{cases_lt}
-use Rattle.std.proofs.lemmas.List.{get_or_past, length-take, length-drop}
-use Rattle.std.proofs.lemmas.Grind.{same_number_lists}
-use Rattle.owned_list.specs.Overlay.{overlaid}
-use Rattle.owned_list.proofs.Overlay.{length-overlaid}
-use Rattle.line_geometry.specs.Segments.{page_bytes}
-use Rattle.line_geometry.specs.Directory.{byte_count}
-use Rattle.line_geometry.specs.Lines.{line_of, page_of}
-use Rattle.lock_rules.specs.Sets.{has}
-use Rattle.lock_rules.specs.Lines.{page_of_line}
-use Rattle.flat_machine.specs.declared.machine.Located.{Located}
-use Rattle.flat_machine.specs.declared.machine.Located.TheVariants.{Private, Shared, Refused}
-use Rattle.flat_machine.specs.Touched.{lines_at}
-use Rattle.segment_regs.specs.declared.registers.Virtual.{Virtual}
-use Rattle.frame_pool.specs.declared.model.Pool.{Pool}
-use Rattle.frame_pool.specs.Pool.{frame_at}
-use Rattle.storage_unit.specs.declared.model.Reach.{Reach}
-use Rattle.storage_unit.specs.Places.{place_of}
-use Rattle.storage_unit.specs.Bytes.{byte_in_frame, byte_over, bytes_over, private_bytes, is_line_marked, is_marked, IsClean}
-use Rattle.storage_unit.specs.Reach.{seat_of, is_there, put_byte, put_in_store, put_at}
-use Rattle.storage_unit.specs.Reached.{IsSound, Lies}
-use Rattle.storage_unit.specs.Rows.{ChangesBytes, StaysClean, LeavesSeats}
+use Rattle.storage_unit.proofs.Common.{◌≡◌, ◌≢◌, ℕ, ◌+◌, ◌-◌, ◌*◌, ◌/◌, ◌%◌, ◌<◌, ◌≤◌, Bool, true, false, List, [], length, drop, refl, sym, ◌∙◌, ap, arith, Option, Some, None, inl, inr, ◌||◌, if◌then◌else◌, slice_index, slice_range, is_some, cases_lt, get_or_past, length-take, length-drop, same_number_lists, overlaid, length-overlaid, page_bytes, byte_count, line_of, page_of, has, page_of_line, Located, Private, Shared, Refused, lines_at, Virtual, Pool, frame_at, Reach, place_of, byte_in_frame, byte_over, bytes_over, private_bytes, is_line_marked, is_marked, IsClean, seat_of, is_there, put_byte, put_in_store, put_at, IsSound, Lies, ChangesBytes, StaysClean, LeavesSeats}
 use Rattle.storage_unit.proofs.SizeLemmas.{rest-below, place-is, frame-high, page-of-line, page-below}
 use Rattle.storage_unit.proofs.ByteLemmas.{in-range, same-bytes, byte-of-all, all-long, over-none, over-some}
 use Rattle.storage_unit.proofs.FillLemmas.{over-part, in-part}

@@ -1,3 +1,4 @@
+pub mod Common
 pub mod SizeLemmas
 pub mod ByteLemmas
 pub mod LeaveLemmas

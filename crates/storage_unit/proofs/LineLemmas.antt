@@ -1,25 +1,5 @@
 -- The answer to an access whose bytes lie in one page and two lines at most, by the first byte of each.
-use Rattle.std.proofs.Common.{◌≡◌, ℕ, ◌+◌, ◌%◌, ◌<◌, ◌≤◌, Bool, true, false, refl, sym, ◌∙◌, ap, arith, Option, Some, None, Ok, inl, inr}
-use Rattle.std.specs.Prelude.{not, find, option_map, is_some}
-use Rattle.std.proofs.lemmas.Bool.{cases_lt}
-use Rattle.std.specs.List.{range_with_len}
-use Rattle.line_geometry.specs.Segments.{page_bytes, line_bytes}
-use Rattle.line_geometry.specs.Directory.{start_of}
-use Rattle.line_geometry.specs.Lines.{page_of, line_of}
-use Rattle.segment_regs.specs.declared.registers.Virtual.{Virtual}
-use Rattle.segment_regs.specs.Registers.{bytes_on, virtual_at}
-use Rattle.inverted_table.specs.Keys.{key_of}
-use Rattle.inverted_table.specs.Placed.{look_up}
-use Rattle.frame_pool.specs.Pool.{page_at}
-use Rattle.romp_cpu.specs.declared.storage.Access.{Access}
-use Rattle.romp_cpu.specs.declared.storage.Fault.{Fault}
-use Rattle.romp_cpu.specs.declared.storage.Probe.{Probe}
-use Rattle.romp_cpu.specs.Answers.{unless_absent_at, answered_at}
-use Rattle.storage_unit.specs.declared.model.Reach.{Reach}
-use Rattle.storage_unit.specs.Places.{is_private, offset_of, place_of, on}
-use Rattle.storage_unit.specs.Held.{table_of}
-use Rattle.storage_unit.specs.Reach.{is_there, is_kept_from, is_refused, is_in_frame, refuses}
-use Rattle.storage_unit.specs.Reached.{IsSound, Lies}
+use Rattle.storage_unit.proofs.Common.{◌≡◌, ℕ, ◌+◌, ◌%◌, ◌<◌, ◌≤◌, Bool, true, false, refl, sym, ◌∙◌, ap, arith, Option, Some, None, Ok, inl, inr, not, find, option_map, is_some, cases_lt, range_with_len, page_bytes, line_bytes, start_of, page_of, line_of, Virtual, bytes_on, virtual_at, key_of, look_up, page_at, Access, Fault, Probe, unless_absent_at, answered_at, Reach, is_private, offset_of, place_of, on, table_of, is_there, is_kept_from, is_refused, is_in_frame, refuses, IsSound, Lies}
 use Rattle.storage_unit.proofs.SizeLemmas.{byte-at, page-at, same-line-on, next-line, line-rest}
 use Rattle.storage_unit.proofs.FindLemmas.{none-found, first-found}
 use Rattle.storage_unit.proofs.PlaceLemmas.{shared-is, place-byte, finds-shared, private-is}

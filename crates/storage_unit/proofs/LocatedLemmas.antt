@@ -1,23 +1,8 @@
 -- An access under the segment registers of a program lies where the plain machine has it.
+use Rattle.storage_unit.proofs.Common.{◌∙◌, ap, arith, nat_tests, Layout, length_of, start_of, IsLegal, Check, Virtual, virtual_at, located_under, located_by, Private, Shared, Refused, Program, in_segment, in_window, in_register, located, register_of_window, registers_of_program, named-low, Reach, private_segment, is_private, offset_of, place_at, seat_of, HasWindows}
 use Rattle.std.specs.Prelude.{◌≡◌, refl, ℕ, zero, suc, ◌+◌, ◌/◌, ◌%◌, ◌^◌, ◌<◌, nat_le, ◌&&◌, not, cond, Bool, true, false, slice_index_or, if◌then◌else◌, Option, Some, None, option_map, Result, Ok, Err}
-use Rattle.std.proofs.Common.{◌∙◌, ap, arith}
 use Rattle.std.proofs.Math.ListN.{get_or-map}
-use Rattle.std.proofs.lemmas.Bool.Decides.{nat_tests}
-use Rattle.line_geometry.specs.Directory.{Layout, length_of, start_of}
-use Rattle.line_geometry.specs.Legal.{IsLegal}
-use Rattle.segment_regs.specs.declared.registers.Check.{Check}
-use Rattle.segment_regs.specs.declared.registers.Virtual.{Virtual}
-use Rattle.segment_regs.specs.Registers.{virtual_at, located_under, located_by}
-use Rattle.flat_machine.specs.declared.machine.Located.TheVariants.{Private, Shared, Refused}
-use Rattle.flat_machine.specs.declared.machine.Program.{Program}
 use Rattle.flat_machine.specs.declared.machine.Window.{Window}
-use Rattle.flat_machine.specs.Row.{in_segment, in_window, in_register, located}
-use Rattle.romp_cpu.specs.Segments.{register_of_window, registers_of_program}
-use Rattle.romp_cpu.proofs.WindowLemmas.{named-low}
-use Rattle.storage_unit.specs.declared.model.Reach.{Reach}
-use Rattle.storage_unit.specs.Places.{private_segment, is_private, offset_of, place_at}
-use Rattle.storage_unit.specs.Reach.{seat_of}
-use Rattle.storage_unit.specs.Rows.{HasWindows}
 use Rattle.storage_unit.proofs.PlaceLemmas.{offset-is}
 
 module _ (d : Layout) (legal : IsLegal d.segments) (seat : ℕ) where

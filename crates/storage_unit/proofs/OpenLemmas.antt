@@ -1,33 +1,5 @@
 -- An access is permitted exactly where the lines that it touches are open.
-use Rattle.std.proofs.Common.{◌≡◌, ℕ, zero, suc, ◌+◌, ◌-◌, ◌*◌, ◌/◌, ◌<◌, ◌≤◌, Bool, true, false, List, [], refl, sym, ◌∙◌, ap, subst, arith, Ok, inl, inr}
-use Rattle.std.specs.Prelude.{◌&&◌, nat_le, nat_lt, if◌then◌else◌}
-use Rattle.std.specs.List.{range_with_len}
-use Rattle.std.proofs.lemmas.Bool.{cases_lt}
-use Rattle.std.proofs.lemmas.Bool.Decides.{nat_tests}
-use Rattle.line_geometry.specs.declared.directory.PageSize.{PageSize}
-use Rattle.line_geometry.specs.declared.directory.PageSize.TheVariants.{Two, Four}
-use Rattle.line_geometry.specs.Segments.{line_bytes}
-use Rattle.line_geometry.specs.Directory.{Layout}
-use Rattle.line_geometry.specs.Lines.{line_of}
-use Rattle.lock_rules.specs.Sets.{has}
-use Rattle.lock_rules.specs.Lines.{page_of_line}
-use Rattle.lock_rules.proofs.Sets.{has-range, in_range}
-use Rattle.flat_machine.specs.declared.machine.Located.{Located}
-use Rattle.flat_machine.specs.declared.machine.Located.TheVariants.{Private, Shared, Refused}
-use Rattle.flat_machine.specs.declared.machine.Program.{Program}
-use Rattle.flat_machine.specs.Row.{located}
-use Rattle.flat_machine.specs.Touched.{lines_at}
-use Rattle.segment_regs.specs.declared.registers.Virtual.{Virtual}
-use Rattle.segment_regs.specs.Registers.{located_by}
-use Rattle.romp_cpu.specs.declared.storage.Access.{Access}
-use Rattle.romp_cpu.specs.declared.storage.Probe.{Probe}
-use Rattle.romp_cpu.specs.Answers.{answered_at, answered}
-use Rattle.romp_cpu.specs.Attempts.{lines_of_access}
-use Rattle.storage_unit.specs.declared.model.Reach.{Reach}
-use Rattle.storage_unit.specs.Places.{place_of, place_at}
-use Rattle.storage_unit.specs.Reach.{is_resident, is_refused, is_in_frame, refuses}
-use Rattle.storage_unit.specs.Reached.{IsSound}
-use Rattle.storage_unit.specs.Rows.{HasWindows, IsOpenLine, IsOpen}
+use Rattle.storage_unit.proofs.Common.{◌≡◌, ℕ, zero, suc, ◌+◌, ◌-◌, ◌*◌, ◌/◌, ◌<◌, ◌≤◌, Bool, true, false, List, [], refl, sym, ◌∙◌, ap, subst, arith, Ok, inl, inr, ◌&&◌, nat_le, nat_lt, if◌then◌else◌, range_with_len, cases_lt, nat_tests, PageSize, Two, Four, line_bytes, Layout, line_of, has, page_of_line, has-range, in_range, Located, Private, Shared, Refused, Program, located, lines_at, Virtual, located_by, Access, Probe, answered_at, answered, lines_of_access, Reach, place_of, place_at, is_resident, is_refused, is_in_frame, refuses, IsSound, HasWindows, IsOpenLine, IsOpen}
 use Rattle.storage_unit.proofs.PlaceLemmas.{never-refused, registers-page}
 use Rattle.storage_unit.proofs.AnswerLemmas.{permitted-located, permitted-lines, lines-permitted, answered-private}
 use Rattle.storage_unit.proofs.LocatedLemmas.{lies-where}

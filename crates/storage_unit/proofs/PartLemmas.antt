@@ -1,21 +1,5 @@
 -- The pool after a part of a frame was written.
-use Rattle.std.proofs.Common.{◌≡◌, ℕ, Bool, ◌+◌, ◌*◌, ◌<◌, ◌≤◌, List, length, refl, ◌∙◌, ap, subst, arith, Option, Some, None}
-use Rattle.std.proofs.lemmas.List.{length-take, length-drop}
-use Rattle.line_geometry.specs.Segments.{page_bytes}
-use Rattle.line_geometry.specs.Directory.{Layout}
-use Rattle.segment_regs.specs.declared.registers.Virtual.{Virtual}
-use Rattle.inverted_table.specs.Keys.{key_of}
-use Rattle.inverted_table.specs.Placed.{look_up}
-use Rattle.frame_pool.specs.declared.model.Pool.{Pool}
-use Rattle.frame_pool.specs.Sizes.{frame_count}
-use Rattle.frame_pool.specs.Pool.{marked_in, page_at, with_marks, with_bytes, part_of}
-use Rattle.frame_pool.specs.PoolLending.{with_frame_part, with_marked}
-use Rattle.frame_pool.specs.View.{pool_of}
-use Rattle.frame_pool.proofs.LendLemmas.{lent-part, marked-seen}
-use Rattle.std.specs.Option.{option_map_or}
-use Rattle.storage_unit.specs.declared.unit.Unit.{Unit}
-use Rattle.storage_unit.specs.Held.{table_of, keys_of}
-use Rattle.storage_unit.specs.View.{reach_of}
+use Rattle.storage_unit.proofs.Common.{◌≡◌, ℕ, Bool, ◌+◌, ◌*◌, ◌<◌, ◌≤◌, List, length, refl, ◌∙◌, ap, subst, arith, Option, Some, None, length-take, length-drop, page_bytes, Layout, Virtual, key_of, look_up, Pool, frame_count, marked_in, page_at, with_marks, with_bytes, part_of, with_frame_part, with_marked, pool_of, lent-part, marked-seen, option_map_or, Unit, table_of, keys_of, reach_of}
 use Rattle.storage_unit.proofs.CopyLemmas.{found-below}
 use Rattle.storage_unit.proofs.StoreLemmas.{frame-room}
 use Rattle.storage_unit.proofs.UnitLemmas.{unit-sound}

@@ -1,30 +1,5 @@
 -- Where the bytes of an access lie, one by one, and the frames that have them.
-use Rattle.std.proofs.Common.{◌≡◌, ℕ, ◌+◌, ◌-◌, ◌*◌, ◌/◌, ◌%◌, ◌<◌, ◌≤◌, ◌^◌, Bool, true, false, refl, sym, ◌∙◌, ap, subst, arith, replicate, Option, Some, None, Result, Ok, Err, ◌⊎◌, inl, inr}
-use Rattle.std.specs.Prelude.{◌&&◌, not, nat_le, nat_lt, cond, slice_index_or, if◌then◌else◌, is_some}
-use Rattle.std.proofs.lemmas.Bool.{leb-true, cases_lt}
-use Rattle.std.proofs.lemmas.Bool.Decides.{nat_tests}
-use Rattle.std.proofs.lemmas.List.{get_or-replicate, get_or_past}
-use Rattle.std.proofs.lemmas.Nat.{div-add-mod'}
-use Rattle.line_geometry.specs.declared.directory.PageSize.{PageSize}
-use Rattle.line_geometry.specs.Segments.{page_bytes}
-use Rattle.line_geometry.specs.Directory.{Layout, length_of, start_of, byte_count}
-use Rattle.line_geometry.specs.Lines.{page_of}
-use Rattle.line_geometry.proofs.Within.{segment-within}
-use Rattle.flat_machine.specs.declared.machine.Located.{Located}
-use Rattle.flat_machine.specs.declared.machine.Located.TheVariants.{Private, Shared, Refused}
-use Rattle.segment_regs.specs.declared.registers.Check.{Check}
-use Rattle.segment_regs.specs.declared.registers.SegmentRegister.{SegmentRegister}
-use Rattle.segment_regs.specs.declared.registers.Virtual.{Virtual}
-use Rattle.segment_regs.specs.Registers.{Registers, virtual_at, bytes_on, located_under, located_by}
-use Rattle.inverted_table.specs.Keys.{key_to, key_of}
-use Rattle.inverted_table.specs.Placed.{look_up}
-use Rattle.frame_pool.specs.Pool.{frame_at}
-use Rattle.romp_cpu.proofs.WindowLemmas.{bytes-low}
-use Rattle.storage_unit.specs.declared.model.Reach.{Reach}
-use Rattle.storage_unit.specs.Places.{is_private, offset_of, place_of, place_at, on}
-use Rattle.storage_unit.specs.Held.{IsUnder, AreReached, seat_pages, pages_begun, table_of}
-use Rattle.storage_unit.specs.Reach.{byte_of, byte_at, is_there}
-use Rattle.storage_unit.specs.Reached.{IsSound, Lies, AreThere}
+use Rattle.storage_unit.proofs.Common.{◌≡◌, ℕ, ◌+◌, ◌-◌, ◌*◌, ◌/◌, ◌%◌, ◌<◌, ◌≤◌, ◌^◌, Bool, true, false, refl, sym, ◌∙◌, ap, subst, arith, replicate, Option, Some, None, Result, Ok, Err, ◌⊎◌, inl, inr, ◌&&◌, not, nat_le, nat_lt, cond, slice_index_or, if◌then◌else◌, is_some, leb-true, cases_lt, nat_tests, get_or-replicate, get_or_past, div-add-mod', PageSize, page_bytes, Layout, length_of, start_of, byte_count, page_of, segment-within, Located, Private, Shared, Refused, Check, SegmentRegister, Virtual, Registers, virtual_at, bytes_on, located_under, located_by, key_to, key_of, look_up, frame_at, bytes-low, Reach, is_private, offset_of, place_of, place_at, on, IsUnder, AreReached, seat_pages, pages_begun, table_of, byte_of, byte_at, is_there, IsSound, Lies, AreThere}
 use Rattle.storage_unit.proofs.SizeLemmas.{rest-below, byte-on-page, page-at, seat-page, same-page-on, page-of-line, page-below}
 use Rattle.storage_unit.proofs.KeyLemmas.{key-of-place, start-whole}
 use Rattle.storage_unit.proofs.HeldLemmas.{finds-page, finds-private}

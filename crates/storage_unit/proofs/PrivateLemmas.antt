@@ -1,23 +1,6 @@
 -- The private pages of a seat: what comes into the table, and what its frames are filled with.
-use Rattle.std.proofs.Common.{◌≡◌, ◌≢◌, ℕ, ◌+◌, ◌-◌, ◌*◌, ◌/◌, ◌%◌, ◌<◌, ◌≤◌, Bool, true, false, List, [], ◌∷◌, ◌++◌, length, replicate, refl, sym, ◌∙◌, ap, arith, get_or, Option, Some, None, inl, inr}
-use Rattle.std.specs.Prelude.{nat_lt, if◌then◌else◌, map, slice_index_or, slice_set, option_map}
-use Rattle.std.specs.List.{range_with_len}
-use Rattle.std.proofs.lemmas.Bool.{cases_lt}
-use Rattle.std.proofs.lemmas.Bool.Decides.{nat_tests}
-use Rattle.std.proofs.lemmas.List.{same_lists, map-append, length-append, length-replicate, get_or-replicate, get_or_append_left, get_or-append_right, get_or-set_same, get_or-set_other, get_or_past}
-use Rattle.std.proofs.lemmas.List.FromFn.{get_or-map-range_with_len, length-map-range_with_len}
-use Rattle.owned_list.specs.Overlay.{overlaid}
-use Rattle.owned_list.proofs.Overlay.{overlaid_before, overlaid_within, overlaid_behind, length-overlaid}
-use Rattle.inverted_table.specs.declared.key.Key.{Key}
-use Rattle.inverted_table.specs.Keys.{key_to}
-use Rattle.inverted_table.specs.Placed.{key_in, look_up}
-use Rattle.inverted_table.proofs.FindLemmas.{look_up-is, look_up-none, is-held}
+use Rattle.storage_unit.proofs.Common.{◌≡◌, ◌≢◌, ℕ, ◌+◌, ◌-◌, ◌*◌, ◌/◌, ◌%◌, ◌<◌, ◌≤◌, Bool, true, false, List, [], ◌∷◌, ◌++◌, length, replicate, refl, sym, ◌∙◌, ap, arith, get_or, Option, Some, None, inl, inr, nat_lt, if◌then◌else◌, map, slice_index_or, slice_set, option_map, range_with_len, cases_lt, nat_tests, same_lists, map-append, length-append, length-replicate, get_or-replicate, get_or_append_left, get_or-append_right, get_or-set_same, get_or-set_other, get_or_past, get_or-map-range_with_len, length-map-range_with_len, overlaid, overlaid_before, overlaid_within, overlaid_behind, length-overlaid, Key, key_to, key_in, look_up, look_up-is, look_up-none, is-held, PageSize, Layout, private_frames, private_segment, key_of_page, seat_pages, first_keys, pages_begun, held_private, held_in, keys_of}
 use Rattle.frame_pool.proofs.PlaceLemmas.{range-push}
-use Rattle.line_geometry.specs.declared.directory.PageSize.{PageSize}
-use Rattle.line_geometry.specs.Directory.{Layout}
-use Rattle.frame_pool.specs.Sizes.{private_frames}
-use Rattle.storage_unit.specs.Places.{private_segment, key_of_page}
-use Rattle.storage_unit.specs.Held.{seat_pages, first_keys, pages_begun, held_private, held_in, keys_of}
 use Rattle.storage_unit.proofs.SizeLemmas.{seat-first, seat-rest}
 use Rattle.storage_unit.proofs.HeldLemmas.{overlaid-more}
 

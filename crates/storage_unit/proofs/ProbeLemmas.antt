@@ -1,16 +1,5 @@
 -- The answers of the pages and lines of a range, each asked for once.
-use Rattle.std.proofs.Common.{◌≡◌, ℕ, ◌+◌, ◌-◌, ◌*◌, ◌%◌, ◌<◌, ◌≤◌, Bool, true, false, sym, ◌∙◌, ap, arith, Some, None, inl, inr}
-use Rattle.std.specs.Prelude.{not, find}
-use Rattle.std.specs.List.{range_with_len}
-use Rattle.std.proofs.lemmas.Bool.{cases_lt}
-use Rattle.line_geometry.specs.Segments.{page_bytes, line_bytes}
-use Rattle.line_geometry.specs.Lines.{line_of}
-use Rattle.segment_regs.specs.declared.registers.Virtual.{Virtual}
-use Rattle.segment_regs.specs.Registers.{bytes_on}
-use Rattle.storage_unit.specs.declared.model.Reach.{Reach}
-use Rattle.storage_unit.specs.Places.{is_private, place_of, on}
-use Rattle.storage_unit.specs.Reach.{is_there, is_kept_from, is_refused}
-use Rattle.storage_unit.specs.Reached.{IsSound, Lies, is_absent}
+use Rattle.storage_unit.proofs.Common.{◌≡◌, ℕ, ◌+◌, ◌-◌, ◌*◌, ◌%◌, ◌<◌, ◌≤◌, Bool, true, false, sym, ◌∙◌, ap, arith, Some, None, inl, inr, not, find, range_with_len, cases_lt, page_bytes, line_bytes, line_of, Virtual, bytes_on, Reach, is_private, place_of, on, is_there, is_kept_from, is_refused, IsSound, Lies, is_absent}
 use Rattle.storage_unit.proofs.SizeLemmas.{byte-at, page-some, same-line-on}
 use Rattle.storage_unit.proofs.FindLemmas.{none-found, first-found}
 use Rattle.storage_unit.proofs.PlaceLemmas.{place-on, on-on, lies-on, private-is, there-found}

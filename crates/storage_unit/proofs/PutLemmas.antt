@@ -1,30 +1,5 @@
 -- Bytes that are put into frames of the store, and the lines that are marked.
-use Rattle.std.proofs.Common.{◌≡◌, ◌≢◌, ℕ, zero, suc, ◌+◌, ◌-◌, ◌*◌, ◌/◌, ◌%◌, ◌<◌, ◌≤◌, Bool, true, false, List, [], length, refl, sym, ◌∙◌, ap, arith, Option, Some, None, get_or, inl, inr}
-use Rattle.std.specs.Prelude.{◌==◌, ◌&&◌, ◌||◌, nat_le, nat_lt, if◌then◌else◌, slice_index, slice_set}
-use Rattle.std.specs.Option.{option_map_or}
-use Rattle.std.proofs.lemmas.Bool.{cases_lt, cases_eq}
-use Rattle.std.proofs.lemmas.Bool.Decides.{nat_tests}
-use Rattle.std.proofs.lemmas.List.{same_lists, length-set, get_or-set_same, get_or-set_other, get_or_default}
-use Rattle.std.proofs.lemmas.List.FromFn.{get_or-map-range_with_len, length-map-range_with_len}
-use Rattle.std.proofs.lemmas.Grind.{same_number_lists}
-use Rattle.owned_list.specs.Overlay.{overlaid}
-use Rattle.owned_list.proofs.Overlay.{length-overlaid}
-use Rattle.line_geometry.specs.Segments.{page_bytes, line_bytes}
-use Rattle.line_geometry.specs.Directory.{Layout}
-use Rattle.line_geometry.specs.Lines.{line_of, page_of}
-use Rattle.line_geometry.specs.LineSets.{union, between, lines_where}
-use Rattle.line_geometry.proofs.LineSetLemmas.{where-alike, is_in_where-below}
-use Rattle.lock_rules.specs.Sets.{has}
-use Rattle.lock_rules.specs.Lines.{page_of_line}
-use Rattle.lock_rules.proofs.Sets.{has-range}
-use Rattle.flat_machine.specs.declared.machine.Located.TheVariants.{Shared}
-use Rattle.flat_machine.specs.Touched.{lines_at}
-use Rattle.frame_pool.specs.declared.model.Pool.{Pool}
-use Rattle.frame_pool.specs.Seen.{IsSeen}
-use Rattle.frame_pool.specs.Pool.{frame_at, page_at, marks_at, lines_of_part}
-use Rattle.storage_unit.specs.Held.{AreOfPages}
-use Rattle.storage_unit.specs.Bytes.{is_line_marked, byte_in_frame}
-use Rattle.storage_unit.specs.Reach.{put_byte, spot_put, marks_put, put_in_store}
+use Rattle.storage_unit.proofs.Common.{◌≡◌, ◌≢◌, ℕ, zero, suc, ◌+◌, ◌-◌, ◌*◌, ◌/◌, ◌%◌, ◌<◌, ◌≤◌, Bool, true, false, List, [], length, refl, sym, ◌∙◌, ap, arith, Option, Some, None, get_or, inl, inr, ◌==◌, ◌&&◌, ◌||◌, nat_le, nat_lt, if◌then◌else◌, slice_index, slice_set, option_map_or, cases_lt, cases_eq, nat_tests, same_lists, length-set, get_or-set_same, get_or-set_other, get_or_default, get_or-map-range_with_len, length-map-range_with_len, same_number_lists, overlaid, length-overlaid, page_bytes, line_bytes, Layout, line_of, page_of, union, between, lines_where, where-alike, is_in_where-below, has, page_of_line, has-range, Shared, lines_at, Pool, IsSeen, frame_at, page_at, marks_at, lines_of_part, AreOfPages, is_line_marked, byte_in_frame, put_byte, spot_put, marks_put, put_in_store}
 use Rattle.storage_unit.proofs.SizeLemmas.{rest-below, place-is, page-at, byte-at, same-page-on, rest-on, page-between, line-is, line-few, line-order}
 use Rattle.storage_unit.proofs.FillLemmas.{over-part, in-part}
 

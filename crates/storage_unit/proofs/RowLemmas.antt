@@ -1,45 +1,18 @@
 -- An attempt over the unit is the row of the plain machine on the bytes that it shows over the committed ones.
-use Rattle.std.proofs.Common.{◌≡◌, ℕ, ◌+◌, ◌*◌, ◌<◌, ◌≤◌, Bool, true, false, List, [], ◌∷◌, ◌++◌, length, refl, sym, ◌∙◌, ap, subst, arith, Option, Some, None, Result, Ok, Err, ◌⊎◌, inl, inr}
-use Rattle.std.specs.Prelude.{◌==◌, ◌||◌, nat_lt, cond, if◌then◌else◌, slice_index, slice_range, slice_set}
-use Rattle.std.specs.Option.{option_map_or}
-use Rattle.std.proofs.lemmas.Bool.{ne_eqb}
-use Rattle.std.proofs.lemmas.Bool.Decides.{nat_tests}
-use Rattle.std.proofs.lemmas.List.{length-append}
-use Rattle.std.proofs.lemmas.List.FromFn.{get_or-map-range_with_len, length-map-range_with_len}
-use Rattle.std.proofs.lemmas.Grind.{same_number_lists}
-use Rattle.lock_rules.specs.Sets.{has}
-use Rattle.lock_rules.specs.Lines.{Lines, no_lines}
+use Rattle.storage_unit.proofs.Common.{◌≡◌, ℕ, ◌+◌, ◌*◌, ◌<◌, ◌≤◌, Bool, true, false, List, [], ◌∷◌, ◌++◌, length, refl, sym, ◌∙◌, ap, subst, arith, Option, Some, None, Result, Ok, Err, ◌⊎◌, inl, inr, ◌==◌, ◌||◌, nat_lt, cond, if◌then◌else◌, slice_index, slice_range, slice_set, option_map_or, ne_eqb, nat_tests, length-append, get_or-map-range_with_len, length-map-range_with_len, same_number_lists, has, Lines, no_lines, Virtual, located_by, Located, Private, Shared, Refused, Program, lines_at, touched, Access, Fault, Probe, bytes_from, halfword_of, access_to, answered, answer_in, Seen, Tried, seen_in, undone, refused_by, unless_refused, tried, Reach, private_segment, place_at, on, seat_of, byte_of, byte_at, is_there, is_in_frame, refuses, put_at, stored, byte_in_frame, bytes_over, private_bytes, is_line_marked, IsSound, Lies, AreThere, plain_over, HasWindows, IsOpen, IsShutOut, IsRow, GoesOpen, MarksWritten, ChangesBytes, StaysClean, LeavesSeats}
 use Rattle.segment_regs.specs.declared.registers.Check.{Check as Wrong}
-use Rattle.segment_regs.specs.declared.registers.Virtual.{Virtual}
-use Rattle.segment_regs.specs.Registers.{located_by}
 use Rattle.flat_machine.specs.declared.machine.Act.{Act}
 use Rattle.flat_machine.specs.declared.machine.Cs.{Cs}
-use Rattle.flat_machine.specs.declared.machine.Located.{Located}
-use Rattle.flat_machine.specs.declared.machine.Located.TheVariants.{Private, Shared, Refused}
 use Rattle.flat_machine.specs.declared.machine.Plain.{Plain}
 use Rattle.flat_machine.specs.declared.machine.Plan.{Plan}
 use Rattle.flat_machine.specs.declared.machine.Plan.TheVariants.{Does, Fails}
-use Rattle.flat_machine.specs.declared.machine.Program.{Program}
 use Rattle.flat_machine.specs.Row.{Outcome, On, Commit, Check, plan, plan_at, located, loads, stores, stored_bytes, moved, with_link, row_by, row}
-use Rattle.flat_machine.specs.Touched.{lines_at, touched}
 use Rattle.romp_cpu.specs.declared.cpu.Attempt.{Attempt}
 use Rattle.romp_cpu.specs.declared.cpu.Cpu.{Cpu}
-use Rattle.romp_cpu.specs.declared.storage.Access.{Access}
-use Rattle.romp_cpu.specs.declared.storage.Fault.{Fault}
-use Rattle.romp_cpu.specs.declared.storage.Probe.{Probe}
-use Rattle.romp_cpu.specs.Shown.{bytes_from, halfword_of, access_to}
-use Rattle.romp_cpu.specs.Answers.{answered, answer_in}
-use Rattle.romp_cpu.specs.Tried.{Seen, Tried, seen_in, undone, refused_by, unless_refused, tried}
 use Rattle.romp_cpu.specs.Attempts.{access_of_plan, place_of, bytes_in, ChecksAlike, Agrees, GivesRow, GivesAll, GivesBy, GivesOver, GivesPlan, GivesEveryRow, IsCpuOf, StoresAll, left_by, state_after, lines_of_access}
 use Rattle.romp_cpu.proofs.AttemptLemmas.{plan-same}
 use Rattle.romp_cpu.proofs.SegmentLemmas.{checks-alike}
-use Rattle.storage_unit.specs.declared.model.Reach.{Reach}
-use Rattle.storage_unit.specs.Places.{private_segment, place_at, on}
 use Rattle.storage_unit.specs.Places as places
-use Rattle.storage_unit.specs.Reach.{seat_of, byte_of, byte_at, is_there, is_in_frame, refuses, put_at, stored}
-use Rattle.storage_unit.specs.Bytes.{byte_in_frame, bytes_over, private_bytes, is_line_marked}
-use Rattle.storage_unit.specs.Reached.{IsSound, Lies, AreThere}
-use Rattle.storage_unit.specs.Rows.{plain_over, HasWindows, IsOpen, IsShutOut, IsRow, GoesOpen, MarksWritten, ChangesBytes, StaysClean, LeavesSeats}
 use Rattle.storage_unit.proofs.ByteLemmas.{in-range, byte-of-all, all-long, over-some}
 use Rattle.storage_unit.proofs.PlaceLemmas.{under, lies, byte-on, first-byte, never-refused, selected}
 use Rattle.storage_unit.proofs.AnswerLemmas.{permitted-located, permitted-bytes}

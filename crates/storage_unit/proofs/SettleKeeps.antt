@@ -1,12 +1,6 @@
 -- Lines that are settled leave the bytes as they were.
-use Rattle.std.proofs.Common.{◌≡◌, ℕ, ◌<◌, Bool, true, false, List, refl, sym, ◌∙◌, arith}
+use Rattle.storage_unit.proofs.Common.{◌≡◌, ℕ, ◌<◌, Bool, true, false, List, refl, sym, ◌∙◌, arith, Layout, byte_count, line_of, Pool, settled, is_marked, byte_over, IsClean, is_among, SettleKeeps}
 use Rattle.std.specs.Prelude.{◌&&◌, not, slice_index, length}
-use Rattle.line_geometry.specs.Directory.{Layout, byte_count}
-use Rattle.line_geometry.specs.Lines.{line_of}
-use Rattle.frame_pool.specs.declared.model.Pool.{Pool}
-use Rattle.frame_pool.specs.Pool.{settled}
-use Rattle.storage_unit.specs.Bytes.{is_marked, byte_over, IsClean}
-use Rattle.storage_unit.specs.Laws.{is_among, SettleKeeps}
 use Rattle.storage_unit.proofs.ByteLemmas.{same-bytes, byte-of-all}
 use Rattle.storage_unit.proofs.LeaveLemmas.{settled-over, settled-line, clean-of, clean-shows}
 

@@ -1,14 +1,5 @@
 -- Places of a store by pages and lines.
-use Rattle.std.proofs.Common.{◌≡◌, ℕ, ◌+◌, ◌-◌, ◌*◌, ◌/◌, ◌%◌, ◌<◌, ◌≤◌, arith}
-use Rattle.std.proofs.lemmas.Nat.{div-add-mod'}
-use Rattle.line_geometry.specs.declared.directory.PageSize.{PageSize}
-use Rattle.line_geometry.specs.declared.directory.PageSize.TheVariants.{Two, Four}
-use Rattle.line_geometry.specs.Segments.{page_bytes, line_bytes}
-use Rattle.line_geometry.specs.Directory.{Layout, byte_count, page_count}
-use Rattle.line_geometry.specs.Lines.{page_of}
-use Rattle.line_geometry.proofs.Within.{byte_count-pages}
-use Rattle.frame_pool.specs.Sizes.{private_frames}
-use Rattle.storage_unit.specs.Held.{seat_pages}
+use Rattle.storage_unit.proofs.Common.{◌≡◌, ℕ, ◌+◌, ◌-◌, ◌*◌, ◌/◌, ◌%◌, ◌<◌, ◌≤◌, arith, div-add-mod', PageSize, Two, Four, page_bytes, line_bytes, Layout, byte_count, page_count, page_of, byte_count-pages, private_frames, seat_pages}
 
 pub rest-below : (size : PageSize) (place : ℕ) → place % page_bytes size < page_bytes size
 rest-below Two place = omega arith

@@ -1,28 +1,6 @@
 -- What the calls of a unit leave of its pool and its table.
-use Rattle.std.proofs.Common.{◌≡◌, ◌≢◌, ℕ, ◌+◌, ◌<◌, Bool, true, false, List, [], ◌∷◌, ◌++◌, length, replicate, All, refl, sym, ◌∙◌, ap, subst, arith, get_or, Option, Some, None, inl, inr}
-use Rattle.std.specs.Prelude.{◌==◌, ◌||◌, nat_lt, if◌then◌else◌, slice_index_or, slice_set, fold, is_some, option_map, option_and_then, IfSome}
-use Rattle.std.specs.Option.{option_map_or}
-use Rattle.std.proofs.lemmas.Bool.{cases_lt, cases_eq, eq-eqb, ne_eqb}
-use Rattle.std.proofs.lemmas.List.{length-set, set_past, get_or-set_same, get_or-set_other, get_or-replicate, length-replicate, get_or_past, same_lists}
-use Rattle.std.proofs.lemmas.List.Elements.{All-nil}
-use Rattle.tlb_model.specs.declared.tlb.Pair.{Pair}
+use Rattle.storage_unit.proofs.Common.{◌≡◌, ◌≢◌, ℕ, ◌+◌, ◌<◌, Bool, true, false, List, [], ◌∷◌, length, replicate, All, refl, sym, ◌∙◌, ap, subst, arith, get_or, Option, Some, None, inl, inr, ◌==◌, ◌||◌, nat_lt, if◌then◌else◌, slice_index_or, slice_set, fold, is_some, option_map, option_and_then, IfSome, option_map_or, cases_lt, cases_eq, eq-eqb, ne_eqb, length-set, set_past, get_or-set_same, get_or-set_other, get_or-replicate, length-replicate, get_or_past, same_lists, All-nil, Pair, get_or-map-range_with_len, Layout, page_count, IsLegal, IsOfPage, difference, passing, of_page-where, has, Key, Placed, without_frame, look_up, Pool, IsSeen, private_frames, frame_at, page_at, marks_at, gone, page_out, with_room, emptied, laid, line_laid, gone-from, gone-absent, gone-frame, gone-stays, seen-gone, Stays, key_of_page, AreOfPages, held_private, held_in, keys_with, keys_without}
 use Rattle.tlb_model.specs.Buffer.{IsOfTable, page_of}
-use Rattle.std.proofs.lemmas.List.FromFn.{get_or-map-range_with_len}
-use Rattle.line_geometry.specs.Directory.{Layout, page_count}
-use Rattle.line_geometry.specs.Legal.{IsLegal}
-use Rattle.line_geometry.specs.LineSets.{IsOfPage, difference, passing}
-use Rattle.line_geometry.proofs.LineSetLemmas.{of_page-where}
-use Rattle.lock_rules.specs.Sets.{has}
-use Rattle.inverted_table.specs.declared.key.Key.{Key}
-use Rattle.inverted_table.specs.Placed.{Placed, without_frame, look_up}
-use Rattle.frame_pool.specs.declared.model.Pool.{Pool}
-use Rattle.frame_pool.specs.Seen.{IsSeen}
-use Rattle.frame_pool.specs.Sizes.{private_frames}
-use Rattle.frame_pool.specs.Pool.{frame_at, page_at, marks_at, gone, page_out, with_room, emptied, laid, line_laid}
-use Rattle.frame_pool.proofs.PoolLemmas.{gone-from}
-use Rattle.frame_pool.proofs.SeenLemmas.{gone-absent, gone-frame, gone-stays, seen-gone, Stays}
-use Rattle.storage_unit.specs.Places.{key_of_page}
-use Rattle.storage_unit.specs.Held.{AreOfPages, held_private, held_in, keys_with, keys_without}
 use Rattle.storage_unit.proofs.LeaveLemmas.{emptied-frame}
 use Rattle.storage_unit.proofs.HeldLemmas.{above, below, keys-long, held-store, keys-store}
 

@@ -1,37 +1,8 @@
 -- What a store leaves, as it is written page by page, and what is shown after it.
-use Rattle.std.proofs.Common.{◌≡◌, ℕ, ◌+◌, ◌-◌, ◌*◌, ◌/◌, ◌%◌, ◌<◌, ◌≤◌, Bool, true, false, List, [], ◌++◌, length, refl, sym, ◌∙◌, ap, subst, arith, Option, Some, None, get_or, inl, inr}
-use Rattle.std.specs.Prelude.{◌&&◌, ◌||◌, nat_le, slice_index, slice_set}
-use Rattle.std.specs.Option.{option_map_or}
-use Rattle.std.proofs.lemmas.Bool.{cases_lt, cases_Bool}
-use Rattle.std.proofs.lemmas.Bool.Decides.{nat_tests}
-use Rattle.std.proofs.lemmas.List.{same_lists, length-append, get_or_append_left, get_or-append_right}
-use Rattle.std.proofs.lemmas.List.FromFn.{get_or-map-range_with_len, length-map-range_with_len}
-use Rattle.std.proofs.lemmas.Grind.{same_number_lists}
-use Rattle.line_geometry.specs.Segments.{page_bytes, line_bytes}
-use Rattle.line_geometry.specs.Directory.{start_of}
-use Rattle.line_geometry.specs.Lines.{line_of, page_of}
-use Rattle.line_geometry.specs.LineSets.{union, lines_where}
-use Rattle.line_geometry.proofs.LineSetLemmas.{where-alike, is_in_where-below, of_page-where}
-use Rattle.lock_rules.specs.Sets.{has}
-use Rattle.flat_machine.specs.declared.machine.Located.{Located}
-use Rattle.flat_machine.specs.declared.machine.Located.TheVariants.{Private, Shared, Refused}
-use Rattle.flat_machine.specs.Touched.{lines_at}
-use Rattle.segment_regs.specs.declared.registers.Virtual.{Virtual}
-use Rattle.inverted_table.specs.Keys.{key_of}
-use Rattle.inverted_table.specs.Placed.{look_up}
-use Rattle.frame_pool.specs.declared.model.Pool.{Pool}
-use Rattle.frame_pool.specs.Sizes.{private_frames, frame_count}
-use Rattle.frame_pool.specs.Pool.{page_at, marks_at, marked_in, with_marks, with_bytes, lines_of_part}
-use Rattle.frame_pool.proofs.SoundLemmas.{page_part}
-use Rattle.storage_unit.specs.declared.model.Reach.{Reach}
-use Rattle.storage_unit.specs.Places.{is_private, offset_of, place_of, on}
-use Rattle.storage_unit.specs.Held.{AreOfPages, seat_pages, table_of}
-use Rattle.storage_unit.specs.Reach.{put_byte, spot_put, marks_put, put_in_store, put_at}
-use Rattle.storage_unit.specs.Reached.{IsSound, Lies}
+use Rattle.storage_unit.proofs.Common.{◌≡◌, ℕ, ◌+◌, ◌-◌, ◌*◌, ◌/◌, ◌%◌, ◌<◌, ◌≤◌, Bool, true, false, List, [], ◌++◌, length, refl, sym, ◌∙◌, ap, subst, arith, Option, Some, None, get_or, inl, inr, ◌&&◌, ◌||◌, nat_le, slice_index, slice_set, option_map_or, cases_lt, cases_Bool, nat_tests, same_lists, length-append, get_or_append_left, get_or-append_right, get_or-map-range_with_len, length-map-range_with_len, same_number_lists, page_bytes, line_bytes, start_of, line_of, page_of, union, lines_where, where-alike, is_in_where-below, of_page-where, has, Located, Private, Shared, Refused, lines_at, Virtual, key_of, look_up, Pool, private_frames, frame_count, page_at, marks_at, marked_in, with_marks, with_bytes, lines_of_part, page_part, Reach, is_private, offset_of, place_of, on, AreOfPages, seat_pages, table_of, put_byte, spot_put, marks_put, put_in_store, put_at, IsSound, Lies, some-within}
+use Rattle.frame_pool.proofs.LayLemmas.{overlaid-joined}
 use Rattle.storage_unit.proofs.SizeLemmas.{page-less, private-whole, seat-bytes, seat-frame, seat-page, line-order, line-next}
 use Rattle.storage_unit.proofs.StateLemmas.{marks-set}
-use Rattle.frame_pool.proofs.SeenLemmas.{some-within}
-use Rattle.frame_pool.proofs.LayLemmas.{overlaid-joined}
 use Rattle.storage_unit.proofs.PlaceLemmas.{private-is, shared-is, finds-own, finds-shared, place-byte}
 use Rattle.storage_unit.proofs.PutLemmas.{put-inside, put-outside, has-lines, page-bytes, page-marks}
 

@@ -1,13 +1,7 @@
 -- An undo gives its lines their committed bytes.
-use Rattle.std.proofs.Common.{◌≡◌, ℕ, ◌<◌, Bool, true, false, List, refl, sym, ◌∙◌, ap, arith}
+use Rattle.storage_unit.proofs.Common.{◌≡◌, ℕ, ◌<◌, Bool, true, false, List, refl, sym, ◌∙◌, ap, arith, has, Layout, byte_count, line_of, page_of, Pool, is_marked, byte_over, IsClean, Fits, is_among, UndoForgets}
 use Rattle.std.specs.Prelude.{◌==◌, ◌%◌, ◌&&◌, not, if◌then◌else◌, slice_index, length}
-use Rattle.lock_rules.specs.Sets.{has}
-use Rattle.line_geometry.specs.Directory.{Layout, byte_count}
-use Rattle.line_geometry.specs.Lines.{line_of, page_of}
-use Rattle.frame_pool.specs.declared.model.Pool.{Pool}
 use Rattle.frame_pool.specs.Pool.{settled, undone}
-use Rattle.storage_unit.specs.Bytes.{is_marked, byte_over, IsClean}
-use Rattle.storage_unit.specs.Laws.{Fits, is_among, UndoForgets}
 use Rattle.storage_unit.proofs.SizeLemmas.{page-of-line}
 use Rattle.storage_unit.proofs.ByteLemmas.{byte-of-all, gone-over}
 use Rattle.storage_unit.proofs.LeaveLemmas.{seen-settled, settled-over, settled-line, gone-marked, clean-of, clean-shows}

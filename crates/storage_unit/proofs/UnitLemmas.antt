@@ -1,29 +1,5 @@
 -- What is known of every unit, for those that keep one.
-use Rattle.std.proofs.Common.{◌≡◌, ℕ, zero, suc, ◌*◌, ◌<◌, true, false, List, length, refl, sym, ◌∙◌, ap, subst, arith, Some, None}
-use Rattle.std.specs.Prelude.{slice_index_or}
-use Rattle.std.proofs.lemmas.Bool.Decides.{nat_tests}
-use Rattle.line_geometry.specs.Directory.{Layout}
-use Rattle.line_geometry.specs.Legal.{IsLegal}
-use Rattle.line_geometry.specs.Segments.{page_bytes}
-use Rattle.segment_regs.specs.declared.registers.SegmentRegister.{SegmentRegister}
-use Rattle.segment_regs.specs.Registers.{private_register}
-use Rattle.flat_machine.specs.declared.machine.Program.{Program}
-use Rattle.romp_cpu.specs.Segments.{registers_of_program}
-use Rattle.romp_cpu.proofs.WindowLemmas.{register-window, named-low}
-use Rattle.frame_pool.specs.Sizes.{frame_count}
-use Rattle.frame_pool.specs.Pool.{with_bytes}
-use Rattle.frame_pool.specs.declared.model.Pool.{Pool}
-use Rattle.frame_pool.proofs.LendLemmas.{lent-part}
-use Rattle.frame_pool.proofs.SoundLemmas.{page_part}
-use Rattle.frame_pool.proofs.SeenLemmas.{pool-seen}
-use Rattle.storage_unit.specs.declared.unit.Unit.{Unit}
-use Rattle.storage_unit.specs.declared.model.Reach.{Reach}
-use Rattle.storage_unit.specs.Places.{private_segment, is_private}
-use Rattle.storage_unit.specs.Held.{IsUnder, AreReached}
-use Rattle.storage_unit.specs.Reached.{IsSound}
-use Rattle.storage_unit.specs.Laws.{Fits}
-use Rattle.storage_unit.specs.View.{reach_of}
-use Rattle.storage_unit.specs.UnitLending.{with_unit_part}
+use Rattle.storage_unit.proofs.Common.{◌≡◌, ℕ, zero, suc, ◌<◌, true, false, refl, sym, ◌∙◌, subst, arith, Some, None, slice_index_or, nat_tests, Layout, IsLegal, SegmentRegister, private_register, Program, registers_of_program, register-window, named-low, pool-seen, Unit, Reach, private_segment, is_private, IsUnder, AreReached, IsSound, Fits, reach_of}
 
 -- its state is sound
 pub unit-sound : (unit : Unit) → IsSound (reach_of unit)

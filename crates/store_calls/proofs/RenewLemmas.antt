@@ -1,31 +1,11 @@
 -- A store of version 2 with what a store of version 1 has.
-use Rattle.std.proofs.Common.{◌≡◌, ◌⊎◌, inl, inr, ℕ, zero, suc, ◌+◌, ◌*◌, ◌/◌, ◌%◌, ◌-◌, ◌^◌, ◌<◌, ◌≤◌, Bool, true, false, List, [], ◌∷◌, ◌++◌, length, map, take, take-suc, get_or, drop, replicate, true≢false, refl, sym, ◌∙◌, ap, subst, arith}
-use Rattle.std.specs.Prelude.{All, nat_eq, codes, sum_by, Option}
-use Rattle.std.specs.List.{starts_with}
+use Rattle.store_calls.proofs.Common.{◌≡◌, inl, inr, ℕ, suc, ◌+◌, ◌*◌, ◌/◌, ◌%◌, ◌-◌, ◌^◌, ◌<◌, ◌≤◌, true, false, List, [], ◌∷◌, ◌++◌, length, map, take, take-suc, get_or, drop, replicate, true≢false, refl, sym, ◌∙◌, ap, subst, arith, All, sum_by, cases_eq, length-append, length-drop, length-replicate, length-map, length-take, map-append, pow_pos, Layout, FlatStore, IsInRange, IsLegal, bytes_of, Two, number_at, page_of, Stands, stands, Ghosts, flat_of, KeptStore, Given, call, Status, IsNoEmpty, IsOfWriting, Written, HasOne, IsRenewed, Renewed, is_version_two, renew_line, renewed_header, renewed_image, widened, widened_bytes, widened_segments}
 use Rattle.std.specs.List.Sorted.{IsStrictlyIncreasing}
-use Rattle.std.proofs.lemmas.Bool.{cases_eq}
-use Rattle.std.proofs.lemmas.List.{length-append, length-drop, length-replicate, length-map, length-take, map-append}
 use Rattle.std.proofs.lemmas.List.Sums.{sum_by-cons}
-use Rattle.std.proofs.lemmas.Nat.{pow_pos}
 use Rattle.std.proofs.lemmas.List.Elements.{All-nil, All-cons, All-head, All-tail}
-use Rattle.line_geometry.specs.Directory.{Layout, byte_count}
-use Rattle.line_geometry.specs.FlatStore.{FlatStore}
-use Rattle.line_geometry.specs.Legal.{IsInRange, IsLegal}
-use Rattle.line_geometry.specs.Segments.{bytes_of, page_bytes}
-use Rattle.line_geometry.specs.declared.directory.PageSize.{PageSize}
-use Rattle.line_geometry.specs.declared.directory.PageSize.TheVariants.{Two, Four}
-use Rattle.store_format.specs.Header.{Header, HasRanges, header_of, number_at, page_of}
-use Rattle.store_format.specs.Stands.{Stands, stands}
 use Rattle.store_format.proofs.Fresh.{stored_stands}
 use Rattle.store_format.proofs.Sound.{begins_two, named_header, sound_header, stood_header}
-use Rattle.outside.specs.declared.world.Outside.{Ghosts}
-use Rattle.serial_audit.specs.Audit.{flat_of}
-use Rattle.serial_audit.specs.declared.auditing.KeptStore.{KeptStore}
-use Rattle.call_status.specs.Call.{Given, call}
-use Rattle.call_status.specs.declared.status.Status.{Status}
 use Rattle.call_status.specs.declared.status.Status.TheVariants as status
-use Rattle.store_calls.specs.New.{IsNoEmpty, IsOfWriting, Written}
-use Rattle.store_calls.specs.Renewed.{HasOne, IsRenewed, Renewed, is_version_two, renew_line, renewed_header, renewed_image, widened, widened_bytes, widened_segments}
 
 -- the segments of twice the size are those of a directory
 named_same : (segments : List (ℕ × ℕ)) → map (λ segment. segment.0) (widened_segments segments) ≡ map (λ segment. segment.0) segments

@@ -1,31 +1,12 @@
 -- Calls that ask the disk, and puts, one after another.
-use Rattle.std.proofs.Common.{◌≡◌, ◌≤◌, ◌<◌, ◌+◌, ◌-◌, ◌*◌, ◌/◌, ◌%◌, inl, ⊎_elim, ℕ, zero, suc, List, [], ◌∷◌, ◌++◌, length, take, drop, refl, sym, ◌∙◌, ap, subst, arith, append-nil, length-append}
-use Rattle.std.specs.Prelude.{Option, None, Some, IsSome, IsTrue, Result, Ok, Err, unwrap_or}
-use Rattle.std.specs.Int.{div_ceil}
-use Rattle.std.proofs.lemmas.Bool.{cases_lt}
+use Rattle.store_calls.proofs.Common.{Option, IsSome, IsTrue, Result, Ok, Err, div_ceil, cases_lt, drop-drop, drop-take, div-add-mod', PageSize, page_bytes, Ghosts, Failed, AreTold, Prints, AsksAndPuts, OnlyAsks, FewerLater, held_of, held_same, shows_asks, shows_none, shows_on, shows_puts, stands_is, Standing, Stands, NotAStore, Damaged, stands, shown_store, IsShown, Shows, page_in, row_lines, Puts, PutsTimes, Status, AreRead, HasRead, PutsBytes, PutsDone, StopsBy, bytes_in}
+use Rattle.std.proofs.Common.{◌≡◌, ◌≤◌, ◌<◌, ◌+◌, ◌-◌, ◌*◌, ◌/◌, ◌%◌, ⊎_elim, ℕ, zero, suc, List, [], ◌∷◌, ◌++◌, length, take, drop, refl, sym, ◌∙◌, ap, subst, arith, append-nil, length-append}
 use Rattle.std.proofs.Math.Seq.{take-add}
-use Rattle.std.proofs.lemmas.List.{drop-drop, drop-take}
-use Rattle.std.proofs.lemmas.Nat.{div-add-mod'}
-use Rattle.line_geometry.specs.declared.directory.PageSize.{PageSize}
-use Rattle.line_geometry.specs.Segments.{page_bytes}
-use Rattle.outside.specs.declared.world.Outside.{Ghosts}
-use Rattle.outside.specs.declared.failed.Failed.{Failed}
-use Rattle.outside.specs.Bytes.{AreTold, Prints}
 use Rattle.outside.specs.Durable.{IsSure}
-use Rattle.outside.specs.Runs.{AsksAndPuts, OnlyAsks, FewerLater, held_of}
 use Rattle.outside.proofs.Prints.{prints_broken, prints_none, prints_on, prints_stop, prints_same, prints_unput}
-use Rattle.outside.proofs.Shows.{held_same, shows_asks, shows_none, shows_on, shows_puts}
-use Rattle.store_format.proofs.Stores.{stands_is}
-use Rattle.store_format.specs.Stands.{Standing, Stands, NotAStore, Damaged, stands}
 use Rattle.restart.specs.Kept.{KeptStore}
-use Rattle.restart.proofs.ShowLemmas.{shown_store}
-use Rattle.restart.specs.Shows.{IsShown, Shows, page_in}
-use Rattle.listing.specs.Listing.{row_lines}
-use Rattle.listing.specs.Puts.{Puts, PutsTimes}
 use Rattle.listing.proofs.RowLemmas.{rows_on}
-use Rattle.call_status.specs.declared.status.Status.{Status}
 use Rattle.call_status.specs.declared.status.Status.TheVariants as status
-use Rattle.store_calls.specs.Show.{AreRead, HasRead, PutsBytes, PutsDone, StopsBy, bytes_in}
 
 abbrev pub went : Result (Unit {0}) Failed
 went = Ok tt

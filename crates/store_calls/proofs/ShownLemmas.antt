@@ -1,24 +1,7 @@
 -- What printing a range of a store did.
-use Rattle.std.proofs.Common.{◌≡◌, inr, ◌+◌, ℕ, List, [], refl, sym, ◌∙◌, ap, subst}
-use Rattle.std.specs.Prelude.{Option, IsSome, Result, Ok, Err}
-use Rattle.std.specs.Int.{div_ceil}
-use Rattle.outside.specs.declared.world.Outside.{Ghosts}
-use Rattle.outside.specs.Bytes.{Prints, bytes_at}
-use Rattle.outside.specs.Runs.{AsksAndPuts, OnlyAsks, FewerLater, held_of}
-use Rattle.line_geometry.specs.Directory.{Layout, start_of}
-use Rattle.line_geometry.specs.FlatStore.{FlatStore}
-use Rattle.store_format.specs.Stands.{Stands, stands}
-use Rattle.store_format.proofs.Stores.{stands_is}
+use Rattle.store_calls.proofs.Common.{◌≡◌, inr, ◌+◌, ℕ, List, [], refl, sym, ◌∙◌, ap, subst, Option, IsSome, Result, Ok, Err, div_ceil, Ghosts, Prints, bytes_at, AsksAndPuts, OnlyAsks, FewerLater, held_of, Layout, start_of, FlatStore, Stands, stands, stands_is, Shows, IsShown, shown_store, row_lines, call, Status, Range, HasRange, IsInside, PutsBytes, PutsDone, Shown, ShownBy, StopsBy, bytes_in, rows_of, held_same, shows_asks, shows_on}
 use Rattle.restart.specs.Kept.{KeptStore}
-use Rattle.restart.specs.Shows.{Shows, IsShown}
-use Rattle.restart.proofs.ShowLemmas.{shown_store}
-use Rattle.listing.specs.Listing.{row_lines}
-use Rattle.call_status.specs.Call.{call}
-use Rattle.call_status.specs.declared.status.Status.{Status}
 use Rattle.call_status.specs.declared.status.Status.TheVariants as status
-use Rattle.store_calls.specs.declared.show.Range.{Range}
-use Rattle.store_calls.specs.Show.{HasRange, IsInside, PutsBytes, PutsDone, Shown, ShownBy, StopsBy, bytes_in, rows_of}
-use Rattle.outside.proofs.Shows.{held_same, shows_asks, shows_on}
 
 -- bytes that a store shows stand for one with its directory
 stood : (held : List ℕ) (store : KeptStore) → Shows held store → (number : ℕ) × (flat : FlatStore) × (stands held ≡ Stands number flat) × (flat.directory ≡ store.header.directory)

@@ -1,20 +1,10 @@
 -- What making a store did.
-use Rattle.std.proofs.Common.{◌≡◌, ◌⊎◌, inl, inr, ◌+◌, ◌<◌, ℕ, List, [], ◌∷◌, length, refl, sym, ◌∙◌, ap, subst, arith}
-use Rattle.std.specs.Prelude.{Option, Some, IsSome, IsTrue, Result, Ok, Err, unwrap_or}
+use Rattle.store_calls.proofs.Common.{◌≡◌, ◌⊎◌, inl, inr, ◌+◌, ◌<◌, ℕ, List, [], length, refl, sym, ◌∙◌, ap, subst, arith, Option, IsSome, IsTrue, Result, Ok, Err, unwrap_or, Ghosts, Failed, Prints, Torn, CallsDisk, FewerLater, OnlyAsks, held_of, elapses-trans, leaves_on, Puts, PutsTimes, call, Status, IsNoEmpty, IsOfWriting, IsStored, IsTornBy, IsWrittenWhole, LeavesTorn, Written, WrittenBy}
 use Rattle.std.specs.Option.{option_map}
-use Rattle.outside.specs.declared.world.Outside.{Ghosts}
-use Rattle.outside.specs.declared.failed.Failed.{Failed}
-use Rattle.outside.specs.Bytes.{Prints, Torn}
 use Rattle.outside.specs.Moments.{Elapses}
-use Rattle.outside.specs.Runs.{CallsDisk, FewerLater, OnlyAsks, held_of}
-use Rattle.outside.proofs.Runs.{elapses-trans, leaves_on}
 use Rattle.outside.proofs.Torn.{untouched}
-use Rattle.listing.specs.Puts.{Puts, PutsTimes}
-use Rattle.call_status.specs.Call.{call}
-use Rattle.call_status.specs.declared.status.Status.{Status}
-use Rattle.call_status.specs.declared.status.Status.TheVariants as status
 use Rattle.call_status.specs.Printed.{put_of, PrintsBy, PutsOnce}
-use Rattle.store_calls.specs.New.{IsNoEmpty, IsOfWriting, IsStored, IsTornBy, IsWrittenWhole, LeavesTorn, Written, WrittenBy}
+use Rattle.call_status.specs.declared.status.Status.TheVariants as status
 use Rattle.store_calls.proofs.ShowLemmas.{shows_line, sure_shows}
 
 -- an image was written on an empty disk

@@ -1,9 +1,5 @@
 -- The fields of a header looked at one after another.
-use Rattle.std.proofs.Common.{◌≡◌, ℕ, zero, suc, ◌+◌, ◌*◌, ◌-◌, ◌<◌, ◌≤◌, Bool, true, false, List, [], ◌∷◌, ◌++◌, length, refl, sym, ◌∙◌, ap, arith, slice_index}
-use Rattle.std.specs.Prelude.{Option, None, Some, nat_lt, nat_le, not, ◌&&◌, min, if◌then◌else◌, is_some}
-use Rattle.std.specs.Option.{option_or}
-use Rattle.std.proofs.lemmas.Bool.Decides.{nat_tests}
-use Rattle.store_format.specs.Header.{Field, number_at, within, segments_at, segment_fields, zeros, last_zeros, first_fault}
+use Rattle.store_format.proofs.Common.{◌≡◌, ℕ, zero, suc, ◌+◌, ◌*◌, ◌-◌, ◌<◌, ◌≤◌, Bool, true, false, List, [], ◌∷◌, ◌++◌, length, refl, sym, ◌∙◌, ap, arith, slice_index, Option, None, Some, nat_lt, nat_le, not, ◌&&◌, min, if◌then◌else◌, is_some, option_or, nat_tests, Field, number_at, within, segments_at, segment_fields, zeros, last_zeros, first_fault}
 
 option_or-if : (b c : Bool) (n m : ℕ) (later : Option ℕ) → (if b then Some n else if c then Some m else later) ≡ option_or (if b then Some n else if c then Some m else None) later
 option_or-if true c n m later = refl

@@ -1,12 +1,6 @@
 -- What an image stands for where bytes outside its chosen bank have changed.
-use Rattle.std.proofs.Common.{◌≡◌, ℕ, zero, suc, ◌+◌, ◌%◌, ◌^◌, ◌<◌, ◌≤◌, false, List, [], length, take, drop, refl, sym, ◌∙◌, ap, arith, slice_index}
+use Rattle.store_format.proofs.Common.{◌≡◌, ℕ, zero, suc, ◌+◌, ◌%◌, ◌^◌, ◌<◌, ◌≤◌, false, List, [], length, take, drop, refl, sym, ◌∙◌, ap, arith, slice_index, drop-drop, get_or-drop, FlatStore, Which, Header, fields, first_fault, header_of, bank_at, number_at, RecordLine, Area, Gate, Closed, Wrong, Sound, preceded, gate_if, gate_at, holds_from, area_at, area_of, base_of, bank_of, Stands, stands, IsStore, HasHeader, laid, home_of, chosen}
 use Rattle.std.specs.Prelude.{◌==◌, ◌-◌, fold}
-use Rattle.std.proofs.lemmas.List.{drop-drop, get_or-drop}
-use Rattle.line_geometry.specs.FlatStore.{FlatStore}
-use Rattle.store_format.specs.declared.header.Which.{Which}
-use Rattle.store_format.specs.Header.{Header, fields, first_fault, header_of, bank_at, number_at}
-use Rattle.store_format.specs.Bank.{RecordLine, Area, Gate, Closed, Wrong, Sound, preceded, gate_if, gate_at, holds_from, area_at, area_of, base_of, bank_of}
-use Rattle.store_format.specs.Stands.{Stands, stands, IsStore, HasHeader, laid, home_of, chosen}
 use Rattle.store_format.proofs.Fronts.{shorter_front, same_byte}
 use Rattle.store_format.proofs.Walk.{sound_is, closed_gate}
 use Rattle.store_format.proofs.Sound.{sound_header}

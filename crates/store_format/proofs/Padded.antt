@@ -1,16 +1,8 @@
 -- A header that is cut, with zeros behind it.
-use Rattle.std.proofs.Common.{◌≡◌, ℕ, zero, suc, ◌+◌, ◌*◌, ◌-◌, ◌^◌, ◌≤◌, true, List, [], ◌∷◌, ◌++◌, length, take, drop, refl, sym, ◌∙◌, ap, arith, slice_index, replicate, codes, inl, inr}
-use Rattle.std.specs.Prelude.{Option, None, Some, nat_lt, nat_eq, not, min, if◌then◌else◌, unwrap_or, IsSome, IfSome}
+use Rattle.store_format.proofs.Common.{◌≡◌, ℕ, zero, suc, ◌+◌, ◌*◌, ◌-◌, ◌^◌, ◌≤◌, true, List, [], ◌∷◌, ◌++◌, length, take, drop, refl, sym, ◌∙◌, ap, arith, slice_index, replicate, codes, inl, inr, Option, None, Some, nat_lt, nat_eq, not, min, if◌then◌else◌, unwrap_or, IsSome, IfSome, cases_lt, nat_tests, get_or-drop, get_or_append_left, get_or-append_right, get_or_past, take-append-le, take_all, drop-replicate, length-take, big_from, PageSize, Two, Four, Header, page_of, last_zeros, spare_fields, Field, number_at, within, name_field, segments_at, segments_of, segment_fields, zeros, fields, first_fault, header_of}
 use lib.Pointwise.{pointwise}
-use Rattle.std.proofs.lemmas.Bool.{cases_lt}
-use Rattle.std.proofs.lemmas.Bool.Decides.{nat_tests}
-use Rattle.std.proofs.lemmas.List.{get_or-drop, get_or_append_left, get_or-append_right, get_or_past, take-append-le, take_all, drop-replicate, length-take}
-use Rattle.byteorder.specs.Endian.{big_from}
 use Rattle.outside.specs.Bytes.{bytes_at}
-use Rattle.line_geometry.specs.declared.directory.PageSize.{PageSize}
-use Rattle.line_geometry.specs.declared.directory.PageSize.TheVariants.{Two, Four}
 use Rattle.store_format.proofs.Checks.{last_zeros_are}
-use Rattle.store_format.specs.Header.{Header, page_of, last_zeros, spare_fields, Field, number_at, within, name_field, segments_at, segments_of, segment_fields, zeros, fields, first_fault, header_of}
 
 -- lists that read the same at each place
 abbrev Same : List ℕ → List ℕ → Type 0

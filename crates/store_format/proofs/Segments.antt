@@ -1,11 +1,6 @@
 -- The fields of segments are right exactly where the segments are a directory's.
-use Rattle.std.proofs.Common.{◌≡◌, ℕ, ◌+◌, ◌-◌, ◌<◌, ◌≤◌, Bool, true, false, List, [], ◌∷◌, length, refl, subst, arith}
-use Rattle.std.specs.Prelude.{None, Some, All, nat_lt, nat_le, ◌==◌, not, ◌&&◌, min, cond}
-use Rattle.std.proofs.lemmas.Bool.Decides.{nat_tests}
-use Rattle.std.proofs.lemmas.List.Elements.{All-nil, All-cons, All-head, All-tail}
-use Rattle.line_geometry.specs.Legal.{fault_of, fault_after, is_strange, IsLegal}
-use Rattle.line_geometry.proofs.Legal.{fault_by, first-fine, legal-none, none-legal}
-use Rattle.store_format.specs.Header.{Field, within, segment_fields, first_fault}
+use Rattle.store_format.proofs.Common.{◌≡◌, ℕ, ◌+◌, ◌-◌, ◌<◌, ◌≤◌, Bool, true, false, List, [], ◌∷◌, length, refl, subst, arith, None, Some, All, nat_lt, nat_le, ◌==◌, not, ◌&&◌, min, cond, nat_tests, All-nil, All-cons, All-head, All-tail, fault_of, fault_after, is_strange, IsLegal, Field, within, segment_fields, first_fault}
+use Rattle.line_geometry.proofs.Legal.{first-fine, legal-none, none-legal}
 use Rattle.store_format.proofs.Checks.{none-append}
 
 abbrev pub Stays : Field → Type 0

@@ -1,23 +1,8 @@
 -- What a header without a fault says.
-use Rattle.std.proofs.Common.{◌≡◌, ℕ, zero, suc, ◌+◌, ◌*◌, ◌-◌, ◌%◌, ◌^◌, ◌<◌, ◌≤◌, slice_index, true, false, List, [], ◌∷◌, ◌++◌, length, take, drop, Bool, refl, sym, codes, ◌∙◌, ap, arith, inl, inr}
-use Rattle.std.specs.Prelude.{Option, None, Some, All, min, nat_lt, nat_eq, not, is_some, if◌then◌else◌}
-use Rattle.std.specs.List.{starts_with}
-use Rattle.line_geometry.specs.FlatStore.{FlatStore}
-use Rattle.std.proofs.lemmas.Bool.{cases_lt, cases_eq}
-use Rattle.std.proofs.lemmas.Bool.Decides.{Decides-eqb, nat_tests}
-use Rattle.line_geometry.specs.declared.directory.PageSize.{PageSize}
-use Rattle.line_geometry.specs.declared.directory.PageSize.TheVariants.{Two, Four}
-use Rattle.line_geometry.specs.Legal.{IsLegal, AreFlags, flag_count}
-use Rattle.store_format.specs.Header.{Header, number_at, within, name_field, segments_of, segment_fields, zeros, last_zeros, spare_fields, page_of, fields, first_fault, header_of, total}
-use Rattle.store_format.specs.Bank.{Bank, Holds, Faulty, base_of, bank_of}
-use Rattle.store_format.specs.Stands.{Standing, Stands, NotAStore, stands, standing_if, standing_by, chosen}
+use Rattle.store_format.proofs.Common.{◌≡◌, ℕ, zero, suc, ◌+◌, ◌*◌, ◌-◌, ◌%◌, ◌^◌, ◌<◌, ◌≤◌, slice_index, true, false, List, [], ◌∷◌, ◌++◌, length, take, drop, Bool, refl, sym, codes, ◌∙◌, ap, arith, inl, inr, Option, None, Some, All, min, nat_lt, nat_eq, not, is_some, if◌then◌else◌, starts_with, FlatStore, cases_lt, cases_eq, Decides-eqb, nat_tests, PageSize, Two, Four, IsLegal, AreFlags, flag_count, Header, number_at, within, name_field, segments_of, segment_fields, zeros, last_zeros, spare_fields, page_of, fields, first_fault, header_of, total, Bank, Holds, Faulty, base_of, bank_of, Standing, Stands, NotAStore, stands, standing_if, standing_by, chosen, All-head, All-tail, get_or-drop, length-drop, length-take, take-append-drop, big_number, pow_pos}
+use Rattle.std.proofs.lemmas.Slice.Eq.{starts_is}
 use Rattle.store_format.proofs.Checks.{none-append, right_number, length-segments_at}
 use Rattle.store_format.proofs.Segments.{Stays, right_within, segments_legal, stays_all}
-use Rattle.std.proofs.lemmas.List.Elements.{All-head, All-tail}
-use Rattle.std.proofs.lemmas.List.{get_or-drop, length-drop, length-take, take-append-drop}
-use Rattle.std.proofs.lemmas.Slice.Eq.{starts_is}
-use Rattle.byteorder.specs.Endian.{big_number}
-use Rattle.std.proofs.lemmas.Nat.{pow_pos}
 
 pub record IsSound (head : List ℕ) : Type 0 where
   pub some : 1 ≤ number_at head 10 2

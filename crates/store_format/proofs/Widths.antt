@@ -1,9 +1,5 @@
 -- Sums of lines and of entries, by the size of a page.
-use Rattle.std.proofs.Common.{◌≡◌, ℕ, ◌+◌, ◌*◌, ◌<◌, ◌≤◌, arith}
-use Rattle.line_geometry.specs.Segments.{line_bytes}
-use Rattle.line_geometry.specs.declared.directory.PageSize.{PageSize}
-use Rattle.line_geometry.specs.declared.directory.PageSize.TheVariants.{Two, Four}
-use Rattle.store_format.specs.Header.{entry_bytes}
+use Rattle.store_format.proofs.Common.{ℕ, ◌+◌, ◌*◌, ◌<◌, ◌≤◌, arith, line_bytes, PageSize, Two, Four, entry_bytes}
 
 pub line-some : (page : PageSize) → 128 ≤ line_bytes page
 line-some Two = omega arith

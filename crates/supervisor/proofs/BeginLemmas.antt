@@ -1,26 +1,9 @@
 -- What a begin leaves of a session.
-use Rattle.std.proofs.Common.{◌≡◌, ℕ, ◌+◌, ◌-◌, ◌*◌, ◌<◌, ◌≤◌, List, [], ◌∷◌, length, refl, sym, ◌∙◌, ap, subst, arith, Option, Some, None, length-append}
-use Rattle.std.specs.Prelude.{Bool, true, false, ◌==◌}
-use Rattle.std.proofs.lemmas.Bool.{eqb-true}
+use Rattle.supervisor.proofs.Common.{◌≡◌, ℕ, ◌+◌, ◌-◌, ◌*◌, ◌<◌, ◌≤◌, List, [], ◌∷◌, length, refl, sym, ◌∙◌, ap, subst, arith, Option, Some, None, length-append, Bool, true, false, ◌==◌, eqb-true, sitter, newcomer, next_seat, Begun, begun_told, Desk, Fine, Step, absent_segment, step, Activations, Activity, program_at, desk_over, IsBegin, begins, begins_by, Follows, AreRowsWithin, activity_of, Session, IsSound, activity, desk_of, order_of, Shown}
 use Rattle.seats.specs.declared.seat.Seat.{Seat}
-use Rattle.seats.specs.Seating.{sitter, newcomer, next_seat}
-use Rattle.desk.specs.declared.answers.Begun.{Begun}
-use Rattle.desk.specs.declared.event.Event.TheVariants as event
-use Rattle.desk.specs.Answers.{begun_told}
-use Rattle.desk.specs.Desk.{Desk}
-use Rattle.desk.specs.Instruction.{Fine}
-use Rattle.desk.specs.Run.{Step, absent_segment, step}
-use Rattle.activations.specs.declared.activations.Activations.{Activations}
-use Rattle.activations.specs.Activity.{Activity, program_at, desk_over}
-use Rattle.activations.specs.Begins.{IsBegin, begins, begins_by}
-use Rattle.activations.specs.Follows.{Follows}
-use Rattle.activations.specs.Follows as running
-use Rattle.activations.specs.Kept.{AreRowsWithin}
-use Rattle.activations.specs.View.{activity_of}
 use Rattle.activations.proofs.SittingLemmas.{sitter-there, sitter-other}
-use Rattle.supervisor.specs.declared.session.Session.{Session}
-use Rattle.supervisor.specs.Session.{IsSound, activity, desk_of, order_of}
-use Rattle.supervisor.specs.Shown.{Shown}
+use Rattle.desk.specs.declared.event.Event.TheVariants as event
+use Rattle.activations.specs.Follows as running
 
 -- The next number is given, at most one has sat down, no row was done, and what an opening sets is as before.
 pub record HasGiven (old new : Activity) : Type 0 where

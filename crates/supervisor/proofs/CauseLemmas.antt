@@ -1,28 +1,11 @@
 -- Why a begin is answered so, and where a turn closes.
-use Rattle.std.proofs.Common.{◌≡◌, ◌≤◌, ℕ, length, arith, sym, ap, ◌∙◌, subst, List, Option, Some, None, refl}
-use Rattle.std.specs.Prelude.{true}
-use Rattle.lock_rules.specs.Sets.{has}
-use Rattle.outside.specs.declared.world.Outside.{Ghosts}
-use Rattle.outside.specs.Runs.{FewerLater, OnlyAsks}
-use Rattle.outside.proofs.Runs.{asks_none, asks_on}
-use Rattle.redo_journal.specs.declared.keep.Kept.{Kept}
-use Rattle.redo_journal.specs.Kept.{begun_of}
-use Rattle.restart.specs.Kept.{KeptStore, with_begun}
-use Rattle.seats.specs.Seating.{next_seat, number_in}
+use Rattle.supervisor.proofs.Common.{◌≡◌, ◌≤◌, ℕ, length, arith, sym, ap, ◌∙◌, subst, List, Option, Some, None, refl, true, has, Ghosts, FewerLater, OnlyAsks, asks_none, asks_on, Kept, begun_of, KeptStore, with_begun, next_seat, number_in, few-taken, Begun, TurnEnd, Activity, begins, begins_by, Session, activity, IsFull, HasPlace, lacking, IsFailedCommit, ClosesInCommit, ClosesBy}
 use Rattle.seats.proofs.Ascending.{none-free}
-use Rattle.seats.proofs.Kept.{few-taken}
-use Rattle.desk.specs.declared.answers.Begun.{Begun}
-use Rattle.desk.specs.declared.answers.Begun.TheVariants as begun
-use Rattle.desk.specs.declared.answers.TurnEnd.{TurnEnd}
-use Rattle.desk.specs.declared.answers.TurnEnd.TheVariants as end
-use Rattle.activations.specs.Activity.{Activity}
-use Rattle.activations.specs.Begins.{begins, begins_by}
-use Rattle.activations.specs.Follows as running
 use Rattle.activations.specs.Recorded.{IsRecordOf}
 use Rattle.activations.proofs.BeginLemmas.{some-next}
-use Rattle.supervisor.specs.declared.session.Session.{Session}
-use Rattle.supervisor.specs.Session.{activity}
-use Rattle.supervisor.specs.Causes.{IsFull, HasPlace, lacking, IsFailedCommit, ClosesInCommit, ClosesBy}
+use Rattle.desk.specs.declared.answers.Begun.TheVariants as begun
+use Rattle.desk.specs.declared.answers.TurnEnd.TheVariants as end
+use Rattle.activations.specs.Follows as running
 
 -- the number that the answer to a begin tells, and the segment
 abbrev number_told : Begun → ℕ

@@ -1,53 +1,13 @@
 -- The commit of a session is one of the desk, and what the disk holds in it.
-use Rattle.std.proofs.Common.{◌≡◌, ◌⊎◌, inl, inr, ⊎_elim, ℕ, ◌+◌, ◌*◌, ◌%◌, ◌^◌, ◌<◌, ◌≤◌, List, [], ◌∷◌, ◌++◌, length, refl, sym, ◌∙◌, ap, subst, arith, Option, Some, length-append}
+use Rattle.supervisor.proofs.Common.{◌≡◌, ◌⊎◌, inl, inr, ⊎_elim, ℕ, ◌+◌, ◌*◌, ◌%◌, ◌^◌, ◌<◌, ◌≤◌, List, [], ◌∷◌, ◌++◌, length, refl, sym, ◌∙◌, ap, subst, arith, Option, Some, length-append, map-append, Layout, FlatStore, eq-eqb, has, Plain, after, Ghosts, Rose, IsSure, Leaves, held_of, Header, HasRanges, most_lines, RecordLine, Standing, Stands, stands, one_more, laid, IsMoreBy, KeptStore, number_of, with_begun, Tracks, Committed, order_told, standing_of, Desk, Fine, Doubt, Unwritten, Over, ordered, WritesMore, number_after, IsState, over_all, committed_at, sitter, number_in, Activity, live_in, program_in, entry_in, store_over, desk_over, state_in, Live, Follows, AreRowsWithin, rolled, counts_of, commit_call, Tally, Session, IsSound, activity, order_of, desk_of, IsOver, HasCommitted, IsEitherSide, fine_desk, shows_begun}
 use Rattle.std.specs.Prelude.{◌==◌, ◌&&◌, not, filter, Bool, None, true, false, vec_len, vec_capacity, slice_set}
-use Rattle.std.proofs.lemmas.List.{map-append}
-use Rattle.line_geometry.specs.Directory.{Layout}
-use Rattle.line_geometry.specs.FlatStore.{FlatStore}
-use Rattle.std.proofs.lemmas.Bool.{eq-eqb}
-use Rattle.lock_rules.specs.Sets.{has}
 use Rattle.lock_rules.proofs.Sets.{has-filter}
-use Rattle.flat_machine.specs.declared.machine.Plain.{Plain}
-use Rattle.flat_machine.specs.After.{after}
 use Rattle.frame_pool.specs.declared.model.Pool.{Pool}
-use Rattle.outside.specs.declared.world.Outside.{Ghosts}
-use Rattle.outside.specs.Causes.{Rose}
-use Rattle.outside.specs.Durable.{IsSure}
-use Rattle.outside.specs.Runs.{Leaves, held_of}
-use Rattle.store_format.specs.Header.{Header, HasRanges, most_lines}
-use Rattle.store_format.specs.Bank.{RecordLine}
-use Rattle.store_format.specs.Stands.{Standing, Stands, stands, one_more, laid}
-use Rattle.redo_journal.specs.Held.{IsMoreBy}
 use Rattle.redo_journal.specs.Tracks.{IsEither}
-use Rattle.restart.specs.Kept.{KeptStore, number_of, with_begun}
-use Rattle.restart.specs.Shows.{Tracks}
-use Rattle.desk.specs.declared.answers.Committed.{Committed}
-use Rattle.desk.specs.declared.answers.TurnEnd.TheVariants as end
-use Rattle.desk.specs.Answers.{order_told}
-use Rattle.desk.specs.Crash.{standing_of}
-use Rattle.desk.specs.Desk.{Desk}
-use Rattle.desk.specs.Instruction.{Fine, Doubt, Unwritten, Over, ordered}
-use Rattle.desk.specs.Instruction as turn
-use Rattle.desk.specs.Kept.{WritesMore}
-use Rattle.desk.specs.Report.{number_after}
-use Rattle.desk_law.specs.Beside.{IsState, over_all}
-use Rattle.desk_law.specs.Changes.{committed_at}
-use Rattle.seats.specs.Seating.{sitter, number_in}
-use Rattle.activations.specs.Activity.{Activity, live_in, program_in, entry_in, store_over, desk_over, state_in}
-use Rattle.activations.specs.declared.live.Live.{Live}
-use Rattle.activations.specs.Follows as running
-use Rattle.activations.specs.Follows.{Follows}
-use Rattle.activations.specs.Kept.{AreRowsWithin}
-use Rattle.activations.specs.Steps.{rolled}
-use Rattle.activations.specs.Turning.{counts_of}
-use Rattle.activations.specs.Turns.{commit_call}
-use Rattle.activations.specs.declared.tally.Tally.{Tally}
 use Rattle.activations.proofs.ContendLemmas.{fewer}
-use Rattle.supervisor.specs.declared.session.Session.{Session}
-use Rattle.supervisor.specs.Session.{IsSound, activity, order_of, desk_of}
-use Rattle.supervisor.specs.Shown.{IsOver}
-use Rattle.supervisor.specs.Went.{HasCommitted, IsEitherSide, fine_desk}
-use Rattle.restart.proofs.ShowLemmas.{shows_begun}
+use Rattle.desk.specs.declared.answers.TurnEnd.TheVariants as end
+use Rattle.desk.specs.Instruction as turn
+use Rattle.activations.specs.Follows as running
 
 -- a number that rises where it is told
 pub writes-more : (old new : Option ℕ) (more : ℕ) → IsMoreBy more old new → WritesMore old new more

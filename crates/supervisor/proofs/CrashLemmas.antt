@@ -1,32 +1,7 @@
 -- What a crash of a session did.
-use Rattle.std.proofs.Common.{◌≡◌, inl, inr, ℕ, List, [], refl, sym, ◌∙◌, ap, arith, Option}
-use Rattle.std.specs.Prelude.{true, unwrap_or}
-use Rattle.outside.specs.declared.world.Outside.{Ghosts}
-use Rattle.outside.specs.Causes.{Rose}
-use Rattle.outside.specs.Durable.{IsSure}
-use Rattle.outside.specs.Runs.{OnlyAsks, held_of}
+use Rattle.supervisor.proofs.Common.{◌≡◌, inl, inr, ℕ, List, [], refl, sym, ◌∙◌, ap, arith, Option, true, unwrap_or, Ghosts, Rose, IsSure, OnlyAsks, held_of, Header, Holds, Faulty, bank_of, Stands, stands, chosen, KeptStore, number_of, Tracks, shown_stands, shown_store, records_in, Did, standing_of, Desk, numbers, Fine, Failed, number_after, Step, Crashed, CrashFailed, shut, restarted, stepped, Activations, IsRestarted, activity_of, Session, IsSound, activity, desk_of, order_of, IsOver, Shown}
 use Rattle.outside.proofs.Durable.{leaves_held}
-use Rattle.store_format.specs.Header.{Header}
-use Rattle.store_format.specs.Bank.{Holds, Faulty, bank_of}
-use Rattle.store_format.specs.Stands.{Stands, stands, chosen}
-use Rattle.restart.specs.Kept.{KeptStore, number_of}
-use Rattle.restart.specs.Shows.{Tracks}
-use Rattle.restart.proofs.ShowLemmas.{shown_stands, shown_store}
 use Rattle.desk.specs.declared.event.Event.TheVariants as event
-use Rattle.desk.specs.Kept.{records_in}
-use Rattle.desk.specs.Crash.{Did, standing_of}
-use Rattle.desk.specs.Desk.{Desk}
-use Rattle.desk.specs.Holdings.{numbers}
-use Rattle.desk.specs.Instruction.{Fine, Failed}
-use Rattle.desk.specs.Report.{number_after}
-use Rattle.desk.specs.Run.{Step, Crashed, CrashFailed, shut, restarted}
-use Rattle.run_law.proofs.StepLemmas.{stepped}
-use Rattle.activations.specs.declared.activations.Activations.{Activations}
-use Rattle.activations.specs.Ends.{IsRestarted}
-use Rattle.activations.specs.View.{activity_of}
-use Rattle.supervisor.specs.declared.session.Session.{Session}
-use Rattle.supervisor.specs.Session.{IsSound, activity, desk_of, order_of}
-use Rattle.supervisor.specs.Shown.{IsOver, Shown}
 use Rattle.supervisor.proofs.DidLemmas.{stood-over, fine-sure, failed-sure, open-shut}
 
 -- a crash

@@ -1,17 +1,10 @@
 -- The cycles that a turn records, and the desks at which they were met.
-use Rattle.std.proofs.Common.{◌≡◌, ℕ, zero, suc, ◌+◌, ◌<◌, ◌==◌, List, [], ◌∷◌, ◌++◌, length, find, refl, sym, ◌∙◌, ap, subst, arith, Option, Some, None, append-nil}
-use Rattle.std.specs.Prelude.{Bool, true, false}
+use Rattle.supervisor.proofs.Common.{Bool, true, false, Plain, Outcome, On, Commit, Check, row, after, Desk, Entry, with_entry, wanted, conflicts_of, numbers, waits_for, Word, Fine, ReadFailed, Unwritten, Doubt, Failed, Counts, Limit, Turning, Going, Over, Attempt, Contest, Contested, Settled, Lost, Fetching, Fetched, Broken, commits, takes_effect, goes_on, gets, with_grants, fetches_touched, breaks_cycle, breaks_cycles, waits_or_gets, contest_ends, asks, refused_pages, fetched_first, limited, is_over_limit, attempts, attempts_at, instruction, turns, turn, turn_of, no_counts, WasMet, WereMet, CyclesWereMet}
+use Rattle.std.proofs.Common.{◌≡◌, ℕ, zero, suc, ◌+◌, ◌<◌, ◌==◌, List, [], ◌∷◌, ◌++◌, length, find, refl, sym, ◌∙◌, ap, subst, arith, Option, Some, None}
 use Rattle.lock_rules.specs.Waits.{shown_cycle}
-use Rattle.flat_machine.specs.declared.machine.Plain.{Plain}
-use Rattle.flat_machine.specs.Row.{Outcome, On, Commit, Check, row}
-use Rattle.flat_machine.specs.After.{after}
-use Rattle.desk.specs.Desk.{Desk, Entry, with_entry}
-use Rattle.desk.specs.Holdings.{wanted, conflicts_of, numbers, waits_for}
-use Rattle.desk.specs.Instruction.{Word, Fine, ReadFailed, Unwritten, Doubt, Failed, Counts, Limit, Turning, Going, Over, Attempt, Contest, Contested, Settled, Lost, Fetching, Fetched, Broken, commits, takes_effect, goes_on, gets, with_grants, fetches_touched, breaks_cycle, breaks_cycles, waits_or_gets, contest_ends, asks, refused_pages, fetched_first, limited, is_over_limit, attempts, attempts_at, instruction, turns, turn, turn_of, no_counts}
 use Rattle.desk_law.specs.Causes.{turn_counts}
 use Rattle.desk_law.specs.Laws.{counts_of}
 use Rattle.desk_law.proofs.CyclesBroken.{broken-cycles-were}
-use Rattle.supervisor.specs.Laws.{WasMet, WereMet, CyclesWereMet}
 
 -- a turn after so many instructions of it, while it goes on
 abbrev gone : Word → (number rows : ℕ) → Turning → Turning

@@ -1,34 +1,9 @@
 -- What the turns and the checkpoints of a session did.
-use Rattle.std.proofs.Common.{◌≡◌, inl, inr, ℕ, ◌≤◌, List, refl, sym, ◌∙◌, ap, subst, arith, Some, None}
-use Rattle.std.specs.Prelude.{true, false}
-use Rattle.outside.specs.declared.world.Outside.{Ghosts}
-use Rattle.outside.specs.Causes.{Rose}
-use Rattle.outside.specs.Durable.{IsSure}
-use Rattle.outside.specs.Runs.{Leaves, held_of}
-use Rattle.store_format.specs.Header.{Header}
+use Rattle.supervisor.proofs.Common.{◌≡◌, inl, inr, ℕ, ◌≤◌, List, refl, sym, ◌∙◌, ap, subst, arith, Some, None, true, false, Ghosts, Rose, IsSure, Leaves, held_of, Header, bank_of, Stands, stands, chosen, KeptStore, number_of, Shows, shown_store, TurnEnd, counts_told, ending_told, turn_told, turn_closes, record_count, records_in, records_after, turn_fails, Did, IsEitherOf, standing_of, Desk, Fine, Failed, Doubt, Counts, Happening, Step, Turned, CheckpointMade, CheckpointFailed, turned, shut, stepped, Tally, counts_of, Session, IsSound, activity, desk_of, order_of, records_told, IsOver, Shown, HasRun, IsTurned, most_kept}
 use Rattle.store_format.specs.declared.header.Which.{Which}
-use Rattle.store_format.specs.Bank.{bank_of}
-use Rattle.store_format.specs.Stands.{Stands, stands, chosen}
-use Rattle.restart.specs.Kept.{KeptStore, number_of}
-use Rattle.restart.specs.Shows.{Shows}
-use Rattle.restart.proofs.ShowLemmas.{shown_store}
 use Rattle.desk.specs.declared.answers.Turn.{Turn}
-use Rattle.desk.specs.declared.answers.TurnEnd.{TurnEnd}
 use Rattle.desk.specs.declared.answers.TurnEnd.TheVariants as end
 use Rattle.desk.specs.declared.event.Event.TheVariants as event
-use Rattle.desk.specs.Answers.{counts_told, ending_told, turn_told, turn_closes}
-use Rattle.desk.specs.Kept.{record_count, records_in, records_after, turn_fails}
-use Rattle.desk.specs.Crash.{Did, IsEitherOf, standing_of}
-use Rattle.desk.specs.Desk.{Desk}
-use Rattle.desk.specs.Instruction.{Fine, Failed, Doubt, Counts}
-use Rattle.desk.specs.Run.{Happening, Step, Turned, CheckpointMade, CheckpointFailed, turned, shut}
-use Rattle.run_law.proofs.StepLemmas.{stepped}
-use Rattle.activations.specs.declared.tally.Tally.{Tally}
-use Rattle.activations.specs.Turning.{counts_of}
-use Rattle.supervisor.specs.declared.session.Session.{Session}
-use Rattle.supervisor.specs.Session.{IsSound, activity, desk_of, order_of, records_told}
-use Rattle.supervisor.specs.Shown.{IsOver, Shown}
-use Rattle.supervisor.specs.Went.{HasRun, IsTurned, most_kept}
 
 -- these words aren't that of a commit in doubt, and nothing is both closed and open
 pub fine-sure : Fine ≡ Doubt → ⊥

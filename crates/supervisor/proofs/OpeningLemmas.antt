@@ -1,25 +1,9 @@
 -- A session that has just opened.
-use Rattle.std.proofs.Common.{◌≡◌, ℕ, ◌+◌, ◌%◌, ◌^◌, List, [], length, take, sym, ◌∙◌, ap, arith, Option}
-use Rattle.std.specs.Prelude.{false, unwrap_or}
+use Rattle.supervisor.proofs.Common.{◌≡◌, ℕ, ◌+◌, ◌%◌, ◌^◌, List, [], length, take, sym, ◌∙◌, ap, arith, Option, false, unwrap_or, Layout, byte_count, Ghosts, OnlyAsks, held_of, header_of, most_lines, Stands, stands, KeptStore, number_of, Shows, Tracks, Committed, order_told, opened, Live, Activity, desk_over, Begins, idle, Session, activity, desk_of}
 use Rattle.std.proofs.Math.Nat.{mod-mod}
-use Rattle.line_geometry.specs.Directory.{Layout, byte_count}
 use Rattle.flat_machine.specs.declared.machine.Program.{Program}
-use Rattle.outside.specs.declared.world.Outside.{Ghosts}
-use Rattle.outside.specs.Runs.{OnlyAsks, held_of}
-use Rattle.store_format.specs.Header.{header_of, most_lines}
-use Rattle.store_format.specs.Stands.{Stands, stands}
-use Rattle.restart.specs.Kept.{KeptStore, number_of}
-use Rattle.restart.specs.Shows.{Shows, Tracks}
 use Rattle.restart.proofs.StoodLemmas.{committed_in, committed-long, stood-store}
-use Rattle.desk.specs.declared.answers.Committed.{Committed}
-use Rattle.desk.specs.Answers.{order_told}
-use Rattle.desk.specs.Desk.{opened}
-use Rattle.activations.specs.declared.live.Live.{Live}
-use Rattle.activations.specs.Activity.{Activity, desk_over}
-use Rattle.activations.specs.Begins.{Begins, idle}
-use Rattle.supervisor.specs.declared.session.Session.{Session}
 use Rattle.supervisor.specs.Opened.{HasStood, IsOpened}
-use Rattle.supervisor.specs.Session.{activity, desk_of}
 
 pub has-stood : (held : List ℕ) (store : KeptStore) → Shows held store → HasStood store.header held
 has-stood held store shows = (

@@ -1,30 +1,13 @@
 -- What holds of the desk that a session shows.
-use Rattle.std.proofs.Common.{◌≡◌, ℕ, ◌+◌, ◌<◌, ◌≤◌, ◌&&◌, inl, inr, Bool, true, false, List, [], ◌∷◌, length, refl, sym, ◌∙◌, ap, subst, arith, Option, Some, None, get_or}
-use Rattle.std.specs.Prelude.{not, IsFalse, IsTrue, is_some}
-use Rattle.std.proofs.lemmas.Bool.{and_parts, cases_lt}
-use Rattle.std.proofs.lemmas.List.{get_or_past}
-use Rattle.line_geometry.specs.Directory.{page_count}
-use Rattle.line_geometry.specs.FlatStore.{FlatStore}
-use Rattle.lock_rules.specs.Sets.{has}
-use Rattle.flat_machine.specs.declared.machine.Plain.{Plain}
-use Rattle.flat_machine.specs.declared.machine.Program.{Program}
-use Rattle.flat_machine.specs.After.{after}
-use Rattle.frame_pool.specs.Sound.{is_apart, IsPlaced}
-use Rattle.frame_pool.specs.Places.{Places}
-use Rattle.desk.specs.Desk.{Desk, Entry, opened}
-use Rattle.desk.specs.Run.{run}
-use Rattle.desk_law.specs.Beside.{over_all}
+use Rattle.supervisor.proofs.Common.{not, IsFalse, is_some, and_parts, cases_lt, get_or_past, page_count, FlatStore, has, Plain, after, Desk, Entry, opened, run, over_all, seat-told, Session, activity, desk_of, ShownIsConsistent, ShownIsIsolated}
+use Rattle.std.proofs.Common.{◌≡◌, ℕ, ◌+◌, ◌<◌, ◌≤◌, inl, inr, Bool, true, false, List, [], ◌∷◌, length, refl, sym, ◌∙◌, ap, subst, arith, Option, Some, None, get_or}
+use Rattle.frame_pool.specs.Sound.{is_apart}
 use Rattle.desk_law.specs.Consistent.{IsAmong, AreDistinct, AreResident, IsConsistent}
 use Rattle.desk_law.specs.Current.{IsCurrent}
-use Rattle.desk_law.specs.Memory.{Machine, memory_after, memory_of}
+use Rattle.desk_law.specs.Memory.{memory_after, memory_of}
 use Rattle.desk_law.proofs.CurrentLaw.{one-list-is-current}
 use Rattle.desk_law.proofs.MemoryLaw.{runs-are-isolated}
-use Rattle.desk_law.proofs.Seats.{seat-told}
 use Rattle.activations.specs.Activity.{entry_in, entries, store_over, state_in, shown as bytes_shown}
-use Rattle.supervisor.specs.declared.session.Session.{Session}
-use Rattle.supervisor.specs.Session.{activity, desk_of}
-use Rattle.supervisor.specs.Shown.{Shown}
-use Rattle.supervisor.specs.Laws.{ShownIsConsistent, ShownIsIsolated}
 
 -- each stands once where none stands twice
 not-there : (there : Bool) → not there ≡ true → IsFalse there

@@ -1,51 +1,16 @@
 -- How a turn of a session ends: over what ran, and then its commit.
+use Rattle.supervisor.proofs.Common.{arith, ap, sym, ◌∙◌, subst, inl, inr, ⊎_elim, has, Ghosts, Rose, IsSure, FewerLater, Leaves, OnlyAsks, held_of, leaves_on, Stands, stands, sure_on, Shows, Cycle, TurnEnd, ending_told, HasNumbers, OnlyWrites, IsEitherOf, fine_step, standing_of, Desk, Entry, Word, Fine, ReadFailed, Doubt, Counts, Going, Over, no_counts, commits, turn, turn_of, turns, number_after, Step, turned, Reads, seat-told, told-found, stepped, number_in, seat_of, seat-found, Activations, Tally, entries, entry_in, desk_over, Follows, IsEndOfRows, IfWaits, HasEnded, counts_of, IsAtCommit, commit_call, turn_in, activity_of, Session, IsSound, activity, order_of, desk_of, IsOver, HasCommitted, HasRun, IsCommitEnd, fine_desk}
 use Rattle.std.specs.Prelude.{◌≡◌, refl, ℕ, ◌+◌, ◌-◌, ◌*◌, ◌<◌, ◌≤◌, ◌⊎◌, true, false, List, [], map, Option, Some, None, IsSome, unwrap_or}
 use Rattle.std.specs.Option.{option_map}
-use Rattle.std.proofs.Common.{arith, ap, sym, ◌∙◌, subst, inl, inr, ⊎_elim}
-use Rattle.lock_rules.specs.Sets.{has}
-use Rattle.outside.specs.declared.world.Outside.{Ghosts}
 use Rattle.outside.specs.Bytes.{AreTold}
-use Rattle.outside.specs.Causes.{Rose}
-use Rattle.outside.specs.Durable.{IsSure}
-use Rattle.outside.specs.Runs.{FewerLater, Leaves, OnlyAsks, held_of}
-use Rattle.outside.proofs.Runs.{leaves_on}
-use Rattle.store_format.specs.Stands.{Stands, stands}
-use Rattle.restart.proofs.ShowLemmas.{sure_on}
-use Rattle.restart.specs.Shows.{Shows}
-use Rattle.desk.specs.declared.answers.Cycle.{Cycle}
-use Rattle.desk.specs.declared.answers.TurnEnd.{TurnEnd}
-use Rattle.desk.specs.declared.answers.TurnEnd.TheVariants as end
-use Rattle.desk.specs.declared.event.Event.TheVariants as event
-use Rattle.desk.specs.Answers.{ending_told, HasNumbers}
-use Rattle.redo_journal.specs.Held.{OnlyWrites}
-use Rattle.desk.specs.Crash.{IsEitherOf, fine_step, standing_of}
-use Rattle.desk.specs.Desk.{Desk, Entry}
-use Rattle.desk.specs.Instruction.{Word, Fine, ReadFailed, Doubt, Counts, Going, Over, no_counts, commits, turn, turn_of, turns}
-use Rattle.desk.specs.Report.{number_after}
-use Rattle.desk.specs.Run.{Step, turned}
-use Rattle.desk_law.specs.Beside.{Reads}
 use Rattle.desk_law.proofs.Entries.{found-among}
 use Rattle.desk_law.proofs.InstructionStages.{reads-all}
-use Rattle.desk_law.proofs.Seats.{seat-told, told-found}
-use Rattle.run_law.proofs.StepLemmas.{stepped}
-use Rattle.seats.specs.Seating.{number_in, seat_of}
-use Rattle.seats.proofs.Numbers.{seat-found}
-use Rattle.activations.specs.declared.activations.Activations.{Activations}
-use Rattle.activations.specs.declared.tally.Tally.{Tally}
-use Rattle.activations.specs.Activity.{entries, entry_in, desk_over}
 use Rattle.activations.specs.Fetching.{IsStoreOf}
-use Rattle.activations.specs.Follows.{Follows}
-use Rattle.activations.specs.Follows as running
-use Rattle.activations.specs.Instructed.{IsEndOfRows, IfWaits}
-use Rattle.activations.specs.Kept as kept
 use Rattle.activations.specs.Serving.{IsOver as IsOverTurn}
-use Rattle.activations.specs.Turning.{HasEnded, counts_of}
-use Rattle.activations.specs.Turns.{IsAtCommit, commit_call, turn_in}
-use Rattle.activations.specs.View.{activity_of}
-use Rattle.supervisor.specs.declared.session.Session.{Session}
-use Rattle.supervisor.specs.Session.{IsSound, activity, order_of, desk_of}
-use Rattle.supervisor.specs.Shown.{IsOver}
-use Rattle.supervisor.specs.Went.{HasCommitted, HasRun, IsCommitEnd, fine_desk}
+use Rattle.desk.specs.declared.answers.TurnEnd.TheVariants as end
+use Rattle.desk.specs.declared.event.Event.TheVariants as event
+use Rattle.activations.specs.Follows as running
+use Rattle.activations.specs.Kept as kept
 
 -- what ran leaves a session sound
 pub sound-ran : (s : Session) (ran : Activations) (limit : ℕ) → IsSound s → limit ≤ 1000000 → 0 < s.turns → kept.AreRowsWithin (activity s) ((s.turns - 1) * 1000000)

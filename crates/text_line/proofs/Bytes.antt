@@ -1,8 +1,6 @@
 -- Bytes of a text: whether there are any, and that each is one.
-use Rattle.std.proofs.Common.{◌≡◌, ◌≢◌, ℕ, zero, suc, ◌<◌, List, [], ◌∷◌, true, false, length, get_or, refl, arith}
+use Rattle.text_line.proofs.Common.{◌≡◌, ◌≢◌, ℕ, zero, suc, ◌<◌, List, [], ◌∷◌, true, false, length, get_or, refl, arith, AllByRecursion, nat_tests}
 use Rattle.std.specs.Prelude.{◌==◌}
-use Rattle.std.specs.List.{AllByRecursion}
-use Rattle.std.proofs.lemmas.Bool.Decides.{nat_tests}
 
 -- a text whose length is 0 is empty
 pub empty_is : (text : List ℕ) → true ≡ (length text == 0) → text ≡ []

@@ -1,3 +1,4 @@
+pub mod Common
 mod HexLemmas
 pub mod Words
 pub mod Bytes

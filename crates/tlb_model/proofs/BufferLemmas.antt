@@ -1,20 +1,8 @@
 -- The buffer after a pair came in, and after the pairs of a frame went.
-use Rattle.std.proofs.Common.{◌≡◌, ◌≢◌, ◌⊎◌, inl, inr, subst, ℕ, suc, ◌+◌, ◌<◌, ◌≤◌, Bool, true, false, List, [], ◌∷◌, ◌++◌, length, take, drop, map, refl, sym, ◌∙◌, ap, arith, Some, None, All}
-use Rattle.std.specs.Prelude.{◌==◌, ◌&&◌, not, cond, filter, find, slice_index_or, slice_set, Option, option_map, option_to_list}
+use Rattle.tlb_model.proofs.Common.{◌≡◌, ◌≢◌, ◌⊎◌, inl, inr, subst, ℕ, suc, ◌+◌, ◌<◌, ◌≤◌, Bool, true, false, List, [], ◌∷◌, ◌++◌, length, drop, map, refl, sym, ◌∙◌, ap, arith, Some, None, All, ◌==◌, ◌&&◌, not, cond, filter, find, slice_index_or, slice_set, Option, option_map, option_to_list, get_or-map, map-set, length-map, All-push, All-drop, All-set, All-same, All-get_or, All-nil, All-cons, All-head, All-tail, and_parts, eqb-true, cases_lt, all_pairs_push, Key, look_up, Pair, Ways, class_of, page_of, pair_to, is_pair_of, pairs_in, remembered, after_table, after_found, with_newest, forgotten, AreApart, IsOfTable, pairs_of, unless_of, ways_without, AreClasses}
 use Rattle.std.specs.Option.{option_map_or}
-use Rattle.std.proofs.lemmas.List.{take_all, drop_all, append-nil, get_or_default, get_or-map, map-set, length-map}
-use Rattle.std.proofs.lemmas.List.Edits.{map_over_more}
-use Rattle.std.proofs.lemmas.List.Elements.{All-push, All-drop, All-set, All-same, All-get_or, All-nil, All-cons, All-head, All-tail}
 use Rattle.std.proofs.Math.ListN.{get_or-eq_default}
-use Rattle.std.proofs.lemmas.Bool.{and_parts, eqb-true, cases_lt}
 use Rattle.std.proofs.lemmas.List.Kept.{AllPairs-filter}
-use Rattle.std.proofs.lemmas.List.Quantifiers.{all_pairs_push}
-use Rattle.inverted_table.specs.declared.key.Key.{Key}
-use Rattle.inverted_table.specs.Placed.{look_up}
-use Rattle.tlb_model.specs.declared.tlb.Pair.{Pair}
-use Rattle.tlb_model.specs.declared.tlb.Ways.{Ways}
-use Rattle.tlb_model.specs.Buffer.{class_of, page_of, pair_to, is_pair_of, pairs_in, remembered, after_table, after_found, with_newest, forgotten, AreApart, IsOfTable}
-use Rattle.tlb_model.specs.Ways.{pairs_of, unless_of, ways_without, AreClasses}
 
 -- what is left of a class
 without-pair : (frame : ℕ) (o : Option Pair) (rest : List Pair) → option_to_list (unless_of frame o) ++ filter (λ pair. not (pair.frame == frame)) rest ≡ filter (λ pair. not (pair.frame == frame)) (option_to_list o ++ rest)

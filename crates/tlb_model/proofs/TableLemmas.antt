@@ -1,16 +1,7 @@
 -- Each pair of the buffer stays in the table where a frame enters, and where one leaves that the buffer forgot.
-use Rattle.std.proofs.Common.{◌≡◌, ◌≢◌, ◌⊎◌, inl, inr, ℕ, zero, suc, ◌+◌, ◌<◌, Bool, true, false, List, [], ◌∷◌, length, refl, sym, ◌∙◌, ap, arith, Some, None, All}
-use Rattle.std.specs.Prelude.{◌==◌, not, cond, filter, nat_lt, position, slice_index_or, slice_set, Option}
+use Rattle.tlb_model.proofs.Common.{◌≡◌, ◌≢◌, ◌⊎◌, inl, inr, ℕ, zero, suc, ◌+◌, ◌<◌, Bool, true, false, List, [], ◌∷◌, length, refl, sym, ◌∙◌, ap, arith, Some, None, All, ◌==◌, not, cond, filter, nat_lt, position, slice_index_or, slice_set, Option, and_parts, eqb-true, eqb-false, cases_eq, length-set, get_or-set_same, get_or-set_other, All-nil, All-cons, All-head, All-tail, All-weaker, position-Some, Key, holds, key_in, look_up, Pair, page_of, forgotten, IsOfTable}
 use Rattle.std.specs.List.{prefix_len}
-use Rattle.std.proofs.lemmas.Bool.{and_parts, eqb-true, eqb-false, cases_eq}
 use Rattle.std.proofs.lemmas.Bool.Decides.{nat_tests}
-use Rattle.std.proofs.lemmas.List.{length-set, get_or-set_same, get_or-set_other}
-use Rattle.std.proofs.lemmas.List.Elements.{All-nil, All-cons, All-head, All-tail, All-weaker}
-use Rattle.std.proofs.lemmas.List.Quantifiers.{position-Some}
-use Rattle.inverted_table.specs.declared.key.Key.{Key}
-use Rattle.inverted_table.specs.Placed.{holds, key_in, look_up}
-use Rattle.tlb_model.specs.declared.tlb.Pair.{Pair}
-use Rattle.tlb_model.specs.Buffer.{page_of, forgotten, IsOfTable}
 
 -- the first place at which a list passes
 prefix-is :

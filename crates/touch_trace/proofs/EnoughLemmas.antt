@@ -1,21 +1,11 @@
 -- The lines of a trace are those that the agreement law asks for.
-use Rattle.std.proofs.Common.{◌≡◌, ℕ, zero, suc, ◌+◌, ◌<◌, ◌||◌, Bool, true, false, List, [], ◌∷◌, ◌++◌, map, Some, refl, sym, ◌∙◌, ap, arith}
-use Rattle.std.proofs.lemmas.List.{map-append}
+use Rattle.touch_trace.proofs.Common.{◌≡◌, ℕ, zero, suc, ◌+◌, ◌<◌, ◌||◌, Bool, true, false, List, [], ◌∷◌, ◌++◌, map, Some, refl, sym, ◌∙◌, ap, arith, map-append, FlatStore, Lines, both, Plain, after, touched_next, touched_within, Outcome, On, Commit, Check, row, Activation, if_commit, Touch, touch_at, touches, touches_of_step}
 use Rattle.std.proofs.lemmas.Option.{same_Some, option_and_then_some, none-some}
-use Rattle.line_geometry.specs.FlatStore.{FlatStore}
-use Rattle.lock_rules.specs.Lines.{Lines, both}
 use Rattle.lock_rules.specs.Sets.{has}
 use Rattle.lock_rules.proofs.Sets.{has-append}
-use Rattle.flat_machine.specs.declared.machine.Plain.{Plain}
-use Rattle.flat_machine.specs.After.{after}
 use Rattle.flat_machine.specs.Agreement.{AgreeOn, SameWay, all_of}
-use Rattle.flat_machine.specs.Due.{touched_next, touched_within}
-use Rattle.flat_machine.specs.Row.{Outcome, On, Commit, Check, row}
-use Rattle.flat_machine.specs.Serial.{Activation, if_commit}
 use Rattle.flat_machine.proofs.Agreement.{agreement-enough}
-use Rattle.touch_trace.specs.declared.touch.Touch.{Touch}
 use Rattle.touch_trace.specs.Laws.{TraceIsEnough, lines_touched}
-use Rattle.touch_trace.specs.Trace.{touch_at, touches, touches_of_step}
 use Rattle.touch_trace.proofs.StepLemmas.{touches_more}
 
 -- the lines of a step's touches are all that it touches

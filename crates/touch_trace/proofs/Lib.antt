@@ -1,3 +1,4 @@
+pub mod Common
 pub mod EnoughLemmas
 pub mod LineLemmas
 pub mod StepLemmas

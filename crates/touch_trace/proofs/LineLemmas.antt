@@ -1,19 +1,10 @@
 -- Commit lines up to one of them, and that one.
-use Rattle.std.proofs.Common.{◌≡◌, ◌≢◌, ℕ, zero, suc, List, [], ◌∷◌, ◌++◌, map, Some, inl, inr, ◌∙◌, ap, append_assoc, arith}
-use Rattle.std.specs.List.{Contains}
-use Rattle.std.proofs.lemmas.List.{map-append}
+use Rattle.touch_trace.proofs.Common.{◌≡◌, ◌≢◌, ℕ, zero, suc, List, [], ◌∷◌, ◌++◌, map, Some, inl, inr, ◌∙◌, ap, append_assoc, arith, Contains, map-append, Layout, Plain, Activation, before_commit, IsFirstUnsound, IsSound, Told, sound_here, Touch, AreTouches, touches}
 use Rattle.std.proofs.lemmas.List.Elements.{Contains-append_cases}
-use Rattle.line_geometry.specs.Directory.{Layout}
-use Rattle.flat_machine.specs.declared.machine.Plain.{Plain}
-use Rattle.flat_machine.specs.Serial.{Activation, before_commit}
 use Rattle.job_text.specs.declared.job.Job.{Job}
 use Rattle.serial_audit.specs.declared.auditing.KeptStore.{KeptStore}
 use Rattle.serial_audit.specs.declared.auditing.Progress.{Progress}
-use Rattle.serial_audit.specs.Audit.{IsFirstUnsound, IsSound, Told}
 use Rattle.serial_audit.specs.Progress.{MayFollow, Stands}
-use Rattle.serial_audit.proofs.VerdictLemmas.{sound_here}
-use Rattle.touch_trace.specs.declared.touch.Touch.{Touch}
-use Rattle.touch_trace.specs.Trace.{AreTouches, touches}
 
 -- a line of another activation more
 pub none_more : (lines : List Told) (told : Told) (activation : ℕ) → ¬ (Contains (map (λ (line : Told). line.activation) lines) activation)

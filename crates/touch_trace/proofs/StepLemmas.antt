@@ -1,18 +1,9 @@
 -- The touches of steps, one step more.
-use Rattle.std.proofs.Common.{◌≡◌, ℕ, zero, suc, ◌+◌, ◌-◌, ◌<◌, ◌≤◌, Bool, List, [], ◌∷◌, ◌++◌, map, Option, Some, sym, ◌∙◌, ap, append_assoc, append-nil, arith}
-use Rattle.std.specs.List.{flat_map, range_with_len}
+use Rattle.touch_trace.proofs.Common.{◌≡◌, ℕ, zero, suc, ◌+◌, ◌-◌, ◌<◌, ◌≤◌, Bool, List, [], ◌∷◌, ◌++◌, map, Option, Some, sym, ◌∙◌, ap, append_assoc, append-nil, arith, flat_map, range_with_len, FlatStore, no_lines, Plain, after, touched_next, Activation, Touch, touch_at, touches, touches_of_step}
 use Rattle.std.specs.Option.{option_map_or}
 use Rattle.std.proofs.lemmas.Grind.{flat_map-append}
 use Rattle.std.proofs.lemmas.List.FromFn.{map-range_with_len_more}
-use Rattle.line_geometry.specs.FlatStore.{FlatStore}
-use Rattle.lock_rules.specs.Lines.{no_lines}
-use Rattle.flat_machine.specs.declared.machine.Plain.{Plain}
-use Rattle.flat_machine.specs.After.{after}
-use Rattle.flat_machine.specs.Due.{touched_next}
-use Rattle.flat_machine.specs.Serial.{Activation}
 use Rattle.flat_machine.specs.Touched.{touched}
-use Rattle.touch_trace.specs.declared.touch.Touch.{Touch}
-use Rattle.touch_trace.specs.Trace.{touch_at, touches, touches_of_step}
 
 -- one line more
 pub told_more : (step : ℕ) (store : Bool) (first line : ℕ) (old now : List Touch) → first ≤ line

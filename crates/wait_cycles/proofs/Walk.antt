@@ -1,12 +1,7 @@
 -- The steps of a walk back to where it began, and the places that are marked on the way.
-use Rattle.std.proofs.Common.{◌≡◌, ℕ, length, suc, ◌+◌, ◌-◌, ◌*◌, ◌%◌, ◌^◌, ◌<◌, ◌≤◌, ◌==◌, ◌&&◌, ◌||◌, nat_lt, Bool, true, false, List, [], ◌∷◌, refl, sym, ap, ◌∙◌, arith, inl, inr, ◌⊎◌, bit_and, bit_or, Option, Some, None, find}
-use Rattle.std.specs.Prelude.{if◌then◌else◌}
-use Rattle.std.specs.List.{range_with_len, list_any}
+use Rattle.wait_cycles.proofs.Common.{◌≡◌, ℕ, length, suc, ◌+◌, ◌-◌, ◌*◌, ◌%◌, ◌^◌, ◌<◌, ◌≤◌, ◌==◌, ◌&&◌, ◌||◌, nat_lt, Bool, true, false, List, [], ◌∷◌, refl, sym, ap, ◌∙◌, arith, inl, inr, ◌⊎◌, bit_and, bit_or, Option, Some, None, find, if◌then◌else◌, range_with_len, list_any, eq-eqb, ne_eqb, lt-ltb, le-ltb, cases_eq, cases_lt, and_right, leads, next_shown, shown_after, shown_cycle, is_on, places}
 use Rattle.std.specs.Option.{option_map_or}
 use Rattle.std.proofs.lemmas.List.FromFn.{length-range_with_len}
-use Rattle.std.proofs.lemmas.Bool.{eq-eqb, ne_eqb, lt-ltb, le-ltb, cases_eq, cases_lt, and_right}
-use Rattle.lock_rules.specs.Waits.{leads, next_shown, shown_after, shown_cycle}
-use Rattle.wait_cycles.specs.Rows.{is_on, places}
 use Rattle.wait_cycles.proofs.Bits.{find-cut, any-cut, on-both, on-set}
 
 -- a place that isn't another is below it where it is below the next

@@ -1,18 +1,8 @@
 -- Two writers of different lines of a fine page: neither waits.
-use Rattle.std.specs.List.{range_with_len}
+use Rattle.desk.proofs.Common.{range_with_len, lit≤, row_numbered, FlatStore, Four, Program, Begin, Turn, opened, Fine, fine_authority_by, instruction, turns, report, run}
 use Rattle.std.specs.Prelude.{◌≡◌, refl, true, false, [], ◌∷◌, ◌++◌, codes, replicate, slice_range}
-use Rattle.std.proofs.Common.{lit≤}
 use Rattle.std.specs.Fmt.{digits}
 use Rattle.hex.specs.Hex.{encode_with}
-use Rattle.romp_table.specs.Decode.{row_numbered}
-use Rattle.line_geometry.specs.FlatStore.{FlatStore}
-use Rattle.line_geometry.specs.declared.directory.PageSize.TheVariants.{Four}
-use Rattle.flat_machine.specs.declared.machine.Program.{Program}
-use Rattle.desk.specs.declared.event.Event.TheVariants.{Begin, Turn}
-use Rattle.desk.specs.Desk.{opened}
-use Rattle.desk.specs.Instruction.{Fine, fine_authority_by, instruction, turns}
-use Rattle.desk.specs.Report.{report}
-use Rattle.desk.specs.Run.{run}
 use Rattle.desk.proofs.Rows.Programs.{program, text, args, add_code}
 
 -- a store of one fine segment with two pages of 4,096 bytes

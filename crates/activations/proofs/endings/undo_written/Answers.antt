@@ -1,11 +1,5 @@
+use Rattle.activations.proofs.Common.{take_all, page_count, holds_some, Holding, held_at, Reach, reach_of, unit-sound, sound-fits}
 use Rattle.std.proofs.Common.{◌≡◌, ◌<◌, ℕ, List, sym, ap, ◌∙◌, arith, subst, slice_index_or}
-use Rattle.std.proofs.lemmas.List.{take_all}
-use Rattle.line_geometry.specs.Directory.{page_count}
-use Rattle.line_locks.specs.Held.{holds_some}
-use Rattle.line_locks.specs.Holding.{Holding, held_at}
-use Rattle.storage_unit.specs.declared.model.Reach.{Reach}
-use Rattle.storage_unit.specs.View.{reach_of}
-use Rattle.storage_unit.proofs.UnitLemmas.{unit-sound, sound-fits}
 use Rattle.activations.proofs.WrittenLemmas.{UndoneSo, undone-none, undone-same, undone-step, page-held, has-undone, lines_of, written_in}
 use Rattle.activations.proofs.endings.undo_written.Goals as goal
 use Rattle.activations.proofs.endings.undo_written.Goals.{then-not-is_empty, else-not-is_empty}

@@ -1,5 +1,4 @@
-use Rattle.std.proofs.Common.{take}
-use Rattle.storage_unit.specs.View.{reach_of}
+use Rattle.activations.proofs.Common.{take, reach_of}
 use Rattle.activations.proofs.WrittenLemmas.{UndoneSo, lines_of, written_in}
 use Rattle.activations.proofs.endings.undo_written.Given as goal
 

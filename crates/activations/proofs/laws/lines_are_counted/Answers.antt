@@ -1,6 +1,4 @@
-use Rattle.std.proofs.lemmas.List.Elements.{All-nil}
-use Rattle.line_geometry.specs.LineSets.{IsOfPage}
-use Rattle.line_locks.specs.declared.request.Want.{Want}
+use Rattle.activations.proofs.Common.{All-nil, IsOfPage, Want}
 use Rattle.activations.proofs.LimitLemmas.{written-none, written-one, written-two}
 use Rattle.activations.proofs.laws.lines_are_counted.Goals as goal
 

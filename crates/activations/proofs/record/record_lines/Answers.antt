@@ -1,14 +1,5 @@
+use Rattle.activations.proofs.Common.{IsSome, page_count, line_bytes, LinesOf, pool_of, pool-seen, Header, record_bytes, begun_of, with_line, KeptStore}
 use Rattle.std.proofs.Common.{◌+◌, ◌*◌, ◌≤◌, ℕ, List, length, refl, sym, ◌∙◌, ap, subst, arith}
-use Rattle.std.specs.Prelude.{IsSome}
-use Rattle.line_geometry.specs.Directory.{page_count}
-use Rattle.line_geometry.specs.Segments.{line_bytes}
-use Rattle.line_geometry.specs.declared.line_set.LinesOf.{LinesOf}
-use Rattle.frame_pool.specs.View.{pool_of}
-use Rattle.frame_pool.proofs.SeenLemmas.{pool-seen}
-use Rattle.store_format.specs.Header.{Header}
-use Rattle.store_format.specs.Bank.{record_bytes}
-use Rattle.redo_journal.specs.Kept.{begun_of, with_line}
-use Rattle.restart.specs.Kept.{KeptStore}
 use Rattle.activations.proofs.RecordLemmas.{Adds, adds-all, adds-none, adds-next, adds-one, next-line, next-above, next-room}
 use Rattle.activations.proofs.RecordBytes.{shown-long}
 use Rattle.activations.proofs.SizeLemmas.{lines-fit}

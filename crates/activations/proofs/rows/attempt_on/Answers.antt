@@ -1,12 +1,7 @@
-use Rattle.std.proofs.Common.{◌∙◌, sym, ap, subst}
-use Rattle.activations.specs.Attempted.{WasAttempted, printed_after}
-use Rattle.activations.specs.Striding.{with_live}
+use Rattle.activations.proofs.Common.{◌∙◌, sym, ap, subst, WasAttempted, printed_after, with_live, Reach, GivesRows, reach_of}
+use Rattle.romp_cpu.specs.declared.cpu.Attempt.{Attempt}
 use Rattle.activations.proofs.ExecuteLemmas.{not-printed}
 use Rattle.activations.proofs.StridingLemmas.{room, attempted-at}
-use Rattle.romp_cpu.specs.declared.cpu.Attempt.{Attempt}
-use Rattle.storage_unit.specs.declared.model.Reach.{Reach}
-use Rattle.storage_unit.specs.Rows.{GivesRows}
-use Rattle.storage_unit.specs.View.{reach_of}
 use Rattle.activations.proofs.rows.attempt_on.Goals as goal
 
 pub push-requires : goal.push-requires

@@ -1,11 +1,6 @@
+use Rattle.activations.proofs.Common.{Commit, Check, Access, reach_of, Activity, WasAttempted, IsShut, with_live}
 use Rattle.std.proofs.Common.{◌≡◌, ◌∙◌, arith, refl, sym, subst, inl, inr}
-use Rattle.flat_machine.specs.Row.{Commit, Check}
 use Rattle.romp_cpu.specs.declared.cpu.Attempt.{Attempt}
-use Rattle.romp_cpu.specs.declared.storage.Access.{Access}
-use Rattle.storage_unit.specs.View.{reach_of}
-use Rattle.activations.specs.Activity.{Activity}
-use Rattle.activations.specs.Attempted.{WasAttempted, IsShut}
-use Rattle.activations.specs.Striding.{with_live}
 use Rattle.activations.proofs.GoOnLemmas.{took-either}
 use Rattle.activations.proofs.StrideLemmas.{came-still}
 use Rattle.activations.proofs.StridingLemmas.{none-yet, attempted-again, strode-one, strode-same, came-either}

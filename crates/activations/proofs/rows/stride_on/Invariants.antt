@@ -1,8 +1,6 @@
 -- The rows so far.
+use Rattle.activations.proofs.Common.{reach_of, Activity, RunsAt, StrodeTo}
 use Rattle.std.proofs.Common.{◌-◌, ◌≡◌, ◌≤◌, ℕ}
-use Rattle.storage_unit.specs.View.{reach_of}
-use Rattle.activations.specs.Activity.{Activity}
-use Rattle.activations.specs.Striding.{RunsAt, StrodeTo}
 use Rattle.activations.proofs.rows.stride_on.Given as goal
 
 abbrev pub invariant-loop-ran : goal.invariant-loop-ran

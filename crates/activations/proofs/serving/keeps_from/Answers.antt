@@ -1,12 +1,5 @@
+use Rattle.activations.proofs.Common.{list_any, or_left, or_right, nat_tests, LinesOf, of_page-below, has, Authority, entry_of, lets}
 use Rattle.std.proofs.Common.{◌≡◌, ◌==◌, ◌||◌, ℕ, Bool, List, not, sym, ◌∙◌, ap, arith}
-use Rattle.std.specs.List.{list_any}
-use Rattle.std.proofs.lemmas.Bool.{or_left, or_right}
-use Rattle.std.proofs.lemmas.Bool.Decides.{nat_tests}
-use Rattle.line_geometry.specs.declared.line_set.LinesOf.{LinesOf}
-use Rattle.line_geometry.proofs.LineSetLemmas.{of_page-below}
-use Rattle.lock_rules.specs.Sets.{has}
-use Rattle.lockbit_rules.specs.declared.Authority.{Authority}
-use Rattle.lockbit_rules.specs.Entries.{entry_of, lets}
 use Rattle.activations.proofs.serving.keeps_from.Goals as goal
 
 -- whether a line is kept from an identifier

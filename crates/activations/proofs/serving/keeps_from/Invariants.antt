@@ -1,7 +1,5 @@
+use Rattle.activations.proofs.Common.{list_any, has, entry_of, lets}
 use Rattle.std.proofs.Common.{◌≡◌, ℕ, ◌<◌, not, true}
-use Rattle.std.specs.List.{list_any}
-use Rattle.lock_rules.specs.Sets.{has}
-use Rattle.lockbit_rules.specs.Entries.{entry_of, lets}
 use Rattle.activations.proofs.serving.keeps_from.Given as goal
 
 -- the lines so far are let

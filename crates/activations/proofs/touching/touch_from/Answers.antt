@@ -1,6 +1,5 @@
-use Rattle.std.proofs.Common.{◌≡◌, ℕ, ◌+◌, ◌-◌, ◌∙◌, ap, arith}
-use Rattle.line_geometry.specs.Directory.{start_of}
-use Rattle.line_geometry.specs.Lines.{line_of}
+use Rattle.activations.proofs.Common.{start_of, line_of}
+use Rattle.std.proofs.Common.{◌≡◌, ◌+◌, ◌-◌, ◌∙◌, ap, arith}
 use Rattle.activations.proofs.TouchingLemmas.{near-lines}
 use Rattle.activations.proofs.touching.touch_from.Goals as goal
 

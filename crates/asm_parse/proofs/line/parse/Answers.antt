@@ -1,6 +1,5 @@
-use Rattle.std.proofs.Common.{ℕ, List, Bor, arith, ap}
+use Rattle.asm_parse.proofs.Common.{ℕ, List, Bor, arith, ap, option_map}
 use Rattle.std.proofs.lemmas.Result.{err_from_is_err_and}
-use Rattle.std.specs.Option.{option_map}
 use Rattle.asm_parse.proofs.TextLemmas.{all_read, line_faulty, line_read, gained_one, behind_shorter, left_of}
 use Rattle.asm_parse.proofs.line.parse.Goals as goal
 

@@ -1,6 +1,4 @@
-use Rattle.std.proofs.Common.{◌≡◌, ◌+◌, ◌≤◌, length}
-use Rattle.std.specs.Option.{option_map}
-use Rattle.asm_parse.specs.Text.{is_feed, parsed, statements_from}
+use Rattle.asm_parse.proofs.Common.{◌≡◌, ◌+◌, ◌≤◌, length, option_map, is_feed, parsed, statements_from}
 use Rattle.asm_parse.proofs.TextLemmas.{left_of, parts_behind, statements_behind}
 use Rattle.asm_parse.proofs.line.parse.Given as goal
 

@@ -1,6 +1,4 @@
-use Rattle.std.proofs.Common.{◌*◌, ap, arith}
-use Rattle.std.proofs.lemmas.Int.Digits.{digits_more, digits_value_more}
-use Rattle.std.specs.Char.{digit_value}
+use Rattle.asm_parse.proofs.Common.{◌*◌, ap, arith, digits_more, digits_value_more, digit_value}
 use Rattle.asm_parse.proofs.NumberLemmas.{digit_at, value_so_far, all_taken}
 use Rattle.asm_parse.proofs.numbers.value_of.Goals as goal
 

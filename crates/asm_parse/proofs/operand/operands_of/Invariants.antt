@@ -1,6 +1,4 @@
-use Rattle.std.proofs.Common.{◌≡◌, length, drop, Some}
-use Rattle.std.specs.Option.{option_map}
-use Rattle.asm_parse.specs.Operand.{operands_of}
+use Rattle.asm_parse.proofs.Common.{◌≡◌, length, drop, Some, option_map, operands_of}
 use Rattle.asm_parse.proofs.OperandLemmas.{operands_behind}
 use Rattle.asm_parse.proofs.operand.operands_of.Given as goal
 

@@ -1,5 +1,4 @@
-use Rattle.std.proofs.Common.{sym, ◌∙◌}
-use Rattle.std.specs.Str.{bytes_eq}
+use Rattle.asm_parse.proofs.Common.{sym, ◌∙◌, bytes_eq}
 use Rattle.asm_parse.proofs.OperandLemmas.{position_mapped}
 use Rattle.asm_parse.proofs.operand.place_among.Goals as goal
 

@@ -1,6 +1,5 @@
-use Rattle.std.proofs.Common.{sym, ◌∙◌, append-nil}
+use Rattle.asm_parse.proofs.Common.{sym, ◌∙◌, append-nil, Blank, Comment, Takes, Bad}
 use Rattle.asm_parse.proofs.TokenLemmas.{step, behind_none, behind_one, behind_all}
-use Rattle.asm_parse.specs.declared.token.Begin.TheVariants.{Blank, Comment, Takes, Bad}
 use Rattle.asm_parse.proofs.token.tokens_into.Goals as goal
 
 pub loop-first-init : goal.loop-first-init

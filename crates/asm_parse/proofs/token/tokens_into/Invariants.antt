@@ -1,5 +1,4 @@
-use Rattle.std.proofs.Common.{◌≡◌, length}
-use Rattle.asm_parse.specs.Token.{tokens_past}
+use Rattle.asm_parse.proofs.Common.{◌≡◌, length, tokens_past}
 use Rattle.asm_parse.proofs.TokenLemmas.{behind}
 use Rattle.asm_parse.proofs.token.tokens_into.Given as goal
 

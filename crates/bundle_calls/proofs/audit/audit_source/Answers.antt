@@ -1,6 +1,4 @@
-use Rattle.std.proofs.Common.{ℕ, List, subst, sym}
-use Rattle.call_status.specs.SourceText.{IsWholeBundle}
-use Rattle.call_status.proofs.TextLemmas.{text_fails}
+use Rattle.bundle_calls.proofs.Common.{ℕ, List, subst, sym, IsWholeBundle, text_fails}
 use Rattle.bundle_calls.proofs.PromiseLemmas.{audit_ends}
 use Rattle.bundle_calls.proofs.audit.audit_source.Goals as goal
 

@@ -1,17 +1,7 @@
-use Rattle.std.proofs.Common.{◌≡◌, ◌⊎◌, ℕ, List, inl, inr, refl, sym, ap, subst, ◌∙◌}
-use Rattle.std.specs.Prelude.{count_by}
-use Rattle.desk.specs.Commits.{is_commit}
+use Rattle.bundle_calls.proofs.Common.{◌≡◌, ◌⊎◌, ℕ, List, inl, inr, refl, sym, ap, subst, ◌∙◌, count_by, is_commit, owned_told, OwnedLine, IsVerdict, report_told, Bundle, Status, IsUnchecked, IsOpened, part_of, IsFaultAt}
 use Rattle.job_text.specs.declared.job.Job.{Job}
-use Rattle.report_text.specs.ReadLines.{owned_told}
-use Rattle.report_text.specs.declared.owned.OwnedLine.{OwnedLine}
-use Rattle.serial_audit.specs.Audit.{IsVerdict, report_told}
 use Rattle.serial_audit.specs.declared.auditing.KeptStore.{KeptStore}
-use Rattle.serial_audit.specs.declared.bundle.Bundle.{Bundle}
-use Rattle.call_status.specs.declared.status.Status.{Status}
-use Rattle.bundle_calls.specs.Audited.{IsUnchecked}
-use Rattle.bundle_calls.specs.Bundled.{IsOpened, part_of}
 use Rattle.store_calls.specs.Kept.{Keeps}
-use Rattle.call_status.specs.Opening.{IsFaultAt}
 use Rattle.bundle_calls.proofs.BundleLemmas.{counted, handed_on}
 use Rattle.bundle_calls.proofs.audit.checked.Goals as goal
 

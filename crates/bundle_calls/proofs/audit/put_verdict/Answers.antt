@@ -1,6 +1,4 @@
-use Rattle.std.proofs.Common.{◌≡◌, List, ℕ, rules, sym, ap, subst, ◌∙◌}
-use Rattle.listing.specs.Puts.{Puts}
-use Rattle.bundle_calls.specs.Audited.{verdict_line}
+use Rattle.bundle_calls.proofs.Common.{◌≡◌, List, ℕ, rules, sym, ap, subst, ◌∙◌, Puts, verdict_line}
 use Rattle.bundle_calls.proofs.audit.put_verdict.Goals as goal
 use Rattle.bundle_calls.proofs.audit.put_verdict.Goals.{in-Serial, in-NotSerial}
 

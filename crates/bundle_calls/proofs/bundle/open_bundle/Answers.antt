@@ -1,13 +1,4 @@
-use Rattle.std.proofs.Common.{◌≡◌, ◌⊎◌, ℕ, List, inl, inr, refl, sym, ap, subst, ◌∙◌}
-use Rattle.std.specs.Prelude.{Ok}
-use Rattle.job_text.specs.Grammar.{Content, content_of, job_of}
-use Rattle.report_text.specs.ReadLines.{AreLinesOf, IsFirstBad}
-use Rattle.report_text.specs.declared.owned.OwnedLine.{OwnedLine}
-use Rattle.serial_audit.specs.Bundle.{IsBundle}
-use Rattle.serial_audit.specs.declared.bundle.Bundle.{Bundle}
-use Rattle.call_status.specs.declared.status.Status.{Status}
-use Rattle.bundle_calls.specs.Bundled.{IsShut, part_of}
-use Rattle.call_status.specs.Opening.{IsFaultAt}
+use Rattle.bundle_calls.proofs.Common.{◌≡◌, ◌⊎◌, ℕ, List, inl, inr, refl, sym, ap, subst, ◌∙◌, Ok, Content, content_of, job_of, AreLinesOf, IsFirstBad, OwnedLine, IsBundle, Bundle, Status, IsShut, part_of, IsFaultAt}
 use Rattle.bundle_calls.proofs.BundleLemmas.{handed_on}
 use Rattle.bundle_calls.proofs.bundle.open_bundle.Goals as goal
 

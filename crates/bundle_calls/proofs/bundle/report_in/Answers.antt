@@ -1,8 +1,4 @@
-use Rattle.std.proofs.Common.{◌≤◌, List, [], ◌∷◌, length, ap, arith, length-append}
-use Rattle.std.specs.List.{flat_map}
-use Rattle.desk.specs.Lines.{line_text}
-use Rattle.report_text.specs.ReadLines.{owned_told}
-use Rattle.report_text.specs.declared.owned.OwnedLine.{OwnedLine}
+use Rattle.bundle_calls.proofs.Common.{◌≤◌, List, [], ◌∷◌, length, ap, arith, length-append, flat_map, line_text, owned_told, OwnedLine}
 use Rattle.report_text.proofs.LineLemmas.{some_bytes}
 use Rattle.bundle_calls.proofs.bundle.report_in.Goals as goal
 

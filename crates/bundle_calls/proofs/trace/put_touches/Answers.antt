@@ -1,7 +1,4 @@
-use Rattle.std.proofs.Common.{false, refl, rules}
-use Rattle.listing.proofs.PutsLemmas.{puts_no_more}
-use Rattle.touch_trace.specs.declared.touch.Touch.{Touch}
-use Rattle.bundle_calls.specs.Traced.{touch_line}
+use Rattle.bundle_calls.proofs.Common.{false, refl, rules, puts_no_more, Touch, touch_line}
 use Rattle.bundle_calls.proofs.trace.put_touches.Goals as goal
 
 pub returns-in_err-put_touch-clause-puts : goal.returns-in_err-put_touch-clause-puts

@@ -1,8 +1,4 @@
-use Rattle.std.proofs.Common.{take}
-use Rattle.std.specs.List.{flat_map}
-use Rattle.listing.specs.Puts.{Puts, PutsTimes}
-use Rattle.listing.proofs.PutsLemmas.{done}
-use Rattle.bundle_calls.specs.Traced.{touch_line}
+use Rattle.bundle_calls.proofs.Common.{take, flat_map, Puts, PutsTimes, done, touch_line}
 use Rattle.bundle_calls.proofs.trace.put_touches.Given as goal
 
 -- the lines so far are put

@@ -1,8 +1,4 @@
-use Rattle.std.proofs.Common.{List, ap, rules}
-use Rattle.std.specs.List.{flat_map}
-use Rattle.listing.proofs.PutsLemmas.{puts_on, puts_same, puts_stop}
-use Rattle.touch_trace.specs.declared.touch.Touch.{Touch}
-use Rattle.bundle_calls.specs.Traced.{steps_line, touch_line}
+use Rattle.bundle_calls.proofs.Common.{List, ap, rules, flat_map, puts_on, puts_same, puts_stop, Touch, steps_line, touch_line}
 use Rattle.bundle_calls.proofs.trace.put_trace.Goals as goal
 
 pub returns-in_err-put_touches-clause-puts : goal.returns-in_err-put_touches-clause-puts

@@ -1,11 +1,7 @@
-use Rattle.std.proofs.Common.{ℕ, List, sym, subst}
-use Rattle.std.specs.Prelude.{Ok, Err}
-use Rattle.report_text.specs.declared.owned.OwnedLine.{OwnedLine}
-use Rattle.serial_audit.specs.Audit.{report_told}
+use Rattle.bundle_calls.proofs.Common.{ℕ, List, sym, subst, Ok, Err, OwnedLine, report_told, status_of_trace, IsFound, IsUntraced}
 use Rattle.touch_trace.specs.declared.answer.TraceFault.{TraceFault}
-use Rattle.touch_trace.specs.declared.answer.TraceFault.TheVariants as fault
 use Rattle.touch_trace.specs.Trace.{IsAnswer}
-use Rattle.bundle_calls.specs.Traced.{status_of_trace, IsFound, IsUntraced}
+use Rattle.touch_trace.specs.declared.answer.TraceFault.TheVariants as fault
 use Rattle.bundle_calls.proofs.trace.trace_in.Goals as goal
 
 pub returns-in-Ok : goal.returns-in-Ok

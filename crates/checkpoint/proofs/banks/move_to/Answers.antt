@@ -1,22 +1,4 @@
-use Rattle.std.proofs.Common.{◌≡◌, ℕ, ◌∷◌, [], List, length, sym, subst, ◌∙◌, ap, arith, IsTrue}
-use Rattle.std.specs.Prelude.{Bool}
-use Rattle.line_geometry.specs.Lines.{line_count}
-use Rattle.store_format.specs.declared.header.Which.{Which}
-use Rattle.store_format.specs.Header.{bank_at}
-use Rattle.outside.specs.Bytes.{Torn, written}
-use Rattle.outside.specs.Durable.{IsSure}
-use Rattle.outside.specs.Runs.{Leaves, OnlyAsks, held_of}
-use Rattle.outside.proofs.Runs.{leaves_on, leaves_same, asks_one}
-use Rattle.redo_journal.specs.Held.{OnlyWrites}
-use Rattle.redo_journal.specs.Kept.{place_of, end_of, number_of}
-use Rattle.redo_journal.specs.Tracks.{Tracks}
-use Rattle.redo_journal.specs.Turned.{head_bytes}
-use Rattle.redo_journal.proofs.AppendLemmas.{place_is}
-use Rattle.redo_journal.proofs.GateLemmas.{held_is}
-use Rattle.redo_journal.proofs.WriteLemmas.{writes_on, asks_only}
-use Rattle.checkpoint.specs.Chosen.{other, selector_of}
-use Rattle.checkpoint.specs.Home.{IsCovered, IsHomed}
-use Rattle.checkpoint.specs.Moved.{IsSame}
+use Rattle.checkpoint.proofs.Common.{◌≡◌, ℕ, ◌∷◌, [], List, length, sym, subst, ◌∙◌, ap, arith, IsTrue, Bool, line_count, Which, bank_at, Torn, written, IsSure, Leaves, OnlyAsks, held_of, leaves_on, leaves_same, asks_one, OnlyWrites, place_of, end_of, number_of, Tracks, head_bytes, place_is, held_is, writes_on, asks_only, other, selector_of, IsCovered, IsHomed, IsSame}
 use Rattle.checkpoint.proofs.StepLemmas.{leaves_step, same_held, written_held, synced_sure, map_ok}
 use Rattle.checkpoint.proofs.MoveLemmas.{IsHeaded, covered_same, headed_same, headed, selected_same, IsThere, moved}
 use Rattle.checkpoint.proofs.HomeLemmas.{end_within}

@@ -1,9 +1,4 @@
-use Rattle.std.proofs.Common.{◌≡◌, ℕ, length, List, refl, sym, subst, arith, IsTrue}
-use Rattle.std.specs.Prelude.{Bool, Option, IsSome}
-use Rattle.outside.specs.Bytes.{Torn}
-use Rattle.outside.specs.Moments.{Follows}
-use Rattle.outside.specs.Runs.{OnlyAsks}
-use Rattle.outside.proofs.Runs.{asks_one}
+use Rattle.checkpoint.proofs.Common.{◌≡◌, ℕ, length, List, refl, sym, subst, arith, IsTrue, Bool, Option, IsSome, Torn, Follows, OnlyAsks, asks_one}
 use Rattle.checkpoint.proofs.StepLemmas.{follows_asked}
 use Rattle.checkpoint.proofs.home.copy_line.Goals as goal
 

@@ -1,11 +1,5 @@
-use Rattle.std.proofs.Common.{◌≡◌, ℕ, get_or, sym, subst, ◌∙◌}
-use Rattle.std.specs.Prelude.{Option, None, Some, OnOk, IsSome}
+use Rattle.checkpoint.proofs.Common.{◌≡◌, ℕ, get_or, sym, subst, ◌∙◌, Option, None, Some, OnOk, IsSome, line_bytes_of, Torn, written, bytes_at, Follows, held_of, home_place, copied, TornLine}
 use Rattle.std.proofs.lemmas.Option.{get_or_from_slice_get}
-use Rattle.redo_journal.specs.Kept.{line_bytes_of}
-use Rattle.outside.specs.Bytes.{Torn, written, bytes_at}
-use Rattle.outside.specs.Moments.{Follows}
-use Rattle.outside.specs.Runs.{held_of}
-use Rattle.checkpoint.specs.Home.{home_place, copied, TornLine}
 use Rattle.checkpoint.proofs.home.copy_newest.Given.{Over}
 use Rattle.checkpoint.proofs.home.copy_newest.Goals as goal
 use Rattle.checkpoint.proofs.home.copy_newest.Goals.{In-Some}

@@ -1,12 +1,4 @@
-use Rattle.std.proofs.Common.{◌≡◌, ℕ, ◌<◌, List, length, refl, sym, subst, ◌∙◌, arith, IsTrue}
-use Rattle.std.specs.Prelude.{Bool}
-use Rattle.line_geometry.specs.Lines.{line_count}
-use Rattle.store_format.proofs.Elsewhere.{store_big}
-use Rattle.outside.specs.Runs.{Leaves, held_of}
-use Rattle.outside.proofs.Durable.{leaves_held}
-use Rattle.redo_journal.specs.Tracks.{Tracks}
-use Rattle.redo_journal.proofs.WriteLemmas.{writes_on, wrote_nothing}
-use Rattle.checkpoint.specs.Home.{store_bytes, IsCovered, IsHomed}
+use Rattle.checkpoint.proofs.Common.{◌≡◌, ℕ, ◌<◌, List, length, refl, sym, subst, ◌∙◌, arith, IsTrue, Bool, line_count, store_big, Leaves, held_of, leaves_held, Tracks, writes_on, wrote_nothing, store_bytes, IsCovered, IsHomed}
 use Rattle.checkpoint.proofs.StepLemmas.{leaves_step}
 use Rattle.checkpoint.proofs.HomeLemmas.{covered_self, homed_start, step_covered, step_homed}
 use Rattle.checkpoint.proofs.home.write_home.Given.{Over}

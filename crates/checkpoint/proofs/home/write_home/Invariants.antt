@@ -1,8 +1,4 @@
-use Rattle.std.proofs.Common.{◌≡◌}
-use Rattle.outside.specs.Runs.{Leaves, held_of}
-use Rattle.redo_journal.specs.Held.{OnlyWrites}
-use Rattle.redo_journal.specs.Tracks.{Tracks}
-use Rattle.checkpoint.specs.Home.{IsCovered, IsHomed}
+use Rattle.checkpoint.proofs.Common.{◌≡◌, Leaves, held_of, OnlyWrites, Tracks, IsCovered, IsHomed}
 use Rattle.checkpoint.proofs.home.write_home.Given as goal
 
 abbrev pub invariant-loop-line : goal.invariant-loop-line

@@ -1,17 +1,10 @@
-use Rattle.std.proofs.Common.{◌≡◌, ◌⊎◌, ℕ, List, [], inl, inr, subst, sym}
+use Rattle.console.proofs.Common.{◌≡◌, ◌⊎◌, ℕ, List, [], inl, inr, subst, sym, Header, Call, call, given, Status, Range, TracedFrom, Command, IsForm}
 use Rattle.desk.specs.Answers.{order_told}
 use Rattle.desk.specs.declared.answers.Committed.{Committed}
-use Rattle.store_format.specs.Header.{Header}
-use Rattle.call_status.specs.Call.{Call, call, given}
-use Rattle.call_status.specs.declared.status.Status.{Status}
-use Rattle.store_calls.specs.declared.show.Range.{Range}
 use Rattle.store_calls.specs.New.{Made}
 use Rattle.store_calls.specs.Show.{Shown}
 use Rattle.job_calls.specs.declared.ended.Ended.{Ended}
 use Rattle.job_calls.specs.Big.{Loaded}
-use Rattle.bundle_calls.specs.Traced.{TracedFrom}
-use Rattle.console.specs.declared.words.Command.{Command}
-use Rattle.console.specs.Words.{IsForm}
 use Rattle.console.proofs.PromiseLemmas.{audits, follow_promise, renewal_promise, ship_promise, traces}
 use Rattle.console.proofs.WordLemmas.{one_header, one_load, one_range, one_trace}
 use Rattle.console.proofs.commands.console.Goals as goal

@@ -1,16 +1,9 @@
-use Rattle.std.proofs.Common.{◌≡◌, ℕ, ◌+◌, ◌<◌, ◌≤◌, List, [], length, map, take, get_or, rules, arith, sym, ap, subst, ◌∙◌}
-use Rattle.std.specs.List.{flat_map, zip, sum, sum_by}
-use Rattle.std.proofs.lemmas.List.{take_all, get_or-map, length-map}
+use Rattle.console.proofs.Common.{◌≡◌, ℕ, ◌+◌, ◌<◌, ◌≤◌, List, [], length, map, take, get_or, rules, arith, sym, ap, subst, ◌∙◌, flat_map, zip, sum, sum_by, take_all, get_or-map, length-map, Program, listing_of, lines_in, Puts, PutsTimes, done, puts_more, puts_no_more, times_on, content_of}
 use Rattle.std.proofs.lemmas.List.Sums.{sum_by_more, sum-map}
 use Rattle.std.proofs.lemmas.Simd.{map-map}
 use Rattle.std.proofs.lemmas.Slice.Zip.{get_or-zip, length-zip}
 use Rattle.arrayvec.specs.ArrayVec.{ArrayVec}
-use Rattle.flat_machine.specs.declared.machine.Program.{Program}
 use Rattle.romp_asm.specs.Layout.{Parts, parts_of}
-use Rattle.listing.specs.Listing.{listing_of, lines_in}
-use Rattle.listing.specs.Puts.{Puts, PutsTimes}
-use Rattle.listing.proofs.PutsLemmas.{done, puts_more, puts_no_more, times_on}
-use Rattle.job_text.specs.Grammar.{content_of}
 use Rattle.console.specs.Listed.{lines_listed}
 use Rattle.console.proofs.list.put_programs.Goals as goal
 

@@ -1,10 +1,4 @@
-use Rattle.std.proofs.Common.{take}
-use Rattle.flat_machine.specs.declared.machine.Program.{Program}
-use Rattle.std.specs.List.{flat_map, zip, sum_by}
-use Rattle.listing.specs.Listing.{listing_of, lines_in}
-use Rattle.listing.specs.Puts.{Puts, PutsTimes}
-use Rattle.listing.proofs.PutsLemmas.{done}
-use Rattle.job_text.specs.Grammar.{content_of}
+use Rattle.console.proofs.Common.{take, Program, flat_map, zip, sum_by, listing_of, lines_in, Puts, PutsTimes, done, content_of}
 use Rattle.console.proofs.list.put_programs.Given as goal
 
 -- the listings so far are put

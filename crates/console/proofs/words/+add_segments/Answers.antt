@@ -1,10 +1,5 @@
-use Rattle.std.proofs.Common.{◌≡◌, ℕ, suc, ◌+◌, ◌*◌, ◌≤◌, ◌<◌, ◌^◌, ◌-◌, ◌/◌, ◌++◌, Bool, true, false, List, [], ◌∷◌, length, take, drop, slice_index_or, arith, sym, ◌∙◌, ap}
-use Rattle.std.specs.Prelude.{All, Option, Some, None, MatchOption, Result, Ok, Err, OnOk, is_err}
+use Rattle.console.proofs.Common.{◌≡◌, ℕ, suc, ◌+◌, ◌≤◌, ◌<◌, ◌^◌, ◌-◌, ◌/◌, ◌++◌, Bool, true, false, List, [], ◌∷◌, length, take, drop, slice_index_or, arith, sym, ◌∙◌, ap, All, Option, Some, None, MatchOption, Result, Ok, Err, OnOk, is_err, length-append, pow_below, IsInRange, spread}
 use Rattle.std.specs.Int.{from_bool}
-use Rattle.std.proofs.lemmas.List.{length-append}
-use Rattle.std.proofs.lemmas.Nat.{pow_below}
-use Rattle.line_geometry.specs.Legal.{IsInRange}
-use Rattle.console.specs.Words.{spread}
 use Rattle.console.proofs.WordLemmas.{behind_first}
 use Rattle.console.proofs.words.+add_segments.Goals as goal
 

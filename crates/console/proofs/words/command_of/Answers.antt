@@ -1,6 +1,4 @@
-use Rattle.std.proofs.Common.{◌≢◌, [], ℕ, Bool, ◌-◌, List, length, map, take, drop, sym, subst}
-use Rattle.std.specs.Prelude.{string_bytes}
-use Rattle.console.specs.Words.{AreNumbers}
+use Rattle.console.proofs.Common.{◌≢◌, [], ℕ, Bool, ◌-◌, List, length, map, take, drop, sym, subst, string_bytes, AreNumbers}
 use Rattle.console.proofs.WordLemmas.{alone, not_empty, with_store, without_numbers}
 use Rattle.console.proofs.words.command_of.Goals as goal
 

@@ -1,5 +1,4 @@
-use Rattle.std.proofs.Common.{◌≡◌, ℕ, List, ◌++◌, ap, ◌∙◌, sym, subst}
-use Rattle.line_geometry.specs.Legal.{IsLegal, AreFlags}
+use Rattle.console.proofs.Common.{◌≡◌, ℕ, List, ◌++◌, ap, ◌∙◌, sym, subst, IsLegal, AreFlags}
 use Rattle.console.proofs.WordLemmas.{flags_few, one_spread}
 use Rattle.console.proofs.words.directory_of.Goals as goal
 

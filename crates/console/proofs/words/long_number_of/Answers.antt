@@ -1,7 +1,4 @@
-use Rattle.std.proofs.Common.{◌≡◌, ◌≢◌, ◌≤◌, ℕ, List, length, subst}
-use Rattle.std.specs.Prelude.{slice_index, MatchResult, Result}
-use Rattle.std.specs.Str.Parse.{ParsesUnsigned}
-use Rattle.console.specs.Words.{IsLong}
+use Rattle.console.proofs.Common.{◌≡◌, ◌≢◌, ◌≤◌, ℕ, List, length, subst, slice_index, MatchResult, Result, ParsesUnsigned, IsLong}
 use Rattle.console.proofs.WordLemmas.{parsed_long}
 use Rattle.console.proofs.words.long_number_of.Goals as goal
 

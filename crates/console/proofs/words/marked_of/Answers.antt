@@ -1,5 +1,4 @@
-use Rattle.std.proofs.Common.{◌≡◌, ◌<◌, ℕ, false, ◌∙◌, ap, sym, arith}
-use Rattle.std.specs.Prelude.{Option, None, option_map}
+use Rattle.console.proofs.Common.{false, ◌∙◌, ap, sym, arith, None, option_map}
 use Rattle.std.proofs.lemmas.Str.Pattern.{strip_suffix_char}
 use Rattle.console.proofs.WordLemmas.{without_mark}
 use Rattle.console.proofs.words.marked_of.Goals as goal

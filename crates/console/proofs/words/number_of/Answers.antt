@@ -1,8 +1,4 @@
-use Rattle.std.proofs.Common.{◌≡◌, ◌≢◌, ◌<◌, ◌≤◌, ℕ, List, Bool, false, length, subst, arith}
-use Rattle.std.specs.Prelude.{slice_index, MatchResult, Result, Some, None, ◌==◌}
-use Rattle.std.specs.Str.Parse.{ParsesUnsigned}
-use Rattle.std.proofs.lemmas.Bool.Decides.{nat_tests}
-use Rattle.console.specs.Words.{number_of}
+use Rattle.console.proofs.Common.{◌≡◌, ◌≢◌, ◌<◌, ◌≤◌, ℕ, List, Bool, false, length, subst, arith, slice_index, MatchResult, Result, Some, None, ◌==◌, ParsesUnsigned, nat_tests, number_of}
 use Rattle.console.proofs.WordLemmas.{parsed}
 use Rattle.console.proofs.words.number_of.Goals as goal
 

@@ -1,6 +1,4 @@
-use Rattle.std.proofs.Common.{map, take}
-use Rattle.std.specs.Prelude.{string_bytes}
-use Rattle.console.specs.Words.{AreNumbers}
+use Rattle.console.proofs.Common.{map, take, string_bytes, AreNumbers}
 use Rattle.console.proofs.words.numbers_of.Given as goal
 
 abbrev pub invariant-loop-word : goal.invariant-loop-word

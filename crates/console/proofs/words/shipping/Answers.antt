@@ -1,6 +1,4 @@
-use Rattle.std.proofs.Common.{rules, ◌≡◌, ◌≢◌, ℕ, List, [], length, sym, ◌∙◌, ap, subst, arith}
-use Rattle.std.specs.Prelude.{codes, string_bytes, MatchOption}
-use Rattle.console.specs.Words.{IsLong}
+use Rattle.console.proofs.Common.{rules, ◌≡◌, ◌≢◌, ℕ, List, [], sym, ◌∙◌, subst, arith, codes, MatchOption, IsLong}
 use Rattle.console.proofs.WordLemmas.{not_empty, with_long}
 use Rattle.console.proofs.words.shipping.Goals as goal
 

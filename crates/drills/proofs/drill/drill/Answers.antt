@@ -1,5 +1,4 @@
-use Rattle.std.proofs.Common.{inr}
-use Rattle.drills.specs.Drilled.{broken}
+use Rattle.drills.proofs.Common.{inr, broken}
 use Rattle.drills.proofs.DrillLemmas.{whole-put}
 use Rattle.drills.proofs.drill.drill.Goals as goal
 

@@ -1,5 +1,4 @@
-use Rattle.std.proofs.Common.{refl}
-use Rattle.call_status.specs.Call.{given}
+use Rattle.drills.proofs.Common.{refl, given}
 use Rattle.drills.proofs.DrillLemmas.{drill-rose, drill-same, drilled-text, drilled-unread, none-put}
 use Rattle.drills.proofs.drill.drill_source.Goals as goal
 

@@ -1,6 +1,4 @@
-use Rattle.std.proofs.Common.{◌*◌, ◌≤◌, length, ap, subst, List, ℕ, sym}
-use Rattle.drills.specs.Drill.{IsStop, fine_order}
-use Rattle.drills.specs.Drilled.{try_flat, try_order}
+use Rattle.drills.proofs.Common.{◌*◌, ◌≤◌, length, ap, subst, List, ℕ, sym, IsStop, fine_order, try_flat, try_order}
 use Rattle.drills.proofs.DrillLemmas.{stop-found, stop-standing, try-standing, try-stands, unreached}
 use Rattle.drills.proofs.drill.found_at.Goals as goal
 

@@ -1,7 +1,4 @@
-use Rattle.std.proofs.Common.{◌≡◌, ℕ, subst}
-use Rattle.std.specs.Prelude.{IfOk}
-use Rattle.drills.specs.Drill.{IsStop}
-use Rattle.drills.specs.Drilled.{try_flat}
+use Rattle.drills.proofs.Common.{◌≡◌, ℕ, subst, IfOk, IsStop, try_flat}
 use Rattle.drills.proofs.DrillLemmas.{stop-all, stop-standing, stop-stands, try-standing, try-stands}
 use Rattle.drills.proofs.drill.last_number.Goals as goal
 

@@ -1,6 +1,4 @@
-use Rattle.std.proofs.Common.{◌≡◌, ◌∙◌, ap, sym, rules}
-use Rattle.outside.specs.MemoryDisk.{disk_held}
-use Rattle.store_format.specs.Stands.{stands}
+use Rattle.drills.proofs.Common.{◌≡◌, ◌∙◌, ap, sym, rules, disk_held, stands}
 use Rattle.restart.proofs.ShowLemmas.{shown_stands}
 use Rattle.drills.proofs.DrillLemmas.{one-number}
 use Rattle.drills.proofs.drill.number_in.Goals as goal

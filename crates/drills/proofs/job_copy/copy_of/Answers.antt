@@ -1,6 +1,5 @@
-use Rattle.std.proofs.Common.{◌≡◌, ◌∙◌, ap, refl}
+use Rattle.drills.proofs.Common.{◌≡◌, ◌∙◌, ap, refl, ArrayVec}
 use Rattle.std.specs.Prelude.{map}
-use Rattle.arrayvec.specs.ArrayVec.{ArrayVec}
 use Rattle.drills.proofs.CopyLemmas.{is_ready, same_names}
 use Rattle.drills.proofs.job_copy.copy_of.Goals as goal
 

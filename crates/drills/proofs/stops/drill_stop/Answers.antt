@@ -1,12 +1,5 @@
-use Rattle.std.proofs.Common.{◌≡◌, ◌*◌, ◌∙◌, true, ap, refl, rules, length, Some, List, [], ℕ}
-use Rattle.std.specs.Prelude.{count_by}
-use Rattle.outside.specs.MemoryDisk.{disk_held, disk_faults, disk_writes}
-use Rattle.outside.specs.Record.{is_write}
+use Rattle.drills.proofs.Common.{◌≡◌, ◌*◌, ◌∙◌, true, ap, refl, rules, length, Some, List, [], ℕ, count_by, disk_held, disk_faults, disk_writes, is_write, FlatStore, Stands, stands, order_told, IsStop, fine_order}
 use Rattle.outside.specs.MemoryScreen.{screen_printed}
-use Rattle.line_geometry.specs.FlatStore.{FlatStore}
-use Rattle.store_format.specs.Stands.{Stands, stands}
-use Rattle.desk.specs.Answers.{order_told}
-use Rattle.drills.specs.Drill.{IsStop, fine_order}
 use Rattle.drills.proofs.StopLemmas.{HasLeft, is-reached, no-rise, one-image, some-rise, stop-is, told-ok, writes-more}
 use Rattle.drills.proofs.stops.drill_stop.Goals as goal
 

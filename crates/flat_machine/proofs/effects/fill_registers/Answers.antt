@@ -1,9 +1,6 @@
+use Rattle.flat_machine.proofs.Common.{length-drop, slice_set, big_number, fill_words}
 use Rattle.std.proofs.Common.{◌≡◌, refl, ℕ, suc, ◌+◌, ◌-◌, ◌*◌, ◌/◌, ◌≤◌, List, length, take, drop, sym, ap, ◌∙◌, arith, add-one}
 use Rattle.std.proofs.Math.Seq.{take-length}
-use Rattle.std.proofs.lemmas.List.{length-drop}
-use Rattle.std.specs.Prelude.{slice_set}
-use Rattle.byteorder.specs.Endian.{big_number}
-use Rattle.flat_machine.specs.Effect.{fill_words}
 use Rattle.flat_machine.proofs.effects.fill_registers.Goals as goal
 
 -- the first four bytes fill a register, the others those after it

@@ -1,11 +1,7 @@
+use Rattle.flat_machine.proofs.Common.{flat_map, flat_map-append, append-nil, length-drop, length-take, take_more, nil_from_length, get_or-drop, big_bytes, length-bytes_high_first}
 use Rattle.std.proofs.Common.{◌≡◌, ℕ, ◌+◌, ◌-◌, ◌*◌, ◌<◌, ◌≤◌, List, [], ◌∷◌, ◌++◌, length, take, drop, get_or, sym, ap, ◌∙◌, arith}
-use Rattle.std.specs.List.{flat_map}
-use Rattle.std.proofs.lemmas.Grind.{flat_map-append}
-use Rattle.std.proofs.lemmas.List.{append-nil, length-drop, length-take, take_more, nil_from_length, get_or-drop}
 use Rattle.std.proofs.lemmas.Slice.{take-put_mid}
 use borrow.Rule.Slice.PartMut.{put_mid}
-use Rattle.byteorder.specs.Endian.{big_bytes}
-use Rattle.byteorder.specs.Numbers.{length-bytes_high_first}
 use Rattle.flat_machine.proofs.effects.gather_words.Goals as goal
 
 -- one register more

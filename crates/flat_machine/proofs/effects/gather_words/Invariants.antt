@@ -1,6 +1,5 @@
+use Rattle.flat_machine.proofs.Common.{flat_map, big_bytes}
 use Rattle.std.proofs.Common.{◌≡◌, ◌*◌, take, drop}
-use Rattle.std.specs.List.{flat_map}
-use Rattle.byteorder.specs.Endian.{big_bytes}
 use Rattle.flat_machine.proofs.effects.gather_words.Given as goal
 
 abbrev pub invariant-loop-i : goal.invariant-loop-i

@@ -1,5 +1,4 @@
-use Rattle.std.proofs.Common.{◌≡◌, ◌≤◌, vec_capacity}
-use Rattle.std.specs.List.{range_with_len}
+use Rattle.frame_pool.proofs.Common.{◌≡◌, ◌≤◌, vec_capacity, range_with_len}
 use Rattle.frame_pool.proofs.pages.frames_from.Given as goal
 
 abbrev pub invariant-loop-frame : goal.invariant-loop-frame

@@ -1,5 +1,4 @@
-use Rattle.std.proofs.Common.{ℕ, ◌-◌, ◌+◌, List, length, sym, ◌∙◌, ap}
-use Rattle.inverted_table.specs.Chains.{before_in}
+use Rattle.inverted_table.proofs.Common.{ℕ, ◌-◌, ◌+◌, List, length, sym, ◌∙◌, ap, before_in}
 use Rattle.inverted_table.proofs.WalkLemmas.{walked-none, walked-one, ends-one, before-here, before-later, same-option, other-option}
 use Rattle.inverted_table.proofs.chain.before.Goals as goal
 

@@ -1,5 +1,4 @@
-use Rattle.std.proofs.Common.{◌≡◌, ◌-◌, length, None}
-use Rattle.inverted_table.specs.Chains.{chain_from, chain_end, before_in}
+use Rattle.inverted_table.proofs.Common.{◌≡◌, ◌-◌, length, None, chain_from, chain_end, before_in}
 use Rattle.inverted_table.proofs.chain.before.Given as goal
 
 -- what is left of the chain ends, and the frame in front of the other is in it

@@ -1,7 +1,5 @@
+use Rattle.inverted_table.proofs.Common.{find, holds, key_in, chain_from, following}
 use Rattle.std.proofs.Common.{ℕ, ◌-◌, ◌+◌, length, sym, ◌∙◌, ap, cond, Some, refl}
-use Rattle.std.specs.Prelude.{find}
-use Rattle.inverted_table.specs.Placed.{holds, key_in}
-use Rattle.inverted_table.specs.Chains.{chain_from, following}
 use Rattle.inverted_table.proofs.WalkLemmas.{walked-none, walked-one}
 use Rattle.inverted_table.proofs.chain.find_along.Goals as goal
 

@@ -1,7 +1,4 @@
-use Rattle.std.proofs.Common.{◌≡◌, ◌-◌, length, ℕ}
-use Rattle.std.specs.Prelude.{find}
-use Rattle.inverted_table.specs.Placed.{holds, key_in}
-use Rattle.inverted_table.specs.Chains.{chain_from}
+use Rattle.inverted_table.proofs.Common.{◌≡◌, ◌-◌, length, ℕ, find, holds, key_in, chain_from}
 use Rattle.inverted_table.proofs.chain.find_along.Given as goal
 
 -- the first along what is left of the chain is the first along the whole

@@ -1,5 +1,4 @@
-use Rattle.std.proofs.Common.{ℕ, ◌∙◌, ◌%◌, ◌-◌, ap, sym}
-use Rattle.std.specs.Prelude.{bit_and, bit_xor}
+use Rattle.inverted_table.proofs.Common.{ℕ, ◌∙◌, ◌%◌, ◌-◌, ap, sym, bit_and, bit_xor}
 use Rattle.std.proofs.lemmas.Nat.{and_mask}
 use Rattle.inverted_table.proofs.chain.hash.Goals as goal
 

@@ -1,5 +1,4 @@
-use Rattle.std.proofs.Common.{arith}
-use Rattle.inverted_table.specs.Placed.{cleared_entry}
+use Rattle.inverted_table.proofs.Common.{arith, cleared_entry}
 use Rattle.inverted_table.proofs.ClearLemmas.{mapped-more, mapped-all}
 use Rattle.inverted_table.proofs.table.clear_all.Goals as goal
 

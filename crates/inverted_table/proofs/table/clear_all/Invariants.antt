@@ -1,5 +1,4 @@
-use Rattle.std.proofs.Common.{◌≡◌, ◌++◌, take, drop, map}
-use Rattle.inverted_table.specs.Placed.{cleared_entry}
+use Rattle.inverted_table.proofs.Common.{◌≡◌, ◌++◌, take, drop, map, cleared_entry}
 use Rattle.inverted_table.proofs.table.clear_all.Given as goal
 
 -- the entries so far are cleared

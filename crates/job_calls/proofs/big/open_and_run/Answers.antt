@@ -1,19 +1,4 @@
-use Rattle.std.proofs.Common.{◌≡◌, ◌≤◌, ◌∙◌, ap, sym, subst, arith, length, vec_len, get_or, All, List, ℕ, Some}
-use Rattle.std.proofs.lemmas.List.{length-map}
-use Rattle.std.proofs.lemmas.List.Sums.{count_by-le-length}
-use Rattle.flat_machine.specs.declared.machine.Program.{Program}
-use Rattle.desk.specs.Answers.{order_told}
-use Rattle.desk.specs.Desk.{Desk}
-use Rattle.desk.specs.declared.event.Event.{Event}
-use Rattle.outside.specs.Durable.{IsSure}
-use Rattle.outside.specs.Runs.{held_of}
-use Rattle.job_text.specs.Ready.{IsEventAmong}
-use Rattle.supervisor.specs.Session.{activity}
-use Rattle.supervisor.specs.contracts.supervisor.SessionSupervisor.TheImpl.{ghosts}
-use Rattle.schedule_replay.specs.Asked.{is_turn, begins_in, turns_in}
-use Rattle.schedule_replay.specs.Quiet.{IsLasting, RunsQuietly}
-use Rattle.call_status.specs.Call.{call}
-use Rattle.job_calls.specs.Big.{Loaded}
+use Rattle.job_calls.proofs.Common.{◌≡◌, ◌≤◌, ◌∙◌, ap, sym, subst, arith, length, vec_len, get_or, All, List, ℕ, Some, length-map, count_by-le-length, Program, order_told, Desk, Event, IsSure, held_of, IsEventAmong, activity, ghosts, is_turn, begins_in, turns_in, IsLasting, RunsQuietly, call, Loaded}
 use Rattle.job_calls.proofs.NameLemmas.{asked-among}
 use Rattle.job_calls.proofs.BigLemmas.{lasting, loaded, still-holds}
 use Rattle.job_calls.proofs.big.open_and_run.Goals as goal

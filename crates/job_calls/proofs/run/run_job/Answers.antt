@@ -1,27 +1,5 @@
-use Rattle.std.proofs.Common.{◌≡◌, ◌∙◌, ap, sym, ◌≤◌, subst, arith, length, vec_len, get_or, All, List, ℕ, refl, Some}
-use Rattle.std.specs.Prelude.{map}
-use Rattle.std.proofs.lemmas.List.{length-map}
-use Rattle.std.proofs.lemmas.List.Sums.{count_by-le-length}
+use Rattle.job_calls.proofs.Common.{◌≡◌, ◌∙◌, ap, sym, ◌≤◌, subst, arith, length, vec_len, get_or, All, List, ℕ, refl, Some, map, length-map, count_by-le-length, Ghosts, Program, order_told, Desk, IsUnbroken, Event, IsEventAmong, Job, activity, Session, ghosts, is_turn, begins_in, turns_in, HasOpened, Replays, Replayed, call, Status, status_of_replay, OpensBy, HappenedTo, names_of}
 use Rattle.arrayvec.specs.ArrayVec.{ArrayVec}
-use Rattle.outside.specs.declared.world.Outside.{Ghosts}
-use Rattle.flat_machine.specs.declared.machine.Program.{Program}
-use Rattle.desk.specs.Answers.{order_told}
-use Rattle.desk.specs.Desk.{Desk}
-use Rattle.desk.specs.Seen.{IsUnbroken}
-use Rattle.desk.specs.declared.event.Event.{Event}
-use Rattle.job_text.specs.Ready.{IsEventAmong}
-use Rattle.job_text.specs.declared.job.Job.{Job}
-use Rattle.supervisor.specs.Session.{activity}
-use Rattle.supervisor.specs.declared.session.Session.{Session}
-use Rattle.supervisor.specs.contracts.supervisor.SessionSupervisor.TheImpl.{ghosts}
-use Rattle.schedule_replay.specs.Asked.{is_turn, begins_in, turns_in}
-use Rattle.schedule_replay.specs.Ran.{HasOpened}
-use Rattle.schedule_replay.specs.Replays.{Replays}
-use Rattle.schedule_replay.specs.declared.events.Replayed.{Replayed}
-use Rattle.call_status.specs.Call.{call}
-use Rattle.call_status.specs.declared.status.Status.{Status}
-use Rattle.job_calls.specs.Causes.{status_of_replay, OpensBy}
-use Rattle.job_calls.specs.Headline.{HappenedTo, names_of}
 use Rattle.job_calls.proofs.CauseLemmas.{opens-by, put-rose, put-same, disk-rose}
 use Rattle.job_calls.proofs.NameLemmas.{name-unbroken, asked-among}
 use Rattle.job_calls.proofs.RunLemmas.{happened-by, has-opened, first_desk}

@@ -1,5 +1,4 @@
-use Rattle.desk.specs.Answers.{order_told}
-use Rattle.call_status.specs.Call.{call, given}
+use Rattle.job_calls.proofs.Common.{order_told, call, given}
 use Rattle.job_calls.proofs.RunLemmas.{happens}
 use Rattle.job_calls.proofs.run.run_source.Goals as goal
 

@@ -1,6 +1,4 @@
-use Rattle.std.proofs.Common.{◌≡◌, ap, ◌∙◌, ◌++◌, arith, map}
-use Rattle.std.specs.List.{flat_map, range_with_len}
-use Rattle.job_text.specs.Big.{transfer, turns_of}
+use Rattle.job_text.proofs.Common.{◌≡◌, ap, ◌∙◌, ◌++◌, arith, map, flat_map, range_with_len, transfer, turns_of}
 use Rattle.job_text.proofs.BigLemmas.{some_more, three_more}
 use Rattle.job_text.proofs.big.put_batch.Goals as goal
 

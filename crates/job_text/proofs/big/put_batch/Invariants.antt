@@ -1,6 +1,4 @@
-use Rattle.std.proofs.Common.{◌≡◌, ◌++◌}
-use Rattle.std.specs.List.{flat_map, range_with_len}
-use Rattle.job_text.specs.Big.{turns_of}
+use Rattle.job_text.proofs.Common.{◌≡◌, ◌++◌, flat_map, range_with_len, turns_of}
 use Rattle.job_text.proofs.big.put_batch.Given as goal
 
 abbrev pub invariant-loop-round : goal.invariant-loop-round

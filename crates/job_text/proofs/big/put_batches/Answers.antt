@@ -1,5 +1,4 @@
-use Rattle.std.proofs.Common.{◌*◌, ◌-◌, min, ap, ◌∙◌, ◌++◌}
-use Rattle.job_text.specs.Big.{batch}
+use Rattle.job_text.proofs.Common.{◌*◌, ◌-◌, min, ap, ◌∙◌, ◌++◌, batch}
 use Rattle.job_text.proofs.BigLemmas.{some_more}
 use Rattle.job_text.proofs.big.put_batches.Goals as goal
 

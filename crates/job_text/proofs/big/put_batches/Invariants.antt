@@ -1,6 +1,4 @@
-use Rattle.std.proofs.Common.{◌≡◌, ◌++◌, ◌*◌, ◌-◌, min}
-use Rattle.std.specs.List.{flat_map, range_with_len}
-use Rattle.job_text.specs.Big.{batch}
+use Rattle.job_text.proofs.Common.{◌≡◌, ◌++◌, ◌*◌, ◌-◌, min, flat_map, range_with_len, batch}
 use Rattle.job_text.proofs.big.put_batches.Given as goal
 
 abbrev pub invariant-loop-place : goal.invariant-loop-place

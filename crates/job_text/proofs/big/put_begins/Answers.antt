@@ -1,5 +1,4 @@
-use Rattle.std.proofs.Common.{◌+◌, ◌∷◌, [], ◌++◌, ap, ◌∙◌, refl}
-use Rattle.job_text.specs.Big.{transfer}
+use Rattle.job_text.proofs.Common.{◌+◌, ◌∷◌, [], ◌++◌, ap, ◌∙◌, refl, transfer}
 use Rattle.job_text.proofs.BigLemmas.{one_more}
 use Rattle.job_text.proofs.big.put_begins.Goals as goal
 

@@ -1,6 +1,4 @@
-use Rattle.std.proofs.Common.{◌≡◌, ◌++◌, map}
-use Rattle.std.specs.List.{range_with_len}
-use Rattle.job_text.specs.Big.{transfer}
+use Rattle.job_text.proofs.Common.{◌≡◌, ◌++◌, map, range_with_len, transfer}
 use Rattle.job_text.proofs.big.put_begins.Given as goal
 
 abbrev pub invariant-loop-place : goal.invariant-loop-place

@@ -1,5 +1,4 @@
-use Rattle.std.proofs.Common.{◌+◌, refl}
-use Rattle.desk.specs.declared.event.Event.TheVariants.{Turn}
+use Rattle.job_text.proofs.Common.{◌+◌, refl, Turn}
 use Rattle.job_text.proofs.BigLemmas.{one_more}
 use Rattle.job_text.proofs.big.put_turns.Goals as goal
 

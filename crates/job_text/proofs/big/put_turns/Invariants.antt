@@ -1,5 +1,4 @@
-use Rattle.std.proofs.Common.{◌≡◌, ◌++◌}
-use Rattle.job_text.specs.Big.{turns_of}
+use Rattle.job_text.proofs.Common.{◌≡◌, ◌++◌, turns_of}
 use Rattle.job_text.proofs.big.put_turns.Given as goal
 
 abbrev pub invariant-loop-place : goal.invariant-loop-place

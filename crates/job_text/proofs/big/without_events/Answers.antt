@@ -1,6 +1,4 @@
-use Rattle.std.proofs.Common.{ap, sym, ◌∙◌, subst}
-use Rattle.job_text.specs.Grammar.{job_of}
-use Rattle.job_text.specs.JobAnswers.{IsJobFaultOf}
+use Rattle.job_text.proofs.Common.{ap, sym, ◌∙◌, subst, job_of, IsJobFaultOf}
 use Rattle.job_text.proofs.BigSources.{never_faulty, sources_told}
 use Rattle.job_text.proofs.big.without_events.Goals as goal
 

@@ -1,8 +1,4 @@
-use Rattle.std.proofs.Common.{◌+◌, arith, ap, length, sum_by}
-use Rattle.job_text.specs.Reading.{Reading}
-use Rattle.job_text.specs.Grammar.{read_from}
-use Rattle.asm_parse.specs.Text.{lines_of}
-use Rattle.job_text.specs.Reader.{reading_of}
+use Rattle.job_text.proofs.Common.{◌+◌, arith, ap, length, sum_by, Reading, read_from, lines_of, reading_of}
 use Rattle.job_text.proofs.GrammarLemmas.{last_left, line_faulty, line_more}
 use Rattle.job_text.proofs.BackLemmas.{answer_ready}
 use Rattle.job_text.proofs.grammar.read_job.Goals as goal

@@ -1,7 +1,4 @@
-use Rattle.std.proofs.Common.{◌≡◌, ◌+◌, ◌≤◌, length}
-use Rattle.asm_parse.specs.Text.{lines_of}
-use Rattle.job_text.specs.Grammar.{job_of, read_from}
-use Rattle.job_text.specs.Reader.{held, reading_of}
+use Rattle.job_text.proofs.Common.{◌≡◌, ◌+◌, ◌≤◌, length, lines_of, job_of, read_from, held, reading_of}
 use Rattle.job_text.proofs.grammar.read_job.Given as goal
 
 abbrev pub invariant-loop-line : goal.invariant-loop-line

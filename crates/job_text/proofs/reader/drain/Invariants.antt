@@ -1,5 +1,4 @@
-use Rattle.std.proofs.Common.{◌≡◌, ◌++◌}
-use Rattle.job_text.specs.Reading.{rounds_of}
+use Rattle.job_text.proofs.Common.{◌≡◌, ◌++◌, rounds_of}
 use Rattle.job_text.proofs.reader.drain.Given as goal
 
 abbrev pub invariant-loop-round : goal.invariant-loop-round

@@ -1,5 +1,4 @@
-use Rattle.std.proofs.Common.{sym, ◌∙◌}
-use Rattle.std.specs.Str.{bytes_eq}
+use Rattle.job_text.proofs.Common.{sym, ◌∙◌, bytes_eq}
 use Rattle.asm_parse.proofs.OperandLemmas.{position_mapped}
 use Rattle.job_text.proofs.reader.place_of.Goals as goal
 

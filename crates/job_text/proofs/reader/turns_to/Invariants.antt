@@ -1,5 +1,4 @@
-use Rattle.std.proofs.Common.{◌≡◌, ◌++◌}
-use Rattle.job_text.specs.Reading.{turns_to}
+use Rattle.job_text.proofs.Common.{◌≡◌, ◌++◌, turns_to}
 use Rattle.job_text.proofs.reader.turns_to.Given as goal
 
 abbrev pub invariant-loop-before : goal.invariant-loop-before

@@ -1,5 +1,4 @@
-use Rattle.std.proofs.Common.{◌≡◌, ℕ, ◌∷◌, ◌++◌, take, decimal}
-use Rattle.std.specs.List.{flat_map}
+use Rattle.job_text.proofs.Common.{◌≡◌, ℕ, ◌∷◌, ◌++◌, take, decimal, flat_map}
 use Rattle.job_text.proofs.writer.put_begin.Given as goal
 
 abbrev pub invariant-loop-arg : goal.invariant-loop-arg

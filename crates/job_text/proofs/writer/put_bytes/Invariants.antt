@@ -1,6 +1,4 @@
-use Rattle.std.proofs.Common.{◌≡◌, ◌++◌, codes, map, take}
-use Rattle.std.specs.List.{flat_map}
-use Rattle.job_text.specs.Written.{line_text, number_line}
+use Rattle.job_text.proofs.Common.{◌≡◌, ◌++◌, codes, map, take, flat_map, line_text, number_line}
 use Rattle.job_text.proofs.writer.put_bytes.Given as goal
 
 abbrev pub invariant-loop-byte : goal.invariant-loop-byte

@@ -1,6 +1,4 @@
-use Rattle.std.proofs.Common.{◌≡◌, ◌++◌, map, take}
-use Rattle.std.specs.List.{flat_map}
-use Rattle.job_text.specs.Written.{event_line, line_text}
+use Rattle.job_text.proofs.Common.{◌≡◌, ◌++◌, map, take, flat_map, event_line, line_text}
 use Rattle.job_text.proofs.writer.put_events.Given as goal
 
 abbrev pub invariant-loop-event : goal.invariant-loop-event

@@ -1,6 +1,4 @@
-use Rattle.std.proofs.Common.{◌≡◌, ◌++◌, length}
-use Rattle.std.specs.List.{flat_map}
-use Rattle.job_text.specs.Written.{image_lines, line_text}
+use Rattle.job_text.proofs.Common.{◌≡◌, ◌++◌, length, flat_map, image_lines, line_text}
 use Rattle.job_text.proofs.writer.put_image.Given as goal
 
 abbrev pub invariant-loop-left : goal.invariant-loop-left

@@ -1,7 +1,4 @@
-use Rattle.std.proofs.Common.{◌≡◌, ◌++◌, length, map, take}
-use Rattle.std.specs.List.{All, flat_map, zip}
-use Rattle.romp_asm.specs.Layout.{parts_of}
-use Rattle.job_text.specs.Written.{AreBytes, line_text, program_lines}
+use Rattle.job_text.proofs.Common.{◌≡◌, ◌++◌, length, map, take, All, flat_map, zip, parts_of, AreBytes, line_text, program_lines}
 use Rattle.job_text.proofs.writer.put_programs.Given as goal
 
 abbrev pub invariant-loop-name : goal.invariant-loop-name

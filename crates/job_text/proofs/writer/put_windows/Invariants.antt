@@ -1,6 +1,4 @@
-use Rattle.std.proofs.Common.{◌≡◌, ◌+◌, ◌++◌, drop}
-use Rattle.std.specs.List.{flat_map}
-use Rattle.job_text.specs.Written.{line_text, window_lines}
+use Rattle.job_text.proofs.Common.{◌≡◌, ◌+◌, ◌++◌, drop, flat_map, line_text, window_lines}
 use Rattle.job_text.proofs.writer.put_windows.Given as goal
 
 abbrev pub invariant-loop-window : goal.invariant-loop-window

@@ -1,6 +1,4 @@
-use Rattle.std.proofs.Common.{◌≡◌, ℕ, ◌<◌, ◌^◌, List, ◌++◌, length, codes, ap, sym, subst, ◌∙◌}
-use Rattle.job_text.specs.Grammar.{content_of, job_of}
-use Rattle.job_text.specs.Written.{line_text, number_line, written}
+use Rattle.job_text.proofs.Common.{◌≡◌, ℕ, ◌<◌, ◌^◌, List, ◌++◌, length, codes, ap, sym, subst, ◌∙◌, content_of, job_of, line_text, number_line, written}
 use Rattle.job_text.proofs.BackLemmas.{read_back, short_back}
 use Rattle.job_text.proofs.PutLemmas.{job_put}
 use Rattle.job_text.proofs.writer.write_job.Goals.{In_ok-put_word_line-2}

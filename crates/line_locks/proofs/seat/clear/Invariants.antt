@@ -1,6 +1,5 @@
+use Rattle.line_locks.proofs.Common.{has, nothing, of_page}
 use Rattle.std.proofs.Common.{◌≡◌, true, false, ℕ, length, take}
-use Rattle.lock_rules.specs.Sets.{has}
-use Rattle.line_locks.specs.Held.{nothing, of_page}
 use Rattle.line_locks.proofs.seat.clear.Given as goal
 
 -- nothing is held of those that were looked at

@@ -1,8 +1,5 @@
+use Rattle.line_locks.proofs.Common.{if◌then◌else◌, Result, Ok, Err, is_ok, IsOk, insert, IsPermutation, Ascend}
 use Rattle.std.proofs.Common.{◌≡◌, ◌<◌, ◌≤◌, ℕ, List, ◌∷◌, [], ◌++◌, Bool, length, sym, ap, subst, arith, get_or}
-use Rattle.std.specs.Prelude.{if◌then◌else◌, Result, Ok, Err, is_ok, IsOk}
-use Rattle.std.specs.List.{insert}
-use Rattle.std.specs.List.Sorted.{IsPermutation}
-use Rattle.line_locks.specs.Counted.{Ascend}
 use Rattle.line_locks.proofs.OrderLemmas.{ascend-insert, insert-moves}
 use Rattle.line_locks.proofs.seat.list_if.Goals as goal
 

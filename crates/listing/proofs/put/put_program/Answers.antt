@@ -1,8 +1,4 @@
-use Rattle.std.proofs.Common.{◌≡◌, ◌+◌, ℕ, List, length, ◌++◌, rules, ap, subst, ◌∙◌}
-use Rattle.std.specs.Prelude.{count_by, is_some}
-use Rattle.std.specs.Int.{div_ceil}
-use Rattle.listing.specs.Puts.{PutsTimes}
-use Rattle.listing.specs.Listing.{program_line, window_lines, row_lines}
+use Rattle.listing.proofs.Common.{◌≡◌, ◌+◌, ℕ, List, length, ◌++◌, rules, ap, subst, ◌∙◌, count_by, is_some, div_ceil, PutsTimes, program_line, window_lines, row_lines}
 use Rattle.listing.proofs.PutsLemmas.{done, puts_on, puts_same, puts_stop, times_on}
 use Rattle.listing.proofs.put.put_program.Goals as goal
 

@@ -1,10 +1,4 @@
-use Rattle.std.proofs.Common.{◌≡◌, ℕ, ◌+◌, ◌*◌, ◌<◌, List, length, get_or, take, drop, rules, arith, ap, subst, ◌∙◌}
-use Rattle.std.specs.Int.{div_ceil}
-use Rattle.std.specs.List.{flat_map, range_with_len}
-use Rattle.std.proofs.lemmas.List.{take_all}
-use Rattle.std.proofs.lemmas.List.FromFn.{get_or-range_with_len, length-range_with_len}
-use Rattle.listing.specs.Listing.{row_line}
-use Rattle.listing.specs.Puts.{Puts, PutsTimes}
+use Rattle.listing.proofs.Common.{◌≡◌, ℕ, ◌+◌, ◌*◌, ◌<◌, List, length, get_or, take, drop, rules, arith, ap, subst, ◌∙◌, div_ceil, flat_map, range_with_len, take_all, get_or-range_with_len, length-range_with_len, row_line, Puts, PutsTimes}
 use Rattle.listing.proofs.PutsLemmas.{done, puts_more, puts_no_more, times_on}
 use Rattle.listing.proofs.put.put_rows_from.Goals as goal
 

@@ -1,8 +1,4 @@
-use Rattle.std.proofs.Common.{◌+◌, ◌*◌, length, take, drop}
-use Rattle.std.specs.Int.{div_ceil}
-use Rattle.std.specs.List.{flat_map, range_with_len}
-use Rattle.listing.specs.Listing.{row_line}
-use Rattle.listing.specs.Puts.{Puts, PutsTimes}
+use Rattle.listing.proofs.Common.{◌+◌, ◌*◌, length, take, drop, div_ceil, flat_map, range_with_len, row_line, Puts, PutsTimes}
 use Rattle.listing.proofs.PutsLemmas.{done}
 use Rattle.listing.proofs.put.put_rows_from.Given as goal
 

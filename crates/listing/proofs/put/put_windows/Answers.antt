@@ -1,12 +1,6 @@
-use Rattle.std.proofs.Common.{◌≡◌, ℕ, ◌+◌, ◌<◌, List, [], ◌∷◌, length, take, get_or, rules, arith, refl, sym, ap, subst, ◌∙◌}
-use Rattle.std.specs.Prelude.{Option, None, Some, count_by, is_some}
-use Rattle.std.specs.List.{flat_map, enumerate_from}
-use Rattle.std.proofs.lemmas.List.{take_all}
+use Rattle.listing.proofs.Common.{◌≡◌, ℕ, ◌+◌, ◌<◌, List, [], ◌∷◌, length, take, get_or, rules, arith, refl, sym, ap, subst, ◌∙◌, Option, None, Some, count_by, is_some, flat_map, enumerate_from, take_all, get_or-enumerate_from, length-enumerate_from, place_line, Puts, PutsTimes}
 use Rattle.std.proofs.lemmas.List.Sums.{count_by_more_no, count_by_more_yes}
-use Rattle.std.proofs.lemmas.List.FromFn.{get_or-enumerate_from, length-enumerate_from}
 use Rattle.flat_machine.specs.declared.machine.Window.{Window}
-use Rattle.listing.specs.Listing.{place_line}
-use Rattle.listing.specs.Puts.{Puts, PutsTimes}
 use Rattle.listing.proofs.PutsLemmas.{done, puts_more, puts_no_more, times_on}
 use Rattle.listing.proofs.put.put_windows.Goals as goal
 

@@ -1,8 +1,4 @@
-use Rattle.std.proofs.Common.{take}
-use Rattle.std.specs.Prelude.{count_by, is_some}
-use Rattle.std.specs.List.{flat_map, enumerate_from}
-use Rattle.listing.specs.Listing.{place_line}
-use Rattle.listing.specs.Puts.{Puts, PutsTimes}
+use Rattle.listing.proofs.Common.{take, count_by, is_some, flat_map, enumerate_from, place_line, Puts, PutsTimes}
 use Rattle.listing.proofs.PutsLemmas.{done}
 use Rattle.listing.proofs.put.put_windows.Given as goal
 

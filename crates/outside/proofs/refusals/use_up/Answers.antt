@@ -1,5 +1,4 @@
-use Rattle.std.proofs.Common.{◌≡◌, ◌∙◌, refl}
-use Rattle.std.specs.Prelude.{not}
+use Rattle.outside.proofs.Common.{◌≡◌, ◌∙◌, refl, not}
 use Rattle.outside.specs.Refusals as spec
 use Rattle.outside.proofs.Retained.{retained}
 use Rattle.outside.proofs.refusals.use_up.Goals as goal

@@ -1,12 +1,5 @@
-use Rattle.std.proofs.Common.{◌≡◌, ◌+◌, List, ℕ, take, drop, ap, sym, subst, ◌∙◌, arith, IsSome}
+use Rattle.redo_journal.proofs.Common.{◌≡◌, ◌+◌, List, ℕ, take, drop, ap, sym, subst, ◌∙◌, arith, IsSome, drop-drop, big_number, big_from-take, line_bytes, bytes_at, held_of, read_is}
 use Rattle.std.specs.Prelude.{Option, [], unwrap_or, IfSome}
-use Rattle.std.proofs.lemmas.List.{drop-drop}
-use Rattle.byteorder.specs.Endian.{big_number}
-use Rattle.byteorder.specs.Numbers.{big_from-take}
-use Rattle.line_geometry.specs.Segments.{line_bytes}
-use Rattle.outside.specs.Bytes.{bytes_at}
-use Rattle.outside.specs.Runs.{held_of}
-use Rattle.store_format.proofs.Padded.{read_is}
 use Rattle.redo_journal.proofs.find.read_line.Goals as goal
 
 pub returns-clause-read : goal.returns-clause-read

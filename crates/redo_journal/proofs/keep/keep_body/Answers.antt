@@ -1,11 +1,6 @@
-use Rattle.std.proofs.Common.{◌≡◌, List, ℕ, ◌+◌, ◌≤◌, ◌∷◌, [], length, sym, subst, ap, ◌∙◌}
-use Rattle.outside.specs.Bytes.{Torn, written}
-use Rattle.outside.specs.Runs.{held_of, Leaves}
+use Rattle.redo_journal.proofs.Common.{◌≡◌, List, ℕ, ◌+◌, ◌≤◌, ◌∷◌, [], length, sym, subst, ap, ◌∙◌, Torn, written, held_of, Leaves, told_some, leaves_on, IsSafe, IsShut, is_open}
 use Rattle.outside.specs.Durable.{IsWritten}
-use Rattle.outside.proofs.Durable.{told_some}
-use Rattle.outside.proofs.Runs.{leaves_on}
 use Rattle.redo_journal.proofs.WriteLemmas.{writes_on}
-use Rattle.redo_journal.specs.Gate.{IsSafe, IsShut, is_open}
 use Rattle.redo_journal.proofs.GateLemmas.{safe_behind, safe_at, opened, opened_torn, held_is}
 use Rattle.redo_journal.proofs.keep.keep_body.Given.{Over}
 use Rattle.redo_journal.proofs.keep.keep_body.Goals as goal

@@ -1,8 +1,4 @@
-use Rattle.std.proofs.Common.{List, ℕ, length}
-use Rattle.outside.specs.Bytes.{Torn}
-use Rattle.outside.specs.Runs.{held_of}
-use Rattle.outside.proofs.Durable.{torn_first}
-use Rattle.outside.proofs.Runs.{asks_one, leaves_same}
+use Rattle.redo_journal.proofs.Common.{List, ℕ, length, Torn, held_of, torn_first, asks_one, leaves_same}
 use Rattle.redo_journal.proofs.WriteLemmas.{writes_on, asks_only}
 use Rattle.redo_journal.proofs.keep.write_sure.Goals as goal
 

@@ -1,14 +1,5 @@
-use Rattle.std.proofs.Common.{◌≡◌, ℕ, ◌+◌, ◌%◌, ◌^◌, List, [], length, drop, sym, subst, ◌∙◌, ap, arith, refl, IsSome}
-use Rattle.std.specs.Prelude.{Option, unwrap_or}
-use Rattle.byteorder.specs.Endian.{big_number}
-use Rattle.byteorder.specs.Numbers.{big_from-take}
-use Rattle.store_format.specs.Header.{number_at}
+use Rattle.redo_journal.proofs.Common.{◌≡◌, ℕ, ◌+◌, ◌%◌, ◌^◌, List, [], length, drop, sym, subst, ◌∙◌, ap, arith, refl, IsSome, Option, unwrap_or, big_number, big_from-take, number_at, gate_at, bank_held, held_of, AreWithin, read_is, asks_one, asks_on}
 use Rattle.store_format.specs.Bank as format
-use Rattle.store_format.specs.Bank.{gate_at, bank_held}
-use Rattle.outside.specs.Runs.{held_of}
-use Rattle.redo_journal.specs.Noted.{AreWithin}
-use Rattle.store_format.proofs.Padded.{read_is}
-use Rattle.outside.proofs.Runs.{asks_one, asks_on}
 use Rattle.redo_journal.proofs.ReadLemmas.{reads_within}
 use Rattle.redo_journal.proofs.BankLemmas.{read_gate, starts, read_closed, read_wrong, read_sound, area_to}
 use Rattle.redo_journal.proofs.read.read_bank.Given.{Over}

@@ -1,6 +1,4 @@
-use Rattle.std.proofs.Common.{◌≡◌, ◌+◌, ◌*◌, ◌<◌, ◌≤◌, length, IsSome}
-use Rattle.outside.specs.Runs.{OnlyAsks, held_of}
-use Rattle.redo_journal.specs.Noted.{AreWithin}
+use Rattle.redo_journal.proofs.Common.{◌≡◌, ◌+◌, ◌*◌, ◌<◌, ◌≤◌, length, IsSome, OnlyAsks, held_of, AreWithin}
 use Rattle.redo_journal.proofs.BankLemmas.{Reaches}
 use Rattle.redo_journal.proofs.read.read_bank.Given as goal
 

@@ -1,13 +1,5 @@
-use Rattle.std.proofs.Common.{◌≡◌, ℕ, ◌+◌, ◌*◌, List, [], length, drop, sym, subst, ◌∙◌, ap, arith, IsSome}
+use Rattle.redo_journal.proofs.Common.{◌≡◌, ℕ, ◌+◌, ◌*◌, List, [], length, drop, sym, subst, ◌∙◌, ap, arith, IsSome, entry_bytes, RecordLine, lines_from, wrong_line, gate_if, lined_gate, bytes_at, held_of, OnlyAsks, noted, read_is, asks_on, asks_one}
 use Rattle.std.specs.Prelude.{Option, None, Some, unwrap_or, slice_index, ◌==◌}
-use Rattle.line_geometry.specs.declared.directory.PageSize.{PageSize}
-use Rattle.store_format.specs.Header.{entry_bytes}
-use Rattle.store_format.specs.Bank.{RecordLine, lines_from, wrong_line, gate_if, lined_gate}
-use Rattle.outside.specs.Bytes.{bytes_at}
-use Rattle.outside.specs.Runs.{held_of, OnlyAsks}
-use Rattle.redo_journal.specs.Noted.{noted}
-use Rattle.store_format.proofs.Padded.{read_is}
-use Rattle.outside.proofs.Runs.{asks_on, asks_one}
 use Rattle.redo_journal.proofs.ReadLemmas.{first_read, gate_read, gate_misnumbered}
 use Rattle.redo_journal.proofs.read.read_gate.Given.{Over}
 use Rattle.redo_journal.proofs.read.read_gate.Goals as goal

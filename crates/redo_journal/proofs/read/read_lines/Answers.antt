@@ -1,19 +1,6 @@
-use Rattle.std.proofs.Common.{◌≡◌, ℕ, ◌+◌, ◌*◌, ◌≤◌, List, [], ◌∷◌, length, sym, subst, ◌∙◌, ap, arith, IsSome, false}
-use Rattle.std.specs.Option.{ForSome}
-use Rattle.std.specs.Prelude.{Option, Some, unwrap_or, nat_le, nat_lt, ◌&&◌}
-use Rattle.owned_list.specs.Overlay.{overlaid}
-use Rattle.line_geometry.specs.declared.directory.PageSize.{PageSize}
-use Rattle.store_format.specs.Header.{entry_bytes}
-use Rattle.store_format.specs.Bank.{wrong_line}
-use Rattle.outside.specs.Bytes.{bytes_at}
-use Rattle.outside.specs.Runs.{OnlyAsks, held_of}
-use Rattle.redo_journal.specs.Noted.{noted, AreWithin}
-use Rattle.store_format.proofs.Padded.{read_is}
-use Rattle.outside.proofs.Runs.{asks_on, asks_one}
+use Rattle.redo_journal.proofs.Common.{◌≡◌, ℕ, ◌+◌, ◌*◌, ◌≤◌, List, [], ◌∷◌, length, sym, subst, ◌∙◌, ap, arith, IsSome, false, ForSome, Option, Some, unwrap_or, nat_le, nat_lt, ◌&&◌, overlaid, entry_bytes, wrong_line, bytes_at, OnlyAsks, held_of, noted, AreWithin, read_is, asks_on, asks_one, in_order, entries-below}
 use Rattle.redo_journal.proofs.WithinLemmas.{within-overlaid}
-use Rattle.store_format.proofs.Lines.{in_order}
 use Rattle.redo_journal.proofs.ReadLemmas.{lines_after, wrong_here, right_here, noted_here, is_low, is_high, reads_within}
-use Rattle.store_format.proofs.Widths.{entries-below}
 use Rattle.redo_journal.proofs.read.read_lines.Given.{Over}
 use Rattle.redo_journal.proofs.read.read_lines.Goals as goal
 use Rattle.redo_journal.proofs.read.read_lines.Goals.{After-read_u32-line, then-from-least-via-then-from-least, then-from-least-via-else-from-least+then-len-line}

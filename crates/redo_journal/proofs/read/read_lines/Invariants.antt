@@ -1,9 +1,4 @@
-use Rattle.std.proofs.Common.{◌≡◌, ℕ, ◌+◌, ◌*◌, ◌≤◌, length, drop, IsSome}
-use Rattle.line_geometry.specs.declared.directory.PageSize.{PageSize}
-use Rattle.store_format.specs.Header.{entry_bytes}
-use Rattle.store_format.specs.Bank.{lines_from, wrong_line}
-use Rattle.outside.specs.Runs.{OnlyAsks, held_of}
-use Rattle.redo_journal.specs.Noted.{noted, AreWithin}
+use Rattle.redo_journal.proofs.Common.{◌≡◌, ℕ, ◌+◌, ◌*◌, ◌≤◌, length, drop, IsSome, entry_bytes, lines_from, wrong_line, OnlyAsks, held_of, noted, AreWithin}
 use Rattle.redo_journal.proofs.ReadLemmas.{lines_after}
 use Rattle.redo_journal.proofs.read.read_lines.Given as goal
 

@@ -1,5 +1,4 @@
-use Rattle.std.proofs.Common.{◌≡◌, ℕ, length, take, replicate}
-use Rattle.std.specs.Prelude.{Option, None}
+use Rattle.redo_journal.proofs.Common.{◌≡◌, ℕ, length, take, replicate, Option, None}
 use Rattle.redo_journal.proofs.record.forget.Given as goal
 
 abbrev pub invariant-loop-line : goal.invariant-loop-line

@@ -1,6 +1,4 @@
-use Rattle.std.proofs.Common.{ℕ, List, [], ◌∷◌, codes, decimal, refl}
-use Rattle.byteorder.specs.Endian.{big_bytes}
-use Rattle.hex.specs.Hex.{encode_lower}
+use Rattle.report_text.proofs.Common.{ℕ, List, [], ◌∷◌, codes, decimal, refl, big_bytes, encode_lower}
 use Rattle.report_text.proofs.guess.check.Goals as goal
 
 pub returns : goal.returns

@@ -1,5 +1,4 @@
-use Rattle.std.proofs.Common.{ℕ, List, [], ◌∷◌, codes, decimal, refl}
-use Rattle.desk.specs.Lines.{printed}
+use Rattle.report_text.proofs.Common.{ℕ, List, [], ◌∷◌, codes, decimal, refl, printed}
 use Rattle.report_text.proofs.guess.commit.Goals as goal
 
 pub returns : goal.returns

@@ -1,5 +1,4 @@
-use Rattle.std.proofs.Common.{ap}
-use Rattle.std.proofs.lemmas.List.Elements.{recursion_from_All}
+use Rattle.report_text.proofs.Common.{ap, recursion_from_All}
 use Rattle.desk.specs.Lines as report
 use Rattle.report_text.proofs.guess.cycle.Goals as goal
 

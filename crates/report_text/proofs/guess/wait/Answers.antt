@@ -1,5 +1,4 @@
-use Rattle.std.proofs.Common.{map, ◌∷◌, codes, decimal, refl}
-use Rattle.std.proofs.lemmas.List.Elements.{recursion_from_All}
+use Rattle.report_text.proofs.Common.{map, ◌∷◌, codes, decimal, refl, recursion_from_All}
 use Rattle.report_text.proofs.guess.wait.Goals as goal
 
 pub returns : goal.returns

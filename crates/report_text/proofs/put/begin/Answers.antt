@@ -1,8 +1,6 @@
-use Rattle.std.proofs.Common.{ℕ, List, [], ◌∷◌, ◌++◌, ap, sym, ◌∙◌, codes}
+use Rattle.report_text.proofs.Common.{ℕ, List, [], ◌∷◌, ◌++◌, ap, sym, ◌∙◌, codes, line_text, line_told}
 use Rattle.std.specs.Prelude.{decimal}
-use Rattle.desk.specs.Lines.{line_text}
 use Rattle.report_text.specs.declared.line.Line.{Line}
-use Rattle.report_text.specs.Line.{line_told}
 use Rattle.report_text.proofs.Listed.{joined, wait_joined}
 use Rattle.report_text.proofs.put.begin.Goals as goal
 

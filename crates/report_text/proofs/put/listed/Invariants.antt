@@ -1,6 +1,5 @@
-use Rattle.std.proofs.Common.{◌≡◌, ◌+◌, ◌*◌, ◌≤◌, ◌∷◌, ◌++◌, length, take}
+use Rattle.report_text.proofs.Common.{◌≡◌, ◌+◌, ◌*◌, ◌≤◌, ◌∷◌, ◌++◌, length, take, flat_map}
 use Rattle.std.specs.Prelude.{decimal}
-use Rattle.std.specs.List.{flat_map}
 use Rattle.report_text.proofs.put.listed.Given as goal
 
 -- so many numbers are listed

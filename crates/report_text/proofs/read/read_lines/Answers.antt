@@ -1,10 +1,5 @@
-use Rattle.std.proofs.Common.{◌∙◌, append-nil, length-append, arith}
-use Rattle.std.specs.List.{flat_map}
-use Rattle.std.proofs.lemmas.List.Elements.{All-push}
-use Rattle.desk.specs.Lines.{line_text}
-use Rattle.report_text.specs.ReadLines.{IsWhole, owned_told}
+use Rattle.report_text.proofs.Common.{◌∙◌, append-nil, length-append, arith, flat_map, All-push, line_text, IsWhole, owned_told, empty_is}
 use Rattle.report_text.proofs.LineLemmas.{bytes_more, fewer}
-use Rattle.text_line.proofs.Bytes.{empty_is}
 use Rattle.report_text.proofs.read.read_lines.Goals as goal
 
 pub loop-left-preserved : goal.loop-left-preserved

@@ -1,7 +1,4 @@
-use Rattle.std.proofs.Common.{◌≡◌, ◌+◌, ◌≤◌, ◌++◌, length}
-use Rattle.std.specs.List.{All, flat_map}
-use Rattle.desk.specs.Lines.{line_text}
-use Rattle.report_text.specs.ReadLines.{IsWhole, owned_told}
+use Rattle.report_text.proofs.Common.{◌≡◌, ◌+◌, ◌≤◌, ◌++◌, length, All, flat_map, line_text, IsWhole, owned_told}
 use Rattle.report_text.proofs.read.read_lines.Given as goal
 
 abbrev pub invariant-loop-left : goal.invariant-loop-left

@@ -1,5 +1,4 @@
-use Rattle.std.proofs.Common.{◌≡◌, ℕ, ◌^◌, ◌<◌, List, length, map, decimal}
-use Rattle.std.specs.List.{AllByRecursion, join_with_byte}
+use Rattle.report_text.proofs.Common.{◌≡◌, ℕ, ◌^◌, ◌<◌, List, length, map, decimal, AllByRecursion, join_with_byte}
 use Rattle.report_text.proofs.PartLemmas.{Left}
 use Rattle.report_text.proofs.word.all_small.Given as goal
 

@@ -1,8 +1,6 @@
-use Rattle.std.proofs.Common.{◌≡◌, ◌≢◌, List, [], ℕ, ◌<◌, ◌∙◌, inl, inr}
-use Rattle.std.specs.List.{All}
+use Rattle.report_text.proofs.Common.{◌≡◌, ◌≢◌, List, [], ℕ, ◌<◌, ◌∙◌, inl, inr, All, printed}
 use Rattle.std.proofs.lemmas.Result.{IfOk-weaker}
 use Rattle.hex.specs.declared.error.FromHexError.TheVariants.{OutOfMemory}
-use Rattle.desk.specs.Lines.{printed}
 use Rattle.report_text.proofs.PartLemmas.{decoded, undecoded}
 use Rattle.report_text.proofs.word.bytes.Goals as goal
 

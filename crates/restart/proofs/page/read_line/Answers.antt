@@ -1,10 +1,4 @@
-use Rattle.std.proofs.Common.{◌≡◌, length, drop, ◌∙◌, ap, arith}
-use Rattle.std.proofs.lemmas.List.{length-take-le, length-drop}
-use Rattle.outside.proofs.Durable.{told_some}
-use Rattle.outside.specs.Bytes.{bytes_at}
-use Rattle.outside.specs.Runs.{held_of}
-use Rattle.store_format.proofs.Padded.{read_is}
-use Rattle.checkpoint.proofs.StepLemmas.{map_ok}
+use Rattle.restart.proofs.Common.{◌≡◌, length, drop, ◌∙◌, ap, arith, length-take-le, length-drop, told_some, bytes_at, held_of, read_is, map_ok}
 use Rattle.restart.proofs.PageLemmas.{spliced}
 use Rattle.restart.proofs.page.read_line.Goals as goal
 

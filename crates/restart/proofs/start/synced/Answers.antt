@@ -1,5 +1,4 @@
-use Rattle.outside.proofs.Runs.{asks_one}
-use Rattle.checkpoint.proofs.StepLemmas.{synced_sure, map_ok}
+use Rattle.restart.proofs.Common.{asks_one, synced_sure, map_ok}
 use Rattle.restart.proofs.start.synced.Goals as goal
 
 pub returns-clause-sure : goal.returns-clause-sure

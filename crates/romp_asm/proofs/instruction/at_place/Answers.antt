@@ -1,5 +1,4 @@
-use Rattle.std.proofs.Common.{refl, sym, ap, ◌∙◌, arith}
-use Rattle.romp_table.specs.declared.table.Use.{Use}
+use Rattle.romp_asm.proofs.Common.{refl, sym, ap, ◌∙◌, arith, Use}
 use Rattle.romp_asm.proofs.LegalLemmas.{legal_S, legal_D, shape_of, scale_some}
 use Rattle.romp_asm.proofs.instruction.at_place.Goals as goal
 

@@ -1,7 +1,4 @@
-use Rattle.std.proofs.Common.{ap, arith, w8, w32}
-use Rattle.std.proofs.lemmas.Bool.{le-leb}
-use Rattle.std.proofs.lemmas.Int.{to_z-of_z}
-use Rattle.romp_table.specs.declared.table.Use.{Use}
+use Rattle.romp_asm.proofs.Common.{ap, arith, w8, w32, le-leb, to_z-of_z, Use}
 use Rattle.romp_asm.proofs.LegalLemmas.{legal_J, legal_BI, shape_of}
 use Rattle.romp_asm.proofs.instruction.conditional.Goals as goal
 

@@ -1,6 +1,4 @@
-use Rattle.std.proofs.Common.{ap, arith}
-use Rattle.std.proofs.lemmas.Bool.{le-leb}
-use Rattle.romp_table.specs.declared.table.Use.{Use}
+use Rattle.romp_asm.proofs.Common.{ap, arith, le-leb, Use}
 use Rattle.romp_asm.proofs.LegalLemmas.{legal_R, shape_of}
 use Rattle.romp_asm.proofs.instruction.to_register.Goals as goal
 

@@ -1,6 +1,4 @@
-use Rattle.std.proofs.Common.{refl, ap, arith}
-use Rattle.std.proofs.lemmas.Bool.{le-leb}
-use Rattle.romp_table.specs.declared.table.Use.{Use}
+use Rattle.romp_asm.proofs.Common.{refl, ap, arith, le-leb, Use}
 use Rattle.romp_asm.proofs.LegalLemmas.{legal_D, shape_of}
 use Rattle.romp_asm.proofs.instruction.trapping.Goals as goal
 

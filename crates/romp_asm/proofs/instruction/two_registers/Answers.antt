@@ -1,5 +1,4 @@
-use Rattle.std.proofs.Common.{refl, ap, arith}
-use Rattle.romp_table.specs.declared.table.Use.{Use}
+use Rattle.romp_asm.proofs.Common.{refl, ap, arith, Use}
 use Rattle.romp_asm.proofs.LegalLemmas.{legal_R, shape_of}
 use Rattle.romp_asm.proofs.instruction.two_registers.Goals as goal
 

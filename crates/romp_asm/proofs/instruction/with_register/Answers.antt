@@ -1,6 +1,4 @@
-use Rattle.std.proofs.Common.{refl, ap, arith, w32}
-use Rattle.std.proofs.lemmas.Int.{to_z-of_z}
-use Rattle.romp_table.specs.declared.table.Use.{Use}
+use Rattle.romp_asm.proofs.Common.{refl, ap, arith, w32, to_z-of_z, Use}
 use Rattle.romp_asm.proofs.LegalLemmas.{legal_BI, legal_R, legal_D, shape_of}
 use Rattle.romp_asm.proofs.instruction.with_register.Goals as goal
 

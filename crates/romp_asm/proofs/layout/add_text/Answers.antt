@@ -1,6 +1,4 @@
-use Rattle.std.proofs.Common.{◌≡◌, get_or, sym, ap, ◌∙◌}
-use Rattle.std.proofs.lemmas.Result.{err_from_is_err_and}
-use Rattle.asm_parse.specs.Kept.{stated}
+use Rattle.romp_asm.proofs.Common.{◌≡◌, get_or, sym, ap, ◌∙◌, err_from_is_err_and, stated}
 use Rattle.romp_asm.proofs.LayoutLemmas.{source_fault, source_laid, source_more, source_start}
 use Rattle.romp_asm.proofs.layout.add_text.Goals as goal
 

@@ -1,6 +1,4 @@
-use Rattle.std.proofs.Common.{◌++◌, List, take, drop}
-use Rattle.asm_parse.specs.declared.statement.Statement.{Statement}
-use Rattle.romp_asm.specs.Laid.{AreReadAs, LaidTo}
+use Rattle.romp_asm.proofs.Common.{◌++◌, List, take, drop, Statement, AreReadAs, LaidTo}
 use Rattle.romp_asm.proofs.layout.add_text.Given as goal
 
 abbrev pub invariant-loop-index : goal.invariant-loop-index

@@ -1,7 +1,4 @@
-use Rattle.std.proofs.Common.{List, [], ◌++◌, append-nil, refl, sym, subst}
-use Rattle.std.proofs.lemmas.Result.{err_from_is_err_and}
-use Rattle.asm_parse.specs.declared.statement.Statement.{Statement}
-use Rattle.romp_asm.specs.Laid.{LaidTo}
+use Rattle.romp_asm.proofs.Common.{List, [], ◌++◌, append-nil, refl, sym, subst, err_from_is_err_and, Statement, LaidTo}
 use Rattle.romp_asm.proofs.LayoutLemmas.{laid_all, laid_none, text_as_itself}
 use Rattle.romp_asm.proofs.layout.assemble.Goals as goal
 use Rattle.romp_asm.proofs.layout.assemble.Goals.{After-add_text}

@@ -1,11 +1,4 @@
-use Rattle.std.proofs.Common.{◌≡◌, ◌+◌, ℕ, List, [], ◌++◌, map, take, drop, get_or, arith, sym, subst, ◌∙◌}
-use Rattle.std.proofs.lemmas.Result.{err_from_is_err_and}
-use Rattle.std.proofs.lemmas.List.{get_or_default}
-use Rattle.asm_parse.specs.declared.statement.Statement.{Statement}
-use Rattle.romp_asm.specs.declared.value.Table.{Table}
-use Rattle.romp_asm.specs.Labels.{found_in, AreTables}
-use Rattle.romp_asm.specs.Laid.{LaidTo}
-use Rattle.romp_asm.specs.Sources.{joined_from, named}
+use Rattle.romp_asm.proofs.Common.{◌≡◌, ◌+◌, List, [], ◌++◌, map, take, drop, get_or, sym, subst, ◌∙◌, err_from_is_err_and, get_or_default, Statement, Table, found_in, AreTables, LaidTo, joined_from, named}
 use Rattle.romp_asm.proofs.LayoutLemmas.{laid_all, laid_none}
 use Rattle.romp_asm.proofs.SourcesLemmas.{alone_of, joined-all, joined-none, laid_to, left_from, reads_source}
 use Rattle.romp_asm.proofs.layout.assemble_sources.Goals as goal

@@ -1,7 +1,4 @@
-use Rattle.std.proofs.Common.{take, drop}
-use Rattle.romp_asm.specs.Labels.{found_in}
-use Rattle.romp_asm.specs.Laid.{LaidTo}
-use Rattle.romp_asm.specs.Sources.{joined_from}
+use Rattle.romp_asm.proofs.Common.{take, drop, found_in, LaidTo, joined_from}
 use Rattle.romp_asm.proofs.layout.assemble_sources.Given as goal
 
 abbrev pub invariant-loop-source : goal.invariant-loop-source

@@ -1,6 +1,4 @@
-use Rattle.std.proofs.Common.{◌≡◌, ◌≤◌, length, drop}
-use Rattle.romp_asm.specs.Labels.{addresses_in}
-use Rattle.romp_asm.specs.Value.{knowns_of}
+use Rattle.romp_asm.proofs.Common.{◌≡◌, ◌≤◌, length, drop, addresses_in, knowns_of}
 use Rattle.romp_asm.proofs.ValueLemmas.{knowns_behind}
 use Rattle.romp_asm.proofs.value.knowns_of.Given as goal
 

@@ -1,9 +1,4 @@
-use Rattle.std.proofs.Common.{◌≡◌, ℕ, ◌+◌, List, length, take, arith, refl, sym, ap, subst, ◌∙◌}
-use Rattle.std.proofs.lemmas.List.{take_all}
-use Rattle.asm_parse.specs.declared.statement.Statement.{Statement}
-use Rattle.romp_asm.specs.Labels.{place_from, AreAlone}
-use Rattle.romp_asm.specs.Size.{total}
-use Rattle.asm_parse.specs.Kept.{stated}
+use Rattle.romp_asm.proofs.Common.{◌≡◌, ℕ, ◌+◌, List, length, take, arith, sym, ap, subst, ◌∙◌, take_all, Statement, place_from, AreAlone, total, stated}
 use Rattle.romp_asm.proofs.AloneLemmas.{or_none, alone_more}
 use Rattle.romp_asm.proofs.ValueLemmas.{no_place, place_more, signed_same, total_more}
 use Rattle.romp_asm.proofs.value.labels_kept.Goals as goal

@@ -1,7 +1,5 @@
-use Rattle.std.proofs.Common.{◌≡◌, ◌+◌, ◌≤◌, ◌*◌, ◌^◌, ℕ, List, take}
-use Rattle.romp_asm.specs.Labels.{found_in, place_from, AreAlone}
+use Rattle.romp_asm.proofs.Common.{◌≡◌, ◌+◌, ◌≤◌, ◌*◌, ◌^◌, ℕ, List, take, found_in, place_from, AreAlone, total}
 use Rattle.std.specs.Prelude.{false}
-use Rattle.romp_asm.specs.Size.{total}
 use Rattle.romp_asm.proofs.value.labels_kept.Given as goal
 
 abbrev pub invariant-loop-index : goal.invariant-loop-index

@@ -1,7 +1,4 @@
-use Rattle.std.proofs.Common.{◌≡◌, get_or, arith, refl, sym, ap, ◌∙◌}
-use Rattle.asm_parse.specs.declared.statement.Statement.{Statement}
-use Rattle.asm_parse.specs.Kept.{stated}
-use Rattle.romp_asm.specs.Size.{size_of}
+use Rattle.romp_asm.proofs.Common.{◌≡◌, get_or, arith, refl, sym, ap, ◌∙◌, Statement, stated, size_of}
 use Rattle.romp_asm.proofs.AloneLemmas.{or_none, alone_more}
 use Rattle.romp_asm.proofs.ValueLemmas.{no_place, place_more, signed_same, total_more}
 use Rattle.romp_asm.proofs.value.labels_of.Goals as goal

@@ -1,10 +1,5 @@
-use Rattle.std.proofs.Common.{◌≡◌, ℕ, List, Bor, cond, Option, Some, is_some, sym, ap, ◌∙◌}
-use Rattle.std.specs.Option.{option_map}
-use Rattle.std.specs.Str.{bytes_eq}
+use Rattle.romp_asm.proofs.Common.{◌≡◌, ℕ, List, Bor, cond, Option, Some, is_some, sym, ap, ◌∙◌, option_map, bytes_eq, stated, Place, found_in}
 use Rattle.std.proofs.lemmas.Map.Text.{btree_map_updates_str}
-use Rattle.asm_parse.specs.Kept.{stated}
-use Rattle.romp_asm.specs.declared.value.Place.{Place}
-use Rattle.romp_asm.specs.Labels.{found_in}
 use Rattle.romp_asm.proofs.NoteLemmas.{noted_back, noted_label}
 use Rattle.romp_asm.proofs.value.note.Goals as goal
 

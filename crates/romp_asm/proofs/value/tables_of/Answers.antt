@@ -1,9 +1,4 @@
-use Rattle.std.proofs.Common.{◌≡◌, ◌+◌, ◌∷◌, [], ◌++◌, List, length, take, get_or, sum_by, sym, ap, subst, ◌∙◌, arith}
-use Rattle.std.proofs.lemmas.List.{take_more}
-use Rattle.std.proofs.lemmas.List.Sums.{sum_by-take-le, sum_by_push}
-use Rattle.asm_parse.specs.declared.statement.Statement.{Statement}
-use Rattle.romp_asm.specs.Labels.{AreTables, IsTable}
-use Rattle.romp_asm.specs.Size.{total}
+use Rattle.romp_asm.proofs.Common.{◌≡◌, ◌+◌, ◌∷◌, [], ◌++◌, List, length, take, sum_by, sym, ap, subst, ◌∙◌, arith, take_more, sum_by-take-le, sum_by_push, Statement, AreTables, IsTable, total}
 use Rattle.romp_asm.proofs.SourcesLemmas.{tables_more}
 use Rattle.romp_asm.proofs.value.tables_of.Goals as goal
 use Rattle.romp_asm.proofs.value.tables_of.Goals.{After-statements-item}

@@ -1,7 +1,4 @@
-use Rattle.std.proofs.Common.{◌≡◌, ◌≤◌, ◌*◌, ◌^◌, List, length, take, sum_by}
-use Rattle.asm_parse.specs.declared.statement.Statement.{Statement}
-use Rattle.romp_asm.specs.Labels.{AreTables}
-use Rattle.romp_asm.specs.Size.{total}
+use Rattle.romp_asm.proofs.Common.{◌≡◌, ◌≤◌, ◌*◌, ◌^◌, List, length, take, sum_by, Statement, AreTables, total}
 use Rattle.romp_asm.proofs.value.tables_of.Given as goal
 
 abbrev pub invariant-loop-statements : goal.invariant-loop-statements

@@ -1,17 +1,6 @@
-use Rattle.std.specs.Prelude.{◌==◌, find, option_map, cond}
-use Rattle.std.specs.Option.{option_or}
+use Rattle.romp_cpu.proofs.Common.{◌==◌, find, option_map, cond, option_or, length-map, nat_tests, fill_by_all, get_or-map, PageSize, SegmentRegister, register_at, register_of, register_with, registers_with, Layout, Program, register_of_window, registers_of_program}
 use Rattle.std.proofs.Common.{arith, ap, refl, sym, ◌∙◌, ◌≡◌, ◌≢◌, ℕ, zero, suc, ◌+◌, ◌<◌, Bool, true, false, List, [], ◌∷◌, ◌++◌, Option, Some, None, length, length-append, below_more, get_or}
-use Rattle.std.proofs.lemmas.List.{length-map}
-use Rattle.std.proofs.lemmas.Bool.Decides.{nat_tests}
 use Rattle.std.proofs.lemmas.List.Folds.{find-append}
-use Rattle.std.proofs.lemmas.List.FromFn.{fill_by_all}
-use Rattle.std.proofs.Math.ListN.{get_or-map}
-use Rattle.line_geometry.specs.declared.directory.PageSize.{PageSize}
-use Rattle.segment_regs.specs.declared.registers.SegmentRegister.{SegmentRegister}
-use Rattle.segment_regs.specs.Registers.{register_at, register_of, register_with, registers_with}
-use Rattle.line_geometry.specs.Directory.{Layout}
-use Rattle.flat_machine.specs.declared.machine.Program.{Program}
-use Rattle.romp_cpu.specs.Segments.{register_of_window, registers_of_program}
 use Rattle.romp_cpu.proofs.segments.registers_of.Goals as goal
 use Rattle.romp_cpu.proofs.segments.registers_of.Goals.{in-Some, in_default}
 

@@ -1,6 +1,5 @@
+use Rattle.romp_cpu.proofs.Common.{register_at, register_of_window}
 use Rattle.std.proofs.Common.{◌≡◌, ◌<◌, ◌≤◌, ℕ, suc, None, length, get_or}
-use Rattle.segment_regs.specs.Registers.{register_at}
-use Rattle.romp_cpu.specs.Segments.{register_of_window}
 use Rattle.romp_cpu.proofs.segments.registers_of.Given as goal
 
 -- the windows so far stand under their registers, and nothing stands under those behind

@@ -1,11 +1,4 @@
-use Rattle.std.proofs.Common.{◌≡◌, ◌+◌, ℕ, List, Bor, Some, None, is_some, arith, sym, ap, subst, ◌∙◌}
-use Rattle.std.specs.Prelude.{if◌then◌else◌}
-use Rattle.std.specs.Option.{option_map, option_or}
-use Rattle.std.specs.Str.{bytes_eq}
-use Rattle.romp_asm.specs.Labels.{found_in}
-use Rattle.romp_link.specs.Linked.{exported}
-use Rattle.asm_parse.specs.Kept.{stated}
-use Rattle.romp_link.specs.declared.exports.Exports.{Exports}
+use Rattle.romp_link.proofs.Common.{◌≡◌, ◌+◌, ℕ, List, Bor, Some, None, is_some, arith, sym, ap, subst, ◌∙◌, if◌then◌else◌, option_map, option_or, bytes_eq, found_in, exported, stated, Exports}
 use Rattle.romp_link.proofs.ExportLemmas.{AreSoFar, so_far_all, so_far_export, so_far_other, so_far_start}
 use Rattle.romp_link.proofs.exports.add_exports.Goals as goal
 use Rattle.romp_link.proofs.exports.add_exports.Goals.{in-Some+in_ok-add-in-Some, in-None}

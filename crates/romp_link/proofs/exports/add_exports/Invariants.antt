@@ -1,6 +1,4 @@
-use Rattle.std.proofs.Common.{◌≡◌, List, length}
-use Rattle.asm_parse.specs.declared.statement.Statement.{Statement}
-use Rattle.romp_link.specs.Exported.{AreExports}
+use Rattle.romp_link.proofs.Common.{◌≡◌, List, length, Statement, AreExports}
 use Rattle.romp_link.proofs.ExportLemmas.{AreSoFar}
 use Rattle.romp_link.proofs.exports.add_exports.Given as goal
 

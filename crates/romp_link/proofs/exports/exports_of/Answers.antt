@@ -1,8 +1,4 @@
-use Rattle.std.proofs.Common.{[], ◌∷◌, ◌++◌, take, refl, arith, sym, subst}
-use Rattle.std.proofs.lemmas.List.{length-take-le}
-use Rattle.romp_link.specs.Exported.{AreExports}
-use Rattle.romp_link.specs.Linked.{fault_behind}
-use Rattle.romp_link.specs.declared.exports.Exports.{Exports}
+use Rattle.romp_link.proofs.Common.{[], ◌∷◌, ◌++◌, take, refl, arith, sym, subst, length-take-le, AreExports, fault_behind, Exports}
 use Rattle.romp_link.proofs.ExportLemmas.{exports_other, exports_to}
 use Rattle.romp_link.proofs.exports.exports_of.Goals as goal
 use Rattle.romp_link.proofs.exports.exports_of.Goals.{then-has_exports+in_ok-labels+in_ok-add_exports, else-has_exports}

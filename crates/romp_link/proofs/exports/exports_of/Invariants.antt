@@ -1,5 +1,4 @@
-use Rattle.std.proofs.Common.{take}
-use Rattle.romp_link.specs.Exported.{AreExports}
+use Rattle.romp_link.proofs.Common.{take, AreExports}
 use Rattle.romp_link.proofs.exports.exports_of.Given as goal
 
 abbrev pub invariant-loop-source : goal.invariant-loop-source

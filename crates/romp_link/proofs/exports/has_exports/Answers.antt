@@ -1,8 +1,4 @@
-use Rattle.std.proofs.Common.{◌≡◌, None, arith, sym, subst, ◌∙◌}
-use Rattle.std.specs.List.{AllByRecursion}
-use Rattle.std.proofs.lemmas.List.{take_all}
-use Rattle.asm_parse.specs.Kept.{stated}
-use Rattle.romp_link.specs.Linked.{exported}
+use Rattle.romp_link.proofs.Common.{◌≡◌, None, arith, sym, subst, ◌∙◌, AllByRecursion, take_all, stated, exported}
 use Rattle.romp_link.proofs.ExportLemmas.{none_more, unsaid}
 use Rattle.romp_link.proofs.exports.has_exports.Goals as goal
 

@@ -1,13 +1,5 @@
-use Rattle.std.proofs.Common.{ℕ, List, Option, Bor, is_some, take, arith, sym, ap, ◌∙◌}
-use Rattle.std.specs.Option.{option_map, option_map_or}
-use Rattle.std.specs.Str.{bytes_eq}
+use Rattle.romp_link.proofs.Common.{ℕ, List, Option, Bor, is_some, take, arith, sym, ap, ◌∙◌, option_map, option_map_or, bytes_eq, take_all, btree_map_updates_str, stated, Statement, found_in, defines}
 use Rattle.std.specs.Prelude.{false, ◌||◌, Bool}
-use Rattle.std.proofs.lemmas.List.{take_all}
-use Rattle.std.proofs.lemmas.Map.Text.{btree_map_updates_str}
-use Rattle.asm_parse.specs.Kept.{stated}
-use Rattle.asm_parse.specs.declared.statement.Statement.{Statement}
-use Rattle.romp_asm.specs.Labels.{found_in}
-use Rattle.romp_asm.specs.Sources.{defines}
 use Rattle.romp_link.proofs.ExportLemmas.{label_more, label_none, labels_on}
 use Rattle.romp_link.proofs.exports.labels_of.Goals as goal
 use Rattle.romp_link.proofs.exports.labels_of.Goals.{in-Some+in_ok-insert-in-Some, in-None}

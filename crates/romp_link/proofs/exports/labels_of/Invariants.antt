@@ -1,5 +1,4 @@
-use Rattle.std.proofs.Common.{take}
-use Rattle.romp_link.specs.Exported.{HasLabels}
+use Rattle.romp_link.proofs.Common.{take, HasLabels}
 use Rattle.romp_link.proofs.exports.labels_of.Given as goal
 
 abbrev pub invariant-loop-index : goal.invariant-loop-index

@@ -1,6 +1,4 @@
-use Rattle.std.proofs.Common.{sym, ap, ◌∙◌, subst, arith}
-use Rattle.romp_table.specs.Encode.{BeginWith, encoded}
-use Rattle.romp_table.specs.Decode.{has_uses, instruction_by}
+use Rattle.romp_table.proofs.Common.{sym, ap, ◌∙◌, subst, arith, BeginWith, encoded, has_uses, instruction_by}
 use Rattle.romp_table.proofs.CodeLemmas.{none_used, legal_of, begins_of}
 use Rattle.romp_table.proofs.bits.decode_as.Goals as goal
 

@@ -1,5 +1,4 @@
-use Rattle.std.proofs.Common.{ap, ◌∙◌, sym, rules}
-use Rattle.romp_table.specs.Rows.{row_of}
+use Rattle.romp_table.proofs.Common.{ap, ◌∙◌, sym, rules, row_of}
 use Rattle.romp_table.proofs.CodeLemmas.{legal_number, read_back}
 use Rattle.romp_table.proofs.bytes.encode.Goals as goal
 

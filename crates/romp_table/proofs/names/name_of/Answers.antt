@@ -1,5 +1,4 @@
-use Rattle.std.proofs.Common.{ap, ◌∙◌}
-use Rattle.romp_table.specs.Names.{op_named}
+use Rattle.romp_table.proofs.Common.{ap, ◌∙◌, op_named}
 use Rattle.romp_table.proofs.NameLemmas.{mnemonic_at_place, named_back}
 use Rattle.romp_table.proofs.names.name_of.Goals as goal
 

@@ -1,13 +1,6 @@
-use Rattle.std.proofs.Common.{ℕ, [], ◌∷◌, map, refl, sym, subst, rules, arith}
-use Rattle.std.specs.Prelude.{Ok}
+use Rattle.schedule_replay.proofs.Common.{ℕ, [], ◌∷◌, map, refl, sym, subst, rules, arith, ◌*◌, Ok, begun_told, number_after, happening_lines, Header, held_of, HoldsStore, WritesMore, records_in}
 use Rattle.desk.specs.declared.event.Event.TheVariants as event
-use Rattle.desk.specs.Answers.{begun_told}
-use Rattle.desk.specs.Report.{number_after, happening_lines}
-use Rattle.store_format.specs.Header.{Header}
-use Rattle.outside.specs.Runs.{held_of}
-use Rattle.desk.specs.Kept.{HoldsStore, WritesMore, records_in}
 use Rattle.schedule_replay.proofs.CountLemmas.{begun_keep}
-use Rattle.std.proofs.Common.{◌*◌}
 use Rattle.schedule_replay.proofs.WriteLemmas.{writes_same, begin_writes}
 use Rattle.schedule_replay.proofs.PutsLemmas.{puts_broken, puts_well}
 use Rattle.schedule_replay.proofs.WentLemmas.{names_are, ran_event}

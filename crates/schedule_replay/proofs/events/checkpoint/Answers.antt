@@ -1,15 +1,7 @@
-use Rattle.std.proofs.Common.{ℕ, [], ◌∷◌, map, sym, subst, rules, arith}
-use Rattle.std.specs.Prelude.{Ok}
+use Rattle.schedule_replay.proofs.Common.{ℕ, [], ◌∷◌, map, sym, subst, rules, arith, ◌*◌, Ok, stored_told, stored_closes, number_after, happening_lines, WritesMore, GoesBy, stored_number}
 use Rattle.desk.specs.declared.event.Event.TheVariants as event
-use Rattle.desk.specs.Answers.{stored_told}
-use Rattle.desk.specs.Report.{number_after, happening_lines}
-use Rattle.desk.specs.Answers.{stored_closes}
-use Rattle.desk.specs.Kept.{WritesMore}
-use Rattle.std.proofs.Common.{◌*◌}
 use Rattle.schedule_replay.proofs.CountLemmas.{stored_calm}
 use Rattle.schedule_replay.proofs.WriteLemmas.{stored_writes}
-use Rattle.schedule_replay.specs.Answered.{GoesBy}
-use Rattle.schedule_replay.specs.Puts.{stored_number}
 use Rattle.schedule_replay.proofs.PutsLemmas.{puts_same, puts_broken, puts_well}
 use Rattle.schedule_replay.proofs.WentLemmas.{names_are, ran_event}
 use Rattle.schedule_replay.proofs.EventLemmas.{answered_event, goes_if, stored_numbered}

@@ -1,21 +1,8 @@
-use Rattle.std.proofs.Common.{◌≡◌, ℕ, List, [], ◌∷◌, map, sym, ◌∙◌, ap, subst, rules, arith, IsSome}
-use Rattle.std.specs.Prelude.{Ok, Option}
+use Rattle.schedule_replay.proofs.Common.{◌≡◌, ℕ, List, [], ◌∷◌, map, sym, ◌∙◌, ap, subst, rules, arith, IsSome, ◌≤◌, length, ◌*◌, Ok, Option, false, reopened_told, numbers, number_after, happening_lines, ForSome, Header, total, HoldsStore, WritesMore, GoesBy, is_damaged, reopened_number}
 use Rattle.desk.specs.declared.event.Event.TheVariants as event
-use Rattle.desk.specs.Answers.{reopened_told}
-use Rattle.desk.specs.Holdings.{numbers}
-use Rattle.desk.specs.Report.{number_after, happening_lines}
-use Rattle.std.proofs.Common.{◌≤◌, length}
-use Rattle.std.specs.Prelude.{false}
-use Rattle.std.specs.Option.{ForSome}
-use Rattle.store_format.specs.Header.{Header, total}
-use Rattle.desk.specs.Kept.{HoldsStore, WritesMore}
-use Rattle.std.proofs.Common.{◌*◌}
 use Rattle.schedule_replay.proofs.CountLemmas.{reopened_calm}
 use Rattle.schedule_replay.proofs.WriteLemmas.{writes_same, reopened_writes}
-use Rattle.schedule_replay.specs.Answered.{GoesBy}
-use Rattle.schedule_replay.specs.Replays.{is_damaged}
 use Rattle.schedule_replay.proofs.EventLemmas.{undamaged}
-use Rattle.schedule_replay.specs.Puts.{reopened_number}
 use Rattle.schedule_replay.proofs.PutsLemmas.{puts_same, puts_broken, puts_well}
 use Rattle.schedule_replay.proofs.WentLemmas.{names_are, ran_event}
 use Rattle.schedule_replay.proofs.EventLemmas.{answered_event, goes_crash, reopened_numbered}

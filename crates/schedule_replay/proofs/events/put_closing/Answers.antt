@@ -1,9 +1,4 @@
-use Rattle.std.proofs.Common.{◌≡◌, ℕ, List, [], ◌∷◌, ◌++◌, map, sym, ap, ◌∙◌, rules}
-use Rattle.std.specs.Prelude.{Ok, Bool, false, if◌then◌else◌}
-use Rattle.desk.specs.Desk.{Desk}
-use Rattle.desk.specs.Holdings.{numbers}
-use Rattle.desk.specs.Lines.{Line, Left, End}
-use Rattle.desk.specs.Report.{number_after, closing_lines}
+use Rattle.schedule_replay.proofs.Common.{◌≡◌, ℕ, List, [], ◌∷◌, ◌++◌, map, sym, ap, ◌∙◌, rules, Ok, Bool, false, if◌then◌else◌, Desk, numbers, Line, Left, End, number_after, closing_lines}
 use Rattle.schedule_replay.proofs.PutsLemmas.{puts_same, puts_stop, puts_on}
 use Rattle.schedule_replay.proofs.events.put_closing.Goals as goal
 

@@ -1,11 +1,5 @@
-use Rattle.std.proofs.Common.{◌≡◌, [], ◌+◌, List, length, map, take, drop, refl, sym, ap, ◌∙◌, arith, rules, append-nil}
-use Rattle.std.specs.Prelude.{Ok, false}
-use Rattle.std.proofs.lemmas.List.{take-append-drop, take_all}
-use Rattle.flat_machine.specs.declared.machine.Program.{Program}
-use Rattle.desk.specs.declared.event.Event.TheVariants.{Begin}
+use Rattle.schedule_replay.proofs.Common.{◌≡◌, [], ◌+◌, List, length, map, take, drop, refl, sym, ap, ◌∙◌, arith, rules, append-nil, Ok, false, take-append-drop, take_all, Program, Begin, is_closed, is_damaged, prints_broken, prints_well}
 use Rattle.schedule_replay.specs.declared.events.Going.TheVariants as going
-use Rattle.schedule_replay.specs.Replays.{is_closed, is_damaged}
-use Rattle.outside.proofs.Prints.{prints_broken, prints_well}
 use Rattle.schedule_replay.proofs.AnsweredLemmas.{answered_none, ready_next, answered_more, answered_well, answered_broken, goes_since, shut_asked, shut_unasked}
 use Rattle.schedule_replay.proofs.WentLemmas.{names_are}
 use Rattle.schedule_replay.proofs.RanLemmas.{ran_as, ran_next, ran_none}

@@ -1,10 +1,4 @@
-use Rattle.std.proofs.Common.{◌≡◌, map, take}
-use Rattle.std.specs.Prelude.{true, false}
-use Rattle.outside.specs.Durable.{IsSure}
-use Rattle.outside.specs.Runs.{held_of}
-use Rattle.desk.specs.Desk.{Desk}
-use Rattle.schedule_replay.specs.Answered.{Answered}
-use Rattle.schedule_replay.specs.Ran.{Ran}
+use Rattle.schedule_replay.proofs.Common.{◌≡◌, map, take, true, false, IsSure, held_of, Desk, Answered, Ran}
 use Rattle.schedule_replay.proofs.PutsLemmas.{done}
 use Rattle.schedule_replay.proofs.events.put_events.Given as goal
 

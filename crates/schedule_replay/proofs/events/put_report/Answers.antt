@@ -1,12 +1,5 @@
-use Rattle.std.proofs.Common.{◌≡◌, ℕ, [], ◌∷◌, List, map, take, refl, ap, ◌∙◌, sym, subst, rules, arith}
-use Rattle.std.specs.Prelude.{Ok, false, true}
-use Rattle.desk.specs.Desk.{Desk}
-use Rattle.desk.specs.Lines.{Open}
-use Rattle.desk.specs.Report.{closing_lines}
+use Rattle.schedule_replay.proofs.Common.{◌≡◌, ℕ, [], ◌∷◌, List, map, take, refl, ap, ◌∙◌, sym, subst, rules, arith, Ok, false, true, Desk, Open, closing_lines, Puts, HasOpened, RanSome, is_closed}
 use Rattle.schedule_replay.specs.declared.events.Going.TheVariants as going
-use Rattle.schedule_replay.specs.Puts.{Puts}
-use Rattle.schedule_replay.specs.Ran.{HasOpened}
-use Rattle.schedule_replay.specs.Replays.{RanSome, is_closed}
 use Rattle.schedule_replay.proofs.PutsLemmas.{puts_broken, puts_well, begins_same}
 use Rattle.schedule_replay.proofs.AnsweredLemmas.{answered_on, answered_puts, goes_since}
 use Rattle.schedule_replay.proofs.WentLemmas.{names_are, sure_puts}

@@ -1,6 +1,4 @@
-use Rattle.std.proofs.Common.{map, ap}
-use Rattle.std.specs.Prelude.{false}
-use Rattle.schedule_replay.specs.Replays.{is_closed}
+use Rattle.schedule_replay.proofs.Common.{map, ap, false, is_closed}
 use Rattle.schedule_replay.proofs.ReportLemmas.{reports_broken, reports_told}
 use Rattle.schedule_replay.proofs.events.replay.Goals as goal
 

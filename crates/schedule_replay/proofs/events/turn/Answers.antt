@@ -1,14 +1,7 @@
-use Rattle.std.proofs.Common.{ℕ, List, [], ◌∷◌, map, sym, ◌∙◌, ap, subst, rules, arith}
-use Rattle.std.specs.Prelude.{Ok}
+use Rattle.schedule_replay.proofs.Common.{ℕ, List, [], ◌∷◌, map, sym, ◌∙◌, ap, subst, rules, arith, Ok, turn_told, turn_closes, number_after, happening_lines, writes_due, GoesBy, number_told}
 use Rattle.desk.specs.declared.event.Event.TheVariants as event
-use Rattle.desk.specs.Answers.{turn_told}
-use Rattle.desk.specs.Report.{number_after, happening_lines}
-use Rattle.desk.specs.Answers.{turn_closes}
-use Rattle.desk.specs.Kept.{writes_due}
 use Rattle.schedule_replay.proofs.CountLemmas.{turn_calm}
 use Rattle.schedule_replay.proofs.WriteLemmas.{writes_fewer, turn_writes}
-use Rattle.schedule_replay.specs.Answered.{GoesBy}
-use Rattle.schedule_replay.specs.Puts.{number_told}
 use Rattle.schedule_replay.proofs.PutsLemmas.{puts_same, puts_broken, puts_well}
 use Rattle.schedule_replay.proofs.WentLemmas.{names_are, ran_event}
 use Rattle.schedule_replay.proofs.EventLemmas.{answered_event, goes_if, lines_numbered}

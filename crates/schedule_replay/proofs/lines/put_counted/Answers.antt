@@ -1,10 +1,5 @@
-use Rattle.std.proofs.Common.{List, [], ◌∷◌, ◌++◌, rules, ap}
-use Rattle.std.specs.Prelude.{Ok}
-use Rattle.std.specs.List.{flat_map}
-use Rattle.desk.specs.Answers.{counts_told, ending_told}
+use Rattle.schedule_replay.proofs.Common.{List, [], ◌∷◌, ◌++◌, rules, ap, Ok, flat_map, counts_told, ending_told, cycle_lines, ending_lines, number_told}
 use Rattle.desk.specs.Lines.{Line, Turn}
-use Rattle.desk.specs.Report.{cycle_lines, ending_lines}
-use Rattle.schedule_replay.specs.Puts.{number_told}
 use Rattle.schedule_replay.proofs.PutsLemmas.{puts_on, puts_stop, puts_same, cycles_of}
 use Rattle.schedule_replay.proofs.lines.put_counted.Goals as goal
 

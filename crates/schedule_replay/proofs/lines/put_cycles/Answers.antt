@@ -1,8 +1,4 @@
-use Rattle.std.proofs.Common.{◌≡◌, ℕ, ◌+◌, List, [], ◌∷◌, take, get_or, rules, ap, ◌∙◌, sym, append-nil}
-use Rattle.std.specs.Prelude.{Ok}
-use Rattle.std.proofs.lemmas.List.{take_all}
-use Rattle.desk.specs.declared.answers.Cycle.{Cycle}
-use Rattle.desk.specs.Report.{cycle_lines}
+use Rattle.schedule_replay.proofs.Common.{◌≡◌, ℕ, ◌+◌, List, [], ◌∷◌, take, get_or, rules, ap, ◌∙◌, sym, append-nil, Ok, take_all, Cycle, cycle_lines}
 use Rattle.schedule_replay.proofs.PutsLemmas.{puts_none, puts_more, puts_no_more, puts_same, puts_well, cycles_of, cycles_split}
 use Rattle.schedule_replay.proofs.lines.put_cycles.Goals as goal
 

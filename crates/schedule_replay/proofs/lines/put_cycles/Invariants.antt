@@ -1,5 +1,4 @@
-use Rattle.std.proofs.Common.{take}
-use Rattle.schedule_replay.specs.Puts.{Puts}
+use Rattle.schedule_replay.proofs.Common.{take, Puts}
 use Rattle.schedule_replay.proofs.PutsLemmas.{done, cycles_of}
 use Rattle.schedule_replay.proofs.lines.put_cycles.Given as goal
 

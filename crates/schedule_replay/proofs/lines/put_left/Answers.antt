@@ -1,7 +1,4 @@
-use Rattle.std.proofs.Common.{ℕ, List, map, take, rules, ap}
-use Rattle.std.specs.Prelude.{Ok}
-use Rattle.std.proofs.lemmas.List.{take_all}
-use Rattle.desk.specs.Lines.{Left}
+use Rattle.schedule_replay.proofs.Common.{ℕ, List, map, take, rules, ap, Ok, take_all, Left}
 use Rattle.schedule_replay.proofs.PutsLemmas.{puts_none, puts_more, puts_no_more, puts_same, puts_well, left_split}
 use Rattle.schedule_replay.proofs.lines.put_left.Goals as goal
 

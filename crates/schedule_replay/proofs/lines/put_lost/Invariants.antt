@@ -1,6 +1,4 @@
-use Rattle.std.proofs.Common.{map, take}
-use Rattle.desk.specs.Lines.{Lost}
-use Rattle.schedule_replay.specs.Puts.{Puts}
+use Rattle.schedule_replay.proofs.Common.{map, take, Lost, Puts}
 use Rattle.schedule_replay.proofs.PutsLemmas.{done}
 use Rattle.schedule_replay.proofs.lines.put_lost.Given as goal
 

@@ -1,6 +1,4 @@
-use Rattle.std.proofs.Common.{[], ◌∷◌, map, rules}
-use Rattle.desk.specs.Lines.{Lost}
-use Rattle.report_text.specs.Line.{line_told}
+use Rattle.schedule_replay.proofs.Common.{[], ◌∷◌, map, rules, Lost, line_told}
 use Rattle.schedule_replay.proofs.PutsLemmas.{puts_on, puts_stop}
 use Rattle.schedule_replay.proofs.lines.put_lost_and.Goals as goal
 

@@ -1,10 +1,5 @@
-use Rattle.std.proofs.Common.{ℕ, ◌*◌, [], length, sym, subst, refl}
-use Rattle.outside.specs.Runs.{held_of}
-use Rattle.desk.specs.Answers.{begun_told, turn_told}
-use Rattle.desk.specs.Kept.{WritesMore, records_in, writes_due}
-use Rattle.desk.specs.Report.{number_after}
+use Rattle.schedule_replay.proofs.Common.{ℕ, ◌*◌, [], length, sym, subst, refl, held_of, begun_told, turn_told, WritesMore, records_in, writes_due, number_after, WentQuietly, last_by, tally_begun, tally_by}
 use Rattle.desk.specs.declared.event.Event.TheVariants as event
-use Rattle.schedule_replay.specs.Quiet.{WentQuietly, last_by, tally_begun, tally_by}
 use Rattle.schedule_replay.proofs.CountLemmas.{begun_keep, turn_calm}
 use Rattle.schedule_replay.proofs.EventLemmas.{begin_did}
 use Rattle.schedule_replay.proofs.WriteLemmas.{begin_writes, turn_writes, writes_fewer, writes_same}

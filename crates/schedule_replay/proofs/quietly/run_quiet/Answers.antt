@@ -1,9 +1,4 @@
-use Rattle.std.proofs.Common.{◌≡◌, [], ◌+◌, take, drop, refl, arith, append-nil, ◌∙◌}
-use Rattle.std.specs.Prelude.{Ok, Some, None}
-use Rattle.std.proofs.lemmas.List.{take-append-drop, take_all}
-use Rattle.outside.proofs.Runs.{calls_on}
-use Rattle.desk.specs.declared.event.Event.TheVariants.{Begin}
-use Rattle.desk.specs.Report.{event_lines}
+use Rattle.schedule_replay.proofs.Common.{◌≡◌, [], ◌+◌, take, drop, refl, arith, append-nil, ◌∙◌, Ok, Some, None, take-append-drop, take_all, calls_on, Begin, event_lines}
 use Rattle.schedule_replay.specs.declared.events.Going.TheVariants as going
 use Rattle.schedule_replay.proofs.AnsweredLemmas.{answered_none, answered_more, shut_asked, shut_unasked}
 use Rattle.schedule_replay.proofs.EventLemmas.{calls_none}

@@ -1,11 +1,4 @@
-use Rattle.std.proofs.Common.{◌≡◌, [], ◌*◌, ◌≤◌, take}
-use Rattle.std.specs.Prelude.{true, false}
-use Rattle.outside.specs.Durable.{IsSure}
-use Rattle.outside.specs.Runs.{CallsDisk, held_of}
-use Rattle.desk.specs.Desk.{Desk}
-use Rattle.desk.specs.Report.{event_lines}
-use Rattle.schedule_replay.specs.Answered.{Answered}
-use Rattle.schedule_replay.specs.Quiet.{RanQuietly, Tells, unput}
+use Rattle.schedule_replay.proofs.Common.{◌≡◌, [], ◌*◌, ◌≤◌, take, true, false, IsSure, CallsDisk, held_of, Desk, event_lines, Answered, RanQuietly, Tells, unput}
 use Rattle.schedule_replay.proofs.quietly.run_quiet.Given as goal
 
 -- the events so far were asked and nothing was put; none of one that was closed before; from where the bytes are sure and a desk is shown they were run, and the counts are theirs

@@ -1,5 +1,4 @@
-use Rattle.std.proofs.Common.{◌≡◌, take, length, replicate}
-use Rattle.line_locks.specs.Holding.{no_lines_of}
+use Rattle.seats.proofs.Common.{◌≡◌, take, length, replicate, no_lines_of}
 use Rattle.seats.proofs.seats.release_all.Given as goal
 
 -- those that were looked at hold nothing

@@ -1,9 +1,8 @@
-use Rattle.std.proofs.Common.{sym, ◌∙◌, rules}
-use Rattle.std.proofs.lemmas.Slice.Eq.{slice_eq-Decides}
+use Rattle.serial_audit.proofs.Common.{sym, ◌∙◌, rules, slice_eq-Decides}
 use Rattle.line_geometry.specs.contracts.directory.PageSize.{the_type}
+use denote.Enum.Bare.{same_true}
 use Rattle.serial_audit.proofs.SameLemmas.{pair_decides}
 use Rattle.serial_audit.proofs.auditing.are_alike.Goals as goal
-use denote.Enum.Bare.{same_true}
 
 pub returns-then-eq : goal.returns-then-eq
 returns-then-eq c =

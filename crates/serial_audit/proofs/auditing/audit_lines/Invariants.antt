@@ -1,7 +1,4 @@
-use Rattle.std.proofs.Common.{◌≡◌, ◌≤◌, length, take}
-use Rattle.line_geometry.specs.Directory.{byte_count}
-use Rattle.serial_audit.specs.Audit.{AreSound, report_told}
-use Rattle.serial_audit.specs.Progress.{Stands}
+use Rattle.serial_audit.proofs.Common.{◌≡◌, ◌≤◌, length, take, byte_count, AreSound, report_told, Stands}
 use Rattle.serial_audit.proofs.auditing.audit_lines.Given as goal
 
 abbrev pub invariant-loop-line : goal.invariant-loop-line

@@ -1,6 +1,5 @@
-use Rattle.std.proofs.Common.{sym, ◌∙◌, ap, eq-eqb}
+use Rattle.serial_audit.proofs.Common.{sym, ◌∙◌, ap, eq-eqb, Layout}
 use Rattle.std.proofs.lemmas.Bool.{eqb-true}
-use Rattle.line_geometry.specs.Directory.{Layout}
 use Rattle.serial_audit.proofs.SameLemmas.{layout_same}
 use Rattle.serial_audit.proofs.auditing.is_same.Goals as goal
 

@@ -1,7 +1,4 @@
-use Rattle.std.proofs.Common.{◌+◌, ℕ, drop, inl, inr, refl, sym, ◌∙◌, ap, subst, arith}
-use Rattle.report_text.proofs.LineLemmas.{not_both}
-use Rattle.serial_audit.specs.Bundle.{AreAllowed, bundle_from, head_text}
-use Rattle.serial_audit.specs.Lengths.{sizes_of}
+use Rattle.serial_audit.proofs.Common.{◌+◌, ℕ, drop, inl, inr, refl, sym, ◌∙◌, ap, subst, arith, not_both, AreAllowed, bundle_from, head_text, sizes_of}
 use Rattle.serial_audit.proofs.BundleLemmas.{head_before, head_length, no_head}
 use Rattle.serial_audit.proofs.bundle.split_bundle.Goals as goal
 use Rattle.serial_audit.proofs.bundle.split_bundle.Goals.{then-not-are_allowed-via-then-not-are_allowed, then-not-are_allowed-via-else-not-are_allowed+then-not-are_told}

@@ -1,6 +1,4 @@
-use Rattle.std.proofs.Common.{[], get_or, refl, ◌∙◌}
-use Rattle.std.proofs.lemmas.Option.{slice_get-get_or}
-use Rattle.desk.specs.declared.event.Event.TheVariants.{Begin}
+use Rattle.serial_audit.proofs.Common.{[], get_or, refl, ◌∙◌, slice_get-get_or, Begin}
 use Rattle.serial_audit.proofs.IndexLemmas.{past_other, past_turn, turned}
 use Rattle.serial_audit.proofs.index.allow_turns.Goals as goal
 use Rattle.serial_audit.proofs.index.allow_turns.Goals.{in-Turn+in-Some, in-Turn+in-None, in_default}

@@ -1,11 +1,4 @@
-use Rattle.std.proofs.Common.{◌+◌, false, List, [], ◌∷◌, ◌++◌, map, drop, refl, sym, ◌∙◌, ap, append_assoc}
-use Rattle.std.proofs.lemmas.List.{map-append}
-use Rattle.std.proofs.lemmas.Option.{slice_get_past}
-use Rattle.desk.specs.declared.event.Event.TheVariants.{Begin}
-use Rattle.flat_machine.specs.Serial.{Activation}
-use Rattle.desk.specs.Commits.{begun}
-use Rattle.serial_audit.specs.declared.index.Entry.{Entry}
-use Rattle.serial_audit.specs.Index.{activation_in}
+use Rattle.serial_audit.proofs.Common.{◌+◌, false, List, [], ◌∷◌, ◌++◌, map, drop, refl, sym, ◌∙◌, ap, append_assoc, map-append, slice_get_past, Begin, Activation, begun, Entry, activation_in}
 use Rattle.serial_audit.proofs.BegunLemmas.{begun_here, begun_later, begun_none, got}
 use Rattle.serial_audit.proofs.IndexLemmas.{fresh_more}
 use Rattle.serial_audit.proofs.index.begins.Goals as goal

@@ -1,7 +1,4 @@
-use Rattle.std.proofs.Common.{◌≡◌, ◌++◌, map, drop}
-use Rattle.std.specs.List.{All}
-use Rattle.desk.specs.Commits.{begun}
-use Rattle.serial_audit.specs.Index.{IsFresh, activation_in}
+use Rattle.serial_audit.proofs.Common.{◌≡◌, ◌++◌, map, drop, All, begun, IsFresh, activation_in}
 use Rattle.serial_audit.proofs.index.begins.Given as goal
 
 abbrev pub invariant-loop-event : goal.invariant-loop-event

@@ -1,7 +1,4 @@
-use Rattle.std.proofs.Common.{◌≡◌, ◌-◌, ◌<◌, Some, None, refl, sym, ◌∙◌, ap, arith}
-use Rattle.flat_machine.specs.declared.machine.Plain.{Plain}
-use Rattle.flat_machine.specs.After.{next_state}
-use Rattle.flat_machine.specs.Row.{row}
+use Rattle.serial_audit.proofs.Common.{◌≡◌, ◌-◌, ◌<◌, Some, None, refl, sym, ◌∙◌, ap, arith, Plain, next_state, row}
 use Rattle.serial_audit.proofs.RowLemmas.{commit_at, no_commit, stopped, stops_early}
 use Rattle.serial_audit.proofs.replay.run_to_commit.Goals as goal
 

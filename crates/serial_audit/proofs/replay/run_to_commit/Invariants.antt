@@ -1,6 +1,4 @@
-use Rattle.std.proofs.Common.{◌≡◌, ◌-◌, length, Some}
-use Rattle.line_geometry.specs.Directory.{byte_count}
-use Rattle.flat_machine.specs.After.{after}
+use Rattle.serial_audit.proofs.Common.{◌≡◌, ◌-◌, length, Some, byte_count, after}
 use Rattle.serial_audit.proofs.replay.run_to_commit.Given as goal
 
 abbrev pub invariant-loop-row : goal.invariant-loop-row

@@ -1,15 +1,4 @@
-use Rattle.std.proofs.Common.{◌≡◌, ℕ, suc, ◌+◌, ◌*◌, ◌-◌, ◌<◌, ◌≤◌, List, [], ◌∷◌, ◌++◌, length, take, drop, get_or, sym, ◌∙◌, ap, subst, arith, refl}
-use Rattle.std.specs.Prelude.{All}
-use Rattle.std.proofs.lemmas.List.{length-take-le, take_all, take_more, map-append}
-use Rattle.store_format.specs.Bank.{RecordLine, record_bytes}
-use Rattle.line_geometry.specs.Lines.{line_count}
-use Rattle.line_geometry.specs.Segments.{line_bytes}
-use Rattle.line_geometry.specs.Directory.{Layout}
-use Rattle.line_geometry.specs.declared.directory.PageSize.{PageSize}
-use Rattle.store_format.specs.Header.{Header}
-use Rattle.redo_journal.specs.Kept.{begun_of, record_bytes_of}
-use Rattle.restart.specs.Kept.{KeptStore, with_begun}
-use Rattle.standby.specs.Text.{AreLines, ShipLine, parted, told}
+use Rattle.standby.proofs.Common.{◌≡◌, ℕ, suc, ◌+◌, ◌*◌, ◌-◌, ◌<◌, ◌≤◌, List, [], ◌∷◌, ◌++◌, length, take, drop, get_or, sym, ◌∙◌, ap, subst, arith, refl, All, length-take-le, take_all, take_more, map-append, RecordLine, record_bytes, line_count, line_bytes, Layout, PageSize, Header, begun_of, record_bytes_of, KeptStore, with_begun, AreLines, ShipLine, parted, told}
 use Rattle.standby.proofs.BeginLemmas.{before_next, get_or-parted, length-parted, line_below, no_line, part_at, room_for}
 use Rattle.standby.proofs.following.begin.Goals as goal
 

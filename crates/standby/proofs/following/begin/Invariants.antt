@@ -1,7 +1,4 @@
-use Rattle.std.proofs.Common.{take}
-use Rattle.line_geometry.specs.Segments.{line_bytes}
-use Rattle.standby.specs.Step.{IsBegun}
-use Rattle.standby.specs.Text.{record_of}
+use Rattle.standby.proofs.Common.{take, line_bytes, IsBegun, record_of}
 use Rattle.standby.proofs.following.begin.Given as goal
 
 -- the lines so far are begun

@@ -1,14 +1,5 @@
-use Rattle.std.proofs.Common.{◌≡◌, ℕ, ◌+◌, ◌-◌, List, length, map, take, drop, refl, sym, subst, ◌∙◌, ap, arith}
+use Rattle.standby.proofs.Common.{◌≡◌, ℕ, ◌+◌, ◌-◌, List, length, map, take, drop, refl, sym, subst, ◌∙◌, ap, arith, length-map, line_bytes, most_lines, number_of, Follows, IsAlike, IsLongAt, behind, due, ShipLine, content_of, later, record_of, Done, Geometry, NotKept, Long, ShipRecord}
 use Rattle.std.specs.Prelude.{All, ◌≤◌}
-use Rattle.std.proofs.lemmas.List.{length-map}
-use Rattle.line_geometry.specs.Segments.{line_bytes}
-use Rattle.store_format.specs.Header.{most_lines}
-use Rattle.restart.specs.Kept.{number_of}
-use Rattle.standby.specs.Followed.{Follows, IsAlike}
-use Rattle.standby.specs.State.{IsLongAt, behind, due}
-use Rattle.standby.specs.Text.{ShipLine, content_of, later, record_of}
-use Rattle.standby.specs.declared.following.Followed.TheVariants.{Done, Geometry, NotKept, Long}
-use Rattle.standby.specs.declared.text.ShipRecord.{ShipRecord}
 use Rattle.standby.proofs.DueLemmas.{due_are, few_are, first_is, fitting}
 use Rattle.standby.proofs.FollowLemmas.{follows_none}
 use Rattle.standby.proofs.following.follow.Given.{Over}

@@ -1,17 +1,6 @@
-use Rattle.std.proofs.Common.{◌≡◌, ⊎_elim, ◌∙◌, ap}
-use Rattle.std.specs.Prelude.{Err}
-use Rattle.line_geometry.specs.Segments.{line_bytes}
-use Rattle.line_geometry.specs.FlatStore.{FlatStore}
-use Rattle.store_format.specs.Stands.{Stands, stands}
-use Rattle.outside.specs.Runs.{Leaves, held_of}
-use Rattle.redo_journal.specs.Tracks.{IsEither}
+use Rattle.standby.proofs.Common.{◌≡◌, ⊎_elim, ◌∙◌, ap, Err, line_bytes, FlatStore, Stands, stands, Leaves, held_of, IsEither, KeptStore, number_of, Tracks, Steps, put_of, kept_line, next, record_of, DiskFault}
 use Rattle.redo_journal.specs.declared.keep.Kept.{Kept}
 use Rattle.checkpoint.specs.Committed.{number_after}
-use Rattle.restart.specs.Kept.{KeptStore, number_of}
-use Rattle.restart.specs.Shows.{Tracks}
-use Rattle.standby.specs.Step.{Steps, put_of}
-use Rattle.standby.specs.Text.{kept_line, next, record_of}
-use Rattle.standby.specs.declared.following.Followed.TheVariants.{DiskFault}
 use Rattle.standby.proofs.GoLemmas.{goes_on, goes_puts, goes_writes}
 use Rattle.standby.proofs.StepLemmas.{either_begun, more_begun, sized, step_kept, step_unkept, tracks_begun}
 use Rattle.standby.proofs.following.keep.Given.{Over}

@@ -1,8 +1,4 @@
-use Rattle.std.proofs.Common.{◌≡◌, length, map, sym, ◌∙◌, ap}
-use Rattle.std.proofs.lemmas.List.{length-map}
-use Rattle.line_geometry.specs.Segments.{line_bytes}
-use Rattle.restart.specs.Kept.{number_of}
-use Rattle.standby.specs.Text.{end_line, later, record_of}
+use Rattle.standby.proofs.Common.{◌≡◌, length, map, sym, ◌∙◌, ap, length-map, line_bytes, number_of, end_line, later, record_of}
 use Rattle.standby.proofs.FollowLemmas.{ended, not_done, stopped_early}
 use Rattle.standby.proofs.following.keep_all.Goals as goal
 

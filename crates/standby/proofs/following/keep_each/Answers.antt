@@ -1,17 +1,4 @@
-use Rattle.std.proofs.Common.{◌≡◌, ℕ, ◌<◌, List, [], length, map, take, get_or, refl, sym, subst, ◌∙◌, ap, arith}
-use Rattle.std.specs.Prelude.{Result, Ok, Err}
-use Rattle.std.proofs.lemmas.List.{get_or-map, length-map}
-use Rattle.line_geometry.specs.Segments.{line_bytes}
-use Rattle.store_format.specs.Header.{Header}
-use Rattle.line_geometry.specs.FlatStore.{FlatStore}
-use Rattle.store_format.specs.Stands.{Stands}
-use Rattle.outside.specs.declared.world.Outside.{Ghosts}
-use Rattle.restart.specs.Kept.{KeptStore, number_of}
-use Rattle.standby.specs.State.{laid_by}
-use Rattle.standby.specs.Step.{Steps}
-use Rattle.standby.specs.Text.{ShipLine, later, next, record_of}
-use Rattle.standby.specs.declared.following.Followed.{Followed}
-use Rattle.standby.specs.declared.text.ShipRecord.{ShipRecord}
+use Rattle.standby.proofs.Common.{◌≡◌, ℕ, ◌<◌, List, [], length, map, take, get_or, refl, sym, subst, ◌∙◌, ap, arith, Result, Ok, Err, get_or-map, length-map, line_bytes, Header, FlatStore, Stands, Ghosts, KeptStore, number_of, laid_by, Steps, ShipLine, later, next, record_of, Followed, ShipRecord}
 use Rattle.standby.proofs.FollowLemmas.{so_far_all, so_far_more, so_far_none, so_far_stopped}
 use Rattle.standby.proofs.GoLemmas.{goes_none, goes_on}
 use Rattle.standby.proofs.TellLemmas.{later_more}

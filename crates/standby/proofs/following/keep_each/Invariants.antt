@@ -1,12 +1,4 @@
-use Rattle.std.proofs.Common.{◌≡◌, map}
-use Rattle.line_geometry.specs.FlatStore.{FlatStore}
-use Rattle.line_geometry.specs.Segments.{line_bytes}
-use Rattle.store_format.specs.Stands.{Stands, stands}
-use Rattle.outside.specs.Runs.{held_of}
-use Rattle.restart.specs.Kept.{number_of}
-use Rattle.restart.specs.Shows.{Tracks}
-use Rattle.standby.specs.Followed.{OnlyGoesOn, SoFar}
-use Rattle.standby.specs.Text.{later, record_of}
+use Rattle.standby.proofs.Common.{◌≡◌, map, FlatStore, line_bytes, Stands, stands, held_of, number_of, Tracks, OnlyGoesOn, SoFar, later, record_of}
 use Rattle.standby.proofs.following.keep_each.Given as goal
 
 -- the records so far are kept and told

@@ -1,9 +1,4 @@
-use Rattle.std.proofs.Common.{◌≤◌, ℕ, List, length, subst, refl, arith}
-use Rattle.std.specs.Prelude.{All}
-use Rattle.std.proofs.lemmas.Option.{slice_get_read}
-use Rattle.std.proofs.lemmas.List.{take_all}
-use Rattle.std.proofs.lemmas.List.Elements.{All-more}
-use Rattle.standby.specs.declared.text.ShipRecord.{ShipRecord}
+use Rattle.standby.proofs.Common.{◌≤◌, ℕ, List, length, subst, refl, arith, All, slice_get_read, take_all, All-more, ShipRecord}
 use Rattle.standby.proofs.following.long_among.Goals as goal
 
 abbrev IsShort : ℕ → ShipRecord → Type 0

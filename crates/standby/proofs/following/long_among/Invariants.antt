@@ -1,5 +1,4 @@
-use Rattle.std.proofs.Common.{◌≤◌, length, take}
-use Rattle.std.specs.Prelude.{All}
+use Rattle.standby.proofs.Common.{◌≤◌, length, take, All}
 use Rattle.standby.proofs.following.long_among.Given as goal
 
 -- the records so far aren't long

@@ -1,5 +1,4 @@
-use Rattle.std.proofs.Common.{◌≡◌, ◌∷◌, ◌++◌, List, ℕ, decimal, drop, sym, ap, ◌∙◌, arith}
-use Rattle.standby.specs.Text.{head_line}
+use Rattle.standby.proofs.Common.{◌≡◌, ◌∷◌, ◌++◌, List, ℕ, decimal, drop, sym, ap, ◌∙◌, arith, head_line}
 use Rattle.standby.proofs.PartLemmas.{head_parts}
 use Rattle.standby.proofs.read.head_of.Goals as goal
 

@@ -1,7 +1,4 @@
-use Rattle.std.proofs.Common.{◌+◌, ◌∷◌, ◌++◌, List, ℕ, length, drop, sym, ap, ◌∙◌, arith}
-use Rattle.std.proofs.lemmas.List.{length-take-le, take_rest}
-use Rattle.hex.specs.Hex.{encode_lower, lower_digits}
-use Rattle.hex.proofs.HexLemmas.{length-encode_with}
+use Rattle.standby.proofs.Common.{◌+◌, ◌∷◌, ◌++◌, List, ℕ, length, drop, sym, ap, ◌∙◌, arith, length-take-le, take_rest, encode_lower, lower_digits, length-encode_with}
 use Rattle.standby.proofs.PartLemmas.{cut_at, hex_word, parts_at, uncut}
 use Rattle.standby.proofs.read.held_of.Goals as goal
 

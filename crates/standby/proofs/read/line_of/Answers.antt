@@ -1,5 +1,4 @@
-use Rattle.std.proofs.Common.{◌≡◌, ◌∷◌, ◌++◌, [], List, ℕ, codes, decimal, drop, sym, ap, ◌∙◌, arith}
-use Rattle.hex.specs.Hex.{encode_lower}
+use Rattle.standby.proofs.Common.{◌≡◌, ◌∷◌, ◌++◌, [], List, ℕ, codes, decimal, drop, sym, ap, ◌∙◌, arith, encode_lower}
 use Rattle.standby.proofs.PartLemmas.{line_front, line_parts}
 use Rattle.standby.proofs.read.line_of.Goals as goal
 

@@ -1,6 +1,4 @@
-use Rattle.std.proofs.Common.{◌≡◌, ◌+◌, ◌-◌, ◌≤◌, ◌++◌, List, ℕ, length}
-use Rattle.standby.specs.Read.{IsRead}
-use Rattle.standby.specs.Text.{AreLines, IsPacked, lines_text, record_of}
+use Rattle.standby.proofs.Common.{◌≡◌, ◌+◌, ◌-◌, ◌≤◌, ◌++◌, List, ℕ, length, IsRead, AreLines, IsPacked, lines_text, record_of}
 use Rattle.standby.proofs.read.read_record.Given as goal
 
 -- the lines so far

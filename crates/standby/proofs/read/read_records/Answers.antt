@@ -1,14 +1,7 @@
-use Rattle.std.proofs.Common.{◌≡◌, ◌≢◌, ⊎_elim, ◌+◌, ◌≤◌, ◌∷◌, ◌++◌, [], List, ℕ, length, map, sym, ap, subst, ◌∙◌, arith, append_assoc, append-nil, length-append}
-use Rattle.std.specs.Prelude.{All}
-use Rattle.std.proofs.lemmas.List.{length-map, map-append}
-use Rattle.std.proofs.lemmas.List.Elements.{All-map, All-push}
-use Rattle.standby.specs.Read.{IsRead, IsReadFault}
-use Rattle.standby.specs.Text.{AreLines, IsPacked, ShipLine, end_line, head_line, later, next, record_line, record_of, records_text}
-use Rattle.standby.specs.declared.text.ShipRecord.{ShipRecord}
+use Rattle.standby.proofs.Common.{◌≡◌, ◌≢◌, ⊎_elim, ◌+◌, ◌≤◌, ◌∷◌, ◌++◌, [], List, ℕ, length, map, sym, ap, subst, ◌∙◌, arith, append_assoc, append-nil, length-append, All, length-map, map-append, All-map, All-push, IsRead, IsReadFault, AreLines, IsPacked, ShipLine, end_line, head_line, later, next, record_line, record_of, records_text, ShipRecord, empty_is, some_is}
 use Rattle.standby.proofs.BeginLemmas.{length-parted}
 use Rattle.standby.proofs.ReadLemmas.{record_long, records_step, text_more, whole_text}
 use Rattle.standby.proofs.TailLemmas.{bad_behind, bad_here, read_count, read_head}
-use Rattle.text_line.proofs.Bytes.{empty_is, some_is}
 use Rattle.standby.proofs.read.read_records.Goals as goal
 
 pub loop-count-init : goal.loop-count-init

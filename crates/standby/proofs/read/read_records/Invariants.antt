@@ -1,7 +1,4 @@
-use Rattle.std.proofs.Common.{◌≡◌, ◌+◌, ◌^◌, ◌<◌, ◌++◌, length, map}
-use Rattle.std.specs.Prelude.{All}
-use Rattle.standby.specs.Read.{IsRead}
-use Rattle.standby.specs.Text.{AreLines, IsPacked, head_line, later, record_of, records_text}
+use Rattle.standby.proofs.Common.{◌≡◌, ◌+◌, ◌^◌, ◌<◌, ◌++◌, length, map, All, IsRead, AreLines, IsPacked, head_line, later, record_of, records_text}
 use Rattle.standby.proofs.read.read_records.Given as goal
 
 -- the records so far

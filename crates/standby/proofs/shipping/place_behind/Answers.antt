@@ -1,8 +1,4 @@
-use Rattle.std.proofs.Common.{◌≡◌, ⊎_elim, ℕ, ◌+◌, ◌<◌, List, [], get_or, length, take, refl, sym, ◌∙◌, ap, arith}
-use Rattle.store_format.specs.Bank.{RecordLine}
-use Rattle.outside.specs.Runs.{held_of}
-use Rattle.outside.proofs.Runs.{asks_none, asks_on}
-use Rattle.redo_journal.specs.Records.{area_bytes}
+use Rattle.standby.proofs.Common.{◌≡◌, ⊎_elim, ℕ, ◌+◌, ◌<◌, List, [], get_or, length, take, refl, sym, ◌∙◌, ap, arith, RecordLine, held_of, asks_none, asks_on, area_bytes}
 use Rattle.standby.proofs.ShipLemmas.{area_more, next_is, record_there}
 use Rattle.standby.proofs.ShowLemmas.{still_shown}
 use Rattle.standby.proofs.shipping.place_behind.Goals as goal

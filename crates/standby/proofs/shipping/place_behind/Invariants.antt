@@ -1,7 +1,4 @@
-use Rattle.std.proofs.Common.{◌≡◌, ◌<◌, take}
-use Rattle.outside.specs.Runs.{OnlyAsks}
-use Rattle.redo_journal.specs.Records.{area_bytes}
-use Rattle.restart.specs.Shows.{IsShown}
+use Rattle.standby.proofs.Common.{◌≡◌, ◌<◌, take, OnlyAsks, area_bytes, IsShown}
 use Rattle.standby.proofs.shipping.place_behind.Given as goal
 
 abbrev pub invariant-loop-index : goal.invariant-loop-index

@@ -1,11 +1,4 @@
-use Rattle.std.proofs.Common.{◌≡◌, ℕ, List, refl, subst, sym, ◌∙◌, ap}
-use Rattle.std.specs.Prelude.{Option}
-use Rattle.store_format.specs.Bank.{RecordLine}
-use Rattle.outside.specs.Bytes.{Prints}
-use Rattle.standby.specs.Followed.{broken}
-use Rattle.standby.specs.Step.{put_of}
-use Rattle.standby.specs.Text.{line_line}
-use Rattle.outside.proofs.Prints.{prints_unput}
+use Rattle.standby.proofs.Common.{◌≡◌, ℕ, List, refl, subst, sym, ◌∙◌, ap, Option, RecordLine, Prints, broken, put_of, line_line, prints_unput}
 use Rattle.standby.proofs.ShowLemmas.{by_put}
 use Rattle.standby.proofs.shipping.put_one.Goals as goal
 

@@ -1,22 +1,5 @@
-use Rattle.std.proofs.Common.{◌≡◌, ℕ, ◌+◌, ◌<◌, List, [], ◌++◌, length, take, drop, get_or, refl, sym, subst, ◌∙◌, ap, arith}
-use Rattle.std.specs.Prelude.{All, Option, Some, slice_get, unwrap_or}
-use Rattle.std.proofs.lemmas.List.{length-map, take_all}
-use Rattle.std.proofs.lemmas.Option.{slice_get-get_or}
-use Rattle.line_geometry.specs.Segments.{line_bytes}
-use Rattle.store_format.specs.Bank.{RecordLine}
-use Rattle.outside.specs.Bytes.{Prints}
-use Rattle.outside.specs.declared.world.Outside.{Ghosts}
-use Rattle.outside.specs.Runs.{held_of}
-use Rattle.outside.proofs.Prints.{prints_on, prints_same, prints_stop}
-use Rattle.redo_journal.specs.declared.find.Record.{Record}
-use Rattle.redo_journal.specs.Records.{IsRecordAt}
-use Rattle.restart.specs.Kept.{KeptStore}
-use Rattle.restart.specs.Shows.{IsShown}
-use Rattle.standby.specs.Followed.{well, broken}
-use Rattle.standby.specs.Shipped.{HasBytes}
-use Rattle.standby.specs.Text.{ShipLine, line_line, lines_text, record_line, told}
+use Rattle.standby.proofs.Common.{◌≡◌, ℕ, ◌+◌, ◌<◌, List, [], ◌++◌, length, take, drop, get_or, refl, sym, subst, ◌∙◌, ap, arith, All, Option, Some, slice_get, unwrap_or, length-map, take_all, slice_get-get_or, line_bytes, RecordLine, Prints, Ghosts, held_of, prints_on, prints_same, prints_stop, Record, IsRecordAt, KeptStore, IsShown, well, broken, HasBytes, ShipLine, line_line, lines_text, record_line, told, shows_on}
 use Rattle.standby.proofs.ShipLemmas.{all_more, text_more, text_rest, there_still}
-use Rattle.outside.proofs.Shows.{shows_on}
 use Rattle.standby.proofs.ShowLemmas.{still_shown}
 use Rattle.standby.proofs.shipping.put_record.Goals as goal
 

@@ -1,14 +1,4 @@
-use Rattle.std.proofs.Common.{◌≡◌, ◌++◌, length, take}
-use Rattle.std.specs.Prelude.{All}
-use Rattle.line_geometry.specs.Segments.{line_bytes}
-use Rattle.outside.specs.Bytes.{Prints}
-use Rattle.outside.specs.Runs.{held_of}
-use Rattle.redo_journal.specs.Records.{IsRecordAt}
-use Rattle.restart.specs.Shows.{IsShown}
-use Rattle.standby.specs.Followed.{well}
-use Rattle.outside.specs.Runs.{AsksAndPuts}
-use Rattle.standby.specs.Shipped.{HasBytes}
-use Rattle.standby.specs.Text.{lines_text, record_line, told}
+use Rattle.standby.proofs.Common.{◌≡◌, ◌++◌, length, take, All, line_bytes, Prints, held_of, AsksAndPuts, IsRecordAt, IsShown, well, HasBytes, lines_text, record_line, told}
 use Rattle.standby.proofs.shipping.put_record.Given as goal
 
 abbrev pub invariant-loop-index : goal.invariant-loop-index

@@ -1,19 +1,6 @@
-use Rattle.std.proofs.Common.{◌≡◌, ⊎_elim, ℕ, ◌+◌, ◌-◌, ◌<◌, List, [], ◌++◌, length, map, take, drop, get_or, refl, sym, subst, ◌∙◌, ap, arith}
+use Rattle.standby.proofs.Common.{◌≡◌, ⊎_elim, ℕ, ◌+◌, ◌-◌, ◌<◌, List, [], ◌++◌, length, map, take, drop, get_or, refl, sym, subst, ◌∙◌, ap, arith, get_or-drop, length-drop, length-map, take-append-drop, take_all, line_bytes, RecordLine, Prints, prints_on, prints_same, prints_stop, prints_none, prints_unput, HasBytes, well, broken, later, record_text, records_text, told, shows_asks, shows_none, shows_on, held_of, IsCounted, IsRecordAt, area_bytes, IsShown}
 use Rattle.std.specs.Prelude.{All, ◌%◌, ◌^◌, ◌≤◌, Option}
-use Rattle.std.proofs.lemmas.List.{get_or-drop, length-drop, length-map, take-append-drop, take_all}
-use Rattle.line_geometry.specs.Segments.{line_bytes}
-use Rattle.store_format.specs.Bank.{RecordLine}
-use Rattle.outside.specs.Bytes.{Prints}
-use Rattle.outside.proofs.Prints.{prints_on, prints_same, prints_stop}
-use Rattle.standby.specs.Shipped.{HasBytes}
-use Rattle.standby.specs.Followed.{well, broken}
-use Rattle.standby.specs.Text.{later, record_text, records_text, told}
 use Rattle.standby.proofs.ShipLemmas.{all_more, area_more, later_later, next_is, records_more, records_rest, records_split, there_in}
-use Rattle.outside.proofs.Prints.{prints_none, prints_unput}
-use Rattle.outside.proofs.Shows.{shows_asks, shows_none, shows_on}
-use Rattle.outside.specs.Runs.{held_of}
-use Rattle.redo_journal.specs.Records.{IsCounted, IsRecordAt, area_bytes}
-use Rattle.restart.specs.Shows.{IsShown}
 use Rattle.standby.proofs.shipping.put_records.Given.{Over}
 use Rattle.standby.proofs.shipping.put_records.Goals as goal
 use Rattle.standby.proofs.shipping.put_records.Goals.{In-Ok}

@@ -1,13 +1,4 @@
-use Rattle.std.proofs.Common.{◌≡◌, ◌<◌, ◌-◌, map, take, drop}
-use Rattle.std.specs.Prelude.{All}
-use Rattle.line_geometry.specs.Segments.{line_bytes}
-use Rattle.outside.specs.Bytes.{Prints}
-use Rattle.redo_journal.specs.Records.{area_bytes}
-use Rattle.restart.specs.Shows.{IsShown}
-use Rattle.standby.specs.Followed.{well}
-use Rattle.outside.specs.Runs.{AsksAndPuts}
-use Rattle.standby.specs.Shipped.{HasBytes}
-use Rattle.standby.specs.Text.{later, records_text, told}
+use Rattle.standby.proofs.Common.{◌≡◌, ◌<◌, ◌-◌, map, take, drop, All, line_bytes, Prints, area_bytes, IsShown, well, AsksAndPuts, HasBytes, later, records_text, told}
 use Rattle.standby.proofs.shipping.put_records.Given as goal
 
 abbrev pub invariant-loop-index : goal.invariant-loop-index

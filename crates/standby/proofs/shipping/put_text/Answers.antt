@@ -1,28 +1,7 @@
-use Rattle.std.proofs.Common.{◌≡◌, ℕ, ◌+◌, ◌-◌, ◌≤◌, List, ◌++◌, length, map, take, drop, refl, sym, subst, ◌∙◌, ap, arith}
-use Rattle.std.specs.Prelude.{Result, Ok, Err, All, OnOk, Option}
-use Rattle.std.proofs.lemmas.List.{length-drop, length-map}
-use Rattle.line_geometry.specs.Directory.{Layout}
-use Rattle.line_geometry.specs.Lines.{line_count}
-use Rattle.store_format.specs.Header.{Header}
-use Rattle.line_geometry.specs.Segments.{line_bytes}
-use Rattle.store_format.specs.Bank.{RecordLine}
-use Rattle.outside.specs.Bytes.{Prints}
-use Rattle.outside.proofs.Prints.{prints_on, prints_stop}
-use Rattle.redo_journal.specs.Records.{area_bytes}
-use Rattle.standby.specs.Followed.{well, broken}
-use Rattle.standby.specs.Shipped.{HasBytes, shipped}
-use Rattle.standby.specs.State.{behind}
-use Rattle.standby.specs.Step.{put_of}
-use Rattle.standby.specs.Text.{end_line, head_line, later, records_text, text_of, told}
+use Rattle.standby.proofs.Common.{◌≡◌, ℕ, ◌+◌, ◌-◌, ◌≤◌, List, ◌++◌, length, map, take, drop, refl, sym, subst, ◌∙◌, ap, arith, Result, Ok, Err, All, OnOk, Option, length-drop, length-map, Layout, line_count, Header, line_bytes, RecordLine, Prints, prints_on, prints_stop, prints_unput, area_bytes, well, broken, HasBytes, shipped, behind, put_of, end_line, head_line, later, records_text, text_of, told, held_of, AsksAndPuts, shows_asks, shows_on, Failed, IsShown}
 use Rattle.standby.proofs.ShipLemmas.{later_later}
-use Rattle.outside.specs.Runs.{held_of}
 use Rattle.standby.proofs.ContentLemmas.{content_is}
-use Rattle.outside.proofs.Prints.{prints_unput}
-use Rattle.outside.proofs.Shows.{shows_asks, shows_on}
 use Rattle.standby.proofs.ShowLemmas.{by_put, shows_line, still_shown}
-use Rattle.outside.specs.declared.failed.Failed.{Failed}
-use Rattle.outside.specs.Runs.{AsksAndPuts}
-use Rattle.restart.specs.Shows.{IsShown}
 use Rattle.standby.proofs.shipping.put_text.Given.{Over}
 use Rattle.standby.proofs.shipping.put_text.Goals as goal
 use Rattle.standby.proofs.shipping.put_text.Goals.{After-put_line, After-put_records}

@@ -1,6 +1,4 @@
-use Rattle.std.proofs.Common.{◌+◌, decimal, sym, ◌∙◌}
-use Rattle.std.proofs.lemmas.List.{take_rest}
-use Rattle.text_line.proofs.Words.{number_word}
+use Rattle.standby.proofs.Common.{◌+◌, decimal, sym, ◌∙◌, take_rest, number_word}
 use Rattle.standby.proofs.PartLemmas.{cut_at, uncut}
 use Rattle.standby.proofs.word.number_to.Goals as goal
 

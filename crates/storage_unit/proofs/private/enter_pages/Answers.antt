@@ -1,12 +1,4 @@
-use Rattle.std.proofs.Common.{◌≡◌, ℕ, ◌+◌, ◌≤◌, ◌<◌, List, length, sym, ◌∙◌, ap, subst, arith, Option, None}
-use Rattle.owned_list.specs.Overlay.{overlaid}
-use Rattle.owned_list.proofs.Overlay.{length-overlaid}
-use Rattle.tlb_model.specs.Buffer.{IsOfTable}
-use Rattle.tlb_model.proofs.TableLemmas.{of_table-entered}
-use Rattle.inverted_table.specs.declared.key.Key.{Key}
-use Rattle.inverted_table.specs.Keys.{key_to}
-use Rattle.inverted_table.specs.Placed.{Placed, key_in, look_up, entered}
-use Rattle.storage_unit.specs.Held.{first_keys}
+use Rattle.storage_unit.proofs.Common.{◌≡◌, ℕ, ◌+◌, ◌≤◌, ◌<◌, List, length, sym, ◌∙◌, ap, subst, arith, Option, None, overlaid, length-overlaid, IsOfTable, of_table-entered, Key, key_to, Placed, key_in, look_up, entered, first_keys}
 use Rattle.storage_unit.proofs.PrivateLemmas.{first-long, keys-more, next-free, next-absent}
 use Rattle.storage_unit.proofs.private.enter_pages.Goals as goal
 

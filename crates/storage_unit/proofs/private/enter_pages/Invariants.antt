@@ -1,8 +1,4 @@
-use Rattle.std.proofs.Common.{◌≡◌, List}
-use Rattle.tlb_model.specs.declared.tlb.Pair.{Pair}
-use Rattle.tlb_model.specs.Buffer.{IsOfTable}
-use Rattle.owned_list.specs.Overlay.{overlaid}
-use Rattle.storage_unit.specs.Held.{first_keys}
+use Rattle.storage_unit.proofs.Common.{◌≡◌, List, Pair, IsOfTable, overlaid, first_keys}
 use Rattle.storage_unit.proofs.private.enter_pages.Given as goal
 
 abbrev pub invariant-loop-index : goal.invariant-loop-index

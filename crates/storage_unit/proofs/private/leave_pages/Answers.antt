@@ -1,9 +1,4 @@
-use Rattle.std.proofs.Common.{◌≡◌, ◌+◌, List, length, sym, ◌∙◌, ap, subst, arith, Option}
-use Rattle.inverted_table.specs.declared.key.Key.{Key}
-use Rattle.inverted_table.specs.Placed.{Placed, without_frame}
-use Rattle.tlb_model.specs.declared.tlb.Pair.{Pair}
-use Rattle.tlb_model.specs.Buffer.{IsOfTable, forgotten}
-use Rattle.tlb_model.proofs.TableLemmas.{of_table-left}
+use Rattle.storage_unit.proofs.Common.{◌≡◌, ◌+◌, List, length, sym, ◌∙◌, ap, subst, arith, Option, Key, Placed, without_frame, Pair, IsOfTable, forgotten, of_table-left}
 use Rattle.storage_unit.proofs.PrivateLemmas.{nones-more, nones-long}
 use Rattle.storage_unit.proofs.private.leave_pages.Goals as goal
 

@@ -1,7 +1,5 @@
-use Rattle.std.proofs.Common.{◌≡◌, replicate}
+use Rattle.storage_unit.proofs.Common.{◌≡◌, replicate, overlaid, IsOfTable}
 use Rattle.std.specs.Prelude.{None}
-use Rattle.owned_list.specs.Overlay.{overlaid}
-use Rattle.tlb_model.specs.Buffer.{IsOfTable}
 use Rattle.storage_unit.proofs.private.leave_pages.Given as goal
 
 abbrev pub invariant-loop-index : goal.invariant-loop-index

@@ -1,6 +1,4 @@
-use Rattle.std.proofs.Common.{length, take, ap, arith}
-use Rattle.inverted_table.specs.Placed.{Placed}
-use Rattle.frame_pool.specs.View.{pool_of}
+use Rattle.storage_unit.proofs.Common.{length, take, ap, arith, Placed, pool_of}
 use Rattle.storage_unit.proofs.StateLemmas.{fold-long}
 use Rattle.storage_unit.proofs.serving.leave_all.Goals as goal
 

@@ -1,7 +1,4 @@
-use Rattle.std.proofs.Common.{◌≡◌, take}
-use Rattle.std.specs.Prelude.{fold}
-use Rattle.frame_pool.specs.View.{pool_of}
-use Rattle.storage_unit.specs.Held.{keys_without}
+use Rattle.storage_unit.proofs.Common.{◌≡◌, take, fold, pool_of, keys_without}
 use Rattle.storage_unit.proofs.serving.leave_all.Given as goal
 
 abbrev pub invariant-loop-page : goal.invariant-loop-page

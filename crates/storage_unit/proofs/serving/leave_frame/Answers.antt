@@ -1,10 +1,4 @@
-use Rattle.std.proofs.Common.{◌≡◌, ℕ, ◌<◌, length, sym, subst, List, Option, Some}
-use Rattle.std.specs.Prelude.{IfSome}
-use Rattle.inverted_table.specs.declared.key.Key.{Key}
-use Rattle.inverted_table.specs.Placed.{Placed}
-use Rattle.tlb_model.specs.declared.tlb.Pair.{Pair}
-use Rattle.tlb_model.specs.Buffer.{IsOfTable, forgotten}
-use Rattle.tlb_model.proofs.TableLemmas.{of_table-left}
+use Rattle.storage_unit.proofs.Common.{◌≡◌, ℕ, ◌<◌, length, sym, subst, List, Option, Some, IfSome, Key, Placed, Pair, IsOfTable, forgotten, of_table-left}
 use Rattle.storage_unit.proofs.serving.leave_frame.Goals as goal
 
 inside : (o : Option ℕ) (frame : ℕ) (keys : List (Option Key)) → o ≡ Some frame → IfSome o (λ f. f < length keys) → frame < length keys

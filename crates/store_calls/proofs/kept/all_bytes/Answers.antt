@@ -1,13 +1,4 @@
-use Rattle.std.proofs.Common.{◌≡◌, ◌*◌, ◌+◌, ◌++◌, ℕ, List, length, sym, ◌∙◌, ap, arith}
-use Rattle.line_geometry.specs.Directory.{Layout, page_count, byte_count}
-use Rattle.line_geometry.specs.Segments.{page_bytes}
-use Rattle.line_geometry.proofs.Within.{byte_count-pages}
-use Rattle.outside.specs.Runs.{held_of}
-use Rattle.store_format.specs.Stands.{Standing, stands}
-use Rattle.store_format.specs.Header.{Header}
-use Rattle.restart.specs.Shows.{page_in}
-use Rattle.store_calls.specs.Show.{bytes_in}
-use Rattle.outside.proofs.Shows.{held_same, shows_asks, shows_none, shows_on}
+use Rattle.store_calls.proofs.Common.{◌≡◌, ◌*◌, ◌+◌, ◌++◌, ℕ, List, sym, ◌∙◌, ap, arith, Layout, page_count, page_bytes, byte_count-pages, held_of, Standing, stands, Header, page_in, bytes_in, held_same, shows_asks, shows_none, shows_on}
 use Rattle.store_calls.proofs.ShowLemmas.{bytes_on, has_pages, none_in, page_whole, still_shown}
 use Rattle.store_calls.proofs.kept.all_bytes.Goals as goal
 

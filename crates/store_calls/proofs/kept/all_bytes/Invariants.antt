@@ -1,9 +1,4 @@
-use Rattle.std.proofs.Common.{◌≡◌, ◌*◌, length}
-use Rattle.line_geometry.specs.Segments.{page_bytes}
-use Rattle.outside.specs.Runs.{AsksAndPuts, held_of}
-use Rattle.store_format.specs.Stands.{stands}
-use Rattle.restart.specs.Shows.{IsShown}
-use Rattle.store_calls.specs.Show.{bytes_in}
+use Rattle.store_calls.proofs.Common.{◌≡◌, ◌*◌, length, page_bytes, AsksAndPuts, held_of, stands, IsShown, bytes_in}
 use Rattle.store_calls.proofs.kept.all_bytes.Given as goal
 
 -- the pages so far were read

@@ -1,17 +1,7 @@
-use Rattle.std.proofs.Common.{◌≡◌, ◌*◌, ℕ, List, [], length, sym, ◌∙◌, ap, subst, arith}
-use Rattle.std.specs.Prelude.{IsSome, Option, unwrap_or}
-use Rattle.std.proofs.lemmas.List.{take_all}
-use Rattle.line_geometry.specs.Directory.{Layout, byte_count}
-use Rattle.outside.specs.Runs.{held_of}
-use Rattle.store_format.specs.Header.{Header}
-use Rattle.store_format.specs.Stands.{Standing, Stands, stands}
-use Rattle.restart.specs.Kept as restart
-use Rattle.restart.specs.Kept.{number_of}
-use Rattle.restart.specs.Shows.{Shows}
-use Rattle.serial_audit.specs.declared.auditing.KeptStore.{KeptStore}
+use Rattle.store_calls.proofs.Common.{◌≡◌, ℕ, List, [], length, sym, ◌∙◌, ap, subst, arith, IsSome, Option, unwrap_or, take_all, Layout, byte_count, held_of, Header, Standing, Stands, stands, number_of, Shows, KeptStore, bytes_in}
 use Rattle.restart.proofs.StoodLemmas.{committed_in, committed-long, stood-store}
 use Rattle.store_calls.specs.Kept.{Keeps}
-use Rattle.store_calls.specs.Show.{bytes_in}
+use Rattle.restart.specs.Kept as restart
 use Rattle.store_calls.proofs.kept.read_store.Goals as goal
 
 -- all bytes of what stands, read from the front on, are the store

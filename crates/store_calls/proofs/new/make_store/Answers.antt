@@ -1,8 +1,4 @@
-use Rattle.std.proofs.Common.{◌≡◌, ℕ, List, [], ◌++◌, ◌∙◌, ap, subst}
-use Rattle.std.specs.Prelude.{codes, decimal}
-use Rattle.store_format.specs.Header.{fresh}
-use Rattle.call_status.specs.Call.{call}
-use Rattle.store_calls.specs.New.{Written, new_line}
+use Rattle.store_calls.proofs.Common.{◌≡◌, ℕ, List, [], ◌++◌, ◌∙◌, ap, subst, codes, decimal, fresh, call, Written, new_line}
 use Rattle.store_calls.proofs.WrittenLemmas.{written_since}
 use Rattle.store_calls.proofs.new.make_store.Goals as goal
 

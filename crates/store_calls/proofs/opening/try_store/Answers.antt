@@ -1,5 +1,4 @@
-use Rattle.std.proofs.Common.{◌≡◌, subst, vec_len, IfOk}
-use Rattle.store_format.specs.Header.{Header, fresh, total}
+use Rattle.store_calls.proofs.Common.{◌≡◌, subst, vec_len, IfOk, Header, fresh, total}
 use Rattle.store_calls.proofs.opening.try_store.Goals as goal
 
 pub returns-clause-bytes : goal.returns-clause-bytes

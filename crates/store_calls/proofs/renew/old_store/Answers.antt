@@ -1,10 +1,4 @@
-use Rattle.std.proofs.Common.{◌≡◌, false, refl, sym, ◌∙◌, ap, subst}
-use Rattle.line_geometry.specs.Directory.{byte_count}
-use Rattle.line_geometry.specs.Segments.{bytes_of, page_bytes}
-use Rattle.line_geometry.specs.declared.directory.PageSize.{PageSize}
-use Rattle.std.specs.Prelude.{sum_by}
-use Rattle.serial_audit.specs.Audit.{flat_of}
-use Rattle.store_calls.specs.Renewed.{is_version_two, standing_as_one}
+use Rattle.store_calls.proofs.Common.{◌≡◌, false, sym, ◌∙◌, ap, bytes_of, page_bytes, PageSize, sum_by, flat_of, is_version_two}
 use Rattle.store_calls.proofs.RenewLemmas.{stood_one}
 use Rattle.store_calls.proofs.renew.old_store.Goals as goal
 

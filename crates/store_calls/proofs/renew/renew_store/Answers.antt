@@ -1,8 +1,4 @@
-use Rattle.std.proofs.Common.{◌≡◌, ℕ, List, [], length, refl, sym, ◌∙◌, ap, subst}
-use Rattle.serial_audit.specs.Audit.{flat_of}
-use Rattle.call_status.specs.Call.{call, given}
-use Rattle.store_calls.specs.New.{Written}
-use Rattle.store_calls.specs.Renewed.{renew_line, renewed_image}
+use Rattle.store_calls.proofs.Common.{◌≡◌, ℕ, List, [], length, sym, ◌∙◌, ap, subst, flat_of, call, given, Written, renew_line, renewed_image}
 use Rattle.store_calls.proofs.RenewLemmas.{renewed_by_writing, renewed_no_empty}
 use Rattle.store_calls.proofs.WrittenLemmas.{not_written, written_since}
 use Rattle.store_calls.proofs.renew.renew_store.Goals as goal

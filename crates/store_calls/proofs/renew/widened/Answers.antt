@@ -1,10 +1,4 @@
-use Rattle.std.proofs.Common.{◌≡◌, ◌+◌, ◌<◌, ◌/◌, ◌%◌, ◌++◌, suc, ℕ, List, [], ◌∷◌, length, map, take, take-suc, slice_index_or, refl, sym, ◌∙◌, ap, subst, arith}
-use Rattle.std.specs.Prelude.{Result, Ok, Err, IsOk, OnOk, min}
-use Rattle.std.proofs.lemmas.List.{length-map, length-take, map-append, take_all}
-use Rattle.line_geometry.specs.Directory.{Layout}
-use Rattle.line_geometry.specs.Legal.{IsLegal}
-use Rattle.line_geometry.specs.declared.directory.PageSize.TheVariants.{Four}
-use Rattle.store_calls.specs.Renewed.{widened_segments}
+use Rattle.store_calls.proofs.Common.{◌≡◌, ◌+◌, ◌<◌, ◌/◌, ◌++◌, ℕ, List, [], ◌∷◌, length, take, slice_index_or, sym, ◌∙◌, ap, subst, arith, Result, Ok, Err, IsOk, OnOk, length-map, length-take, take_all, IsLegal, Four, widened_segments}
 use Rattle.store_calls.proofs.RenewLemmas.{widened_legal, widened_more}
 use Rattle.store_calls.proofs.renew.widened.Goals as goal
 

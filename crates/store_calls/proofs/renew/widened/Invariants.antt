@@ -1,5 +1,4 @@
-use Rattle.std.proofs.Common.{◌≡◌, take}
-use Rattle.store_calls.specs.Renewed.{widened_segments}
+use Rattle.store_calls.proofs.Common.{◌≡◌, take, widened_segments}
 use Rattle.store_calls.proofs.renew.widened.Given as goal
 
 abbrev pub invariant-loop-segment : goal.invariant-loop-segment

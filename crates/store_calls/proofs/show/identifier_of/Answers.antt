@@ -1,7 +1,4 @@
-use Rattle.std.proofs.Common.{◌≡◌, ℕ, List, [], ◌∷◌, Bool, true, false, cond, Some, refl, ap, ◌∙◌, sym, arith}
-use Rattle.std.specs.Prelude.{find, option_map, ◌==◌}
-use Rattle.std.proofs.lemmas.Bool.Decides.{nat_tests}
-use Rattle.line_geometry.specs.Segments.{bytes_of, is_named, page_bytes}
+use Rattle.store_calls.proofs.Common.{◌≡◌, ℕ, List, [], ◌∷◌, Bool, true, false, cond, Some, refl, ap, ◌∙◌, sym, arith, find, option_map, ◌==◌, nat_tests, bytes_of, is_named, page_bytes}
 use Rattle.store_calls.proofs.show.identifier_of.Goals as goal
 
 -- what is found has the number that was looked for

@@ -1,8 +1,5 @@
-use Rattle.std.proofs.Common.{◌≡◌, ℕ, ◌+◌, ◌-◌, ◌*◌, ◌≤◌, ◌^◌, Option, Some, ap, ◌∙◌, sym, subst, arith}
-use Rattle.std.specs.Prelude.{IfSome}
-use Rattle.line_geometry.specs.Directory.{Layout, byte_count, length_of, start_of}
-use Rattle.store_calls.specs.declared.show.Range.{Range}
-use Rattle.store_calls.specs.Show.{IsInside}
+use Rattle.store_calls.proofs.Common.{IfSome, Layout, byte_count, length_of, start_of, Range, IsInside}
+use Rattle.std.proofs.Common.{◌≡◌, ℕ, ◌+◌, ◌-◌, ◌≤◌, ◌^◌, Option, Some, ap, ◌∙◌, sym, subst, arith}
 use Rattle.store_calls.proofs.show.place_of.Goals as goal
 
 -- a range that lies in its segment lies in the store

@@ -1,8 +1,4 @@
-use Rattle.std.proofs.Common.{◌≡◌, ◌≤◌, ◌+◌, ◌<◌, length, arith, subst, ap}
-use Rattle.std.specs.Prelude.{Ok}
-use Rattle.outside.specs.Runs.{held_of}
-use Rattle.store_format.specs.Stands.{stands}
-use Rattle.store_calls.specs.Show.{PutsBytes}
+use Rattle.store_calls.proofs.Common.{◌≡◌, ◌≤◌, ◌+◌, ◌<◌, length, arith, subst, ap, Ok, held_of, stands, PutsBytes}
 use Rattle.store_calls.proofs.ShowLemmas.{none_in, nothing_put, parts_on, parts-long, parts_stop}
 use Rattle.store_calls.proofs.show.put_range.Goals as goal
 

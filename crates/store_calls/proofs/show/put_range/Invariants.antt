@@ -1,9 +1,4 @@
-use Rattle.std.proofs.Common.{◌≡◌, ◌<◌, ◌≤◌, ◌-◌, ◌%◌, length}
-use Rattle.std.specs.Prelude.{Ok}
-use Rattle.outside.specs.Runs.{held_of}
-use Rattle.store_format.specs.Stands.{stands}
-use Rattle.restart.specs.Shows.{IsShown}
-use Rattle.store_calls.specs.Show.{PutsBytes, bytes_in}
+use Rattle.store_calls.proofs.Common.{◌≡◌, ◌<◌, ◌≤◌, ◌-◌, ◌%◌, length, Ok, held_of, stands, IsShown, PutsBytes, bytes_in}
 use Rattle.store_calls.proofs.show.put_range.Given as goal
 
 -- the bytes so far are put

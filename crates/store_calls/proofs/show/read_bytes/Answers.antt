@@ -1,11 +1,4 @@
-use Rattle.std.proofs.Common.{◌≡◌, ◌+◌, Bool, true, List, ℕ, [], ◌∷◌, refl, length, ap, ◌∙◌, sym, arith}
-use Rattle.std.specs.Prelude.{Result, Ok, Err, OnOk, ◌==◌}
-use Rattle.std.proofs.lemmas.Bool.Decides.{nat_tests}
-use Rattle.outside.proofs.Runs.{asks_on}
-use Rattle.outside.specs.Runs.{held_of}
-use Rattle.store_format.specs.Stands.{stands}
-use Rattle.store_calls.specs.Show.{bytes_in}
-use Rattle.outside.proofs.Shows.{held_same, shows_asks}
+use Rattle.store_calls.proofs.Common.{◌≡◌, ◌+◌, Bool, true, List, ℕ, [], ◌∷◌, refl, length, ap, ◌∙◌, sym, arith, Result, Ok, Err, OnOk, ◌==◌, nat_tests, asks_on, held_of, stands, bytes_in, held_same, shows_asks}
 use Rattle.store_calls.proofs.ShowLemmas.{in_two_pages, none_in, still_shown}
 use Rattle.store_calls.proofs.show.read_bytes.Goals as goal
 

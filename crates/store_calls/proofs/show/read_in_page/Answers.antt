@@ -1,14 +1,5 @@
-use Rattle.std.proofs.Common.{◌≡◌, ◌≤◌, ◌<◌, ◌+◌, ◌-◌, ◌*◌, ◌%◌, ◌/◌, List, ℕ, length, take, drop, sym, ap, subst, ◌∙◌, arith}
-use Rattle.line_geometry.specs.declared.directory.PageSize.{PageSize}
-use Rattle.line_geometry.specs.declared.directory.PageSize.TheVariants.{Two, Four}
-use Rattle.line_geometry.specs.Segments.{page_bytes}
-use Rattle.line_geometry.specs.Directory.{Layout, byte_count, page_count}
+use Rattle.store_calls.proofs.Common.{◌≡◌, ◌<◌, ◌+◌, ◌-◌, ◌*◌, ◌%◌, ◌/◌, List, ℕ, length, take, drop, sym, ap, subst, ◌∙◌, arith, PageSize, Two, Four, page_bytes, Layout, byte_count, page_count, byte_count-pages, held_of, Header, stands, page_in}
 use Rattle.line_geometry.specs.Lines.{page_of}
-use Rattle.line_geometry.proofs.Within.{byte_count-pages}
-use Rattle.outside.specs.Runs.{held_of}
-use Rattle.store_format.specs.Header.{Header}
-use Rattle.store_format.specs.Stands.{stands}
-use Rattle.restart.specs.Shows.{page_in}
 use Rattle.store_calls.proofs.ShowLemmas.{has_pages, in_page}
 use Rattle.store_calls.proofs.show.read_in_page.Goals as goal
 

@@ -1,7 +1,4 @@
-use Rattle.std.proofs.Common.{◌+◌, ◌∙◌, ap, subst, sym}
-use Rattle.line_geometry.specs.Directory.{start_of}
-use Rattle.store_format.specs.Header.{Header}
-use Rattle.store_calls.specs.Show.{IsInside}
+use Rattle.store_calls.proofs.Common.{◌+◌, ◌∙◌, ap, subst, sym, start_of, Header, IsInside}
 use Rattle.store_calls.proofs.ShownLemmas.{no_range, shown_part, shown_whole}
 use Rattle.store_calls.proofs.show.show_range.Goals as goal
 

@@ -1,6 +1,4 @@
-use Rattle.std.proofs.Common.{List, ℕ, length}
-use Rattle.outside.specs.Bytes.{Torn}
-use Rattle.outside.proofs.Runs.{leaves_same, still_told}
+use Rattle.store_calls.proofs.Common.{List, ℕ, length, Torn, leaves_same, still_told}
 use Rattle.store_calls.proofs.written.write.Goals as goal
 
 pub returns-clause-crash : goal.returns-clause-crash

@@ -1,7 +1,4 @@
-use Rattle.std.proofs.Common.{◌≡◌, ℕ, ◌+◌, ◌*◌, ◌-◌, ◌∷◌, [], ◌∙◌, ap, length, arith}
-use Rattle.std.specs.Prelude.{min}
-use Rattle.store_format.specs.Header.{name_field, number_at, within, segment_fields, segments_at, segments_of, page_of, spare_fields, first_fault}
-use Rattle.line_geometry.specs.declared.directory.PageSize.{PageSize}
+use Rattle.store_format.proofs.Common.{◌≡◌, ℕ, ◌-◌, ◌∷◌, [], ◌∙◌, ap, length, arith, min, name_field, number_at, within, segment_fields, segments_at, segments_of, page_of, spare_fields, first_fault, PageSize}
 use Rattle.store_format.proofs.Checks.{six_faults, or_is, length-segments_at}
 use Rattle.store_format.proofs.read.header_fault.Goals as goal
 

@@ -1,11 +1,5 @@
-use Rattle.std.proofs.Common.{◌≡◌, ℕ, ◌+◌, ◌*◌, ◌<◌, ◌∷◌, [], ◌++◌, List, length, take, ◌∙◌, sym, ap, arith, subst, set, refl}
-use Rattle.std.specs.Prelude.{min, IfOk, Ok}
-use Rattle.std.proofs.lemmas.List.{take_more_set, length-set}
-use Rattle.line_geometry.specs.Legal.{IsLegal, AreFlags}
-use Rattle.line_geometry.specs.Directory.{Layout}
+use Rattle.store_format.proofs.Common.{◌≡◌, ℕ, ◌+◌, ◌*◌, ◌<◌, ◌∷◌, [], ◌++◌, List, length, take, ◌∙◌, sym, ap, arith, subst, set, refl, min, IfOk, Ok, take_more_set, length-set, IsLegal, AreFlags, Layout, PageSize, number_at, segments_at, segments_of, page_of}
 use Rattle.line_geometry.specs.declared.directory.DirectoryFault.{DirectoryFault}
-use Rattle.line_geometry.specs.declared.directory.PageSize.{PageSize}
-use Rattle.store_format.specs.Header.{number_at, segments_at, segments_of, page_of}
 use Rattle.store_format.proofs.Checks.{segments_at-more}
 use Rattle.store_format.proofs.Sound.{IsSound, sound_header}
 use Rattle.store_format.proofs.read.header_in.Goals as goal

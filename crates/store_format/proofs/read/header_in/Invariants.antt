@@ -1,5 +1,4 @@
-use Rattle.std.proofs.Common.{◌≡◌, ◌≤◌, take, length}
-use Rattle.store_format.specs.Header.{segments_at}
+use Rattle.store_format.proofs.Common.{◌≡◌, ◌≤◌, take, length, segments_at}
 use Rattle.store_format.proofs.read.header_in.Given as goal
 
 abbrev pub invariant-loop-i : goal.invariant-loop-i

@@ -1,6 +1,4 @@
-use Rattle.std.proofs.Common.{◌≡◌, ℕ, [], ◌∙◌, sym, ap, subst, length, List, take, drop}
-use Rattle.std.specs.Prelude.{Option, IsSome, unwrap_or, min}
-use Rattle.outside.specs.Runs.{held_of}
+use Rattle.store_format.proofs.Common.{◌≡◌, ℕ, [], ◌∙◌, sym, ap, subst, length, List, take, drop, Option, IsSome, unwrap_or, min, held_of}
 use Rattle.store_format.proofs.Padded.{padded_is, read_is, number_is}
 use Rattle.store_format.proofs.read.read_head.Goals as goal
 

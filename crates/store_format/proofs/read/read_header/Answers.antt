@@ -1,8 +1,4 @@
-use Rattle.std.proofs.Common.{◌≡◌, ℕ, ◌∙◌, sym, ap, length, List, take, refl}
-use Rattle.std.specs.Prelude.{Option, None, Some, IsSome, min}
-use Rattle.outside.specs.Runs.{held_of}
-use Rattle.store_format.specs.Header.{fields, first_fault, header_of, total}
-use Rattle.store_format.specs.Stands.{NotAStore}
+use Rattle.store_format.proofs.Common.{◌≡◌, ℕ, ◌∙◌, sym, ap, length, List, take, refl, Option, None, Some, IsSome, min, held_of, fields, first_fault, header_of, total, NotAStore}
 use Rattle.store_format.proofs.Padded.{padded_fault, padded_header}
 use Rattle.store_format.proofs.Sound.{faulty_header, faulty_length}
 use Rattle.store_format.proofs.read.read_header.Given.{Over}

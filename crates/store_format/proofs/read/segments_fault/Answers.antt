@@ -1,6 +1,4 @@
-use Rattle.std.proofs.Common.{◌≡◌, ℕ, ◌+◌, ◌*◌, ◌∷◌, [], ◌∙◌, sym, ap, arith}
-use Rattle.std.specs.Prelude.{is_some, min, Option}
-use Rattle.store_format.specs.Header.{within, first_fault}
+use Rattle.store_format.proofs.Common.{◌≡◌, ℕ, ◌+◌, ◌*◌, ◌∷◌, [], ◌∙◌, sym, ap, arith, is_some, min, Option, within, first_fault}
 use Rattle.store_format.proofs.Checks.{wrong_identifier, wrong_pages, right_segment}
 use Rattle.store_format.proofs.read.segments_fault.Goals as goal
 use Rattle.store_format.proofs.read.segments_fault.Goals.{After-is_some, After-is_some-in-loop-i}

@@ -1,5 +1,4 @@
-use Rattle.std.proofs.Common.{◌≡◌, ◌+◌, ◌*◌, ◌≤◌}
-use Rattle.store_format.specs.Header.{segments_at, segment_fields, first_fault}
+use Rattle.store_format.proofs.Common.{◌≡◌, ◌+◌, ◌*◌, ◌≤◌, segments_at, segment_fields, first_fault}
 use Rattle.store_format.proofs.Checks.{segments_left}
 use Rattle.store_format.proofs.read.segments_fault.Given as goal
 

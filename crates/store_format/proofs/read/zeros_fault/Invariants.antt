@@ -1,5 +1,4 @@
-use Rattle.std.proofs.Common.{◌≡◌, ◌-◌}
-use Rattle.store_format.specs.Header.{zeros, first_fault}
+use Rattle.store_format.proofs.Common.{◌≡◌, ◌-◌, zeros, first_fault}
 use Rattle.store_format.proofs.read.zeros_fault.Given as goal
 
 abbrev pub invariant-loop-at : goal.invariant-loop-at

@@ -1,5 +1,4 @@
-use Rattle.std.proofs.Common.{◌≡◌, ◌+◌, ◌*◌, ◌∷◌, ◌++◌, length, take}
-use Rattle.hex.specs.Hex.{encode_lower}
+use Rattle.text_line.proofs.Common.{◌≡◌, ◌+◌, ◌*◌, ◌∷◌, ◌++◌, length, take, encode_lower}
 use Rattle.text_line.proofs.TextLine.hex.Given as goal
 
 -- the digits of so many bytes stand behind the space

@@ -1,5 +1,4 @@
-use Rattle.std.proofs.Common.{◌∙◌}
-use Rattle.std.proofs.lemmas.Fmt.{parse-decimal, IsAscii-decimal}
+use Rattle.text_line.proofs.Common.{◌∙◌, parse-decimal, IsAscii-decimal}
 use Rattle.std.proofs.lemmas.Str.{IsUtf8-from_ascii}
 use Rattle.text_line.proofs.word.number.Goals as goal
 

@@ -1,6 +1,5 @@
-use Rattle.std.proofs.Common.{arith}
+use Rattle.tlb_model.proofs.Common.{arith, ways_without}
 use Rattle.inverted_table.proofs.ClearLemmas.{mapped-more, mapped-all}
-use Rattle.tlb_model.specs.Ways.{ways_without}
 use Rattle.tlb_model.proofs.tlb.forget_all.Goals as goal
 
 pub loop-ways-preserved : goal.loop-ways-preserved

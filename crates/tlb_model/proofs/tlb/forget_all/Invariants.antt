@@ -1,5 +1,4 @@
-use Rattle.std.proofs.Common.{◌≡◌, ◌++◌, take, drop, map}
-use Rattle.tlb_model.specs.Ways.{ways_without}
+use Rattle.tlb_model.proofs.Common.{◌≡◌, ◌++◌, take, drop, map, ways_without}
 use Rattle.tlb_model.proofs.tlb.forget_all.Given as goal
 
 -- the classes so far are without the frame

@@ -1,11 +1,5 @@
-use Rattle.std.proofs.Common.{◌≡◌, ◌+◌, ◌-◌, ◌<◌, Some, None, refl, sym, ◌∙◌, ap, add-one, arith}
-use Rattle.flat_machine.specs.declared.machine.Plain.{Plain}
-use Rattle.line_geometry.specs.FlatStore.{FlatStore}
-use Rattle.flat_machine.specs.After.{next_state}
-use Rattle.flat_machine.specs.Row.{row}
-use Rattle.flat_machine.specs.Serial.{Activation}
+use Rattle.touch_trace.proofs.Common.{◌≡◌, ◌+◌, ◌-◌, ◌<◌, Some, None, refl, sym, ◌∙◌, ap, add-one, arith, Plain, FlatStore, next_state, row, Activation, touches}
 use Rattle.serial_audit.proofs.RowLemmas.{commit_at, no_commit, stopped, stops_early}
-use Rattle.touch_trace.specs.Trace.{touches}
 use Rattle.touch_trace.proofs.StepLemmas.{touches_next}
 use Rattle.touch_trace.proofs.running.run_traced.Goals as goal
 

@@ -1,7 +1,4 @@
-use Rattle.std.proofs.Common.{◌≡◌, ◌-◌, length, Some}
-use Rattle.line_geometry.specs.Directory.{byte_count}
-use Rattle.flat_machine.specs.After.{after}
-use Rattle.touch_trace.specs.Trace.{touches}
+use Rattle.touch_trace.proofs.Common.{◌≡◌, ◌-◌, length, Some, byte_count, after, touches}
 use Rattle.touch_trace.proofs.running.run_traced.Given as goal
 
 abbrev pub invariant-loop-step : goal.invariant-loop-step

@@ -1,8 +1,4 @@
-use Rattle.std.proofs.Common.{◌+◌, [], ◌++◌, List, take, drop, ◌∙◌, ap, append-nil}
-use Rattle.std.proofs.lemmas.List.{take_all}
-use Rattle.serial_audit.specs.Audit.{Told, report_told}
-use Rattle.serial_audit.specs.Commit.{told_of}
-use Rattle.serial_audit.proofs.VerdictLemmas.{told_all, told_more}
+use Rattle.touch_trace.proofs.Common.{◌+◌, [], ◌++◌, List, take, drop, ◌∙◌, ap, append-nil, take_all, Told, report_told, told_of, told_all, told_more}
 use Rattle.touch_trace.proofs.LineLemmas.{none_more}
 use Rattle.touch_trace.proofs.tracing.first_commit.Goals as goal
 use Rattle.touch_trace.proofs.tracing.first_commit.Goals.{in-Some+else-commit-activation, in-None}

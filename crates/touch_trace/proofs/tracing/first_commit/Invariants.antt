@@ -1,6 +1,4 @@
-use Rattle.std.proofs.Common.{map, take}
-use Rattle.std.specs.List.{Contains}
-use Rattle.serial_audit.specs.Audit.{Told, report_told}
+use Rattle.touch_trace.proofs.Common.{map, take, Contains, Told, report_told}
 use Rattle.touch_trace.proofs.tracing.first_commit.Given as goal
 
 abbrev pub invariant-loop-place : goal.invariant-loop-place

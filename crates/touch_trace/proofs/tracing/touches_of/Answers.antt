@@ -1,7 +1,5 @@
-use Rattle.std.proofs.Common.{◌≡◌, rules}
-use Rattle.serial_audit.specs.Commit.{told_of}
+use Rattle.touch_trace.proofs.Common.{◌≡◌, rules, told_of, refused}
 use Rattle.serial_audit.specs.Index.{activation_in}
-use Rattle.serial_audit.proofs.VerdictLemmas.{refused}
 use Rattle.touch_trace.proofs.LineLemmas.{traced_sound}
 use Rattle.touch_trace.proofs.tracing.touches_of.Goals as goal
 

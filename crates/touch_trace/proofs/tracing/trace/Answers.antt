@@ -1,7 +1,4 @@
-use Rattle.std.proofs.Common.{[], ◌∷◌, take, refl}
-use Rattle.serial_audit.specs.Audit.{report_told}
-use Rattle.serial_audit.specs.Commit.{told_of}
-use Rattle.serial_audit.proofs.VerdictLemmas.{sound_more}
+use Rattle.touch_trace.proofs.Common.{[], ◌∷◌, take, refl, report_told, told_of, sound_more}
 use Rattle.touch_trace.proofs.LineLemmas.{unsound_among}
 use Rattle.touch_trace.proofs.tracing.trace.Goals as goal
 

@@ -1,6 +1,4 @@
-use Rattle.std.proofs.Common.{◌≡◌, ◌&&◌, ℕ, Bool, nat_lt, length, arith, ap, ◌∙◌, refl}
-use Rattle.lock_rules.specs.Waits.{leads}
-use Rattle.wait_cycles.specs.Rows.{waits_in, places_of}
+use Rattle.wait_cycles.proofs.Common.{◌≡◌, ◌&&◌, ℕ, Bool, nat_lt, length, arith, ap, ◌∙◌, refl, leads, waits_in, places_of}
 use Rattle.wait_cycles.proofs.Walk.{leads-more}
 use Rattle.wait_cycles.proofs.cycle.leading_to.Goals as goal
 

@@ -1,6 +1,4 @@
-use Rattle.std.proofs.Common.{◌≡◌, ◌<◌, ◌&&◌, ℕ, nat_lt, length}
-use Rattle.lock_rules.specs.Waits.{leads}
-use Rattle.wait_cycles.specs.Rows.{is_on, waits_in, places_of}
+use Rattle.wait_cycles.proofs.Common.{◌≡◌, ◌<◌, ◌&&◌, ℕ, nat_lt, length, leads, is_on, waits_in, places_of}
 use Rattle.wait_cycles.proofs.cycle.leading_to.Given as goal
 
 -- the places that lead to the goal in so many steps

@@ -1,8 +1,4 @@
-use Rattle.std.proofs.Common.{◌≡◌, ◌+◌, ◌-◌, ◌≤◌, ◌&&◌, ℕ, List, [], ◌∷◌, ◌++◌, Bool, Option, find, length, slice_index_or, bit_and, arith, ap, sym, ◌∙◌, append-nil, append_assoc}
-use Rattle.std.specs.Prelude.{if◌then◌else◌}
-use Rattle.std.proofs.lemmas.Bool.{eq-eqb, ne_eqb}
-use Rattle.lock_rules.specs.Waits.{leads, next_shown, shown_after}
-use Rattle.wait_cycles.specs.Rows.{is_on, waits_in, places, places_of}
+use Rattle.wait_cycles.proofs.Common.{◌≡◌, ◌+◌, ◌-◌, ◌≤◌, ◌&&◌, ℕ, List, [], ◌∷◌, ◌++◌, Bool, Option, find, length, slice_index_or, bit_and, arith, ap, sym, ◌∙◌, append-nil, append_assoc, if◌then◌else◌, eq-eqb, ne_eqb, leads, next_shown, shown_after, is_on, waits_in, places, places_of}
 use Rattle.wait_cycles.proofs.Bits.{find-within}
 use Rattle.wait_cycles.proofs.Walk.{Leading, next-is, follows-none, follows-some, shown-none, shown-some}
 use Rattle.wait_cycles.proofs.cycle.shown_cycle.Goals as goal

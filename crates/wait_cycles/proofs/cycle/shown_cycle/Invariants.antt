@@ -1,6 +1,4 @@
-use Rattle.std.proofs.Common.{◌≡◌, ◌<◌, ◌+◌, ◌-◌, ◌∷◌, ◌++◌, length}
-use Rattle.lock_rules.specs.Waits.{shown_after}
-use Rattle.wait_cycles.specs.Rows.{waits_in, places_of}
+use Rattle.wait_cycles.proofs.Common.{◌≡◌, ◌<◌, ◌+◌, ◌-◌, ◌∷◌, ◌++◌, length, shown_after, waits_in, places_of}
 use Rattle.wait_cycles.proofs.cycle.shown_cycle.Given as goal
 
 -- the members so far, and those that follow the last one, are the cycle

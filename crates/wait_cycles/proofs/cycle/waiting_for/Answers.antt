@@ -1,7 +1,5 @@
-use Rattle.std.proofs.Common.{◌&&◌, ℕ, Bool, slice_index_or, arith, ap, ◌∙◌}
-use Rattle.std.specs.List.{list_any}
+use Rattle.wait_cycles.proofs.Common.{◌&&◌, ℕ, Bool, slice_index_or, arith, ap, ◌∙◌, list_any, is_on, waits_in, places}
 use Rattle.std.proofs.lemmas.Nat.{and_le_r}
-use Rattle.wait_cycles.specs.Rows.{is_on, waits_in, places}
 use Rattle.wait_cycles.proofs.Bits.{meets-some, meets-none}
 use Rattle.wait_cycles.proofs.Walk.{marked, unmarked}
 use Rattle.wait_cycles.proofs.cycle.waiting_for.Goals as goal

@@ -1,6 +1,4 @@
-use Rattle.std.proofs.Common.{◌≡◌, ◌<◌, ◌&&◌, ℕ, nat_lt}
-use Rattle.std.specs.List.{list_any}
-use Rattle.wait_cycles.specs.Rows.{is_on, waits_in, places}
+use Rattle.wait_cycles.proofs.Common.{◌≡◌, ◌<◌, ◌&&◌, ℕ, nat_lt, list_any, is_on, waits_in, places}
 use Rattle.wait_cycles.proofs.cycle.waiting_for.Given as goal
 
 -- the places so far that wait for one of the goals are marked

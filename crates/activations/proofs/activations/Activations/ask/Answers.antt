@@ -1,18 +1,9 @@
+use Rattle.activations.proofs.Common.{Seating, sitter, number_in, holders, desk_over, IsSound, KeepsParts, StaysSeated, IsContested, IsContestEnd, counts_of, activity_of, wants_of, taken-below}
 use Rattle.std.proofs.Common.{◌≡◌, ℕ, IsSome, ap, arith, sym, ◌∙◌, subst}
 use Rattle.std.specs.Result.{IfErr}
-use Rattle.seats.specs.Seating.{Seating, sitter, number_in}
-use Rattle.seats.specs.Waiting.{holders}
-use Rattle.activations.specs.Activity.{desk_over}
-use Rattle.activations.specs.Follows.{IsSound}
 use Rattle.activations.specs.Causes.{IfVictim}
-use Rattle.activations.specs.Kept.{KeepsParts, StaysSeated}
-use Rattle.activations.specs.Serving.{IsContested}
-use Rattle.activations.specs.Turning.{IsContestEnd, counts_of}
-use Rattle.activations.specs.View.{activity_of}
-use Rattle.activations.specs.Touched.{wants_of}
 use Rattle.activations.proofs.AskLemmas.{asked-within, some-holders, sound-asking, asks-now, keeps-asking, stays-asking, asked-whole}
 use Rattle.activations.proofs.KeptLemmas.{keeps-on, stays-on, ok-then}
-use Rattle.seats.proofs.Kept.{taken-below}
 use Rattle.activations.proofs.activations.Activations.ask.Goals as goal
 
 pub holders-requires : goal.holders-requires

@@ -1,17 +1,8 @@
+use Rattle.activations.proofs.Common.{Begun, reach_of, absent_segment, unit-sound, sound-fits, Activity, program_at, Program, first_registers, clear, registers_of_program, IsSound, activity_of}
 use Rattle.std.proofs.Common.{◌≡◌, ◌+◌, length, refl, sym, ap, ◌∙◌, arith, subst, slice_set, []}
-use Rattle.desk.specs.declared.answers.Begun.{Begun}
-use Rattle.desk.specs.declared.answers.Begun.TheVariants
-use Rattle.storage_unit.specs.View.{reach_of}
-use Rattle.desk.specs.Run.{absent_segment}
-use Rattle.storage_unit.proofs.UnitLemmas.{unit-sound, sound-fits}
-use Rattle.activations.specs.Activity.{Activity, program_at}
-use Rattle.flat_machine.specs.declared.machine.Program.{Program}
-use Rattle.flat_machine.specs.After.{first_registers, clear}
-use Rattle.romp_cpu.specs.Segments.{registers_of_program}
 use Rattle.storage_unit.specs.Served.{begun}
 use Rattle.activations.specs.Begins.{begins, begun_in, given, started}
-use Rattle.activations.specs.Follows.{IsSound}
-use Rattle.activations.specs.View.{activity_of}
+use Rattle.desk.specs.declared.answers.Begun.TheVariants
 use Rattle.activations.proofs.BeginLemmas.{begin-goes, begins-full, begins-refused, begins-started, sound-begins, is-code, is-fresh, has-room, some-next}
 use Rattle.activations.proofs.activations.Activations.begin.Goals.{In-Some-sit}
 use Rattle.activations.proofs.activations.Activations.begin.Goals as goal

@@ -1,5 +1,4 @@
-use Rattle.activations.specs.Touched.{pages_wanted, wants_of}
-use Rattle.activations.specs.View.{activity_of}
+use Rattle.activations.proofs.Common.{pages_wanted, wants_of, activity_of}
 use Rattle.activations.proofs.PrepareLemmas.{broken-off}
 use Rattle.activations.proofs.activations.Activations.bring.Goals as goal
 

@@ -1,9 +1,5 @@
-use Rattle.std.proofs.Common.{sym, subst}
+use Rattle.activations.proofs.Common.{sym, subst, Live, Activity, live_in, IsOver, instruction_in, activity_of}
 use Rattle.desk.specs.Instruction as desk
-use Rattle.activations.specs.declared.live.Live.{Live}
-use Rattle.activations.specs.Activity.{Activity, live_in}
-use Rattle.activations.specs.Serving.{IsOver, instruction_in}
-use Rattle.activations.specs.View.{activity_of}
 use Rattle.activations.proofs.EndLemmas.{checked}
 use Rattle.activations.proofs.ExecuteLemmas.{runs-there}
 use Rattle.activations.proofs.activations.Activations.check.Goals as goal

@@ -1,5 +1,4 @@
-use Rattle.storage_unit.specs.View.{reach_of}
-use Rattle.activations.specs.View.{activity_of}
+use Rattle.activations.proofs.Common.{reach_of, activity_of}
 use Rattle.activations.proofs.EndingLemmas.{shape-left, sound-after, commits-left}
 use Rattle.activations.proofs.activations.Activations.commit.Goals as goal
 

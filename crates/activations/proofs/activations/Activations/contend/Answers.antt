@@ -1,20 +1,5 @@
+use Rattle.activations.proofs.Common.{eq-eqb, ne_eqb, option_map, victim_of, number_in, seat_of, sitter, Seat, cycle_of, seat-found, Victim, Activity, activity_of, Cycle, has, rolled, IsOver, Contests, counts_of, KeepsParts, StaysSeated}
 use Rattle.std.proofs.Common.{◌≡◌, ◌<◌, ◌==◌, true, false, ℕ, List, length, map, IsSome, refl, Some, None, sym, ◌∙◌, ap, arith, subst}
-use Rattle.std.proofs.lemmas.Bool.{eq-eqb, ne_eqb}
-use Rattle.std.specs.Option.{option_map}
-use Rattle.lock_rules.specs.Waits.{victim_of}
-use Rattle.seats.specs.Seating.{number_in, seat_of, sitter}
-use Rattle.seats.specs.declared.seat.Seat.{Seat}
-use Rattle.seats.specs.Waiting.{cycle_of}
-use Rattle.seats.proofs.Numbers.{seat-found}
-use Rattle.desk.specs.Instruction.{Victim}
-use Rattle.activations.specs.Activity.{Activity}
-use Rattle.activations.specs.View.{activity_of}
-use Rattle.desk.specs.declared.answers.Cycle.{Cycle}
-use Rattle.lock_rules.specs.Sets.{has}
-use Rattle.activations.specs.Steps.{rolled}
-use Rattle.activations.specs.Serving.{IsOver}
-use Rattle.activations.specs.Turning.{Contests, counts_of}
-use Rattle.activations.specs.Kept.{KeepsParts, StaysSeated}
 use Rattle.activations.proofs.KeptLemmas.{keeps-itself, keeps-rolled, stays-itself, stays-rolled, tally-on}
 use Rattle.activations.proofs.ContendLemmas.{fewer, contests-on, contests-lost, stays-taken, recorded, victim-sits, told-settles, told-stays}
 use Rattle.activations.proofs.activations.Activations.contend.Goals.{in-Some+in_default-seat_of, in_default}

@@ -1,11 +1,5 @@
+use Rattle.activations.proofs.Common.{array_vec_len, has, number_in, sitter, IsSound, counts_of, Contests, KeepsParts, StaysSeated, activity_of}
 use Rattle.std.proofs.Common.{◌≡◌, ◌≤◌, ◌+◌, true, length, IsSome}
-use Rattle.arrayvec.specs.ArrayVec.{array_vec_len}
-use Rattle.lock_rules.specs.Sets.{has}
-use Rattle.seats.specs.Seating.{number_in, sitter}
-use Rattle.activations.specs.Follows.{IsSound}
-use Rattle.activations.specs.Turning.{counts_of, Contests}
-use Rattle.activations.specs.Kept.{KeepsParts, StaysSeated}
-use Rattle.activations.specs.View.{activity_of}
 use Rattle.activations.proofs.activations.Activations.contend.Given as goal
 
 abbrev pub invariant-loop-members : goal.invariant-loop-members

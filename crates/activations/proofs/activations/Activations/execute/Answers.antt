@@ -1,9 +1,4 @@
-use Rattle.std.proofs.Common.{subst}
-use Rattle.storage_unit.specs.View.{reach_of}
-use Rattle.activations.specs.Activity.{Activity}
-use Rattle.activations.specs.Attempted.{WasAttempted}
-use Rattle.activations.specs.Follows.{IsSound}
-use Rattle.activations.specs.View.{activity_of}
+use Rattle.activations.proofs.Common.{subst, reach_of, Activity, WasAttempted, IsSound, activity_of}
 use Rattle.activations.proofs.StridingLemmas.{runs-at, in-place}
 use Rattle.activations.proofs.activations.Activations.execute.Goals as goal
 

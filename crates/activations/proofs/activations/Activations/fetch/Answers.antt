@@ -1,18 +1,5 @@
+use Rattle.activations.proofs.Common.{Layout, page_count, AreWithin, has, asks_on, pool_of, IsClean, Keeps, Fine, ReadFailed, Fetched, Broken, fetches, Touch, Activity, IsSound, IsStoreOf, pages_wanted, wants_of, activity_of}
 use Rattle.std.proofs.Common.{◌≡◌, ◌∙◌, ◌<◌, ℕ, List, [], ◌∷◌, sym, ap, subst, arith, Some, None}
-use Rattle.line_geometry.specs.Directory.{Layout, page_count}
-use Rattle.line_locks.specs.Held.{AreWithin}
-use Rattle.lock_rules.specs.Sets.{has}
-use Rattle.outside.proofs.Runs.{asks_on}
-use Rattle.frame_pool.specs.View.{pool_of}
-use Rattle.storage_unit.specs.Bytes.{IsClean}
-use Rattle.storage_unit.specs.Laws.{Keeps}
-use Rattle.desk.specs.Instruction.{Fine, ReadFailed, Fetched, Broken, fetches}
-use Rattle.activations.specs.declared.touch.Touch.{Touch}
-use Rattle.activations.specs.Activity.{Activity}
-use Rattle.activations.specs.Follows.{IsSound}
-use Rattle.activations.specs.Fetching.{IsStoreOf}
-use Rattle.activations.specs.Touched.{pages_wanted, wants_of}
-use Rattle.activations.specs.View.{activity_of}
 use Rattle.activations.proofs.BringLemmas.{on-ok, moved-then}
 use Rattle.activations.proofs.EndLemmas.{sound-pool}
 use Rattle.activations.proofs.FetchLemmas.{none-fetched, keeps-both, one-in, one-there, one-unread, two-in, two-unread, both-there, both-later, unread-broken, unread-later, is-fetched, is-broken, on-err, if-err}

@@ -1,6 +1,5 @@
+use Rattle.activations.proofs.Common.{has, Pool}
 use Rattle.std.proofs.Common.{◌≡◌, ◌∙◌, false, sym, ap}
-use Rattle.lock_rules.specs.Sets.{has}
-use Rattle.frame_pool.specs.declared.model.Pool.{Pool}
 use Rattle.activations.proofs.BringLemmas.{came-in, on-ok}
 use Rattle.activations.proofs.activations.Activations.fetch_page.Goals as goal
 

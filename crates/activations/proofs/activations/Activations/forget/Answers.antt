@@ -1,14 +1,5 @@
+use Rattle.activations.proofs.Common.{has, pool-seen, pool_of, Fits, reach_of, unit-sound, sound-fits, Activity, IsSound, rolled, RollsBack, activity_of}
 use Rattle.std.proofs.Common.{◌≡◌, ◌+◌, ℕ, List, sym, ap, ◌∙◌, arith, subst}
-use Rattle.lock_rules.specs.Sets.{has}
-use Rattle.frame_pool.proofs.SeenLemmas.{pool-seen}
-use Rattle.frame_pool.specs.View.{pool_of}
-use Rattle.storage_unit.specs.Laws.{Fits}
-use Rattle.storage_unit.specs.View.{reach_of}
-use Rattle.storage_unit.proofs.UnitLemmas.{unit-sound, sound-fits}
-use Rattle.activations.specs.Activity.{Activity}
-use Rattle.activations.specs.Follows.{IsSound}
-use Rattle.activations.specs.Steps.{rolled, RollsBack}
-use Rattle.activations.specs.View.{activity_of}
 use Rattle.activations.proofs.EndingLemmas.{RolledSo, rolled-none, rolled-past, rolled-step, sound-emptied, deserted, restarted-left}
 use Rattle.activations.proofs.activations.Activations.forget.Goals as goal
 use Rattle.activations.proofs.activations.Activations.forget.Goals.{After-empty, then-contains, else-contains}

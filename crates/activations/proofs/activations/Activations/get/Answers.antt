@@ -1,14 +1,5 @@
+use Rattle.activations.proofs.Common.{has, page_count, Counts, Activity, IsSound, Serves, locked, pages_picked, pages_wanted, wants_of, counts_of, activity_of}
 use Rattle.std.proofs.Common.{◌≡◌, ◌<◌, ℕ, true, length, sym, ap, subst}
-use Rattle.lock_rules.specs.Sets.{has}
-use Rattle.line_geometry.specs.Directory.{page_count}
-use Rattle.desk.specs.Instruction.{Counts}
-use Rattle.activations.specs.Activity.{Activity}
-use Rattle.activations.specs.Follows.{IsSound}
-use Rattle.activations.specs.Instructed.{Serves}
-use Rattle.activations.specs.Serving.{locked}
-use Rattle.activations.specs.Touched.{pages_picked, pages_wanted, wants_of}
-use Rattle.activations.specs.Turning.{counts_of}
-use Rattle.activations.specs.View.{activity_of}
 use Rattle.activations.proofs.GetLemmas.{picked-below, served-so, broken-so, serves-by, parts-by}
 use Rattle.activations.proofs.GrantingLemmas.{granted-same}
 use Rattle.activations.proofs.activations.Activations.get.Goals as goal

@@ -1,10 +1,5 @@
+use Rattle.activations.proofs.Common.{has, Seating, IsSound, KeepsParts, IsTurning, activity_of}
 use Rattle.std.proofs.Common.{◌+◌, ◌∙◌, arith, ap, sym, subst}
-use Rattle.lock_rules.specs.Sets.{has}
-use Rattle.seats.specs.Seating.{Seating}
-use Rattle.activations.specs.Follows.{IsSound}
-use Rattle.activations.specs.Kept.{KeepsParts}
-use Rattle.activations.specs.Turns.{IsTurning}
-use Rattle.activations.specs.View.{activity_of}
 use Rattle.activations.proofs.GoOnLemmas.{keeps-counted}
 use Rattle.activations.proofs.KeptLemmas.{keeps-on}
 use Rattle.activations.proofs.StrideLemmas.{sound-counted}

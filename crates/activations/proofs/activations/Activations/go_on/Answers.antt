@@ -1,15 +1,7 @@
+use Rattle.activations.proofs.Common.{WasAttempted, Activity, IsSound, GoesUncounted, pages_lowered, has, KeepsParts, wants_of, activity_of}
 use Rattle.std.proofs.Common.{◌≡◌, true, sym, subst, inl, inr}
 use Rattle.romp_cpu.specs.declared.cpu.Attempt.{Attempt}
-use Rattle.activations.specs.Attempted.{WasAttempted}
-use Rattle.activations.specs.Activity.{Activity}
-use Rattle.activations.specs.Follows.{IsSound}
-use Rattle.activations.specs.Instructed.{GoesUncounted}
-use Rattle.activations.specs.Serving.{pages_lowered}
 use Rattle.activations.proofs.GrantingLemmas.{lowered-sound}
-use Rattle.lock_rules.specs.Sets.{has}
-use Rattle.activations.specs.Kept.{KeepsParts}
-use Rattle.activations.specs.Touched.{wants_of}
-use Rattle.activations.specs.View.{activity_of}
 use Rattle.activations.proofs.GoOnLemmas.{took-served, not-check, not-commit, took-either}
 use Rattle.activations.proofs.KeptLemmas.{keeps-took, keeps-checked}
 use Rattle.activations.proofs.activations.Activations.go_on.Goals as goal

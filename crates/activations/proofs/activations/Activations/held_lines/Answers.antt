@@ -1,7 +1,5 @@
+use Rattle.activations.proofs.Common.{write_count, Holding, of_seat, activity_of}
 use Rattle.std.proofs.Common.{◌≡◌, ◌∙◌, ap, arith}
-use Rattle.line_locks.specs.Held.{write_count}
-use Rattle.line_locks.specs.Holding.{Holding, of_seat}
-use Rattle.activations.specs.View.{activity_of}
 use Rattle.activations.proofs.TouchingLemmas.{few-held}
 use Rattle.activations.proofs.activations.Activations.held_lines.Goals as goal
 

@@ -1,15 +1,6 @@
+use Rattle.activations.proofs.Common.{TurnEnd, Check, row, Activity, program_in, IsSelected, WasAttempted, plain_in, Follows, GoesUncounted, instruction_in, HasEnded, counts_of, IsStep, activity_of}
 use Rattle.std.proofs.Common.{◌≡◌, Result, arith, sym, subst}
-use Rattle.desk.specs.declared.answers.TurnEnd.{TurnEnd}
 use Rattle.romp_cpu.specs.declared.cpu.Attempt.{Attempt}
-use Rattle.flat_machine.specs.Row.{Check, row}
-use Rattle.activations.specs.Activity.{Activity, program_in}
-use Rattle.activations.specs.Attempted.{IsSelected, WasAttempted, plain_in}
-use Rattle.activations.specs.Follows.{Follows}
-use Rattle.activations.specs.Instructed.{GoesUncounted}
-use Rattle.activations.specs.Serving.{instruction_in}
-use Rattle.activations.specs.Turning.{HasEnded, counts_of}
-use Rattle.activations.specs.Turns.{IsStep}
-use Rattle.activations.specs.View.{activity_of}
 use Rattle.activations.proofs.GoOnLemmas.{took-either}
 use Rattle.activations.proofs.InstructLemmas.{row-goes, at-commit}
 use Rattle.activations.proofs.KeptLemmas.{keeps-took, keeps-checked}

@@ -1,11 +1,5 @@
+use Rattle.activations.proofs.Common.{nat_lt, nat_tests, TurnEnd, Activity, lines_with, wants_of, activity_of}
 use Rattle.std.proofs.Common.{◌≡◌, true, ap, arith}
-use Rattle.std.specs.Prelude.{nat_lt}
-use Rattle.std.proofs.lemmas.Bool.Decides.{nat_tests}
-use Rattle.desk.specs.declared.answers.TurnEnd.{TurnEnd}
-use Rattle.activations.specs.Activity.{Activity}
-use Rattle.activations.specs.Serves.{lines_with}
-use Rattle.activations.specs.Touched.{wants_of}
-use Rattle.activations.specs.View.{activity_of}
 use Rattle.activations.proofs.TouchingLemmas.{over-limit}
 use Rattle.activations.proofs.activations.Activations.keep_limit.Goals as goal
 

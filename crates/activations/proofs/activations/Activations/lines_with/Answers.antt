@@ -1,5 +1,4 @@
-use Rattle.std.proofs.Common.{◌∙◌, arith}
-use Rattle.activations.specs.View.{activity_of}
+use Rattle.activations.proofs.Common.{◌∙◌, arith, activity_of}
 use Rattle.activations.proofs.TouchingLemmas.{counts-none, counts-one, counts-two, first-within, second-within}
 use Rattle.activations.proofs.activations.Activations.lines_with.Goals as goal
 

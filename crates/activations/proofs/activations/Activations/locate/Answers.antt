@@ -1,6 +1,4 @@
-use Rattle.std.proofs.Common.{◌∙◌}
-use Rattle.segment_regs.specs.Registers.{located_by}
-use Rattle.activations.specs.View.{activity_of}
+use Rattle.activations.proofs.Common.{◌∙◌, located_by, activity_of}
 use Rattle.activations.proofs.ExecuteLemmas.{runs-there}
 use Rattle.activations.proofs.activations.Activations.locate.Goals as goal
 

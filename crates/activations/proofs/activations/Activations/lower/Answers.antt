@@ -1,7 +1,5 @@
+use Rattle.activations.proofs.Common.{page_count, Activity, activity_of}
 use Rattle.std.proofs.Common.{◌<◌, sym, subst}
-use Rattle.line_geometry.specs.Directory.{page_count}
-use Rattle.activations.specs.Activity.{Activity}
-use Rattle.activations.specs.View.{activity_of}
 use Rattle.activations.proofs.GrantingLemmas.{second_within}
 use Rattle.activations.proofs.activations.Activations.lower.Goals as goal
 

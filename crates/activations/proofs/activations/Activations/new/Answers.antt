@@ -1,14 +1,5 @@
-use Rattle.std.proofs.Common.{sym, ap, ◌∙◌, arith, subst}
-use Rattle.line_geometry.specs.Directory.{page_count}
-use Rattle.seats.specs.Seating.{nobody_sits}
-use Rattle.std.specs.Prelude.{List, ℕ, length}
-use Rattle.std.proofs.Common.{◌≡◌}
-use Rattle.line_geometry.specs.Directory.{byte_count}
-use Rattle.desk.specs.Desk.{opened}
-use Rattle.store_format.specs.Header.{most_lines}
-use Rattle.activations.specs.Activity.{Activity}
-use Rattle.activations.specs.Begins.{Begins}
-use Rattle.activations.specs.Follows.{IsSound}
+use Rattle.activations.proofs.Common.{page_count, byte_count, nobody_sits, List, ℕ, length, opened, most_lines, Activity, Begins, IsSound}
+use Rattle.std.proofs.Common.{sym, ap, ◌∙◌, arith, subst, ◌≡◌}
 use Rattle.activations.proofs.IdleLemmas.{sound-idle, desk-idle, follows-idle}
 use Rattle.activations.proofs.activations.Activations.new.Goals as goal
 

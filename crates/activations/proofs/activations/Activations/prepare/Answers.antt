@@ -1,16 +1,5 @@
+use Rattle.activations.proofs.Common.{TurnEnd, IsClean, Tally, Activity, HasBrokenOff, IsPrepared, Prepares, IsFetched, instruction_in, with_pool, wants_of, pages_wanted, HasEnded, HasBroken, counts_of, activity_of}
 use Rattle.std.proofs.Common.{◌+◌, Result, sym, ◌∙◌, ap, subst}
-use Rattle.desk.specs.declared.answers.TurnEnd.{TurnEnd}
-use Rattle.storage_unit.specs.Bytes.{IsClean}
-use Rattle.activations.specs.declared.tally.Tally.{Tally}
-use Rattle.activations.specs.Activity.{Activity}
-use Rattle.activations.specs.Fetching.{HasBrokenOff}
-use Rattle.activations.specs.Instructed.{IsPrepared, Prepares}
-use Rattle.activations.specs.Serves.{IsFetched}
-use Rattle.activations.specs.Serving.{instruction_in}
-use Rattle.activations.specs.Steps.{with_pool}
-use Rattle.activations.specs.Touched.{wants_of, pages_wanted}
-use Rattle.activations.specs.Turning.{HasEnded, HasBroken, counts_of}
-use Rattle.activations.specs.View.{activity_of}
 use Rattle.activations.proofs.KeptLemmas.{keeps-left, keeps-broke}
 use Rattle.activations.proofs.PrepareLemmas.{is-to-serve, prepare-broke, prepared-so}
 use Rattle.activations.proofs.ServeLemmas.{handed}

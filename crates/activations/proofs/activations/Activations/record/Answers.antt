@@ -1,14 +1,5 @@
+use Rattle.activations.proofs.Common.{nat_lt, nat_tests, TurnEnd, begun_of, KeptStore, taken-below, unit-sound, Activity, HasWritten, activity_of}
 use Rattle.std.proofs.Common.{◌≡◌, ◌≤◌, ◌∙◌, ℕ, false, ap, subst, arith}
-use Rattle.std.specs.Prelude.{nat_lt}
-use Rattle.std.proofs.lemmas.Bool.Decides.{nat_tests}
-use Rattle.desk.specs.declared.answers.TurnEnd.{TurnEnd}
-use Rattle.redo_journal.specs.Kept.{begun_of}
-use Rattle.restart.specs.Kept.{KeptStore}
-use Rattle.seats.proofs.Kept.{taken-below}
-use Rattle.storage_unit.proofs.UnitLemmas.{unit-sound}
-use Rattle.activations.specs.Activity.{Activity}
-use Rattle.activations.specs.Recorded.{HasWritten}
-use Rattle.activations.specs.View.{activity_of}
 use Rattle.activations.proofs.RecordedLemmas.{with-none, never-more, is-record, record-count, record-leaves}
 use Rattle.activations.proofs.activations.Activations.record.Goals as goal
 

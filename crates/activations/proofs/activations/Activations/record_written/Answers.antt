@@ -1,19 +1,5 @@
+use Rattle.activations.proofs.Common.{unwrap_or, Option, Some, ◌++◌, take_all, Layout, page_count, holds_some, Holding, held_at, flat_lines, Pool, begun_of, KeptStore, RecordLine, most_lines, unit-sound, with_lines, written_of, wrote, activity_of}
 use Rattle.std.proofs.Common.{◌≡◌, ◌<◌, ◌≤◌, ◌+◌, [], ℕ, List, length, sym, ◌∙◌, ap, subst, arith, slice_index_or}
-use Rattle.std.specs.Prelude.{unwrap_or, Option, Some, ◌++◌}
-use Rattle.std.proofs.lemmas.List.{take_all}
-use Rattle.line_geometry.specs.Directory.{Layout, page_count}
-use Rattle.line_locks.specs.Held.{holds_some}
-use Rattle.line_locks.specs.Holding.{Holding, held_at}
-use Rattle.line_locks.specs.Flat.{flat_lines}
-use Rattle.frame_pool.specs.declared.model.Pool.{Pool}
-use Rattle.redo_journal.specs.Kept.{begun_of}
-use Rattle.restart.specs.Kept.{KeptStore}
-use Rattle.store_format.specs.Bank.{RecordLine}
-use Rattle.store_format.specs.Header.{most_lines}
-use Rattle.storage_unit.proofs.UnitLemmas.{unit-sound}
-use Rattle.activations.specs.Recorded.{with_lines, written_of}
-use Rattle.activations.specs.Steps.{wrote}
-use Rattle.activations.specs.View.{activity_of}
 use Rattle.activations.proofs.RecordPages.{pages-below, before-page, room-left, written-more}
 use Rattle.activations.proofs.WrittenLemmas.{page-held}
 use Rattle.activations.proofs.activations.Activations.record_written.Goals as goal

@@ -1,5 +1,4 @@
-use Rattle.storage_unit.specs.View.{reach_of}
-use Rattle.activations.specs.View.{activity_of}
+use Rattle.activations.proofs.Common.{reach_of, activity_of}
 use Rattle.activations.proofs.EndingLemmas.{shape-left, sound-after, rolls-left}
 use Rattle.activations.proofs.activations.Activations.roll_back.Goals as goal
 

@@ -1,19 +1,6 @@
+use Rattle.activations.proofs.Common.{has, asks_none, asks_on, Counts, Limit, TurnEnd, array_vec_len, Tally, Activity, Follows, KeepsParts, counted, IsOver, instruction_in, counts_of, IsStep, IsTurning, IsAtCommit, AreTurns, turn_in, activity_of}
 use Rattle.std.proofs.Common.{◌≡◌, ◌+◌, ◌-◌, ◌^◌, ℕ, List, true, length, Result, Ok, refl, ap, arith, sym, ◌∙◌, subst}
-use Rattle.lock_rules.specs.Sets.{has}
-use Rattle.outside.proofs.Runs.{asks_none, asks_on}
-use Rattle.desk.specs.Instruction.{Counts, Limit}
-use Rattle.desk.specs.declared.answers.TurnEnd.{TurnEnd}
-use Rattle.arrayvec.specs.ArrayVec.{array_vec_len}
-use Rattle.activations.specs.declared.tally.Tally.{Tally}
 use Rattle.activations.specs.declared.instructions.Went.{Went}
-use Rattle.activations.specs.Activity.{Activity}
-use Rattle.activations.specs.Follows.{Follows}
-use Rattle.activations.specs.Kept.{KeepsParts}
-use Rattle.activations.specs.Steps.{counted}
-use Rattle.activations.specs.Serving.{IsOver, instruction_in}
-use Rattle.activations.specs.Turning.{counts_of}
-use Rattle.activations.specs.Turns.{IsStep, IsTurning, IsAtCommit, AreTurns, turn_in}
-use Rattle.activations.specs.View.{activity_of}
 use Rattle.activations.proofs.BringLemmas.{store-on}
 use Rattle.activations.proofs.KeptLemmas.{keeps-itself, stays-itself, stays-on}
 use Rattle.activations.proofs.ServeLemmas.{handed}

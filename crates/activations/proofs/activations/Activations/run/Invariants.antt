@@ -1,14 +1,6 @@
 -- The instructions of a turn.
+use Rattle.activations.proofs.Common.{array_vec_len, OnlyAsks, IsSelected, IsStoreOf, IsSound, Follows, KeepsParts, StaysSeated, counts_of, IsTurning, MayBeShut, turn_in, activity_of}
 use Rattle.std.proofs.Common.{◌≡◌, ◌≤◌, ◌+◌, ◌*◌, ◌-◌, ℕ, List, length}
-use Rattle.arrayvec.specs.ArrayVec.{array_vec_len}
-use Rattle.outside.specs.Runs.{OnlyAsks}
-use Rattle.activations.specs.Attempted.{IsSelected}
-use Rattle.activations.specs.Fetching.{IsStoreOf}
-use Rattle.activations.specs.Follows.{IsSound, Follows}
-use Rattle.activations.specs.Kept.{KeepsParts, StaysSeated}
-use Rattle.activations.specs.Turning.{counts_of}
-use Rattle.activations.specs.Turns.{IsTurning, MayBeShut, turn_in}
-use Rattle.activations.specs.View.{activity_of}
 use Rattle.activations.proofs.activations.Activations.run.Given as goal
 
 abbrev pub invariant-loop-left : goal.invariant-loop-left

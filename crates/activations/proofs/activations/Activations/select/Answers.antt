@@ -1,11 +1,5 @@
-use Rattle.std.proofs.Common.{sym, subst}
-use Rattle.line_geometry.specs.Directory.{Layout}
-use Rattle.line_geometry.specs.Legal.{IsLegal}
+use Rattle.activations.proofs.Common.{sym, subst, Layout, IsLegal, program-reached, program_in, activity_of, Live}
 use Rattle.storage_unit.specs.Held.{AreReached}
-use Rattle.storage_unit.proofs.UnitLemmas.{program-reached}
-use Rattle.activations.specs.Activity.{program_in}
-use Rattle.activations.specs.View.{activity_of}
-use Rattle.activations.specs.declared.live.Live.{Live}
 use Rattle.activations.proofs.ExecuteLemmas.{runs-there}
 use Rattle.activations.proofs.activations.Activations.select.Goals as goal
 

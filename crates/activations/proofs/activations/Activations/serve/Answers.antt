@@ -1,13 +1,6 @@
+use Rattle.activations.proofs.Common.{asks_on, TurnEnd, Rose, Tally, IsInstruction, instruction_in, counts_of, activity_of}
 use Rattle.std.proofs.Common.{◌<◌, ℕ, Result, Err, ap, arith, sym, ◌∙◌, subst}
 use Rattle.std.proofs.lemmas.Result.{err_from_is_err_and}
-use Rattle.outside.proofs.Runs.{asks_on}
-use Rattle.desk.specs.declared.answers.TurnEnd.{TurnEnd}
-use Rattle.outside.specs.Causes.{Rose}
-use Rattle.activations.specs.declared.tally.Tally.{Tally}
-use Rattle.activations.specs.Instructed.{IsInstruction}
-use Rattle.activations.specs.Serving.{instruction_in}
-use Rattle.activations.specs.Turning.{counts_of}
-use Rattle.activations.specs.View.{activity_of}
 use Rattle.activations.proofs.BringLemmas.{store-on}
 use Rattle.activations.proofs.KeptLemmas.{keeps-two}
 use Rattle.activations.proofs.ServeLemmas.{handed, ended-by-disk}

@@ -1,8 +1,5 @@
+use Rattle.activations.proofs.Common.{get_or_read, Activity, live_in, nothing_runs, IsSound, Follows, activity_of}
 use Rattle.std.proofs.Common.{◌≡◌, ℕ, sym, ap, ◌∙◌, arith, subst, slice_index_or, slice_set}
-use Rattle.std.proofs.lemmas.List.{get_or_read}
-use Rattle.activations.specs.Activity.{Activity, live_in, nothing_runs}
-use Rattle.activations.specs.Follows.{IsSound, Follows}
-use Rattle.activations.specs.View.{activity_of}
 use Rattle.activations.proofs.PrintedLemmas.{sound-reprinted, follows-reprinted}
 use Rattle.activations.proofs.activations.Activations.swap_printed.Goals as goal
 

@@ -1,9 +1,5 @@
+use Rattle.activations.proofs.Common.{page_count, AreWithin, took, pages_picked, wants_of, with_whole_page, activity_of}
 use Rattle.std.proofs.Common.{ℕ, map, sym, ap, ◌∙◌, subst}
-use Rattle.line_geometry.specs.Directory.{page_count}
-use Rattle.line_locks.specs.Held.{AreWithin}
-use Rattle.seats.specs.Seating.{took}
-use Rattle.activations.specs.Touched.{pages_picked, wants_of, with_whole_page}
-use Rattle.activations.specs.View.{activity_of}
 use Rattle.activations.proofs.GrantingLemmas.{within-whole, sound-then}
 use Rattle.activations.proofs.activations.Activations.take.Goals as goal
 

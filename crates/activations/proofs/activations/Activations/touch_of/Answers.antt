@@ -1,10 +1,5 @@
+use Rattle.activations.proofs.Common.{nat_tests, Layout, start_of, byte_count, line_of, is_private, lines_between, activity_of}
 use Rattle.std.proofs.Common.{◌≡◌, ◌+◌, ◌-◌, ◌%◌, ◌^◌, ◌≤◌, true, false, sym, ◌∙◌, ap, subst, arith}
-use Rattle.std.proofs.lemmas.Bool.Decides.{nat_tests}
-use Rattle.line_geometry.specs.Directory.{Layout, start_of, byte_count}
-use Rattle.line_geometry.specs.Lines.{line_of}
-use Rattle.storage_unit.specs.Places.{is_private}
-use Rattle.activations.specs.Touched.{lines_between}
-use Rattle.activations.specs.View.{activity_of}
 use Rattle.activations.proofs.TouchingLemmas.{touches-refused, touches-private, touches-shared, touches-within}
 use Rattle.activations.proofs.activations.Activations.touch_of.Goals as goal
 

@@ -1,5 +1,4 @@
-use Rattle.std.proofs.Common.{◌++◌, ◌∷◌, [], ap, ◌∙◌, List, arith}
-use Rattle.asm_parse.specs.declared.statement.Statement.{Statement}
+use Rattle.asm_parse.proofs.Common.{◌++◌, ◌∷◌, [], ap, ◌∙◌, List, arith, Statement}
 use Rattle.asm_parse.proofs.KeptLemmas.{kept_more}
 use Rattle.asm_parse.proofs.statements.Statements.push_whole.Goals as goal
 

@@ -1,5 +1,4 @@
-use Rattle.std.proofs.Common.{ℕ, take, sym, subst}
-use Rattle.std.specs.Str.{IsAscii}
+use Rattle.asm_parse.proofs.Common.{ℕ, take, sym, subst, IsAscii}
 use Rattle.std.proofs.lemmas.Str.{IsUtf8-from_ascii}
 use Rattle.asm_parse.proofs.word.Word.as_str.Goals as goal
 

@@ -1,7 +1,4 @@
-use Rattle.outside.specs.Runs.{Leaves, held_of}
-use Rattle.std.proofs.Common.{subst}
-use Rattle.redo_journal.specs.Kept.{KeptBank, begun_of}
-use Rattle.redo_journal.specs.Tracks.{Tracks, IsEither, HoldsOneOf}
+use Rattle.checkpoint.proofs.Common.{Leaves, held_of, subst, KeptBank, begun_of, Tracks, IsEither, HoldsOneOf}
 use Rattle.checkpoint.proofs.banks.Banks.append.Goals as goal
 
 pub returns-clause-records : goal.returns-clause-records

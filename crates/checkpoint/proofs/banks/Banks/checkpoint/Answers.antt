@@ -1,19 +1,5 @@
-use Rattle.std.proofs.Common.{◌≡◌, ℕ, ◌+◌, List, [], length, refl, sym, subst, ◌∙◌, ap, arith, replicate}
+use Rattle.checkpoint.proofs.Common.{◌≡◌, ℕ, ◌+◌, List, [], length, refl, sym, subst, ◌∙◌, ap, arith, replicate, length-replicate, get_or-replicate, Which, Header, header_of, area_at, IsStore, Leaves, held_of, leaves_held, KeptBank, number_of, Tracks, HoldsRecords, turned, place_is, held_left, other, IsSame, IsMoved}
 use Rattle.std.specs.Prelude.{Option, None, take}
-use Rattle.std.proofs.lemmas.List.{length-replicate, get_or-replicate}
-use Rattle.store_format.specs.declared.header.Which.{Which}
-use Rattle.store_format.specs.Header.{Header, header_of}
-use Rattle.store_format.specs.Bank.{area_at}
-use Rattle.store_format.specs.Stands.{IsStore}
-use Rattle.outside.specs.Runs.{Leaves, held_of}
-use Rattle.outside.proofs.Durable.{leaves_held}
-use Rattle.redo_journal.specs.Kept.{KeptBank, number_of}
-use Rattle.redo_journal.specs.Tracks.{Tracks, HoldsRecords}
-use Rattle.redo_journal.specs.Turned.{turned}
-use Rattle.redo_journal.proofs.AppendLemmas.{place_is}
-use Rattle.redo_journal.proofs.WriteLemmas.{held_left}
-use Rattle.checkpoint.specs.Chosen.{other}
-use Rattle.checkpoint.specs.Moved.{IsSame, IsMoved}
 use Rattle.checkpoint.proofs.banks.Banks.checkpoint.Given.{Over}
 use Rattle.checkpoint.proofs.banks.Banks.checkpoint.Goals as goal
 use Rattle.checkpoint.proofs.banks.Banks.checkpoint.Goals.{After-move_to}

@@ -1,12 +1,5 @@
-use Rattle.std.proofs.Common.{◌≡◌, sym, subst, ◌∙◌, ap}
-use Rattle.std.specs.Prelude.{slice_set}
-use Rattle.store_format.specs.Stands.{stands, one_more}
-use Rattle.outside.specs.Runs.{Leaves, held_of}
+use Rattle.checkpoint.proofs.Common.{◌≡◌, sym, subst, ◌∙◌, ap, slice_set, stands, one_more, Leaves, held_of, Appended, KeptBank, begun_of, Tracks, IsAppended, emptied, HoldsCommitted}
 use Rattle.redo_journal.specs.Appended.{kept_after}
-use Rattle.redo_journal.specs.declared.bank.Appended.{Appended}
-use Rattle.redo_journal.specs.Kept.{KeptBank, begun_of}
-use Rattle.redo_journal.specs.Tracks.{Tracks, IsAppended}
-use Rattle.checkpoint.specs.Committed.{emptied, HoldsCommitted}
 use Rattle.checkpoint.proofs.CommitLemmas.{carried, roomy_full, roomy_fits}
 use Rattle.checkpoint.proofs.banks.Banks.commit.Given.{Over}
 use Rattle.checkpoint.proofs.banks.Banks.commit.Goals as goal

@@ -1,16 +1,4 @@
-use Rattle.std.proofs.Common.{◌≡◌, inl, inr, ⊎_elim, ℕ, List, [], sym, subst, ◌∙◌, ap, arith}
-use Rattle.std.specs.Prelude.{slice_set}
-use Rattle.store_format.specs.Header.{Header}
-use Rattle.store_format.specs.Bank.{RecordLine}
-use Rattle.store_format.specs.Stands.{stands, one_more}
-use Rattle.outside.specs.Runs.{Leaves, held_of}
-use Rattle.outside.proofs.Runs.{leaves_on}
-use Rattle.redo_journal.specs.Kept.{KeptBank, begun_of}
-use Rattle.redo_journal.specs.Tracks.{Tracks, IsEither, HoldsOneOf}
-use Rattle.redo_journal.proofs.WriteLemmas.{writes_on}
-use Rattle.checkpoint.specs.Chosen.{other}
-use Rattle.checkpoint.specs.Moved.{IsCheckpointed}
-use Rattle.checkpoint.specs.Committed.{emptied}
+use Rattle.checkpoint.proofs.Common.{◌≡◌, inl, inr, ⊎_elim, ℕ, List, [], sym, subst, ◌∙◌, ap, arith, slice_set, Header, RecordLine, stands, one_more, Leaves, held_of, leaves_on, KeptBank, begun_of, Tracks, IsEither, HoldsOneOf, writes_on, other, IsCheckpointed, emptied}
 use Rattle.checkpoint.proofs.CommitLemmas.{adds_same, either_same, by_unwritten, by_doubt, by_done, no_records}
 use Rattle.checkpoint.proofs.banks.Banks.commit_behind_checkpoint.Given.{Over}
 use Rattle.checkpoint.proofs.banks.Banks.commit_behind_checkpoint.Goals as goal

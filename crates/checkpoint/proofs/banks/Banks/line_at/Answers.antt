@@ -1,8 +1,4 @@
-use Rattle.std.proofs.Common.{◌≡◌, length, subst}
-use Rattle.std.specs.Prelude.{IfOk, IsSome}
-use Rattle.outside.specs.Runs.{held_of}
-use Rattle.redo_journal.specs.Kept.{KeptBank}
-use Rattle.redo_journal.specs.Records.{IsRecordAt, IsLineOf}
+use Rattle.checkpoint.proofs.Common.{◌≡◌, length, subst, IfOk, IsSome, held_of, KeptBank, IsRecordAt, IsLineOf}
 use Rattle.checkpoint.proofs.banks.Banks.line_at.Goals as goal
 
 pub returns-clause-read : goal.returns-clause-read

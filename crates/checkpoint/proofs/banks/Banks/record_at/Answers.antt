@@ -1,8 +1,4 @@
-use Rattle.std.proofs.Common.{subst}
-use Rattle.std.specs.Prelude.{IfOk, IsSome}
-use Rattle.outside.specs.Runs.{held_of}
-use Rattle.redo_journal.specs.Kept.{KeptBank}
-use Rattle.redo_journal.specs.Records.{IsRecordAt, IsCounted}
+use Rattle.checkpoint.proofs.Common.{subst, IfOk, IsSome, held_of, KeptBank, IsRecordAt, IsCounted}
 use Rattle.checkpoint.proofs.banks.Banks.record_at.Goals as goal
 
 pub returns-clause-read : goal.returns-clause-read

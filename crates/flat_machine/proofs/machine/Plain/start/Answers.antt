@@ -1,8 +1,6 @@
 -- The copied bytes are those of the store.
+use Rattle.flat_machine.proofs.Common.{Layout, Plain, start}
 use Rattle.std.proofs.Common.{◌≡◌, Result, Ok, Err, IfOk, sym, ◌∙◌}
-use Rattle.line_geometry.specs.Directory.{Layout}
-use Rattle.flat_machine.specs.declared.machine.Plain.{Plain}
-use Rattle.flat_machine.specs.After.{start}
 use Rattle.flat_machine.proofs.machine.Plain.start.Goals as goal
 
 at_one : {E : Type 0} → (made : Layout → Plain) (directory : Layout) (result : Result Plain E)

@@ -1,7 +1,5 @@
-use Rattle.std.proofs.Common.{◌≡◌, ℕ, [], ◌∷◌, ◌++◌, sym, ◌∙◌, ap, arith}
+use Rattle.frame_pool.proofs.Common.{◌≡◌, ℕ, [], ◌∷◌, ◌++◌, sym, ◌∙◌, ap, arith, place_of, places_of}
 use Rattle.std.specs.Prelude.{slice_set, None, unwrap_or}
-use Rattle.frame_pool.specs.Places.{place_of}
-use Rattle.frame_pool.specs.PlacesView.{places_of}
 use Rattle.frame_pool.proofs.SoundLemmas.{sound-left_by}
 use Rattle.frame_pool.proofs.PlaceLemmas.{Leaves, leaves, read_frame, pushed}
 use Rattle.frame_pool.proofs.pages.StorePages.leave.Goals as goal

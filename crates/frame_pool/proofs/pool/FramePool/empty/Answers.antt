@@ -1,6 +1,4 @@
-use Rattle.std.proofs.Common.{◌≢◌, ◌<◌, length, sym, ◌∙◌, ap, arith, vec_len}
-use Rattle.std.proofs.lemmas.Bool.{eqb-false}
-use Rattle.frame_pool.specs.Pool.{emptied}
+use Rattle.frame_pool.proofs.Common.{◌≢◌, ◌<◌, length, sym, ◌∙◌, ap, arith, vec_len, eqb-false, emptied}
 use Rattle.frame_pool.proofs.PoolLemmas.{emptied-step}
 use Rattle.frame_pool.proofs.pool.FramePool.empty.Goals as goal
 

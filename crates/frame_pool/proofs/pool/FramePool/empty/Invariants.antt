@@ -1,6 +1,4 @@
-use Rattle.std.proofs.Common.{◌≡◌, vec_len}
-use Rattle.frame_pool.specs.Pool.{emptied}
-use Rattle.frame_pool.specs.View.{pool_of}
+use Rattle.frame_pool.proofs.Common.{◌≡◌, vec_len, emptied, pool_of}
 use Rattle.frame_pool.proofs.pool.FramePool.empty.Given as goal
 
 -- the pages that are left go, and the pool is then as if all of them had gone

@@ -1,8 +1,4 @@
-use Rattle.std.proofs.Common.{◌≡◌, sym, ◌∙◌, ap}
-use Rattle.std.specs.List.{range_with_len}
-use Rattle.line_geometry.specs.LineSets.{lines_of_bits}
-use Rattle.frame_pool.specs.Pool.{marks_at}
-use Rattle.frame_pool.specs.View.{pool_of}
+use Rattle.frame_pool.proofs.Common.{◌≡◌, sym, ◌∙◌, ap, range_with_len, lines_of_bits, marks_at, pool_of}
 use Rattle.frame_pool.proofs.PoolLemmas.{frame-within}
 use Rattle.frame_pool.proofs.LayLemmas.{all-lines, whole-laid}
 use Rattle.frame_pool.proofs.pool.FramePool.lay_kept.Goals as goal

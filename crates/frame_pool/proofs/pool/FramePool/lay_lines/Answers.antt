@@ -1,10 +1,5 @@
-use Rattle.std.proofs.Common.{◌≡◌, ◌<◌, ℕ, List, length, sym, ◌∙◌, ap, subst, refl, All}
-use Rattle.std.specs.Prelude.{fold}
-use Rattle.std.proofs.lemmas.List.Elements.{All-head, All-tail}
+use Rattle.frame_pool.proofs.Common.{◌≡◌, ◌<◌, ℕ, List, length, sym, ◌∙◌, ap, subst, refl, All, fold, All-head, All-tail, Pool, line_laid, pool_of}
 use Rattle.line_geometry.specs.declared.line_set.LinesOf.{LinesOf}
-use Rattle.frame_pool.specs.declared.model.Pool.{Pool}
-use Rattle.frame_pool.specs.Pool.{line_laid}
-use Rattle.frame_pool.specs.View.{pool_of}
 use Rattle.frame_pool.proofs.PoolLemmas.{lines-below}
 use Rattle.frame_pool.proofs.pool.FramePool.lay_lines.Goals as goal
 

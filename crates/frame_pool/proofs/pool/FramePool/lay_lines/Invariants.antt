@@ -1,7 +1,4 @@
-use Rattle.std.proofs.Common.{◌≡◌, ℕ, ◌<◌, length, All}
-use Rattle.std.specs.Prelude.{fold}
-use Rattle.frame_pool.specs.Pool.{line_laid}
-use Rattle.frame_pool.specs.View.{pool_of}
+use Rattle.frame_pool.proofs.Common.{◌≡◌, ℕ, ◌<◌, length, All, fold, line_laid, pool_of}
 use Rattle.frame_pool.proofs.pool.FramePool.lay_lines.Given as goal
 
 -- the lines that are left lie over what lies there

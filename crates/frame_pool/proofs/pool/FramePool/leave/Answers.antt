@@ -1,11 +1,4 @@
-use Rattle.std.proofs.Common.{◌≡◌, ℕ, ◌+◌, ◌*◌, sym, ◌∙◌, ap, arith, vec_len}
-use Rattle.std.specs.Prelude.{slice_range, slice_index, unwrap_or, Option}
-use Rattle.std.proofs.lemmas.List.{get_or_read_under}
-use Rattle.line_geometry.specs.Segments.{page_bytes}
-use Rattle.frame_pool.specs.Places.{left, frame_of_index}
-use Rattle.frame_pool.specs.PlacesView.{places_of}
-use Rattle.frame_pool.specs.Pool.{frame_at, gone, kept_after}
-use Rattle.frame_pool.specs.View.{pool_of}
+use Rattle.frame_pool.proofs.Common.{◌≡◌, ℕ, ◌+◌, ◌*◌, sym, ◌∙◌, ap, arith, vec_len, slice_range, slice_index, unwrap_or, Option, get_or_read_under, page_bytes, left, frame_of_index, places_of, frame_at, gone, kept_after, pool_of}
 use Rattle.frame_pool.proofs.PoolLemmas.{frame-at_index, frame-within, frame-part, kept-after_by, left-gone}
 use Rattle.frame_pool.proofs.pool.FramePool.leave.Goals.{After-unwrap_or-frame}
 use Rattle.frame_pool.proofs.pool.FramePool.leave.Goals as goal

@@ -1,5 +1,4 @@
-use Rattle.std.proofs.Common.{ℕ, sym, ◌∙◌, ap, Some}
-use Rattle.frame_pool.specs.View.{pool_of}
+use Rattle.frame_pool.proofs.Common.{ℕ, sym, ◌∙◌, ap, Some, pool_of}
 use Rattle.frame_pool.proofs.PlaceLemmas.{none-room}
 use Rattle.frame_pool.proofs.PoolLemmas.{out-some, out-none, room-some, room-none}
 use Rattle.frame_pool.proofs.pool.FramePool.make_room.Goals as goal

@@ -1,5 +1,4 @@
-use Rattle.std.proofs.Common.{◌≡◌, ℕ, sym, ◌∙◌, ap, arith, vec_len, Some}
-use Rattle.std.proofs.lemmas.List.{get_or_read_under}
+use Rattle.frame_pool.proofs.Common.{ℕ, sym, ◌∙◌, ap, arith, vec_len, Some, get_or_read_under}
 use Rattle.frame_pool.proofs.PlaceLemmas.{index-out_below}
 use Rattle.frame_pool.proofs.PoolLemmas.{out-some, out-none}
 use Rattle.frame_pool.proofs.pool.FramePool.page_out.Goals as goal

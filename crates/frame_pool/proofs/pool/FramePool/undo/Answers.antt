@@ -1,10 +1,5 @@
+use Rattle.frame_pool.proofs.Common.{slice_index, eqb-true, position-Some, Pool, gone, pool_of}
 use Rattle.std.proofs.Common.{◌==◌, ℕ, sym, ◌∙◌, ap}
-use Rattle.std.specs.Prelude.{slice_index}
-use Rattle.std.proofs.lemmas.Bool.{eqb-true}
-use Rattle.std.proofs.lemmas.List.Quantifiers.{position-Some}
-use Rattle.frame_pool.specs.declared.model.Pool.{Pool}
-use Rattle.frame_pool.specs.Pool.{gone}
-use Rattle.frame_pool.specs.View.{pool_of}
 use Rattle.frame_pool.proofs.PoolLemmas.{gone-none, not-resident}
 use Rattle.frame_pool.proofs.pool.FramePool.undo.Goals as goal
 

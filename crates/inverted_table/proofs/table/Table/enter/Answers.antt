@@ -1,10 +1,4 @@
-use Rattle.std.proofs.Common.{◌≡◌, ℕ, ◌<◌, List, length, sym, ◌∙◌, ap, arith, vec_len, Some, Option, None}
-use Rattle.std.specs.Prelude.{slice_set}
-use Rattle.std.proofs.lemmas.List.{get_or_read_under}
-use Rattle.inverted_table.specs.Placed.{Placed, look_up, key_in}
-use Rattle.inverted_table.specs.Keys.{key_to}
-use Rattle.inverted_table.specs.Chains.{hash_of, following, IsChained}
-use Rattle.inverted_table.specs.declared.key.Key.{Key}
+use Rattle.inverted_table.proofs.Common.{◌≡◌, ℕ, ◌<◌, List, length, sym, ◌∙◌, ap, arith, vec_len, Some, Option, None, slice_set, get_or_read_under, Placed, look_up, key_in, key_to, hash_of, following, IsChained, Key}
 use Rattle.inverted_table.proofs.EnterLemmas.{enter-chained}
 use Rattle.inverted_table.proofs.table.Table.enter.Goals as goal
 

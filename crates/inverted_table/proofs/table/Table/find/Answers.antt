@@ -1,10 +1,4 @@
-use Rattle.std.proofs.Common.{◌≡◌, ℕ, ◌<◌, List, length, ◌∙◌, ap, arith, vec_len, Option, None}
-use Rattle.std.specs.Prelude.{find, slice_index_or}
-use Rattle.std.proofs.lemmas.List.{get_or_read_under}
-use Rattle.inverted_table.specs.Placed.{Placed, look_up, holds, key_in}
-use Rattle.inverted_table.specs.Keys.{key_of}
-use Rattle.inverted_table.specs.Chains.{chain_from, hash_of}
-use Rattle.inverted_table.specs.declared.key.Key.{Key}
+use Rattle.inverted_table.proofs.Common.{◌≡◌, ℕ, ◌<◌, List, length, ◌∙◌, ap, arith, vec_len, Option, None, find, slice_index_or, get_or_read_under, Placed, look_up, holds, key_in, key_of, chain_from, hash_of, Key}
 use Rattle.inverted_table.proofs.FindLemmas.{chain-look_up}
 use Rattle.inverted_table.proofs.table.Table.find.Goals as goal
 

@@ -1,9 +1,4 @@
-use Rattle.std.proofs.Common.{◌≡◌, ℕ, ◌<◌, List, length, sym, ◌∙◌, ap, arith, vec_len, Some, Option, None}
-use Rattle.std.specs.Prelude.{slice_set}
-use Rattle.std.proofs.lemmas.List.{get_or_read_under}
-use Rattle.inverted_table.specs.Placed.{Placed, key_in}
-use Rattle.inverted_table.specs.Chains.{hash_of, following, chain_of, before_in, IsChained}
-use Rattle.inverted_table.specs.declared.key.Key.{Key}
+use Rattle.inverted_table.proofs.Common.{◌≡◌, ℕ, ◌<◌, List, length, sym, ◌∙◌, ap, arith, vec_len, Some, Option, None, slice_set, get_or_read_under, Placed, key_in, hash_of, following, chain_of, before_in, IsChained, Key}
 use Rattle.inverted_table.proofs.LeaveLemmas.{found-before, before-below, leave-first, leave-behind}
 use Rattle.inverted_table.proofs.table.Table.leave.Goals as goal
 use Rattle.inverted_table.proofs.table.Table.leave.Goals.{in-Some-before, in-None}

@@ -1,6 +1,5 @@
-use Rattle.std.proofs.Common.{ℕ, ◌∙◌, ap, None}
+use Rattle.inverted_table.proofs.Common.{ℕ, ◌∙◌, ap, None, Key}
 use Rattle.std.specs.Prelude.{replicate, Option}
-use Rattle.inverted_table.specs.declared.key.Key.{Key}
 use Rattle.inverted_table.proofs.FreshLemmas.{chained-fresh_by}
 use Rattle.inverted_table.proofs.table.Table.new.Goals as goal
 

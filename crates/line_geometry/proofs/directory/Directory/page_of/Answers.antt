@@ -1,7 +1,4 @@
-use Rattle.std.specs.Prelude.{◌<◌, ◌≤◌}
-use Rattle.std.proofs.Common.{arith, lt_of_lt_of_le}
-use Rattle.line_geometry.specs.Directory.{byte_count}
-use Rattle.line_geometry.specs.Legal.{IsLegal}
+use Rattle.line_geometry.proofs.Common.{◌<◌, arith, lt_of_lt_of_le, IsLegal}
 use Rattle.line_geometry.proofs.Legal.{legal-bytes}
 use Rattle.line_geometry.proofs.directory.Directory.page_of.Goals as goal
 

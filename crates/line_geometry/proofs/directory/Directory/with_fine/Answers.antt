@@ -1,7 +1,5 @@
+use Rattle.line_geometry.proofs.Common.{ap, ◌∙◌, refl, Flag, IsLegal, flagged_fault, flag_count}
 use Rattle.std.specs.Prelude.{◌≡◌, ◌^◌, nat_lt, if◌then◌else◌, Some, None, false, length}
-use Rattle.std.proofs.Common.{ap, ◌∙◌, refl}
-use Rattle.line_geometry.specs.declared.directory.DirectoryFault.TheVariants.{Flag}
-use Rattle.line_geometry.specs.Legal.{IsLegal, flagged_fault, flag_count}
 use Rattle.line_geometry.proofs.Legal.{none-legal}
 use Rattle.line_geometry.proofs.directory.Directory.with_fine.Goals as goal
 

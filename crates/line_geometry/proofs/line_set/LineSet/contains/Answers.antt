@@ -1,7 +1,5 @@
+use Rattle.line_geometry.proofs.Common.{shr_and_one, list_any, is_on}
 use Rattle.std.proofs.Common.{◌==◌, ℕ, List, sym, ◌∙◌, ap}
-use Rattle.std.proofs.lemmas.Nat.Bits.{shr_and_one}
-use Rattle.std.specs.List.{list_any}
-use Rattle.line_geometry.specs.LineBits.{is_on}
 use Rattle.line_geometry.proofs.LineSetLemmas.{is_in_where-below, of_page-where}
 use Rattle.line_geometry.proofs.line_set.LineSet.contains.Goals as goal
 

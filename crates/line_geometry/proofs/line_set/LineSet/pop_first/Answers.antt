@@ -1,5 +1,4 @@
-use Rattle.std.proofs.Common.{ℕ, sym, ◌∙◌, ap}
-use Rattle.line_geometry.specs.LineSets.{lines_of_bits}
+use Rattle.line_geometry.proofs.Common.{ℕ, sym, ◌∙◌, ap, lines_of_bits}
 use Rattle.line_geometry.proofs.LineSetLemmas.{no-bits, first-bits}
 use Rattle.line_geometry.proofs.line_set.LineSet.pop_first.Goals as goal
 

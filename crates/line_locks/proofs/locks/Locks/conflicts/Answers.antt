@@ -1,5 +1,4 @@
-use Rattle.std.proofs.Common.{◌∙◌, sym}
-use Rattle.line_locks.specs.Holding.{is_in_conflict}
+use Rattle.line_locks.proofs.Common.{◌∙◌, sym, is_in_conflict}
 use Rattle.line_locks.proofs.SeatLemmas.{seats-start, seat-on, seat-off}
 use Rattle.line_locks.proofs.locks.Locks.conflicts.Goals.{then-is_in_conflict, else-is_in_conflict}
 use Rattle.line_locks.proofs.locks.Locks.conflicts.Goals as goal

@@ -1,6 +1,4 @@
-use Rattle.std.proofs.Common.{◌≡◌}
-use Rattle.line_geometry.specs.LineSets.{passing}
-use Rattle.line_locks.specs.Holding.{is_in_conflict, bits_of_seats}
+use Rattle.line_locks.proofs.Common.{◌≡◌, passing, is_in_conflict, bits_of_seats}
 use Rattle.line_locks.proofs.locks.Locks.conflicts.Given as goal
 
 -- the bits of the seats that were looked at

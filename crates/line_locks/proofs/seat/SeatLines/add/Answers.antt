@@ -1,12 +1,5 @@
+use Rattle.line_locks.proofs.Common.{if◌then◌else◌, slice_set, IsPermutation, and_parts, not-true, sum_by-set, get_or-le-sum_by, All-set, get_or_default, length-set, nothing, of_page, holds_some, IsCounted}
 use Rattle.std.proofs.Common.{◌≡◌, ◌<◌, ◌≤◌, ◌&&◌, ℕ, false, not, List, [], ◌∷◌, ◌++◌, length, true, refl, arith, ap, sym, ◌∙◌, subst}
-use Rattle.std.specs.Prelude.{if◌then◌else◌, slice_set}
-use Rattle.std.specs.List.Sorted.{IsPermutation}
-use Rattle.std.proofs.lemmas.Bool.{and_parts, not-true}
-use Rattle.std.proofs.lemmas.List.Sums.{sum_by-set, get_or-le-sum_by}
-use Rattle.std.proofs.lemmas.List.Elements.{All-set}
-use Rattle.std.proofs.lemmas.List.{get_or_default, length-set}
-use Rattle.line_locks.specs.Held.{nothing, of_page, holds_some}
-use Rattle.line_locks.specs.Counted.{IsCounted}
 use Rattle.line_locks.proofs.ListedLemmas.{room, some-more, listed-next}
 use Rattle.line_locks.proofs.OrderLemmas.{listed-moved}
 use Rattle.line_locks.proofs.seat.SeatLines.add.Goals as goal

@@ -1,7 +1,5 @@
+use Rattle.line_locks.proofs.Common.{eqb-true, nil_from_length, AreListed}
 use Rattle.std.proofs.Common.{◌≡◌, [], List, ℕ, vec_len, sym, ◌∙◌, subst, arith}
-use Rattle.std.proofs.lemmas.Bool.{eqb-true}
-use Rattle.std.proofs.lemmas.List.{nil_from_length}
-use Rattle.line_locks.specs.Counted.{AreListed}
 use Rattle.line_locks.proofs.ListedLemmas.{none-conflicts}
 use Rattle.line_locks.proofs.seat.SeatLines.conflicts.Goals as goal
 

@@ -1,6 +1,4 @@
-use Rattle.std.proofs.Common.{◌+◌, ◌∷◌, [], ℕ, length, ap, ◌∙◌, arith, length-append}
-use Rattle.outside.specs.declared.record.Entry.TheVariants.{Asked}
-use Rattle.outside.specs.Calls.{made_of}
+use Rattle.outside.proofs.Common.{◌+◌, ◌∷◌, [], ℕ, length, ap, ◌∙◌, arith, length-append, Asked, made_of}
 use Rattle.outside.proofs.CallLemmas.{calls_of-asked, asked-le}
 use Rattle.outside.proofs.calls.Calls.ask.Goals as goal
 

@@ -1,7 +1,4 @@
-use Rattle.std.proofs.Common.{◌≡◌, ◌+◌, ◌∷◌, [], ◌++◌, ℕ, length, ap, ◌∙◌, length-append}
-use Rattle.outside.specs.declared.calls.Run.{Run}
-use Rattle.outside.specs.Record.{calls_of}
-use Rattle.outside.specs.Calls.{made_of}
+use Rattle.outside.proofs.Common.{◌≡◌, ◌+◌, ◌∷◌, [], ◌++◌, ℕ, length, ap, ◌∙◌, length-append, Run, calls_of, made_of}
 use Rattle.outside.proofs.CallLemmas.{pushed}
 use Rattle.outside.proofs.calls.Calls.push.Goals as goal
 

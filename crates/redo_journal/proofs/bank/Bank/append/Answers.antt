@@ -1,16 +1,4 @@
-use Rattle.std.proofs.Common.{◌≡◌, ℕ, ◌+◌, ◌*◌, ◌<◌, List, [], ◌∷◌, ◌++◌, length, drop, slice_set, refl, sym, subst, ◌∙◌, ap, arith, length-append}
-use Rattle.std.specs.Prelude.{Option}
-use Rattle.line_geometry.specs.declared.directory.PageSize.{PageSize}
-use Rattle.store_format.specs.Header.{entry_bytes}
-use Rattle.store_format.specs.Bank.{RecordLine, lines_from, wrong_line, record_bytes}
-use Rattle.std.proofs.lemmas.List.{length-take-le}
-use Rattle.store_format.specs.Stands.{IsStore, stands, one_more}
-use Rattle.outside.specs.Runs.{held_of}
-use Rattle.redo_journal.specs.Noted.{noted, AreNewest}
-use Rattle.redo_journal.specs.Kept.{KeptBank, end_of, area_end, begun_of, needed_end}
-use Rattle.redo_journal.specs.Inside.{begun_count, begun_lines, kept_of}
-use Rattle.redo_journal.specs.Tracks.{Tracks, IsEither, HoldsOneOf}
-use Rattle.redo_journal.specs.Gate.{IsSafe, IsShut}
+use Rattle.redo_journal.proofs.Common.{◌≡◌, ℕ, ◌+◌, ◌*◌, ◌<◌, List, [], ◌∷◌, ◌++◌, length, drop, slice_set, refl, sym, subst, ◌∙◌, ap, arith, length-append, Option, entry_bytes, RecordLine, lines_from, wrong_line, record_bytes, length-take-le, IsStore, stands, one_more, held_of, noted, AreNewest, KeptBank, end_of, area_end, begun_of, needed_end, begun_count, begun_lines, kept_of, Tracks, IsEither, HoldsOneOf, IsSafe, IsShut}
 use Rattle.redo_journal.proofs.AppendLemmas.{IsReadied, make_ready, shut, either, one_of, same, more, after, doubted, filled_lines, says_room, begun_is, fields_tracked, with_record_is, is_begun, unwrapped}
 use Rattle.redo_journal.proofs.Places.{below_in_order, newest_more}
 use Rattle.redo_journal.proofs.WriteLemmas.{held_left}

@@ -1,10 +1,5 @@
-use Rattle.std.proofs.Common.{◌≡◌, ◌+◌, ◌*◌, ℕ, length, drop, ap, subst, ◌∙◌, arith}
+use Rattle.redo_journal.proofs.Common.{◌≡◌, ◌+◌, ◌*◌, ℕ, length, drop, ap, subst, ◌∙◌, arith, PageSize, entry_bytes, held_of, KeptBank, place_of, IsRecordAt, IsLine, IsLineOf}
 use Rattle.std.specs.Prelude.{IsSome}
-use Rattle.line_geometry.specs.declared.directory.PageSize.{PageSize}
-use Rattle.store_format.specs.Header.{entry_bytes}
-use Rattle.outside.specs.Runs.{held_of}
-use Rattle.redo_journal.specs.Kept.{KeptBank, place_of}
-use Rattle.redo_journal.specs.Records.{IsRecordAt, IsLine, IsLineOf}
 use Rattle.redo_journal.proofs.RecordLemmas.{if_ok, lined}
 use Rattle.redo_journal.proofs.bank.Bank.line_at.Goals as goal
 

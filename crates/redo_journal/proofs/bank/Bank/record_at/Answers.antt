@@ -1,12 +1,5 @@
-use Rattle.std.proofs.Common.{◌≡◌, ◌+◌, ◌*◌, ◌<◌, List, ℕ, ap, subst, ◌∙◌}
+use Rattle.redo_journal.proofs.Common.{◌≡◌, ◌+◌, ◌*◌, ◌<◌, List, ℕ, ap, subst, ◌∙◌, PageSize, entry_bytes, number_at, Failed, held_of, Record, KeptBank, place_of, IsRecordAt, IsCounted}
 use Rattle.std.specs.Prelude.{IsSome, Result, Ok, Err, IfOk}
-use Rattle.line_geometry.specs.declared.directory.PageSize.{PageSize}
-use Rattle.store_format.specs.Header.{entry_bytes, number_at}
-use Rattle.outside.specs.declared.failed.Failed.{Failed}
-use Rattle.outside.specs.Runs.{held_of}
-use Rattle.redo_journal.specs.declared.find.Record.{Record}
-use Rattle.redo_journal.specs.Kept.{KeptBank, place_of}
-use Rattle.redo_journal.specs.Records.{IsRecordAt, IsCounted}
 use Rattle.redo_journal.proofs.RecordLemmas.{counted}
 use Rattle.redo_journal.proofs.bank.Bank.record_at.Goals as goal
 

@@ -1,14 +1,4 @@
-use Rattle.std.proofs.Common.{◌≡◌, ℕ, ◌+◌, ◌*◌, ◌<◌, ◌≤◌, List, [], ◌∷◌, ◌++◌, length, drop, refl, sym, ◌∙◌, ap, subst, arith}
-use Rattle.std.specs.Prelude.{All, Some}
-use Rattle.byteorder.specs.Endian.{big_bytes}
-use Rattle.owned_list.specs.Overlay.{overlaid}
-use Rattle.line_geometry.specs.declared.directory.PageSize.{PageSize}
-use Rattle.store_format.specs.Header.{entry_bytes}
-use Rattle.store_format.specs.Bank.{RecordLine, lines_from, wrong_line, record_bytes}
-use Rattle.store_format.proofs.Lines.{wrong_line-push}
-use Rattle.redo_journal.specs.Kept.{KeptBank, begun_of, with_line, record_bytes_of, line_bytes_of}
-use Rattle.redo_journal.specs.declared.bank.Bank.TheInside.{Inside}
-use Rattle.redo_journal.specs.Inside.{begun_count, begun_lines, kept_of}
+use Rattle.redo_journal.proofs.Common.{◌≡◌, ℕ, ◌+◌, ◌*◌, ◌<◌, ◌≤◌, List, [], ◌∷◌, ◌++◌, length, drop, refl, sym, ◌∙◌, ap, subst, arith, All, Some, big_bytes, overlaid, entry_bytes, RecordLine, lines_from, wrong_line, record_bytes, wrong_line-push, KeptBank, begun_of, with_line, record_bytes_of, line_bytes_of, Inside, begun_count, begun_lines, kept_of}
 use Rattle.redo_journal.proofs.AppendLemmas.{begun_is, length-begun, is_begun, unwrapped}
 use Rattle.redo_journal.proofs.LineLemmas.{line_added, least_low}
 use Rattle.redo_journal.proofs.bank.Bank.record_line.Goals as goal

@@ -1,13 +1,4 @@
-use Rattle.std.proofs.Common.{◌≡◌, ℕ, ◌+◌, List, length, sym, ◌∙◌, ap, subst, arith, replicate}
-use Rattle.std.proofs.lemmas.List.{length-replicate}
-use Rattle.std.specs.Prelude.{Option, None, fold}
-use Rattle.store_format.specs.Header.{number_at}
-use Rattle.store_format.specs.Bank.{Holds, bank_held}
-use Rattle.outside.specs.Runs.{held_of}
-use Rattle.outside.proofs.Durable.{told_some}
-use Rattle.redo_journal.specs.Noted.{noted}
-use Rattle.redo_journal.specs.Kept.{KeptBank, place_of, end_of}
-use Rattle.redo_journal.specs.Read.{IsBank}
+use Rattle.redo_journal.proofs.Common.{◌≡◌, ℕ, ◌+◌, List, length, sym, ◌∙◌, ap, subst, arith, replicate, length-replicate, Option, None, fold, number_at, Holds, bank_held, held_of, told_some, noted, KeptBank, place_of, end_of, IsBank}
 use Rattle.redo_journal.specs.declared.read.Found.{Found}
 use Rattle.redo_journal.proofs.Newest.{held_records, all_below}
 use Rattle.redo_journal.proofs.Places.{are_newest}

@@ -1,11 +1,4 @@
-use Rattle.std.proofs.Common.{◌≡◌, ℕ, ◌+◌, ◌*◌, List, length, drop, refl, sym, subst, ◌∙◌, ap, arith}
-use Rattle.std.specs.Prelude.{Option, None}
-use Rattle.std.proofs.lemmas.List.{length-replicate}
-use Rattle.store_format.specs.Header.{entry_bytes}
-use Rattle.store_format.specs.Bank.{RecordLine, wrong_line}
-use Rattle.redo_journal.specs.Kept.{KeptBank, end_of}
-use Rattle.redo_journal.specs.Noted.{AreWithin}
-use Rattle.redo_journal.specs.Inside.{begun_count, begun_lines, kept_of}
+use Rattle.redo_journal.proofs.Common.{◌≡◌, ℕ, ◌+◌, ◌*◌, List, length, drop, refl, sym, subst, ◌∙◌, ap, arith, Option, None, length-replicate, entry_bytes, RecordLine, wrong_line, KeptBank, end_of, AreWithin, begun_count, begun_lines, kept_of}
 use Rattle.redo_journal.proofs.AppendLemmas.{length-begun}
 use Rattle.redo_journal.proofs.TurnLemmas.{lines_placed, placed_order, none_within, turned_fields, turned_is}
 use Rattle.redo_journal.proofs.bank.Bank.turn_to.Goals as goal

@@ -1,13 +1,8 @@
-use Rattle.std.proofs.Common.{◌≡◌, [], ap, subst, sym, ◌∙◌, ⊎_elim, arith}
-use Rattle.store_format.specs.Header.{Header, header_of, total}
+use Rattle.restart.proofs.Common.{◌≡◌, [], ap, subst, sym, ◌∙◌, ⊎_elim, arith, Header, header_of, total, Leaves, held_of, other, map_ok, KeptStore}
 use Rattle.std.specs.Prelude.{take, OnOk}
-use Rattle.outside.specs.Runs.{Leaves, held_of}
 use Rattle.redo_journal.specs.Kept.{KeptBank, number_of}
-use Rattle.redo_journal.specs.Tracks as journal
-use Rattle.checkpoint.specs.Chosen.{other}
 use Rattle.checkpoint.specs.Moved.{IsSame, IsCheckpointed}
-use Rattle.checkpoint.proofs.StepLemmas.{map_ok}
-use Rattle.restart.specs.Kept.{KeptStore}
+use Rattle.redo_journal.specs.Tracks as journal
 use Rattle.restart.proofs.ShowLemmas.{bank_tracked, store_tracked, total_is, records_intact}
 use Rattle.restart.proofs.durable.Durable.checkpoint.Given.{Over}
 use Rattle.restart.proofs.durable.Durable.checkpoint.Goals as goal

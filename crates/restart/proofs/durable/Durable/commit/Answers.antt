@@ -1,13 +1,7 @@
-use Rattle.std.proofs.Common.{◌≡◌, ap, subst, sym, ◌∙◌, arith}
-use Rattle.store_format.specs.Header.{total}
-use Rattle.outside.specs.Runs.{Leaves, held_of}
-use Rattle.redo_journal.specs.Kept.{KeptBank, begun_of}
-use Rattle.redo_journal.specs.Tracks as journal
-use Rattle.restart.specs.Kept.{KeptStore}
-use Rattle.restart.specs.Shows.{Tracks}
-use Rattle.checkpoint.specs.Committed.{roomy, IsKeptAfter, HoldsCommitted}
-use Rattle.restart.proofs.ShowLemmas.{bank_tracked, store_tracked, total_is, committed_intact}
+use Rattle.restart.proofs.Common.{◌≡◌, ap, subst, sym, ◌∙◌, arith, total, Leaves, held_of, KeptBank, begun_of, KeptStore, Tracks, roomy, IsKeptAfter, HoldsCommitted}
 use Rattle.checkpoint.proofs.CommitLemmas.{number_kept, count_kept}
+use Rattle.redo_journal.specs.Tracks as journal
+use Rattle.restart.proofs.ShowLemmas.{bank_tracked, store_tracked, total_is, committed_intact}
 use Rattle.restart.proofs.durable.Durable.commit.Given.{Over}
 use Rattle.restart.proofs.durable.Durable.commit.Goals as goal
 use Rattle.restart.proofs.durable.Durable.commit.Goals.{After-commit}

@@ -1,9 +1,5 @@
-use Rattle.std.proofs.Common.{◌≡◌, length, ap, subst, arith}
+use Rattle.restart.proofs.Common.{◌≡◌, length, ap, subst, arith, total, held_of, KeptStore, IsRecordAt, IsLineOf}
 use Rattle.std.specs.Prelude.{IfOk, IsSome}
-use Rattle.store_format.specs.Header.{total}
-use Rattle.outside.specs.Runs.{held_of}
-use Rattle.restart.specs.Kept.{KeptStore}
-use Rattle.redo_journal.specs.Records.{IsRecordAt, IsLineOf}
 use Rattle.restart.proofs.ShowLemmas.{total_is}
 use Rattle.restart.proofs.durable.Durable.line_at.Goals as goal
 

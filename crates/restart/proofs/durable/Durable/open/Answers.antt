@@ -1,9 +1,4 @@
-use Rattle.std.proofs.Common.{◌≡◌, ℕ, List, [], ap, subst, sym, IsSome, ◌∙◌}
-use Rattle.std.specs.Prelude.{Option, unwrap_or}
-use Rattle.outside.specs.Runs.{held_of}
-use Rattle.outside.proofs.Runs.{asks_on}
-use Rattle.checkpoint.specs.Chosen.{IsChosen}
-use Rattle.restart.specs.Shows.{Shows}
+use Rattle.restart.proofs.Common.{◌≡◌, ℕ, List, [], ap, subst, sym, IsSome, ◌∙◌, Option, unwrap_or, held_of, asks_on, IsChosen, Shows}
 use Rattle.restart.proofs.ShowLemmas.{opening_fault, sure_on, shows_read}
 use Rattle.restart.proofs.durable.Durable.open.Goals as goal
 

@@ -1,21 +1,5 @@
-use Rattle.std.proofs.Common.{◌≡◌, ℕ, ◌+◌, ◌*◌, ◌≤◌, List, [], length, get_or, ap, subst, sym, IsSome, ◌∙◌, arith, refl, ◌<◌}
-use Rattle.std.specs.Prelude.{Option, None, unwrap_or}
-use Rattle.line_geometry.specs.Directory.{Layout, page_count}
-use Rattle.line_geometry.specs.declared.directory.PageSize.{PageSize}
-use Rattle.line_geometry.specs.Segments.{page_bytes, line_bytes}
-use Rattle.line_geometry.proofs.Within.{page-lines}
-use Rattle.store_format.specs.Header.{home_at, total}
-use Rattle.store_format.specs.Stands.{home_of}
-use Rattle.outside.specs.Bytes.{bytes_at}
-use Rattle.outside.specs.Runs.{held_of}
-use Rattle.outside.proofs.Runs.{asks_on, asks_one}
-use Rattle.outside.proofs.Durable.{told_some}
-use Rattle.redo_journal.specs.Kept.{area_end}
-use Rattle.store_format.proofs.Padded.{read_is}
-use Rattle.restart.specs.Kept.{KeptStore}
-use Rattle.restart.specs.Shows.{Shows}
+use Rattle.restart.proofs.Common.{◌≡◌, ℕ, ◌+◌, ◌*◌, ◌≤◌, List, [], length, get_or, ap, subst, sym, IsSome, ◌∙◌, arith, refl, ◌<◌, Option, None, unwrap_or, Layout, page_count, PageSize, page_bytes, line_bytes, page-lines, home_at, total, home_of, bytes_at, held_of, asks_on, asks_one, told_some, area_end, read_is, KeptStore, Shows, newest_over}
 use Rattle.restart.proofs.Compose.{Composed, composed_none, composed_more, composed_at_home, shown_page, placed_at}
-use Rattle.restart.specs.Page.{newest_over}
 use Rattle.restart.proofs.ShowLemmas.{end_inside}
 use Rattle.restart.proofs.durable.Durable.read_page.Goals as goal
 

@@ -1,7 +1,4 @@
-use Rattle.std.proofs.Common.{◌≡◌, ◌*◌, length, IsSome}
-use Rattle.line_geometry.specs.Segments.{line_bytes}
-use Rattle.store_format.specs.Stands.{home_of}
-use Rattle.outside.specs.Runs.{OnlyAsks, held_of}
+use Rattle.restart.proofs.Common.{◌≡◌, ◌*◌, length, IsSome, line_bytes, home_of, OnlyAsks, held_of}
 use Rattle.restart.proofs.Compose.{Composed}
 use Rattle.restart.proofs.durable.Durable.read_page.Given as goal
 

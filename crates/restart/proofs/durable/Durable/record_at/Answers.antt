@@ -1,10 +1,5 @@
-use Rattle.std.proofs.Common.{◌≡◌, ℕ, ap, subst, sym, ◌∙◌, arith}
+use Rattle.restart.proofs.Common.{ℕ, ap, subst, sym, ◌∙◌, arith, PageSize, total, held_of, KeptStore, IsRecordAt, IsFound, IsCounted}
 use Rattle.std.specs.Prelude.{IfOk, IsSome}
-use Rattle.line_geometry.specs.declared.directory.PageSize.{PageSize}
-use Rattle.store_format.specs.Header.{total}
-use Rattle.outside.specs.Runs.{held_of}
-use Rattle.restart.specs.Kept.{KeptStore}
-use Rattle.redo_journal.specs.Records.{IsRecordAt, IsFound, IsCounted}
 use Rattle.restart.proofs.ShowLemmas.{total_is}
 use Rattle.restart.proofs.durable.Durable.record_at.Goals as goal
 

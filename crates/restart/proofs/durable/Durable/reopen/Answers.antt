@@ -1,16 +1,6 @@
-use Rattle.std.proofs.Common.{◌≡◌, ℕ, List, [], ap, subst, sym, IsSome, ◌∙◌, arith}
-use Rattle.std.specs.Prelude.{Option, unwrap_or}
-use Rattle.store_format.specs.Header.{total}
-use Rattle.store_format.specs.Stands.{HasHeader}
-use Rattle.outside.specs.Runs.{held_of}
-use Rattle.checkpoint.specs.Chosen.{IsChosen}
+use Rattle.restart.proofs.Common.{◌≡◌, ℕ, List, [], ap, subst, sym, IsSome, ◌∙◌, arith, Option, unwrap_or, total, HasHeader, held_of, IsChosen, map_ok, ReopenFault, IsReopenFault, KeptStore, Fits, Shows, IsIntact}
 use Rattle.checkpoint.specs.Chosen as opened
-use Rattle.checkpoint.proofs.StepLemmas.{map_ok}
-use Rattle.redo_journal.specs.declared.fault.ReopenFault.{ReopenFault}
 use Rattle.redo_journal.specs.declared.fault.ReopenFault.TheVariants as reopening
-use Rattle.restart.specs.Faults.{IsReopenFault}
-use Rattle.restart.specs.Kept.{KeptStore, Fits}
-use Rattle.restart.specs.Shows.{Shows, IsIntact}
 use Rattle.restart.proofs.ShowLemmas.{sure_on, shows_read, reopening_fault, intact_fault, if_err, total_is}
 use Rattle.restart.proofs.durable.Durable.reopen.Given.{Over}
 use Rattle.restart.proofs.durable.Durable.reopen.Goals as goal

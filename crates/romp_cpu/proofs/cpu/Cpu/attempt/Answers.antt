@@ -1,9 +1,4 @@
-use Rattle.std.proofs.Common.{subst, sym}
-use Rattle.flat_machine.specs.Row.{plan}
-use Rattle.romp_cpu.specs.Shown.{halfword_of}
-use Rattle.romp_cpu.specs.Answers.{answer_in}
-use Rattle.romp_cpu.specs.Tried.{Tried, seen_in}
-use Rattle.romp_cpu.specs.Attempts.{GivesEveryRow, UndoesUnlessWent}
+use Rattle.romp_cpu.proofs.Common.{subst, sym, plan, halfword_of, answer_in, Tried, seen_in, GivesEveryRow, UndoesUnlessWent}
 use Rattle.romp_cpu.proofs.AttemptLemmas.{attempt-row}
 use Rattle.romp_cpu.proofs.UndoneLemmas.{tried_undoes}
 use Rattle.romp_cpu.proofs.cpu.Cpu.attempt.Goals as goal

@@ -1,13 +1,4 @@
-use Rattle.std.specs.Prelude.{◌≡◌, ℕ, List, Option}
-use Rattle.std.proofs.Common.{ap, sym, subst, ◌∙◌}
-use Rattle.flat_machine.specs.declared.machine.Act.{Act}
-use Rattle.flat_machine.specs.declared.machine.Cs.{Cs}
-use Rattle.flat_machine.specs.Pending.{StaysIfWanting}
-use Rattle.romp_cpu.specs.declared.cpu.Cpu.{Cpu}
-use Rattle.romp_cpu.specs.declared.cpu.Attempt.{Attempt}
-use Rattle.romp_cpu.specs.Answers.{answer_in}
-use Rattle.romp_cpu.specs.Attempts.{StoresAll}
-use Rattle.romp_cpu.specs.Tried.{Seen, seen_in, linked, tried, tried_act}
+use Rattle.romp_cpu.proofs.Common.{◌≡◌, ℕ, List, Option, ap, sym, subst, ◌∙◌, Act, Cs, StaysIfWanting, Cpu, Attempt, answer_in, StoresAll, Seen, seen_in, linked, tried, tried_act}
 use Rattle.romp_cpu.proofs.WholeLemmas.{pending-stores}
 use Rattle.romp_cpu.proofs.cpu.Cpu.carry_out.Goals as goal
 

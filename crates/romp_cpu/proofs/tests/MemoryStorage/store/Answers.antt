@@ -1,6 +1,5 @@
+use Rattle.romp_cpu.proofs.Common.{slice_index, bytes_from, access_to}
 use Rattle.std.proofs.Common.{length, true, ap, ◌∙◌}
-use Rattle.std.specs.Prelude.{slice_index}
-use Rattle.romp_cpu.specs.Shown.{bytes_from, access_to}
 use Rattle.romp_cpu.proofs.MemoryLemmas.{shown-stored, others-stay, permitted-fits}
 use Rattle.romp_cpu.proofs.tests.MemoryStorage.store.Goals as goal
 

@@ -1,6 +1,4 @@
-use Rattle.std.proofs.Common.{sym, ◌∙◌}
-use Rattle.std.proofs.lemmas.Map.Text.{btree_map_updates_str}
-use Rattle.romp_asm.specs.Labels.{found_in}
+use Rattle.romp_link.proofs.Common.{sym, ◌∙◌, btree_map_updates_str, found_in}
 use Rattle.romp_link.proofs.ExportLemmas.{given_more}
 use Rattle.romp_link.proofs.exports.Exports.add.Goals as goal
 

@@ -1,10 +1,5 @@
+use Rattle.seats.proofs.Common.{option_map, take_more, map-append, ArrayVec, waits_in, Seating, number_in, seat_waits, seat_at, cycle_of}
 use Rattle.std.proofs.Common.{◌≡◌, ◌<◌, ℕ, List, [], ◌∷◌, ◌++◌, Some, map, take, length, get_or, take_all, arith, ap, sym, subst, ◌∙◌}
-use Rattle.std.specs.Option.{option_map}
-use Rattle.std.proofs.lemmas.List.{take_more, map-append}
-use Rattle.arrayvec.specs.ArrayVec.{ArrayVec}
-use Rattle.wait_cycles.specs.Rows.{waits_in}
-use Rattle.seats.specs.Seating.{Seating, number_in}
-use Rattle.seats.specs.Waiting.{seat_waits, seat_at, cycle_of}
 use Rattle.seats.proofs.Kept.{has-at}
 use Rattle.seats.proofs.Places.{cycle-numbered, cycle-none, member-below}
 use Rattle.seats.proofs.seats.Seats.cycle_from.Goals as goal

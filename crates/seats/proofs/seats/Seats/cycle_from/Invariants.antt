@@ -1,6 +1,4 @@
-use Rattle.std.proofs.Common.{◌≡◌, take, map, length}
-use Rattle.seats.specs.Seating.{number_in}
-use Rattle.seats.specs.Waiting.{seat_at}
+use Rattle.seats.proofs.Common.{◌≡◌, take, map, length, number_in, seat_at}
 use Rattle.seats.proofs.seats.Seats.cycle_from.Given as goal
 
 -- the numbers at the places that were looked at

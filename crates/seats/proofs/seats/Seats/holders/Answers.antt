@@ -1,9 +1,5 @@
+use Rattle.seats.proofs.Common.{ArrayVec, map-append, filter_more, Holding, is_in_conflict, number_in}
 use Rattle.std.proofs.Common.{◌≡◌, ◌+◌, ◌<◌, ℕ, Bool, true, false, cond, List, [], ◌∷◌, ◌++◌, length, map, filter, take, get_or, append-nil, arith, ap, sym, ◌∙◌}
-use Rattle.arrayvec.specs.ArrayVec.{ArrayVec}
-use Rattle.std.proofs.lemmas.List.{map-append}
-use Rattle.std.proofs.lemmas.List.Elements.{filter_more}
-use Rattle.line_locks.specs.Holding.{Holding, is_in_conflict}
-use Rattle.seats.specs.Seating.{number_in}
 use Rattle.seats.proofs.Kept.{few-taken}
 use Rattle.seats.proofs.seats.Seats.holders.Goals as goal
 use Rattle.seats.proofs.seats.Seats.holders.Goals.{then-is_in_conflict, else-is_in_conflict}

@@ -1,6 +1,5 @@
+use Rattle.seats.proofs.Common.{is_in_conflict, number_in}
 use Rattle.std.proofs.Common.{◌≡◌, ◌≤◌, take, map, filter, length}
-use Rattle.line_locks.specs.Holding.{is_in_conflict}
-use Rattle.seats.specs.Seating.{number_in}
 use Rattle.seats.proofs.seats.Seats.holders.Given as goal
 
 -- the numbers of those that were looked at and conflict

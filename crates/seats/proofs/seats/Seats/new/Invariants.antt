@@ -1,5 +1,4 @@
-use Rattle.std.proofs.Common.{◌≡◌, replicate}
-use Rattle.seats.specs.Seating.{newcomer}
+use Rattle.seats.proofs.Common.{◌≡◌, replicate, newcomer}
 use Rattle.seats.proofs.seats.Seats.new.Given as goal
 
 -- so many seats have nobody

@@ -1,7 +1,5 @@
+use Rattle.seats.proofs.Common.{range_with_len, has, next_seat}
 use Rattle.std.proofs.Common.{◌≡◌, ◌+◌, ◌-◌, ◌<◌, ◌≤◌, ℕ, suc, not, cond, Bool, true, false, find, List, Some, None, arith, ap, sym, ◌∙◌, refl}
-use Rattle.std.specs.List.{range_with_len}
-use Rattle.lock_rules.specs.Sets.{has}
-use Rattle.seats.specs.Seating.{next_seat}
 use Rattle.seats.proofs.seats.Seats.next_seat.Goals as goal
 
 -- the lowest of the seats from one on that passes

@@ -1,7 +1,5 @@
+use Rattle.seats.proofs.Common.{range_with_len, has, next_seat}
 use Rattle.std.proofs.Common.{◌≡◌, ◌-◌, not, find}
-use Rattle.std.specs.List.{range_with_len}
-use Rattle.lock_rules.specs.Sets.{has}
-use Rattle.seats.specs.Seating.{next_seat}
 use Rattle.seats.proofs.seats.Seats.next_seat.Given as goal
 
 -- the lowest free seat is none of those that were looked at

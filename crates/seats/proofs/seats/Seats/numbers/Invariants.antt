@@ -1,5 +1,4 @@
-use Rattle.std.proofs.Common.{◌≡◌, take, map, length}
-use Rattle.seats.specs.Seating.{number_in}
+use Rattle.seats.proofs.Common.{◌≡◌, take, map, length, number_in}
 use Rattle.seats.proofs.seats.Seats.numbers.Given as goal
 
 -- the numbers of those that were looked at

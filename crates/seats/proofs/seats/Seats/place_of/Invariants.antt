@@ -1,5 +1,4 @@
-use Rattle.std.proofs.Common.{◌≡◌, false, take}
-use Rattle.lock_rules.specs.Sets.{has}
+use Rattle.seats.proofs.Common.{◌≡◌, false, take, has}
 use Rattle.seats.proofs.seats.Seats.place_of.Given as goal
 
 -- the seat is none of those that were looked at

@@ -1,14 +1,5 @@
+use Rattle.seats.proofs.Common.{cases_lt, le-ltb, All-get_or, ForSome, option_map_or, Request, AreWithin, Holding, is_in_conflict, in_conflict, bits_of_seats, is_on, Seat, newcomer, sitter, seat_waits, seat_at}
 use Rattle.std.proofs.Common.{◌≡◌, ◌<◌, ◌&&◌, ℕ, Bool, false, [], nat_lt, length, Option, Some, inl, inr, arith, ap, sym, ◌∙◌, subst}
-use Rattle.std.proofs.lemmas.Bool.{cases_lt, le-ltb}
-use Rattle.std.proofs.lemmas.List.Elements.{All-get_or}
-use Rattle.std.specs.Option.{ForSome, option_map_or}
-use Rattle.line_locks.specs.declared.request.Request.{Request}
-use Rattle.line_locks.specs.Held.{AreWithin}
-use Rattle.line_locks.specs.Holding.{Holding, is_in_conflict, in_conflict, bits_of_seats}
-use Rattle.wait_cycles.specs.Rows.{is_on}
-use Rattle.seats.specs.declared.seat.Seat.{Seat}
-use Rattle.seats.specs.Seating.{newcomer, sitter}
-use Rattle.seats.specs.Waiting.{seat_waits, seat_at}
 use Rattle.seats.proofs.Bits.{all-on}
 use Rattle.seats.proofs.seats.Seats.places_awaited.Goals as goal
 

@@ -1,6 +1,4 @@
-use Rattle.std.proofs.Common.{◌≡◌, ◌<◌, ℕ, Bool, length, get_or, arith, ap, sym, ◌∙◌}
-use Rattle.wait_cycles.specs.Rows.{is_on}
-use Rattle.wait_cycles.proofs.Walk.{marked, unmarked}
+use Rattle.seats.proofs.Common.{◌≡◌, ◌<◌, ℕ, Bool, length, get_or, arith, ap, sym, ◌∙◌, is_on, marked, unmarked}
 use Rattle.seats.proofs.Kept.{few-taken}
 use Rattle.seats.proofs.seats.Seats.places_of.Goals as goal
 use Rattle.seats.proofs.seats.Seats.places_of.Goals.{then-is_on, else-is_on}

@@ -1,8 +1,5 @@
+use Rattle.seats.proofs.Common.{cases_lt, lt-ltb, get_or_append_left, get_or_push, is_on, waits_in, seat_waits, seat_at}
 use Rattle.std.proofs.Common.{◌≡◌, ◌&&◌, ℕ, Bool, List, [], ◌∷◌, length, get_or, arith, ap, inl, inr, ◌∙◌}
-use Rattle.std.proofs.lemmas.Bool.{cases_lt, lt-ltb}
-use Rattle.std.proofs.lemmas.List.{get_or_append_left, get_or_push}
-use Rattle.wait_cycles.specs.Rows.{is_on, waits_in}
-use Rattle.seats.specs.Waiting.{seat_waits, seat_at}
 use Rattle.seats.proofs.Kept.{few-taken}
 use Rattle.seats.proofs.seats.Seats.rows_of_waits.Goals as goal
 

@@ -1,6 +1,4 @@
-use Rattle.std.proofs.Common.{◌≡◌, ◌<◌, ℕ, length}
-use Rattle.wait_cycles.specs.Rows.{waits_in}
-use Rattle.seats.specs.Waiting.{seat_waits, seat_at}
+use Rattle.seats.proofs.Common.{◌≡◌, ◌<◌, ℕ, length, waits_in, seat_waits, seat_at}
 use Rattle.seats.proofs.seats.Seats.rows_of_waits.Given as goal
 
 -- the rows of those that were looked at

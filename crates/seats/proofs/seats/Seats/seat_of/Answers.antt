@@ -1,8 +1,5 @@
+use Rattle.seats.proofs.Common.{eq-eqb, ne_eqb, drop_more, Seat, number_in}
 use Rattle.std.proofs.Common.{◌≡◌, ◌+◌, ◌<◌, ◌==◌, ℕ, Bool, true, false, cond, find, drop, get_or, length, List, Some, sym, ap, ◌∙◌}
-use Rattle.std.proofs.lemmas.Bool.{eq-eqb, ne_eqb}
-use Rattle.std.proofs.lemmas.List.{drop_more}
-use Rattle.seats.specs.declared.seat.Seat.{Seat}
-use Rattle.seats.specs.Seating.{number_in}
 use Rattle.seats.proofs.seats.Seats.seat_of.Goals as goal
 
 -- one is looked at: it sits there, or in one of the others

@@ -1,6 +1,4 @@
-use Rattle.std.proofs.Common.{◌≡◌, sym, ◌∙◌, subst}
-use Rattle.line_locks.specs.Holding.{taken}
-use Rattle.seats.specs.Seating.{IsSeating}
+use Rattle.seats.proofs.Common.{◌≡◌, sym, ◌∙◌, subst, taken, IsSeating}
 use Rattle.seats.proofs.Kept.{taken-below, kept-took}
 use Rattle.seats.proofs.seats.Seats.take.Goals as goal
 

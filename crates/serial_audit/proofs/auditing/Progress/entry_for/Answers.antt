@@ -1,5 +1,4 @@
-use Rattle.std.proofs.Common.{◌≡◌, ◌<◌, ◌^◌, false, arith, rules}
-use Rattle.serial_audit.specs.Commit.{told_of}
+use Rattle.serial_audit.proofs.Common.{◌≡◌, ◌<◌, ◌^◌, false, arith, rules, told_of}
 use Rattle.serial_audit.proofs.BegunLemmas.{got}
 use Rattle.serial_audit.proofs.IndexLemmas.{none_begun}
 use Rattle.serial_audit.proofs.VerdictLemmas.{follows_so, may_follow}

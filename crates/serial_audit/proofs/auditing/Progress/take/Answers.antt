@@ -1,7 +1,4 @@
-use Rattle.std.proofs.Common.{refl, rules}
-use Rattle.std.proofs.lemmas.List.{with_items_is}
-use Rattle.serial_audit.specs.Commit.{told_of}
-use Rattle.serial_audit.specs.Index.{activation_in}
+use Rattle.serial_audit.proofs.Common.{refl, rules, with_items_is, told_of, activation_in}
 use Rattle.serial_audit.proofs.IndexLemmas.{index_more}
 use Rattle.serial_audit.proofs.VerdictLemmas.{refused, same_activation, taken}
 use Rattle.serial_audit.proofs.auditing.Progress.take.Goals as goal

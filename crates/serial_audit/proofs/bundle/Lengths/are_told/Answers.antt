@@ -1,8 +1,4 @@
-use Rattle.std.proofs.Common.{◌≡◌, sym, ◌∙◌}
-use Rattle.std.proofs.lemmas.Bool.Decides.{Decides-eqb}
-use Rattle.std.proofs.lemmas.Slice.Eq.{slice_eq-Decides}
-use Rattle.serial_audit.specs.Bundle.{head_text}
-use Rattle.serial_audit.specs.Lengths.{sizes_of}
+use Rattle.serial_audit.proofs.Common.{◌≡◌, sym, ◌∙◌, Decides-eqb, slice_eq-Decides, head_text, sizes_of}
 use Rattle.serial_audit.proofs.BundleLemmas.{head_written}
 use Rattle.serial_audit.proofs.bundle.Lengths.are_told.Goals as goal
 

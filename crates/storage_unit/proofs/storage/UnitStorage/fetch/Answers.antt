@@ -1,18 +1,5 @@
-use Rattle.std.proofs.Common.{◌≡◌, ℕ, ◌+◌, ◌*◌, ◌<◌, ◌≤◌, List, [], ◌∷◌, length, true, sym, ◌∙◌, ap, arith, refl, Some, None}
-use Rattle.std.specs.Prelude.{nat_le, if◌then◌else◌, slice_index, slice_range}
-use Rattle.std.proofs.lemmas.Bool.Decides.{nat_tests}
-use Rattle.std.proofs.lemmas.List.{length-take, length-drop}
-use Rattle.std.proofs.lemmas.List.FromFn.{get_or-map-range_with_len, length-map-range_with_len}
-use Rattle.std.proofs.lemmas.Grind.{same_number_lists}
+use Rattle.storage_unit.proofs.Common.{◌≡◌, ℕ, ◌+◌, ◌*◌, ◌<◌, ◌≤◌, List, length, true, sym, ◌∙◌, ap, arith, refl, Some, None, nat_le, if◌then◌else◌, slice_index, slice_range, nat_tests, length-take, length-drop, get_or-map-range_with_len, length-map-range_with_len, same_number_lists, bytes_from, halfword_of, Reach, place_at, seat_of, byte_of, byte_at, IsSound, reach_of, pool_of, Unit}
 use Rattle.byteorder.specs.Endian.{big_number}
-use Rattle.romp_cpu.specs.Shown.{bytes_from, halfword_of}
-use Rattle.storage_unit.specs.declared.model.Reach.{Reach}
-use Rattle.storage_unit.specs.Places.{place_at}
-use Rattle.storage_unit.specs.Reach.{seat_of, byte_of, byte_at}
-use Rattle.storage_unit.specs.Reached.{IsSound}
-use Rattle.storage_unit.specs.View.{reach_of}
-use Rattle.frame_pool.specs.View.{pool_of}
-use Rattle.storage_unit.specs.declared.unit.Unit.{Unit}
 use Rattle.storage_unit.proofs.ByteLemmas.{in-range}
 use Rattle.storage_unit.proofs.PlaceLemmas.{Selected, selected}
 use Rattle.storage_unit.proofs.StoreLemmas.{all-private}

@@ -1,5 +1,4 @@
-use Rattle.std.proofs.Common.{false, length, sym, ◌∙◌}
-use Rattle.storage_unit.specs.View.{reach_of}
+use Rattle.storage_unit.proofs.Common.{false, length, sym, ◌∙◌, reach_of}
 use Rattle.storage_unit.proofs.AccessLemmas.{begins}
 use Rattle.storage_unit.proofs.AfterLemmas.{range-shown}
 use Rattle.storage_unit.proofs.UnitLemmas.{unit-sound}

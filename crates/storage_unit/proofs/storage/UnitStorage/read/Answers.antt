@@ -1,12 +1,5 @@
-use Rattle.std.proofs.Common.{ℕ, List, length, refl, sym, ◌∙◌, ap, subst, Ok}
-use Rattle.segment_regs.specs.Registers.{located_by}
-use Rattle.flat_machine.specs.Access.{FitsFrom}
+use Rattle.storage_unit.proofs.Common.{ℕ, List, length, refl, sym, ◌∙◌, ap, subst, Ok, located_by, FitsFrom, answered_at, place_of, is_in_frame, refuses, Lies, bytes_shown, reach_of}
 use Rattle.flat_machine.specs.Effect.{filled}
-use Rattle.romp_cpu.specs.Answers.{answered_at}
-use Rattle.storage_unit.specs.Places.{place_of}
-use Rattle.storage_unit.specs.Reach.{is_in_frame, refuses}
-use Rattle.storage_unit.specs.Reached.{Lies, bytes_shown}
-use Rattle.storage_unit.specs.View.{reach_of}
 use Rattle.storage_unit.proofs.AfterLemmas.{range-shown}
 use Rattle.storage_unit.proofs.CopyLemmas.{shown-long}
 use Rattle.storage_unit.proofs.PlaceLemmas.{under, lies, registers-page}

@@ -1,10 +1,4 @@
-use Rattle.std.proofs.Common.{true, length, sym, ◌∙◌, ap}
-use Rattle.romp_cpu.specs.Answers.{answer_in}
-use Rattle.romp_cpu.specs.Shown.{bytes_from}
-use Rattle.storage_unit.specs.declared.model.Reach.{Reach}
-use Rattle.storage_unit.specs.Places.{place_of}
-use Rattle.storage_unit.specs.Reach.{byte_at, is_in_frame, refuses}
-use Rattle.storage_unit.specs.View.{reach_of}
+use Rattle.storage_unit.proofs.Common.{true, length, sym, ◌∙◌, ap, answer_in, bytes_from, Reach, place_of, byte_at, is_in_frame, refuses, reach_of}
 use Rattle.storage_unit.proofs.AccessLemmas.{begins}
 use Rattle.storage_unit.proofs.AfterLemmas.{shows, others-stay, answers-stay}
 use Rattle.storage_unit.proofs.UnitLemmas.{unit-sound}

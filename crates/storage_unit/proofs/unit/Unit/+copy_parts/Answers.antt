@@ -1,11 +1,4 @@
-use Rattle.std.proofs.Common.{◌≡◌, ℕ, ◌+◌, ◌≤◌, List, ◌++◌, length, sym, ◌∙◌, ap, subst, arith}
-use Rattle.segment_regs.specs.declared.registers.Virtual.{Virtual}
-use Rattle.segment_regs.specs.Registers.{bytes_on}
-use Rattle.flat_machine.specs.declared.machine.Located.{Located}
-use Rattle.storage_unit.specs.declared.model.Reach.{Reach}
-use Rattle.storage_unit.specs.Places.{place_of}
-use Rattle.storage_unit.specs.Reached.{Lies, AreThere, bytes_shown}
-use Rattle.storage_unit.specs.View.{reach_of}
+use Rattle.storage_unit.proofs.Common.{◌≡◌, ℕ, ◌+◌, ◌≤◌, List, ◌++◌, length, sym, ◌∙◌, ap, subst, arith, Virtual, bytes_on, Located, Reach, place_of, Lies, AreThere, bytes_shown, reach_of}
 use Rattle.storage_unit.proofs.PlaceLemmas.{lies-on, there-on, place-on}
 use Rattle.storage_unit.proofs.CopyLemmas.{shown-split}
 use Rattle.storage_unit.proofs.unit.Unit.+copy_parts.Goals as goal

@@ -1,13 +1,4 @@
-use Rattle.std.proofs.Common.{◌≡◌, ℕ, ◌+◌, ◌-◌, ◌<◌, ◌≤◌, List, ◌++◌, length, take, drop, sym, ◌∙◌, ap, subst, arith}
-use Rattle.std.proofs.lemmas.List.{take_all, length-take, length-drop, length-append, take-append-drop}
-use Rattle.segment_regs.specs.declared.registers.Virtual.{Virtual}
-use Rattle.segment_regs.specs.Registers.{bytes_on}
-use Rattle.flat_machine.specs.declared.machine.Located.{Located}
-use Rattle.storage_unit.specs.declared.model.Reach.{Reach}
-use Rattle.storage_unit.specs.Places.{place_of, on}
-use Rattle.storage_unit.specs.Reach.{put_at}
-use Rattle.storage_unit.specs.Reached.{IsSound, Lies, AreThere}
-use Rattle.storage_unit.specs.View.{reach_of}
+use Rattle.storage_unit.proofs.Common.{◌≡◌, ℕ, ◌+◌, ◌-◌, ◌<◌, ◌≤◌, List, ◌++◌, length, take, drop, sym, ◌∙◌, ap, subst, arith, take_all, length-take, length-drop, length-append, take-append-drop, Virtual, bytes_on, Located, Reach, place_of, on, put_at, IsSound, Lies, AreThere, reach_of}
 use Rattle.storage_unit.proofs.PlaceLemmas.{lies-on, there-on, place-on}
 use Rattle.storage_unit.proofs.AfterLemmas.{private-room, lies-after, there-after, directory-after}
 use Rattle.storage_unit.proofs.StoreLemmas.{put-then}

@@ -1,16 +1,5 @@
-use Rattle.std.proofs.Common.{◌≡◌, ℕ, Bool, refl, sym, ◌∙◌, ap, Option, Some, None}
+use Rattle.storage_unit.proofs.Common.{◌≡◌, ℕ, Bool, sym, ◌∙◌, ap, Option, Some, None, range_with_len, Virtual, bytes_on, Access, Fault, Probe, unless_refused_at, unless_absent_at, answered_at, Reach, place_of, on, is_there, is_kept_from, is_in_frame, refuses, reach_of}
 use Rattle.std.specs.Prelude.{find, not, option_map, Ok}
-use Rattle.std.specs.List.{range_with_len}
-use Rattle.segment_regs.specs.declared.registers.Virtual.{Virtual}
-use Rattle.segment_regs.specs.Registers.{bytes_on}
-use Rattle.romp_cpu.specs.declared.storage.Access.{Access}
-use Rattle.romp_cpu.specs.declared.storage.Fault.{Fault}
-use Rattle.romp_cpu.specs.declared.storage.Probe.{Probe}
-use Rattle.romp_cpu.specs.Answers.{unless_refused_at, unless_absent_at, answered_at}
-use Rattle.storage_unit.specs.declared.model.Reach.{Reach}
-use Rattle.storage_unit.specs.Places.{place_of, on}
-use Rattle.storage_unit.specs.Reach.{is_there, is_kept_from, is_in_frame, refuses}
-use Rattle.storage_unit.specs.View.{reach_of}
 use Rattle.storage_unit.proofs.AnswerLemmas.{answered-by}
 use Rattle.storage_unit.proofs.CopyLemmas.{none-of}
 use Rattle.storage_unit.proofs.unit.Unit.answer.Goals as goal

@@ -1,10 +1,4 @@
-use Rattle.std.proofs.Common.{ap}
-use Rattle.flat_machine.specs.Row.{plan}
-use Rattle.romp_cpu.specs.Shown.{halfword_of}
-use Rattle.romp_cpu.specs.Tried.{Tried}
-use Rattle.storage_unit.specs.declared.model.Reach.{Reach}
-use Rattle.storage_unit.specs.Reach.{byte_at}
-use Rattle.storage_unit.specs.View.{reach_of}
+use Rattle.storage_unit.proofs.Common.{ap, plan, halfword_of, Tried, Reach, byte_at, reach_of}
 use Rattle.storage_unit.proofs.UnitLemmas.{unit-sound}
 use Rattle.storage_unit.proofs.RowLemmas.{attempt-changes, attempt-clean, attempt-seats, attempt-is}
 use Rattle.storage_unit.proofs.unit.Unit.attempt.Goals as goal

@@ -1,23 +1,5 @@
-use Rattle.std.proofs.Common.{◌≡◌, ℕ, ◌+◌, ◌-◌, ◌*◌, ◌<◌, ◌≤◌, Bool, true, false, List, ◌++◌, length, replicate, sym, ◌∙◌, ap, subst, arith, Option, None, inl, inr}
+use Rattle.storage_unit.proofs.Common.{◌≡◌, ℕ, ◌+◌, ◌-◌, ◌*◌, ◌<◌, ◌≤◌, Bool, true, false, List, ◌++◌, length, replicate, sym, ◌∙◌, ap, subst, arith, Option, None, inl, inr, cases_eq, nat_tests, get_or_default, get_or-set_same, get_or-set_other, length-set, length-take, length-drop, length-append, length-replicate, overlaid, Key, key_to, Placed, key_in, look_up, Pool, pool_of, pool-seen, private_frames, with_bytes, with_frame_part, lent-part, reach_of, Unit, private_segment, seat_pages, keys_of, pages_begun, first_keys, AreOfPages}
 use Rattle.std.specs.Prelude.{nat_lt, if◌then◌else◌, slice_set, slice_range, slice_index_or, Some}
-use Rattle.std.proofs.lemmas.Bool.{cases_eq}
-use Rattle.std.proofs.lemmas.Bool.Decides.{nat_tests}
-use Rattle.std.proofs.lemmas.List.{get_or_default, get_or-set_same, get_or-set_other, length-set, length-take, length-drop, length-append, length-replicate}
-use Rattle.owned_list.specs.Overlay.{overlaid}
-use Rattle.inverted_table.specs.declared.key.Key.{Key}
-use Rattle.inverted_table.specs.Keys.{key_to}
-use Rattle.inverted_table.specs.Placed.{Placed, key_in, look_up}
-use Rattle.frame_pool.specs.declared.model.Pool.{Pool}
-use Rattle.frame_pool.specs.View.{pool_of}
-use Rattle.frame_pool.proofs.SeenLemmas.{pool-seen}
-use Rattle.frame_pool.specs.Sizes.{private_frames}
-use Rattle.frame_pool.specs.Pool.{with_bytes}
-use Rattle.frame_pool.specs.PoolLending.{with_frame_part}
-use Rattle.frame_pool.proofs.LendLemmas.{lent-part}
-use Rattle.storage_unit.specs.View.{reach_of}
-use Rattle.storage_unit.specs.declared.unit.Unit.{Unit}
-use Rattle.storage_unit.specs.Places.{private_segment}
-use Rattle.storage_unit.specs.Held.{seat_pages, keys_of, pages_begun, first_keys, AreOfPages}
 use Rattle.storage_unit.proofs.SizeLemmas.{seat-frame, seat-room}
 use Rattle.storage_unit.proofs.HeldLemmas.{key-at, keys-long, held-private, finds-private, keys-seat}
 use Rattle.storage_unit.proofs.PrivateLemmas.{first-long, begun-other, holds-first, free-at}

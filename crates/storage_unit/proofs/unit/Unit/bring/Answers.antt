@@ -1,22 +1,4 @@
-use Rattle.std.proofs.Common.{◌≡◌, ℕ, ◌<◌, ◌≤◌, false, List, length, sym, ◌∙◌, ap, subst, arith, Option, Some, None}
-use Rattle.std.specs.Prelude.{slice_set, option_and_then, option_map, IfSome}
-use Rattle.std.specs.Option.{option_map_or}
-use Rattle.inverted_table.specs.declared.key.Key.{Key}
-use Rattle.inverted_table.specs.Placed.{Placed, key_in, look_up, without_frame}
-use Rattle.tlb_model.specs.Buffer.{IsOfTable}
-use Rattle.tlb_model.proofs.TableLemmas.{of_table-entered}
-use Rattle.frame_pool.specs.declared.model.Pool.{Pool}
-use Rattle.frame_pool.specs.Sizes.{private_frames, frame_count}
-use Rattle.frame_pool.specs.Pool.{frame_at, page_out, with_room, Brought}
-use Rattle.frame_pool.specs.Seen.{IsSeen}
-use Rattle.lock_rules.specs.Sets.{has}
-use Rattle.line_geometry.specs.Directory.{page_count}
-use Rattle.std.proofs.lemmas.List.{length-set}
-use Rattle.frame_pool.specs.View.{pool_of}
-use Rattle.frame_pool.proofs.SeenLemmas.{pool-seen, Stays}
-use Rattle.storage_unit.specs.declared.unit.Unit.{Unit}
-use Rattle.storage_unit.specs.Places.{key_among, key_of_page}
-use Rattle.storage_unit.specs.Held.{keys_of, pages_begun, AreOfPages}
+use Rattle.storage_unit.proofs.Common.{◌≡◌, ℕ, ◌<◌, ◌≤◌, false, List, length, sym, ◌∙◌, ap, subst, arith, Option, Some, None, slice_set, option_and_then, option_map, IfSome, option_map_or, Key, Placed, key_in, look_up, without_frame, IsOfTable, of_table-entered, Pool, private_frames, frame_count, frame_at, page_out, with_room, Brought, IsSeen, has, page_count, length-set, pool_of, pool-seen, Stays, Unit, key_among, key_of_page, keys_of, pages_begun, AreOfPages}
 use Rattle.storage_unit.proofs.HeldLemmas.{key-at, keys-long, held-store, finds-page, keys-store}
 use Rattle.storage_unit.proofs.StateLemmas.{room-stays, room-none, absent-frame, out-inside, keys-room, without-keys, without-entries}
 use Rattle.storage_unit.proofs.unit.Unit.bring.Goals as goal

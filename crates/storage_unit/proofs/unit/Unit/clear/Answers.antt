@@ -1,8 +1,4 @@
-use Rattle.std.proofs.Common.{sym, ◌∙◌, ap, subst, List, length, Option}
-use Rattle.std.proofs.lemmas.List.{length-map}
-use Rattle.inverted_table.specs.declared.key.Key.{Key}
-use Rattle.inverted_table.specs.Placed.{Placed, cleared_entry}
-use Rattle.tlb_model.specs.Buffer.{IsOfTable}
+use Rattle.storage_unit.proofs.Common.{sym, ◌∙◌, ap, subst, List, length, Option, length-map, Key, Placed, cleared_entry, IsOfTable}
 use Rattle.storage_unit.proofs.unit.Unit.clear.Goals as goal
 
 pub invariant_of-self-clause-entries : goal.invariant_of-self-clause-entries

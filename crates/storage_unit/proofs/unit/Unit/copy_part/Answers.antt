@@ -1,6 +1,4 @@
-use Rattle.std.proofs.Common.{◌≡◌, ℕ, length, sym, ◌∙◌, ap, refl, Option, Some, None}
-use Rattle.storage_unit.specs.Places.{place_of}
-use Rattle.storage_unit.specs.View.{reach_of}
+use Rattle.storage_unit.proofs.Common.{◌≡◌, ℕ, length, sym, ◌∙◌, ap, refl, Option, Some, None, place_of, reach_of}
 use Rattle.storage_unit.proofs.CopyLemmas.{found-some, shown-long}
 use Rattle.storage_unit.proofs.UnitLemmas.{unit-sound}
 use Rattle.storage_unit.proofs.unit.Unit.copy_part.Goals as goal

@@ -1,14 +1,4 @@
-use Rattle.std.proofs.Common.{◌≡◌, sym, ◌∙◌, ap, subst, List, ℕ, length, Option, arith}
-use Rattle.std.specs.Prelude.{fold}
-use Rattle.inverted_table.specs.declared.key.Key.{Key}
-use Rattle.inverted_table.specs.Placed.{Placed}
-use Rattle.tlb_model.specs.declared.tlb.Pair.{Pair}
-use Rattle.tlb_model.specs.Buffer.{IsOfTable}
-use Rattle.frame_pool.specs.declared.model.Pool.{Pool}
-use Rattle.frame_pool.specs.Sizes.{frame_count}
-use Rattle.frame_pool.specs.View.{pool_of}
-use Rattle.frame_pool.proofs.SeenLemmas.{pool-seen}
-use Rattle.storage_unit.specs.Held.{AreOfPages, keys_of, keys_without, pages_begun}
+use Rattle.storage_unit.proofs.Common.{◌≡◌, sym, ◌∙◌, ap, subst, List, ℕ, length, Option, arith, fold, Key, Placed, Pair, IsOfTable, Pool, frame_count, pool_of, pool-seen, AreOfPages, keys_of, keys_without, pages_begun}
 use Rattle.storage_unit.proofs.HeldLemmas.{keys-long}
 use Rattle.storage_unit.proofs.StateLemmas.{emptied-stays, keys-emptied, none-of_table}
 use Rattle.storage_unit.proofs.unit.Unit.empty.Goals as goal

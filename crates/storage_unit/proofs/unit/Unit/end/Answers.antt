@@ -1,13 +1,4 @@
-use Rattle.std.proofs.Common.{◌≡◌, ◌≢◌, ℕ, ◌*◌, ◌<◌, false, List, length, sym, ◌∙◌, ap, arith, Option, None, replicate}
-use Rattle.std.specs.Prelude.{slice_set}
-use Rattle.std.proofs.lemmas.List.{length-replicate, get_or-set_other, length-set}
-use Rattle.owned_list.specs.Overlay.{overlaid}
-use Rattle.inverted_table.specs.declared.key.Key.{Key}
-use Rattle.inverted_table.specs.Placed.{Placed}
-use Rattle.segment_regs.specs.Registers.{Registers}
-use Rattle.frame_pool.specs.View.{pool_of}
-use Rattle.storage_unit.specs.declared.unit.Unit.{Unit}
-use Rattle.storage_unit.specs.Held.{seat_pages, keys_of, pages_begun}
+use Rattle.storage_unit.proofs.Common.{◌≡◌, ◌≢◌, ℕ, ◌*◌, ◌<◌, false, List, length, sym, ◌∙◌, ap, arith, Option, None, replicate, slice_set, length-replicate, get_or-set_other, length-set, overlaid, Key, Placed, Registers, pool_of, Unit, seat_pages, keys_of, pages_begun}
 use Rattle.storage_unit.proofs.SizeLemmas.{seat-room}
 use Rattle.storage_unit.proofs.HeldLemmas.{keys-long, keys-seat}
 use Rattle.storage_unit.proofs.PrivateLemmas.{begun-other, holds-none}

@@ -1,10 +1,5 @@
-use Rattle.std.proofs.Common.{List, ℕ, length, sym, ◌∙◌, ap, subst}
-use Rattle.flat_machine.specs.Access.{FitsFrom}
+use Rattle.storage_unit.proofs.Common.{List, ℕ, length, sym, ◌∙◌, ap, subst, FitsFrom, Reach, place_of, bytes_shown, reach_of}
 use Rattle.flat_machine.specs.Effect.{filled}
-use Rattle.storage_unit.specs.declared.model.Reach.{Reach}
-use Rattle.storage_unit.specs.Places.{place_of}
-use Rattle.storage_unit.specs.Reached.{bytes_shown}
-use Rattle.storage_unit.specs.View.{reach_of}
 use Rattle.storage_unit.proofs.CopyLemmas.{shown-long}
 use Rattle.storage_unit.proofs.unit.Unit.fill_at.Goals as goal
 

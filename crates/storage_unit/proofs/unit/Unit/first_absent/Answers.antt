@@ -1,8 +1,4 @@
-use Rattle.std.proofs.Common.{◌≡◌, sym, ◌∙◌, ap, arith}
-use Rattle.segment_regs.specs.Registers.{bytes_on}
-use Rattle.storage_unit.specs.declared.model.Reach.{Reach}
-use Rattle.storage_unit.specs.Reached.{is_absent}
-use Rattle.storage_unit.specs.View.{reach_of}
+use Rattle.storage_unit.proofs.Common.{◌≡◌, sym, ◌∙◌, ap, arith, bytes_on, Reach, is_absent, reach_of}
 use Rattle.storage_unit.proofs.ProbeLemmas.{absent-first, none-absent, absent-next, none-next}
 use Rattle.storage_unit.proofs.UnitLemmas.{unit-sound}
 use Rattle.storage_unit.proofs.unit.Unit.first_absent.Goals.{After-is_absent-2}

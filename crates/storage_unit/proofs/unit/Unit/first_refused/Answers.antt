@@ -1,7 +1,4 @@
-use Rattle.std.proofs.Common.{◌≡◌, ℕ, ◌<◌, ◌≤◌, true, false, arith}
-use Rattle.std.proofs.lemmas.Bool.Decides.{nat_tests}
-use Rattle.storage_unit.specs.Places.{is_private}
-use Rattle.storage_unit.specs.View.{reach_of}
+use Rattle.storage_unit.proofs.Common.{◌≡◌, ℕ, ◌≤◌, true, arith, nat_tests, is_private, reach_of}
 use Rattle.storage_unit.proofs.ProbeLemmas.{private-kept}
 use Rattle.storage_unit.proofs.unit.Unit.first_refused.Goals as goal
 

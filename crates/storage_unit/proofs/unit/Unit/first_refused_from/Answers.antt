@@ -1,10 +1,5 @@
-use Rattle.std.proofs.Common.{◌+◌, ◌%◌, sym, ◌∙◌, ap, arith, inl, inr}
-use Rattle.std.proofs.lemmas.Bool.{cases_lt}
-use Rattle.line_geometry.specs.Segments.{line_bytes}
-use Rattle.line_geometry.specs.Lines.{line_of}
+use Rattle.storage_unit.proofs.Common.{◌+◌, ◌%◌, sym, ◌∙◌, ap, arith, inl, inr, cases_lt, line_bytes, line_of, is_refused, reach_of}
 use Rattle.line_geometry.proofs.Legal.{legal-bytes}
-use Rattle.storage_unit.specs.Reach.{is_refused}
-use Rattle.storage_unit.specs.View.{reach_of}
 use Rattle.storage_unit.proofs.FindLemmas.{none-found, first-found}
 use Rattle.storage_unit.proofs.ProbeLemmas.{same-line}
 use Rattle.storage_unit.proofs.unit.Unit.first_refused_from.Goals as goal

@@ -1,7 +1,4 @@
-use Rattle.std.proofs.Common.{◌≡◌, ℕ, ◌+◌, ◌-◌, ◌<◌, false}
-use Rattle.line_geometry.specs.Lines.{line_of}
-use Rattle.storage_unit.specs.Reach.{is_refused}
-use Rattle.storage_unit.specs.View.{reach_of}
+use Rattle.storage_unit.proofs.Common.{◌≡◌, ℕ, ◌+◌, ◌-◌, ◌<◌, false, line_of, is_refused, reach_of}
 use Rattle.storage_unit.proofs.unit.Unit.first_refused_from.Given as goal
 
 abbrev pub invariant-loop-past : goal.invariant-loop-past

@@ -1,10 +1,4 @@
-use Rattle.std.proofs.Common.{◌≡◌, false, sym, ◌∙◌, ap, arith}
-use Rattle.std.proofs.lemmas.Bool.Decides.{nat_tests}
-use Rattle.frame_pool.specs.Pool.{frame_at}
-use Rattle.frame_pool.specs.View.{pool_of}
-use Rattle.line_geometry.specs.Lines.{page_of}
-use Rattle.storage_unit.specs.Places.{is_private}
-use Rattle.storage_unit.specs.View.{reach_of}
+use Rattle.storage_unit.proofs.Common.{◌≡◌, false, sym, ◌∙◌, ap, arith, nat_tests, frame_at, pool_of, page_of, is_private, reach_of}
 use Rattle.storage_unit.proofs.PlaceLemmas.{finds-shared}
 use Rattle.storage_unit.proofs.UnitLemmas.{unit-sound}
 use Rattle.storage_unit.proofs.unit.Unit.frame_at.Goals as goal

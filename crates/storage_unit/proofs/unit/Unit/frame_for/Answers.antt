@@ -1,18 +1,5 @@
-use Rattle.std.proofs.Common.{◌≡◌, ℕ, true, refl, sym, ◌∙◌, ap, subst, arith, Option, Some, None, Bool, false}
-use Rattle.std.proofs.lemmas.Bool.Decides.{nat_tests}
-use Rattle.storage_unit.specs.declared.model.Reach.{Reach}
-use Rattle.storage_unit.specs.Places.{is_private, offset_of, place_of, on}
-use Rattle.storage_unit.specs.Reach.{is_kept_from}
-use Rattle.line_geometry.specs.Segments.{line_bytes}
-use Rattle.line_geometry.specs.declared.directory.PageSize.{PageSize}
-use Rattle.segment_regs.specs.Registers.{bytes_on}
-use Rattle.segment_regs.specs.declared.registers.Virtual.{Virtual}
-use Rattle.romp_cpu.specs.declared.storage.Fault.{Fault}
-use Rattle.romp_cpu.specs.declared.storage.Probe.{Probe}
-use Rattle.std.proofs.lemmas.Bool.{leb-true}
+use Rattle.storage_unit.proofs.Common.{◌≡◌, ℕ, true, sym, ◌∙◌, ap, subst, arith, Bool, false, nat_tests, Reach, is_private, offset_of, place_of, on, is_kept_from, line_bytes, PageSize, bytes_on, Virtual, Fault, Probe, leb-true, Lies, reach_of}
 use Rattle.std.specs.Prelude.{nat_le, ◌+◌, ◌%◌, ◌≤◌, ◌<◌}
-use Rattle.storage_unit.specs.Reached.{Lies}
-use Rattle.storage_unit.specs.View.{reach_of}
 use Rattle.storage_unit.proofs.AnswerLemmas.{answered-private}
 use Rattle.storage_unit.proofs.LineLemmas.{lies-one, page-fault, lock-fault, line-permitted, second-fault, lines-permitted}
 use Rattle.storage_unit.proofs.PlaceLemmas.{private-is}

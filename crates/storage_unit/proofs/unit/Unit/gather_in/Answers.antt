@@ -1,15 +1,4 @@
-use Rattle.std.proofs.Common.{◌≡◌, ℕ, ◌+◌, ◌*◌, ◌≤◌, List, length, sym, ◌∙◌, ap, subst, arith}
-use Rattle.line_geometry.specs.Segments.{page_bytes}
-use Rattle.flat_machine.specs.Access.{FitsFrom}
-use Rattle.flat_machine.specs.Row.{stored_bytes}
-use Rattle.romp_cpu.proofs.WholeLemmas.{stored_bytes-long}
-use Rattle.frame_pool.specs.declared.model.Pool.{Pool}
-use Rattle.frame_pool.specs.Pool.{marked_in, with_bytes, lines_of_part}
-use Rattle.frame_pool.specs.View.{pool_of}
-use Rattle.storage_unit.specs.declared.model.Reach.{Reach}
-use Rattle.storage_unit.specs.Held.{keys_of, AreOfPages}
-use Rattle.storage_unit.specs.Reached.{Lies}
-use Rattle.storage_unit.specs.View.{reach_of}
+use Rattle.storage_unit.proofs.Common.{◌≡◌, ℕ, ◌+◌, ◌*◌, ◌≤◌, List, length, sym, ◌∙◌, ap, subst, arith, page_bytes, FitsFrom, stored_bytes, stored_bytes-long, Pool, marked_in, with_bytes, lines_of_part, pool_of, Reach, keys_of, AreOfPages, Lies, reach_of}
 use Rattle.storage_unit.proofs.CopyLemmas.{found-below}
 use Rattle.storage_unit.proofs.PartLemmas.{part-long, pool-after, marked-same, marked-keys}
 use Rattle.storage_unit.proofs.StoreLemmas.{marked-of_pages, put-found}

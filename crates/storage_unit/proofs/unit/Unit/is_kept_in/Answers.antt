@@ -1,16 +1,4 @@
-use Rattle.std.proofs.Common.{◌≡◌, ℕ, ◌+◌, ◌/◌, ◌%◌, sym, ◌∙◌, ap, arith, Some, None, ◌<◌}
-use Rattle.std.specs.Prelude.{not}
-use Rattle.line_geometry.specs.Directory.{start_of}
-use Rattle.line_geometry.specs.Lines.{line_of, page_of}
-use Rattle.line_geometry.specs.Segments.{page_bytes, line_bytes}
-use Rattle.lockbit_rules.specs.Entries.{entry_of, lets}
-use Rattle.lockbit_rules.specs.declared.Authority.{Authority}
-use Rattle.inverted_table.specs.Placed.{entry_at}
-use Rattle.segment_regs.specs.declared.registers.Virtual.{Virtual}
-use Rattle.storage_unit.specs.declared.unit.Unit.{Unit}
-use Rattle.storage_unit.specs.Places.{offset_of, on}
-use Rattle.storage_unit.specs.Reach.{is_kept_from}
-use Rattle.storage_unit.specs.View.{reach_of}
+use Rattle.storage_unit.proofs.Common.{◌≡◌, ℕ, ◌+◌, ◌/◌, ◌%◌, sym, ◌∙◌, ap, arith, Some, None, ◌<◌, not, start_of, line_of, page_of, page_bytes, line_bytes, entry_of, lets, Authority, entry_at, Virtual, Unit, offset_of, on, is_kept_from, reach_of}
 use Rattle.storage_unit.proofs.LineLemmas.{page-found}
 use Rattle.storage_unit.proofs.PlaceLemmas.{place-below, place-byte, shared-is}
 use Rattle.storage_unit.proofs.SizeLemmas.{line-in, rest-on, same-page-on, page-of-line, page-below}

@@ -1,9 +1,4 @@
-use Rattle.std.proofs.Common.{◌/◌, ◌%◌, sym, ◌∙◌, ap, arith}
-use Rattle.std.specs.Prelude.{not}
-use Rattle.line_geometry.specs.Lines.{line_of}
-use Rattle.lockbit_rules.specs.Entries.{entry_of, lets}
-use Rattle.lockbit_rules.specs.declared.Authority.{Authority}
-use Rattle.inverted_table.specs.Placed.{entry_at}
+use Rattle.storage_unit.proofs.Common.{◌/◌, ◌%◌, sym, ◌∙◌, ap, arith, not, line_of, entry_of, lets, Authority, entry_at}
 use Rattle.storage_unit.proofs.SizeLemmas.{page-of-line, page-below}
 use Rattle.storage_unit.proofs.unit.Unit.is_refused.Goals as goal
 

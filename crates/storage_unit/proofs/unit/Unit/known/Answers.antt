@@ -1,8 +1,4 @@
-use Rattle.std.proofs.Common.{◌≡◌, ℕ, sym, ◌∙◌, ap, List, Option, Some, None}
-use Rattle.std.specs.Prelude.{IfSome}
-use Rattle.inverted_table.specs.declared.key.Key.{Key}
-use Rattle.inverted_table.specs.Placed.{look_up}
-use Rattle.inverted_table.specs.Keys.{key_of}
+use Rattle.storage_unit.proofs.Common.{ℕ, sym, ◌∙◌, ap, List, Option, Some, None, IfSome, Key, look_up, key_of}
 use Rattle.storage_unit.proofs.unit.Unit.known.Goals as goal
 
 some-by : (o : Option ℕ) (P Q : ℕ → Type 0) → ((n : ℕ) → P n → Q n) → IfSome o P → IfSome o Q

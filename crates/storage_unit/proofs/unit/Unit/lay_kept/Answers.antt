@@ -1,7 +1,4 @@
-use Rattle.std.proofs.Common.{◌≡◌, sym, ◌∙◌, ap, subst, List, ℕ, length, arith}
-use Rattle.frame_pool.specs.declared.model.Pool.{Pool}
-use Rattle.frame_pool.specs.View.{pool_of}
-use Rattle.storage_unit.specs.Held.{AreOfPages, keys_of}
+use Rattle.storage_unit.proofs.Common.{◌≡◌, sym, ◌∙◌, ap, subst, List, ℕ, length, arith, Pool, pool_of, AreOfPages, keys_of}
 use Rattle.storage_unit.proofs.StateLemmas.{laid-bytes}
 use Rattle.storage_unit.proofs.unit.Unit.lay_kept.Goals as goal
 

@@ -1,13 +1,5 @@
-use Rattle.std.proofs.Common.{ℕ, ◌+◌, List, length, replicate, sym, ◌∙◌, ap, subst, arith, Option, None, refl}
+use Rattle.storage_unit.proofs.Common.{ℕ, ◌+◌, List, length, replicate, sym, ◌∙◌, ap, subst, arith, Option, None, refl, length-replicate, Placed, unowned, Pair, IsOfTable, Registers, Pool, private_frames, AreOfPages, keys_of}
 use Rattle.std.specs.Prelude.{false}
-use Rattle.std.proofs.lemmas.List.{length-replicate}
-use Rattle.inverted_table.specs.Placed.{Placed, unowned}
-use Rattle.tlb_model.specs.declared.tlb.Pair.{Pair}
-use Rattle.tlb_model.specs.Buffer.{IsOfTable}
-use Rattle.segment_regs.specs.Registers.{Registers}
-use Rattle.frame_pool.specs.declared.model.Pool.{Pool}
-use Rattle.frame_pool.specs.Sizes.{private_frames}
-use Rattle.storage_unit.specs.Held.{AreOfPages, keys_of}
 use Rattle.storage_unit.proofs.PrivateLemmas.{keys-bare}
 use Rattle.storage_unit.proofs.StateLemmas.{none-of_table, marks-none}
 use Rattle.storage_unit.proofs.unit.Unit.new.Goals as goal

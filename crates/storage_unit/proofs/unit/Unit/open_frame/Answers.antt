@@ -1,7 +1,4 @@
-use Rattle.std.proofs.Common.{◌≡◌, true, refl, sym, ◌∙◌, arith}
-use Rattle.std.proofs.lemmas.Bool.Decides.{nat_tests}
-use Rattle.storage_unit.specs.Places.{is_private, offset_of}
-use Rattle.storage_unit.specs.View.{reach_of}
+use Rattle.storage_unit.proofs.Common.{◌≡◌, true, refl, sym, ◌∙◌, arith, nat_tests, is_private, offset_of, reach_of}
 use Rattle.storage_unit.proofs.AnswerLemmas.{answered-private}
 use Rattle.storage_unit.proofs.LineLemmas.{line-permitted}
 use Rattle.storage_unit.proofs.PlaceLemmas.{private-is}

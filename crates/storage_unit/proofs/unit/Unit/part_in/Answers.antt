@@ -1,7 +1,4 @@
-use Rattle.std.proofs.Common.{◌∙◌, ap}
-use Rattle.frame_pool.specs.Pool.{part_of}
-use Rattle.frame_pool.specs.View.{pool_of}
-use Rattle.storage_unit.specs.View.{reach_of}
+use Rattle.storage_unit.proofs.Common.{◌∙◌, ap, part_of, pool_of, reach_of}
 use Rattle.storage_unit.proofs.CopyLemmas.{found-below, part-shown}
 use Rattle.storage_unit.proofs.UnitLemmas.{unit-sound}
 use Rattle.storage_unit.proofs.unit.Unit.part_in.Goals as goal

@@ -1,6 +1,4 @@
-use Rattle.std.proofs.Common.{◌≡◌, ℕ, ◌+◌, ◌-◌, ◌*◌, Some, sym, ◌∙◌, ap, arith}
-use Rattle.storage_unit.specs.Held.{seat_pages}
-use Rattle.storage_unit.specs.View.{reach_of}
+use Rattle.storage_unit.proofs.Common.{◌≡◌, ℕ, ◌+◌, ◌-◌, ◌*◌, Some, sym, ◌∙◌, ap, arith, seat_pages, reach_of}
 use Rattle.storage_unit.proofs.PlaceLemmas.{finds-own}
 use Rattle.storage_unit.proofs.UnitLemmas.{unit-sound}
 use Rattle.storage_unit.proofs.unit.Unit.private_frame.Goals as goal

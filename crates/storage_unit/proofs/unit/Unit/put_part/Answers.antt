@@ -1,11 +1,4 @@
-use Rattle.std.proofs.Common.{◌≡◌, ℕ, ◌+◌, ◌*◌, List, length, refl, sym, ◌∙◌, ap, subst, Option, Some, None}
-use Rattle.line_geometry.specs.Segments.{page_bytes}
-use Rattle.frame_pool.specs.declared.model.Pool.{Pool}
-use Rattle.frame_pool.specs.Pool.{marked_in, with_bytes, lines_of_part}
-use Rattle.frame_pool.specs.View.{pool_of}
-use Rattle.storage_unit.specs.declared.model.Reach.{Reach}
-use Rattle.storage_unit.specs.Held.{keys_of, AreOfPages}
-use Rattle.storage_unit.specs.View.{reach_of}
+use Rattle.storage_unit.proofs.Common.{ℕ, ◌+◌, ◌*◌, List, length, sym, ◌∙◌, ap, subst, page_bytes, Pool, marked_in, with_bytes, lines_of_part, pool_of, Reach, keys_of, AreOfPages, reach_of}
 use Rattle.storage_unit.proofs.CopyLemmas.{found-below, found-some, none-of}
 use Rattle.storage_unit.proofs.StoreLemmas.{marked-of_pages, put-found}
 use Rattle.storage_unit.proofs.UnitLemmas.{unit-sound}

@@ -1,6 +1,5 @@
-use Rattle.std.proofs.Common.{◌≡◌, subst, ℕ, true, arith}
+use Rattle.storage_unit.proofs.Common.{◌≡◌, subst, ℕ, true, arith, AreReached}
 use Rattle.std.specs.Prelude.{slice_index_or, false}
-use Rattle.storage_unit.specs.Held.{AreReached}
 use Rattle.storage_unit.proofs.unit.Unit.select.Goals as goal
 
 pub invariant_of-self-clause-selected : goal.invariant_of-self-clause-selected

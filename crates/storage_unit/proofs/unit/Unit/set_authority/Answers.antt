@@ -1,8 +1,4 @@
-use Rattle.std.proofs.Common.{sym, ◌∙◌, ap, subst, List, length, Option, arith}
-use Rattle.std.proofs.lemmas.List.{length-set}
-use Rattle.inverted_table.specs.declared.key.Key.{Key}
-use Rattle.inverted_table.specs.Placed.{Placed}
-use Rattle.tlb_model.specs.Buffer.{IsOfTable}
+use Rattle.storage_unit.proofs.Common.{sym, ◌∙◌, ap, subst, List, length, Option, arith, length-set, Key, Placed, IsOfTable}
 use Rattle.storage_unit.proofs.unit.Unit.set_authority.Goals as goal
 
 pub set_authority-requires : goal.set_authority-requires

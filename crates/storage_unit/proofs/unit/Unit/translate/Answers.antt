@@ -1,8 +1,4 @@
-use Rattle.std.proofs.Common.{◌∙◌, ap, refl, List, Option}
-use Rattle.inverted_table.specs.declared.key.Key.{Key}
-use Rattle.inverted_table.specs.Placed.{look_up}
-use Rattle.inverted_table.specs.Keys.{key_of}
-use Rattle.tlb_model.specs.Buffer.{found, after_found}
+use Rattle.storage_unit.proofs.Common.{◌∙◌, ap, refl, List, Option, Key, look_up, key_of, found, after_found}
 use Rattle.storage_unit.proofs.unit.Unit.translate.Goals as goal
 
 pub invariant_of-self-clause-remembered : goal.invariant_of-self-clause-remembered

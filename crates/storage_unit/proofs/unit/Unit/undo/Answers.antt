@@ -1,14 +1,4 @@
-use Rattle.std.proofs.Common.{sym, ◌∙◌, ap, subst, List, ℕ, ◌<◌, length, Option, None, arith}
-use Rattle.std.specs.Prelude.{slice_set, IfSome}
-use Rattle.std.specs.Option.{option_map_or}
-use Rattle.inverted_table.specs.declared.key.Key.{Key}
-use Rattle.inverted_table.specs.Placed.{Placed}
-use Rattle.frame_pool.specs.declared.model.Pool.{Pool}
-use Rattle.frame_pool.specs.Seen.{IsSeen}
-use Rattle.frame_pool.specs.Pool.{frame_at, marks_at, settled}
-use Rattle.frame_pool.specs.View.{pool_of}
-use Rattle.frame_pool.proofs.SeenLemmas.{pool-seen, gone-stays}
-use Rattle.storage_unit.specs.Held.{AreOfPages, keys_of, pages_begun}
+use Rattle.storage_unit.proofs.Common.{sym, ◌∙◌, ap, subst, List, ℕ, ◌<◌, length, Option, None, arith, slice_set, IfSome, option_map_or, Key, Placed, Pool, IsSeen, frame_at, marks_at, settled, pool_of, pool-seen, gone-stays, AreOfPages, keys_of, pages_begun}
 use Rattle.storage_unit.proofs.LeaveLemmas.{seen-settled}
 use Rattle.storage_unit.proofs.StateLemmas.{marks-settled, keys-gone, frame-inside, without-keys, without-entries}
 use Rattle.storage_unit.proofs.unit.Unit.undo.Goals as goal

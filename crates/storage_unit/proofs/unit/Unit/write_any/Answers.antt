@@ -1,9 +1,4 @@
-use Rattle.std.proofs.Common.{refl, sym, ◌∙◌, ap, Ok}
-use Rattle.segment_regs.specs.Registers.{located_by}
-use Rattle.romp_cpu.specs.Answers.{answered_at, if_permitted}
-use Rattle.storage_unit.specs.declared.model.Reach.{Reach}
-use Rattle.storage_unit.specs.Reach.{is_in_frame, refuses}
-use Rattle.storage_unit.specs.View.{reach_of}
+use Rattle.storage_unit.proofs.Common.{refl, sym, ◌∙◌, ap, Ok, located_by, answered_at, if_permitted, Reach, is_in_frame, refuses, reach_of}
 use Rattle.storage_unit.proofs.GatheredLemmas.{gathered-at}
 use Rattle.storage_unit.proofs.PlaceLemmas.{under, lies, registers-page}
 use Rattle.storage_unit.proofs.UnitLemmas.{unit-sound}

@@ -1,12 +1,4 @@
-use Rattle.std.proofs.Common.{◌≡◌, ℕ, ◌+◌, ◌*◌, ◌-◌, List, ◌++◌, replicate, ◌∙◌, ap, arith}
-use Rattle.std.specs.Vec.{vec_len}
-use Rattle.std.proofs.lemmas.List.{length-replicate}
-use Rattle.line_geometry.specs.Directory.{byte_count}
-use Rattle.line_geometry.specs.Lines.{line_count}
-use Rattle.line_geometry.specs.Segments.{line_bytes}
-use Rattle.line_geometry.proofs.Within.{byte_count-lines}
-use Rattle.store_format.specs.Header.{front, fresh, header_bytes, home_at, total}
-use Rattle.store_format.specs.Stands.{Stands, stands}
+use Rattle.store_format.proofs.Common.{◌≡◌, ℕ, ◌+◌, ◌*◌, ◌-◌, List, ◌++◌, replicate, ◌∙◌, ap, arith, vec_len, length-replicate, byte_count, byte_count-lines, header_bytes, total, Stands, stands}
 use Rattle.store_format.proofs.Fresh.{front_zeros}
 use Rattle.store_format.proofs.header.Header.fresh.Goals as goal
 

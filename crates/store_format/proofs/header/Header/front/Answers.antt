@@ -1,8 +1,4 @@
-use Rattle.std.proofs.Common.{◌≡◌, ℕ, ◌-◌, ◌+◌, ◌*◌, List, length, ◌++◌, replicate, ◌∙◌, ap, arith}
-use Rattle.std.specs.Vec.{vec_len}
-use Rattle.byteorder.specs.Endian.{big_bytes}
-use Rattle.store_format.specs.Header.{Header, header_bytes, front}
-use Rattle.store_format.specs.Stands.{stands}
+use Rattle.store_format.proofs.Common.{◌≡◌, ℕ, ◌-◌, ◌+◌, ◌*◌, List, ◌++◌, replicate, ◌∙◌, ap, arith, vec_len, big_bytes, Header, header_bytes, front, stands}
 use Rattle.store_format.proofs.Fresh.{stored_stands}
 use Rattle.store_format.proofs.header.Header.front.Goals as goal
 

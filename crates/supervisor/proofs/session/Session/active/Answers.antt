@@ -1,8 +1,5 @@
-use Rattle.std.proofs.Common.{sym, ◌∙◌, ap}
-use Rattle.desk.specs.Desk.{Desk}
-use Rattle.desk.specs.Holdings.{numbers}
+use Rattle.supervisor.proofs.Common.{sym, ◌∙◌, ap, Desk, numbers, activity}
 use Rattle.activations.proofs.WaitLemmas.{numbers-told}
-use Rattle.supervisor.specs.Session.{activity}
 use Rattle.supervisor.proofs.session.Session.active.Goals as goal
 
 pub returns-clause-shown : goal.returns-clause-shown

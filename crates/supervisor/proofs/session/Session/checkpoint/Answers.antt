@@ -1,17 +1,5 @@
-use Rattle.std.proofs.Common.{◌≡◌, sym, ◌∙◌, subst}
-use Rattle.std.specs.Prelude.{true}
-use Rattle.outside.specs.Runs.{Leaves, held_of}
-use Rattle.restart.specs.Shows.{Tracks}
-use Rattle.store_format.specs.Header.{Header, total}
-use Rattle.store_format.specs.Stands.{stands}
+use Rattle.supervisor.proofs.Common.{◌≡◌, sym, ◌∙◌, subst, true, Leaves, held_of, Tracks, Header, total, stands, Did, Desk, HoldsStore, number_after, CheckpointMade, CheckpointFailed, activity, desk_of, order_of, Shown}
 use Rattle.desk.specs.declared.event.Event.TheVariants as event
-use Rattle.desk.specs.Crash.{Did}
-use Rattle.desk.specs.Desk.{Desk}
-use Rattle.desk.specs.Kept.{HoldsStore}
-use Rattle.desk.specs.Report.{number_after}
-use Rattle.desk.specs.Run.{CheckpointMade, CheckpointFailed}
-use Rattle.supervisor.specs.Session.{activity, desk_of, order_of}
-use Rattle.supervisor.specs.Shown.{Shown}
 use Rattle.supervisor.proofs.DidLemmas.{did-checkpoint, did-fail-checkpoint}
 use Rattle.supervisor.proofs.session.Session.checkpoint.Goals as goal
 

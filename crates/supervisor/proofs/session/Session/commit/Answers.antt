@@ -1,25 +1,7 @@
-use Rattle.std.proofs.Common.{◌≡◌, ◌+◌, ◌%◌, ◌^◌, ◌∙◌, ◌∷◌, [], length, refl, sym, ap, subst, arith, Some, length-append}
-use Rattle.std.specs.Prelude.{true, false}
-use Rattle.lock_rules.specs.Sets.{has}
+use Rattle.supervisor.proofs.Common.{◌≡◌, ◌+◌, ◌%◌, ◌^◌, ◌∙◌, ◌∷◌, [], length, refl, sym, ap, subst, arith, Some, length-append, true, false, has, Commit, row, begun_of, Kept, KeptStore, number_of, Tracks, over_all, committed_at, sitter, number_in, taken-below, Activity, live_in, program_in, entry_in, store_over, desk_over, shown, Follows, rolled, reprinted, activity_of, Session, activity}
 use Rattle.flat_machine.specs.After.{after as after_rows}
-use Rattle.flat_machine.specs.Row.{Commit, row}
-use Rattle.redo_journal.specs.Kept.{begun_of}
-use Rattle.redo_journal.specs.declared.keep.Kept.{Kept}
 use Rattle.redo_journal.specs.declared.keep.Kept.TheVariants.{Unwritten, Doubt}
-use Rattle.restart.specs.Kept.{KeptStore, number_of}
-use Rattle.restart.specs.Shows.{Tracks}
 use Rattle.checkpoint.specs.Committed.{roomy, number_after, IsKeptAfter}
-use Rattle.desk_law.specs.Beside.{over_all}
-use Rattle.desk_law.specs.Changes.{committed_at}
-use Rattle.seats.specs.Seating.{sitter, number_in}
-use Rattle.seats.proofs.Kept.{taken-below}
-use Rattle.activations.specs.Activity.{Activity, live_in, program_in, entry_in, store_over, desk_over, shown}
-use Rattle.activations.specs.Follows.{Follows}
-use Rattle.activations.specs.Steps.{rolled}
-use Rattle.activations.specs.Ends.{reprinted}
-use Rattle.activations.specs.View.{activity_of}
-use Rattle.supervisor.specs.declared.session.Session.{Session}
-use Rattle.supervisor.specs.Session.{activity}
 use Rattle.supervisor.proofs.CauseLemmas.{closes-now}
 use Rattle.supervisor.proofs.CommitLemmas.{order-more, writes-more, gone, has_place, sound-left, sound-closed, out-is, tracked, went-done, went-doubt, went-unwritten}
 use Rattle.supervisor.proofs.session.Session.commit.Goals as goal

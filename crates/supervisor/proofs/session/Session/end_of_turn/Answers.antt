@@ -1,17 +1,8 @@
-use Rattle.std.proofs.Common.{ℕ, List, length, ap, arith, sym, ◌∙◌, subst}
+use Rattle.supervisor.proofs.Common.{ℕ, List, length, ap, arith, sym, ◌∙◌, subst, sure_on, Cycle, few-taken, seat-found, activity, order_of, IfWaits, number_of, TellsNumber, EntersOrder, ClosesBy, asks_none}
 use Rattle.redo_journal.proofs.WriteLemmas.{asks_only, writes_on}
-use Rattle.restart.proofs.ShowLemmas.{sure_on}
-use Rattle.desk.specs.declared.answers.Cycle.{Cycle}
-use Rattle.seats.proofs.Kept.{few-taken}
-use Rattle.seats.proofs.Numbers.{seat-found}
-use Rattle.supervisor.specs.Session.{activity, order_of}
-use Rattle.supervisor.proofs.TurnLemmas.{idle, ended, committed, nothing-counted, sound-ran, over-ran, store-over}
 use Rattle.activations.specs.Causes.{IfVictim}
-use Rattle.activations.specs.Instructed.{IfWaits}
-use Rattle.restart.specs.Kept.{number_of}
-use Rattle.supervisor.specs.Causes.{TellsNumber, EntersOrder, ClosesBy}
+use Rattle.supervisor.proofs.TurnLemmas.{idle, ended, committed, nothing-counted, sound-ran, over-ran, store-over}
 use Rattle.supervisor.proofs.CauseLemmas.{closes-since}
-use Rattle.outside.proofs.Runs.{asks_none}
 use Rattle.supervisor.proofs.session.Session.end_of_turn.Goals as goal
 
 pub returns-in_default-clause-went : goal.returns-in_default-clause-went

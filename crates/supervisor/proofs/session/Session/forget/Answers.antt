@@ -1,17 +1,7 @@
-use Rattle.std.proofs.Common.{◌≡◌, sym, ◌∙◌, subst}
-use Rattle.std.specs.Prelude.{true}
-use Rattle.outside.specs.Runs.{held_of}
+use Rattle.supervisor.proofs.Common.{◌≡◌, sym, ◌∙◌, subst, true, held_of, reopened_holds, Did, Desk, numbers, number_after, Crashed, CrashFailed, activity, order_of, Shown}
 use Rattle.redo_journal.specs.declared.fault.ReopenFault.{ReopenFault}
 use Rattle.restart.specs.Faults.{IsReopenFault}
-use Rattle.restart.proofs.ShowLemmas.{reopened_holds}
 use Rattle.desk.specs.declared.event.Event.TheVariants as event
-use Rattle.desk.specs.Crash.{Did}
-use Rattle.desk.specs.Desk.{Desk}
-use Rattle.desk.specs.Holdings.{numbers}
-use Rattle.desk.specs.Report.{number_after}
-use Rattle.desk.specs.Run.{Crashed, CrashFailed}
-use Rattle.supervisor.specs.Session.{activity, order_of}
-use Rattle.supervisor.specs.Shown.{Shown}
 use Rattle.supervisor.proofs.CrashLemmas.{did-crash, did-fail-crash, number-restarted, undamaged}
 use Rattle.supervisor.proofs.session.Session.forget.Goals as goal
 

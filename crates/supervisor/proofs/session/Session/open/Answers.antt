@@ -1,13 +1,6 @@
-use Rattle.std.proofs.Common.{rules, length, false, ◌≡◌, refl, sym, ◌∙◌, ap, subst}
-use Rattle.outside.specs.Runs.{held_of}
-use Rattle.line_geometry.specs.Directory.{byte_count}
-use Rattle.line_geometry.specs.FlatStore.{FlatStore}
-use Rattle.store_format.specs.Header.{Header, most_lines}
-use Rattle.desk.specs.Desk.{opened}
-use Rattle.activations.specs.Begins.{Begins}
-use Rattle.supervisor.specs.Session.{activity}
+use Rattle.supervisor.proofs.Common.{held_of, byte_count, FlatStore, Header, most_lines, opened, Begins, activity, Session}
+use Rattle.std.proofs.Common.{length, false, ◌≡◌, refl, sym, ◌∙◌, ap, subst}
 use Rattle.supervisor.proofs.OpeningLemmas.{IsMade, idle-directory, made-opened, has-stood}
-use Rattle.supervisor.specs.declared.session.Session.{Session}
 use Rattle.supervisor.proofs.session.Session.open.Given as given
 use Rattle.supervisor.proofs.session.Session.open.Goals as goal
 

@@ -1,13 +1,5 @@
-use Rattle.std.proofs.Common.{◌+◌, sym, ◌∙◌, subst}
-use Rattle.outside.specs.Runs.{held_of}
-use Rattle.desk.specs.declared.answers.TurnEnd.{TurnEnd}
+use Rattle.supervisor.proofs.Common.{◌+◌, sym, ◌∙◌, subst, held_of, TurnEnd, turn_told, HasNumbers, Did, Desk, number_after, activity, order_of, records_told, IsOver, Shown}
 use Rattle.desk.specs.declared.event.Event.TheVariants as event
-use Rattle.desk.specs.Answers.{turn_told, HasNumbers}
-use Rattle.desk.specs.Crash.{Did}
-use Rattle.desk.specs.Desk.{Desk}
-use Rattle.desk.specs.Report.{number_after}
-use Rattle.supervisor.specs.Session.{activity, order_of, records_told}
-use Rattle.supervisor.specs.Shown.{IsOver, Shown}
 use Rattle.supervisor.proofs.DidLemmas.{did-turn, few-records}
 use Rattle.supervisor.proofs.session.Session.turn.Goals as goal
 

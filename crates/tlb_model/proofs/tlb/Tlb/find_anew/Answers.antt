@@ -1,14 +1,7 @@
-use Rattle.std.proofs.Common.{◌≡◌, ℕ, ◌<◌, length, List, Some, None, sym, ◌∙◌, ap, arith, subst}
-use Rattle.std.specs.Prelude.{find, Option, slice_index_or}
-use Rattle.inverted_table.specs.declared.key.Key.{Key}
-use Rattle.inverted_table.specs.Keys.{key_to}
-use Rattle.tlb_model.specs.declared.tlb.Pair.{Pair}
-use Rattle.tlb_model.specs.declared.tlb.Ways.{Ways}
-use Rattle.tlb_model.specs.Buffer.{after_found, is_pair_of, pairs_in, class_of, IsOfTable}
-use Rattle.tlb_model.specs.Ways.{pairs_of}
+use Rattle.tlb_model.proofs.Common.{◌≡◌, ℕ, ◌<◌, length, List, Some, None, sym, ◌∙◌, ap, arith, subst, Key, key_to, Pair, Ways, after_found, is_pair_of, pairs_in, class_of, IsOfTable, pairs_of}
+use Rattle.std.specs.Prelude.{find, Option, slice_index_or, map}
 use Rattle.tlb_model.proofs.BufferLemmas.{after-added, added-apart, after-of, class-pairs}
 use Rattle.tlb_model.proofs.tlb.Tlb.find_anew.Goals as goal
-use Rattle.std.specs.Prelude.{map}
 
 -- the class has no pair of the page
 none-in : (classes : List Ways) (seen : List (List Pair)) (wanted : Key) (other : Ways) → class_of wanted < length classes → map pairs_of classes ≡ seen

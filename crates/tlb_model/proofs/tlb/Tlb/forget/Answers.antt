@@ -1,8 +1,4 @@
-use Rattle.std.proofs.Common.{◌≡◌, List, map, sym, ◌∙◌, ap, subst, All}
-use Rattle.tlb_model.specs.declared.tlb.Pair.{Pair}
-use Rattle.tlb_model.specs.declared.tlb.Ways.{Ways}
-use Rattle.tlb_model.specs.Buffer.{AreApart, forgotten}
-use Rattle.tlb_model.specs.Ways.{pairs_of}
+use Rattle.tlb_model.proofs.Common.{◌≡◌, List, map, sym, ◌∙◌, ap, subst, All, Pair, Ways, AreApart, forgotten, pairs_of}
 use Rattle.tlb_model.proofs.BufferLemmas.{classes-without, forgotten-apart}
 use Rattle.tlb_model.proofs.tlb.Tlb.forget.Goals as goal
 

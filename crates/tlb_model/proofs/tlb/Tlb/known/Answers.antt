@@ -1,8 +1,4 @@
-use Rattle.std.proofs.Common.{◌<◌, length, List, sym, ◌∙◌, ap, arith}
-use Rattle.std.specs.Prelude.{find}
-use Rattle.inverted_table.specs.Keys.{key_of}
-use Rattle.tlb_model.specs.declared.tlb.Pair.{Pair}
-use Rattle.tlb_model.specs.Buffer.{is_pair_of, pairs_in, class_of}
+use Rattle.tlb_model.proofs.Common.{◌<◌, length, List, sym, ◌∙◌, ap, arith, find, key_of, Pair, is_pair_of, pairs_in, class_of}
 use Rattle.tlb_model.proofs.BufferLemmas.{remembered-of, class-pairs}
 use Rattle.tlb_model.proofs.tlb.Tlb.known.Goals as goal
 

@@ -1,5 +1,4 @@
-use Rattle.std.proofs.Common.{sym, subst, arith}
-use Rattle.tlb_model.specs.Buffer.{AreApart}
+use Rattle.tlb_model.proofs.Common.{sym, subst, arith, AreApart}
 use Rattle.tlb_model.proofs.BufferLemmas.{class-apart}
 use Rattle.tlb_model.proofs.tlb.Tlb.pairs.Goals as goal
 

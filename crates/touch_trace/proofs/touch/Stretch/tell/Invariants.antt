@@ -1,6 +1,4 @@
-use Rattle.std.proofs.Common.{◌≡◌, ◌-◌, ◌++◌, map}
-use Rattle.std.specs.List.{range_with_len}
-use Rattle.touch_trace.specs.Trace.{touch_at}
+use Rattle.touch_trace.proofs.Common.{◌≡◌, ◌-◌, ◌++◌, map, range_with_len, touch_at}
 use Rattle.touch_trace.proofs.touch.Stretch.tell.Given as goal
 
 abbrev pub invariant-loop-line : goal.invariant-loop-line

@@ -1,0 +1,24 @@
+-- The names that most proofs cite, passed on from one place. Declares nothing.
+pub use Rattle.std.proofs.Common.{Bool, List, [], ap, arith, drop, false, get_or, inl, inr, length, map, refl, rules, slice_index_or, subst, suc, sym, take, true, ℕ, ⊎_elim, ◌*◌, ◌++◌, ◌+◌, ◌-◌, ◌/◌, ◌<◌, ◌^◌, ◌∙◌, ◌∷◌, ◌≡◌, ◌≢◌, ◌≤◌, ◌⊎◌}
+pub use Rattle.std.proofs.lemmas.Bool.Decides.{nat_tests}
+pub use Rattle.std.proofs.lemmas.List.{get_or-map, length-append, length-map, length-take, map-append, take_all}
+pub use Rattle.std.proofs.lemmas.Nat.{pow_below, pow_pos}
+pub use Rattle.std.specs.List.{flat_map, sum, sum_by, zip}
+pub use Rattle.std.specs.Prelude.{All, Err, MatchOption, MatchResult, None, Ok, OnErr, OnOk, Option, Result, Some, codes, is_err, option_map, slice_index, string_bytes, ◌==◌}
+pub use Rattle.std.specs.Str.Parse.{IsNumeral, ParsesUnsigned, digits_value, without_leading_plus}
+pub use Rattle.std.specs.declared.alloc.Global.{Global}
+pub use Rattle.bundle_calls.specs.Traced.{CanTrace, TracedFrom}
+pub use Rattle.call_status.specs.Call.{Call, Given, call, given}
+pub use Rattle.call_status.specs.declared.status.Status.{Status}
+pub use Rattle.flat_machine.specs.declared.machine.Program.{Program}
+pub use Rattle.job_text.specs.Grammar.{content_of}
+pub use Rattle.line_geometry.specs.Legal.{AreFlags, IsInRange, IsLegal}
+pub use Rattle.line_geometry.specs.declared.directory.PageSize.{PageSize}
+pub use Rattle.line_geometry.specs.declared.directory.PageSize.TheVariants.{Four, Two}
+pub use Rattle.listing.proofs.PutsLemmas.{done, puts_more, puts_no_more, times_on}
+pub use Rattle.listing.specs.Listing.{lines_in, listing_of}
+pub use Rattle.listing.specs.Puts.{Puts, PutsTimes}
+pub use Rattle.store_calls.specs.declared.show.Range.{Range}
+pub use Rattle.store_format.specs.Header.{Header, most_lines}
+pub use Rattle.console.specs.Words.{AreNumbers, AreWithin, IsAlone, IsForm, IsLong, IsNoForm, IsNumbered, IsOnStore, NamesStore, Says, SaysNumber, ends_marked, marked_of, new_word, number_of, number_said, numbers_of, plain, spread, word_of}
+pub use Rattle.console.specs.declared.words.Command.{Command}

@@ -1,0 +1,47 @@
+-- The names that most proofs cite, passed on from one place. Declares nothing.
+pub use Rattle.std.proofs.Common.{All, List, Option, Some, [], ap, append-nil, append_assoc, arith, false, get_or, inr, length, refl, subst, suc, sym, true, vec_len, ℕ, ⊎_elim, ◌++◌, ◌<◌, ◌∙◌, ◌∷◌, ◌≡◌, ◌≢◌, ◌≤◌}
+pub use Rattle.std.proofs.lemmas.List.{length-map}
+pub use Rattle.std.proofs.lemmas.List.Sums.{count_by-le-length}
+pub use Rattle.std.specs.Prelude.{Err, IsErr, IsSome, IsTrue, Ok, Result, map, unwrap_or}
+pub use Rattle.call_status.specs.Call.{Call, Given, call, given}
+pub use Rattle.call_status.specs.Opening.{IsStanding, StandsAt}
+pub use Rattle.call_status.specs.declared.status.Status.{Status}
+pub use Rattle.desk.specs.Answers.{order_told}
+pub use Rattle.desk.specs.Commits.{IsSerial, begun, commit_lines, is_commit, serial_lines}
+pub use Rattle.desk.specs.Desk.{Desk, opened}
+pub use Rattle.desk.specs.Instruction.{Doubt, Word}
+pub use Rattle.desk.specs.Lines.{Line, Open, line_text, printed, spaced}
+pub use Rattle.desk.specs.Report.{event_lines, number_after, report, report_lines}
+pub use Rattle.desk.specs.Run.{IsRunOf, faulted, run}
+pub use Rattle.desk.specs.Seen.{IsUnbroken}
+pub use Rattle.desk.specs.declared.event.Event.{Event}
+pub use Rattle.flat_machine.specs.Serial.{Activation, serial}
+pub use Rattle.flat_machine.specs.declared.machine.Program.{Program}
+pub use Rattle.job_text.specs.Ready.{IsEventAmong, IsName}
+pub use Rattle.job_text.specs.declared.job.Job.{Job}
+pub use Rattle.line_geometry.specs.FlatStore.{FlatStore}
+pub use Rattle.outside.proofs.Runs.{elapses-trans, leaves_on}
+pub use Rattle.outside.specs.Bytes.{AreTold, Prints}
+pub use Rattle.outside.specs.Causes.{Rose}
+pub use Rattle.outside.specs.Durable.{IsSure}
+pub use Rattle.outside.specs.Moments.{Elapses}
+pub use Rattle.outside.specs.Runs.{CallsDisk, FewerLater, Leaves, OnlyAsks, held_of}
+pub use Rattle.outside.specs.declared.failed.Failed.{Failed}
+pub use Rattle.outside.specs.declared.world.Outside.{Ghosts}
+pub use Rattle.schedule_replay.proofs.PutsLemmas.{PrintedNow}
+pub use Rattle.schedule_replay.proofs.RanToLemmas.{to_later, to_since}
+pub use Rattle.schedule_replay.specs.Asked.{IsAsked, begins_in, is_turn, turns_in}
+pub use Rattle.schedule_replay.specs.Quiet.{IsLasting, RunsQuietly, Tells, is_rollback, is_shut, out_after}
+pub use Rattle.schedule_replay.specs.Ran.{HasOpened, InDoubt, PrintsEarlier, text_of}
+pub use Rattle.schedule_replay.specs.Replays.{EndsBy, Replays, Reports}
+pub use Rattle.schedule_replay.specs.declared.events.Replayed.{Replayed}
+pub use Rattle.store_format.specs.Header.{Header, header_of, most_lines, total}
+pub use Rattle.store_format.specs.Stands.{Standing, Stands, chosen}
+unfoldable pub use Rattle.store_format.specs.Stands.{stands}
+pub use Rattle.supervisor.specs.Opened.{HasStood, IsOpened}
+pub use Rattle.supervisor.specs.Session.{activity, desk_of, order_of}
+pub use Rattle.supervisor.specs.contracts.supervisor.SessionSupervisor.TheImpl.{ghosts}
+pub use Rattle.supervisor.specs.declared.session.Session.{Session}
+pub use Rattle.job_calls.specs.Big.{HasBigRun, IsToldBy, Loaded, LoadedBy, RanBig, big_line, last_out, line_for}
+pub use Rattle.job_calls.specs.Causes.{OpensBy, status_of_replay}
+pub use Rattle.job_calls.specs.Headline.{DidBy, DoubtStands, Happened, HappenedTo, HasRun, HasRunFrom, RanJob, RunsFrom, job_desk, names_of, put_by}

@@ -1,0 +1,19 @@
+-- The names that most proofs cite, passed on from one place. Declares nothing.
+pub use Rattle.std.proofs.Common.{Bool, List, [], ap, append-nil, append_assoc, arith, drop, get_or, inl, inr, length, length-append, min, refl, rules, subst, suc, sym, take, zero, ℕ, ⊎_elim, ◌++◌, ◌+◌, ◌-◌, ◌<◌, ◌∙◌, ◌∷◌, ◌≡◌, ◌≢◌, ◌≤◌, ◌⊎◌}
+pub use Rattle.std.proofs.lemmas.List.{drop-drop, drop_all, drop_at, length-drop, length-replicate, length-take, length-take-le, replicate-append-replicate, take-append-le, take_at, take_min, take_more}
+pub use Rattle.std.specs.Prelude.{Err, IsErr, IsOk, IsSome, None, Ok, OnErr, OnOk, Option, Result, Some, cond, count_by, if◌then◌else◌, is_ok, not, replicate, true, unwrap_or}
+pub use Rattle.outside.specs.Bytes.{AreTold, Prints, Torn, Writes, written}
+pub use Rattle.outside.specs.Calls.{made_of}
+pub use Rattle.outside.specs.Clock.{AreMadeBy, AreWithin, LeftAt, Records, printed_before, shown_of}
+pub use Rattle.outside.specs.ClockLaws.{all_drop, head_of, printed_before-past, printed_before-within, tail_of, told_seen}
+pub use Rattle.outside.specs.Images.{AddsNoImage, Images, ImagesFollow, Passes}
+pub use Rattle.outside.specs.Moments.{AddsNone, Elapses, Follows, IsNotAfter, IsOneCall, Moment, Pairs, PrintsNothing, Shows}
+pub use Rattle.outside.specs.Record.{IsEntryOf, IsWriteOf, calls_of, first_of, held_after, held_by, images_at, images_by, is_try, is_write}
+pub use Rattle.outside.specs.RecordLaws.{held_after-append, left_now, newest, newest_back, past}
+pub use Rattle.outside.specs.Runs.{AsksAndPuts, CallsDisk, FewerLater, Leaves, OnlyAsks, OnlyPuts, held_of}
+pub use Rattle.outside.specs.declared.calls.Run.{Run}
+pub use Rattle.outside.specs.declared.failed.Failed.{Failed}
+pub use Rattle.outside.specs.declared.record.Entry.{Entry}
+pub use Rattle.outside.specs.declared.record.Entry.TheVariants.{Asked, Synced, Tore, Wrote}
+pub use Rattle.outside.specs.declared.screen.PutMark.{PutMark}
+pub use Rattle.outside.specs.declared.world.Outside.{Ghosts}

@@ -1,0 +1,57 @@
+-- The names that most proofs cite, passed on from one place. Declares nothing.
+pub use Rattle.std.proofs.Common.{IsSome, IsTrue, List, [], ap, append-nil, append_assoc, arith, cond, drop, get_or, inl, inr, length, length-append, map, min, refl, rules, subst, suc, sym, take, zero, ℕ, ⊎_elim, ◌*◌, ◌++◌, ◌+◌, ◌<◌, ◌∙◌, ◌∷◌, ◌≡◌, ◌≢◌, ◌≤◌, ◌⊎◌}
+pub use Rattle.std.proofs.lemmas.Grind.{flat_map-append}
+pub use Rattle.std.proofs.lemmas.List.{length-map, map-append, take-append-drop, take-append-le, take_all, take_min, take_more}
+pub use Rattle.std.proofs.lemmas.List.Sums.{fold-append, sum_by-append}
+pub use Rattle.std.specs.List.{flat_map, fold}
+pub use Rattle.std.specs.Option.{ForSome}
+pub use Rattle.std.specs.Prelude.{All, Bool, Err, IfOk, IfSome, IsErr, None, Ok, OnOk, Option, Result, Some, count_by, false, if◌then◌else◌, not, true, unwrap_or, ◌↔◌}
+pub use Rattle.desk.specs.Answers.{HasNumbers, IsReopened, StoredNumber, begun_told, counts_told, ending_told, reopened_closes, reopened_told, stored_closes, stored_told, turn_closes, turn_told}
+pub use Rattle.desk.specs.Commits.{is_commit}
+pub use Rattle.desk.specs.Crash.{Did, IsEitherOf, standing_of}
+pub use Rattle.desk.specs.Desk.{Desk}
+pub use Rattle.desk.specs.Holdings.{numbers}
+pub use Rattle.desk.specs.Instruction.{Counts, Doubt, Ending, Fine, Word}
+pub use Rattle.desk.specs.Kept.{HoldsStore, IsDamage, StillTold, WritesMore, is_stored, most_records, records_after, records_in, tells_fault, turn_fails, writes_due}
+pub use Rattle.desk.specs.Lines.{End, Left, Line, Lost, Open, line_text}
+pub use Rattle.desk.specs.Report.{closing_lines, cycle_lines, ending_lines, event_lines, happening_lines, number_after, report, turn_lines}
+pub use Rattle.desk.specs.Run.{Happening, OpenBeforeEach, Step, faulted, run, step}
+pub use Rattle.desk.specs.Seen.{IsUnbroken, commits_seen}
+pub use Rattle.desk.specs.declared.answers.Begun.{Begun}
+pub use Rattle.desk.specs.declared.answers.Cycle.{Cycle}
+pub use Rattle.desk.specs.declared.answers.Reopened.{Reopened}
+pub use Rattle.desk.specs.declared.answers.Stored.{Stored}
+pub use Rattle.desk.specs.declared.answers.Turn.{Turn}
+pub use Rattle.desk.specs.declared.answers.TurnEnd.{TurnEnd}
+pub use Rattle.desk.specs.declared.event.Event.{Event}
+pub use Rattle.desk.specs.declared.event.Event.TheVariants.{Begin}
+pub use Rattle.flat_machine.specs.declared.machine.Program.{Program}
+pub use Rattle.outside.proofs.Counts.{cause_since}
+pub use Rattle.outside.proofs.Durable.{leaves_held, told_is}
+pub use Rattle.outside.proofs.Prints.{only_on, prints_broken, prints_on, prints_same, prints_stop, prints_well}
+pub use Rattle.outside.proofs.Runs.{calls_on, elapses-trans, leaves_on}
+pub use Rattle.outside.specs.Bytes.{AreTold, Prints}
+pub use Rattle.outside.specs.Causes.{HasCause, Rose, RoseBy}
+pub use Rattle.outside.specs.Durable.{IsSure}
+pub use Rattle.outside.specs.Moments.{Elapses, Shows}
+pub use Rattle.outside.specs.Runs.{CallsDisk, FewerLater, Leaves, OnlyPuts, held_of}
+pub use Rattle.outside.specs.declared.failed.Failed.{Failed}
+pub use Rattle.outside.specs.declared.world.Outside.{Ghosts}
+pub use Rattle.report_text.specs.Line.{line_told}
+pub use Rattle.run_law.proofs.LeftLemmas.{left_behind, left_more, left_none, left_open, left_quiet}
+pub use Rattle.run_law.proofs.RunLemmas.{faulted_on, lines_end, lines_on, open_on, report_parts, run_on}
+pub use Rattle.run_law.proofs.SeenLemmas.{ArePlain, commits_in, commits_on, plain_on, seen_all, seen_cut, seen_lines}
+pub use Rattle.run_law.proofs.StepLemmas.{AreNames, Grew, Stepped, counted_quiet, lost_behind, run_grew, run_plain, step_by}
+pub use Rattle.run_law.specs.Left.{IsLeft}
+pub use Rattle.store_format.specs.Bank.{Faulty, bank_of}
+pub use Rattle.store_format.specs.Header.{Header, total}
+pub use Rattle.store_format.specs.Stands.{chosen}
+unfoldable pub use Rattle.store_format.specs.Stands.{stands}
+pub use Rattle.schedule_replay.specs.Answered.{Answered, GoesBy, GoesShut, IsReady}
+pub use Rattle.schedule_replay.specs.Asked.{IsAsked, begins_in, is_begin, is_turn, turns_in}
+pub use Rattle.schedule_replay.specs.Puts.{BeginsWith, Puts, PutsTimes, number_told, reopened_number, shown_of, stored_number}
+pub use Rattle.schedule_replay.specs.Quiet.{RanQuietly, Tells, WentQuietly, is_rollback, last_by, out_after, tally_begun, tally_by, unput}
+pub use Rattle.schedule_replay.specs.Ran.{HasOpened, InDoubt, PrintsEarlier, Ran, text_of}
+pub use Rattle.schedule_replay.specs.RanTo.{RanTo}
+pub use Rattle.schedule_replay.specs.Replays.{RanSome, Reports, going_by, going_if, is_closed, is_damaged}
+pub use Rattle.schedule_replay.specs.declared.events.Going.{Going}

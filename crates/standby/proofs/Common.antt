@@ -1,0 +1,51 @@
+-- The names that most proofs cite, passed on from one place. Declares nothing.
+pub use Rattle.std.proofs.Common.{IsSome, IsTrue, List, [], ap, append-nil, append_assoc, arith, codes, decimal, drop, get_or, inl, inr, length, length-append, map, min, refl, subst, suc, sym, take, zero, ℕ, ⊎_elim, ◌*◌, ◌++◌, ◌+◌, ◌-◌, ◌/◌, ◌<◌, ◌^◌, ◌∙◌, ◌∷◌, ◌≡◌, ◌≢◌, ◌≤◌, ◌⊎◌}
+pub use Rattle.std.proofs.lemmas.Bool.{cases_lt, lt-ltb}
+pub use Rattle.std.proofs.lemmas.Bool.Decides.{nat_tests}
+pub use Rattle.std.proofs.lemmas.Grind.{common_steps, flat_map-append}
+pub use Rattle.std.proofs.lemmas.List.{drop-append-le, drop-drop, drop-map, drop_at, get_or-drop, get_or-map, length-drop, length-map, length-take-le, map-append, take-append-drop, take-append-le, take_all, take_at, take_min, take_more, take_rest}
+pub use Rattle.std.proofs.lemmas.List.Elements.{All-drop, All-from_recursion, All-get_or, All-map, All-more, All-push, recursion_from_All}
+pub use Rattle.std.proofs.lemmas.List.Sums.{AllPass-from_list_all, fold-append, sum_by-append}
+pub use Rattle.std.proofs.lemmas.Option.{IfSome_then, get_or_from_slice_get, slice_get-get_or, slice_get-map, slice_get_read}
+pub use Rattle.std.specs.List.{AllByRecursion, prefix_len}
+pub use Rattle.std.specs.Option.{ForSome, option_map}
+pub use Rattle.std.specs.Prelude.{All, Err, IfSome, MatchOption, None, Ok, OnErr, OnOk, Option, Result, Some, if◌then◌else◌, slice_get, slice_index, unwrap_or}
+pub use Rattle.hex.proofs.HexLemmas.{decode_of-encode_lower, length-encode_with}
+pub use Rattle.hex.specs.Hex.{decode_of, encode_lower, lower_digits}
+pub use Rattle.line_geometry.specs.Directory.{Layout}
+pub use Rattle.line_geometry.specs.FlatStore.{FlatStore}
+pub use Rattle.line_geometry.specs.Lines.{line_count}
+pub use Rattle.line_geometry.specs.Segments.{line_bytes}
+pub use Rattle.line_geometry.specs.declared.directory.PageSize.{PageSize}
+pub use Rattle.outside.proofs.Durable.{told_is}
+pub use Rattle.outside.proofs.Prints.{prints_none, prints_on, prints_same, prints_stop, prints_unput}
+pub use Rattle.outside.proofs.Runs.{asks_none, asks_on, elapses-trans, leaves_on}
+pub use Rattle.outside.proofs.Shows.{shows_asks, shows_none, shows_on, shows_puts}
+pub use Rattle.outside.specs.Bytes.{AreTold, Prints}
+pub use Rattle.outside.specs.Durable.{IsSure}
+pub use Rattle.outside.specs.Runs.{AsksAndPuts, CallsDisk, FewerLater, Leaves, OnlyAsks, held_of}
+pub use Rattle.outside.specs.declared.failed.Failed.{Failed}
+pub use Rattle.outside.specs.declared.world.Outside.{Ghosts}
+pub use Rattle.redo_journal.specs.Kept.{KeptBank, begun_of, place_of, record_bytes_of}
+pub use Rattle.redo_journal.specs.Opened.{bank_in}
+pub use Rattle.redo_journal.specs.Records.{IsCounted, IsRecordAt, area_bytes}
+pub use Rattle.redo_journal.specs.Tracks.{IsEither}
+pub use Rattle.redo_journal.specs.declared.find.Record.{Record}
+pub use Rattle.restart.specs.Kept.{KeptStore, number_of, with_begun}
+pub use Rattle.restart.specs.Shows.{IsShown, Shows, Tracks}
+pub use Rattle.store_format.specs.Bank.{RecordLine, record_bytes, wrong_line}
+pub use Rattle.store_format.specs.Header.{Header, entry_bytes, most_lines, number_at}
+pub use Rattle.store_format.specs.Stands.{HasHeader, Standing, Stands, chosen, home_of, one_more}
+unfoldable pub use Rattle.store_format.specs.Stands.{stands}
+pub use Rattle.text_line.proofs.Bytes.{each_byte, empty_is, some_is}
+pub use Rattle.text_line.proofs.Words.{IsWord, number_word, same_number, word_cut}
+pub use Rattle.standby.specs.Followed.{Follows, FollowsBy, IsAlike, IsAtNumber, IsStopped, Keeps, OnlyGoesOn, SoFar, broken, followed_text, kept_text, well}
+pub use Rattle.standby.specs.Puts.{Puts, SeesPart}
+pub use Rattle.standby.specs.Read.{AreWhole, GoesOn, IsFirstBad, IsRead, IsReadFault, Tail, feeds}
+pub use Rattle.standby.specs.Shipped.{HasBytes, PrintsBy, shipped}
+pub use Rattle.standby.specs.State.{IsFirstLong, IsLongAt, behind, due, laid, laid_by}
+pub use Rattle.standby.specs.Step.{IsBegun, IsFitting, IsStep, Steps, followed_of, over, put_of}
+pub use Rattle.standby.specs.Text.{AreLines, Content, HoldsOne, IsContent, IsPacked, IsShip, ShipLine, content_of, end_line, head_line, kept_line, later, line_line, lines_text, next, parted, record_line, record_of, record_text, records_text, text_of, told}
+pub use Rattle.standby.specs.declared.following.Followed.{Followed}
+pub use Rattle.standby.specs.declared.following.Followed.TheVariants.{DiskFault, Done, Geometry, Long, NotKept, PutFault}
+pub use Rattle.standby.specs.declared.text.ShipRecord.{ShipRecord}

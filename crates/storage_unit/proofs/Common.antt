@@ -1,0 +1,76 @@
+-- The names that most proofs cite, passed on from one place. Declares nothing.
+pub use Rattle.std.proofs.Common.{All, Bool, Err, List, None, Ok, Option, Result, Some, [], ap, arith, drop, false, get_or, inl, inr, length, refl, replicate, subst, suc, sym, take, true, zero, ℕ, ◌%◌, ◌*◌, ◌++◌, ◌+◌, ◌-◌, ◌/◌, ◌<◌, ◌^◌, ◌∙◌, ◌∷◌, ◌≡◌, ◌≢◌, ◌≤◌, ◌⊎◌}
+pub use Rattle.std.proofs.lemmas.Bool.{cases_Bool, cases_eq, cases_lt, eq-eqb, eqb-false, eqb-true, leb-true, ltb-true, ne_eqb}
+pub use Rattle.std.proofs.lemmas.Bool.Decides.{nat_tests}
+pub use Rattle.std.proofs.lemmas.Grind.{same_number_lists}
+pub use Rattle.std.proofs.lemmas.List.{get_or-append_right, get_or-drop, get_or-replicate, get_or-set_other, get_or-set_same, get_or-take, get_or_append_left, get_or_default, get_or_past, length-append, length-drop, length-map, length-replicate, length-set, length-take, map-append, same_lists, set_past, take-append-drop, take_all}
+pub use Rattle.std.proofs.lemmas.List.Elements.{All-head, All-nil, All-tail}
+pub use Rattle.std.proofs.lemmas.List.FromFn.{get_or-map-range_with_len, length-map-range_with_len}
+pub use Rattle.std.proofs.lemmas.Nat.{div-add-mod'}
+pub use Rattle.std.specs.List.{prefix_len, range_with_len}
+pub use Rattle.std.specs.Option.{option_map_or}
+pub use Rattle.std.specs.Prelude.{IfSome, cond, find, fold, if◌then◌else◌, is_some, map, nat_le, nat_lt, not, option_and_then, option_map, option_to_list, slice_index, slice_index_or, slice_range, slice_set, sum_by, take_while, ◌&&◌, ◌==◌, ◌||◌}
+pub use Rattle.flat_machine.specs.Access.{FitsFrom}
+pub use Rattle.flat_machine.specs.Row.{in_register, in_segment, in_window, located, plan, stored_bytes}
+pub use Rattle.flat_machine.specs.Touched.{lines_at, touched}
+pub use Rattle.flat_machine.specs.declared.machine.Located.{Located}
+pub use Rattle.flat_machine.specs.declared.machine.Located.TheVariants.{Private, Refused, Shared}
+pub use Rattle.flat_machine.specs.declared.machine.Program.{Program}
+pub use Rattle.frame_pool.proofs.LendLemmas.{lent-part, marked-seen}
+pub use Rattle.frame_pool.proofs.PoolLemmas.{gone-from, lines-below}
+pub use Rattle.frame_pool.proofs.SeenLemmas.{Stays, frame-long, gone-absent, gone-frame, gone-stays, pool-seen, seen-gone, some-within}
+pub use Rattle.frame_pool.proofs.SoundLemmas.{page_part}
+pub use Rattle.frame_pool.specs.Pool.{Brought, emptied, frame_at, frame_bytes, gone, kept_after, laid, line_kept, line_laid, lines_of_part, marked_in, marks_at, page_at, page_out, part_of, settled, with_bytes, with_marks, with_room}
+pub use Rattle.frame_pool.specs.PoolLending.{with_frame_part, with_marked}
+pub use Rattle.frame_pool.specs.Seen.{IsSeen}
+pub use Rattle.frame_pool.specs.Sizes.{frame_count, line_place, line_size, private_frames}
+pub use Rattle.frame_pool.specs.View.{pool_of}
+pub use Rattle.frame_pool.specs.declared.model.Pool.{Pool}
+pub use Rattle.inverted_table.proofs.FindLemmas.{is-held, look_up-held, look_up-is, look_up-none}
+pub use Rattle.inverted_table.specs.Keys.{key_of, key_to}
+pub use Rattle.inverted_table.specs.Placed.{Placed, cleared_entry, entered, entry_at, key_in, look_up, unowned, without_frame}
+pub use Rattle.inverted_table.specs.declared.key.Key.{Key}
+pub use Rattle.line_geometry.proofs.LineSetLemmas.{is_in_where-below, of_page-where, where-alike}
+pub use Rattle.line_geometry.proofs.Within.{byte_count-pages, segment-within}
+pub use Rattle.line_geometry.specs.Directory.{Layout, byte_count, length_of, page_count, start_of}
+pub use Rattle.line_geometry.specs.Legal.{IsLegal}
+pub use Rattle.line_geometry.specs.LineSets.{IsOfPage, between, difference, lines_where, union}
+unfoldable pub use Rattle.line_geometry.specs.LineSets.{passing}
+pub use Rattle.line_geometry.specs.Lines.{line_of, page_of}
+pub use Rattle.line_geometry.specs.Segments.{bytes_of, is_named, line_bytes, page_bytes}
+pub use Rattle.line_geometry.specs.declared.directory.PageSize.{PageSize}
+pub use Rattle.line_geometry.specs.declared.directory.PageSize.TheVariants.{Four, Two}
+pub use Rattle.lock_rules.proofs.Sets.{has-range, in_range}
+pub use Rattle.lock_rules.specs.Lines.{Lines, no_lines, page_of_line}
+pub use Rattle.lock_rules.specs.Sets.{has}
+pub use Rattle.lockbit_rules.specs.Entries.{entry_of, lets}
+pub use Rattle.lockbit_rules.specs.declared.Authority.{Authority}
+pub use Rattle.owned_list.proofs.Overlay.{length-overlaid, overlaid_before, overlaid_behind, overlaid_within}
+pub use Rattle.owned_list.specs.Overlay.{overlaid}
+pub use Rattle.romp_cpu.proofs.WholeLemmas.{stored_bytes-long}
+pub use Rattle.romp_cpu.proofs.WindowLemmas.{bytes-low, named-low, register-window}
+pub use Rattle.romp_cpu.specs.Answers.{IsOutside, answer_in, answered, answered_at, bytes_of_range, if_permitted, unless_absent_at, unless_refused_at}
+pub use Rattle.romp_cpu.specs.Attempts.{lines_of_access}
+pub use Rattle.romp_cpu.specs.Segments.{register_of_window, registers_of_program}
+pub use Rattle.romp_cpu.specs.Shown.{access_to, bytes_from, halfword_of}
+pub use Rattle.romp_cpu.specs.Tried.{Seen, Tried, refused_by, seen_in, tried, undone, unless_refused}
+pub use Rattle.romp_cpu.specs.declared.storage.Access.{Access}
+pub use Rattle.romp_cpu.specs.declared.storage.Fault.{Fault}
+pub use Rattle.romp_cpu.specs.declared.storage.Probe.{Probe}
+pub use Rattle.segment_regs.specs.Registers.{Registers, bytes_on, located_by, located_under, private_register, virtual_at}
+pub use Rattle.segment_regs.specs.declared.registers.Check.{Check}
+pub use Rattle.segment_regs.specs.declared.registers.SegmentRegister.{SegmentRegister}
+pub use Rattle.segment_regs.specs.declared.registers.Virtual.{Virtual}
+pub use Rattle.tlb_model.proofs.TableLemmas.{of_table-entered, of_table-left}
+pub use Rattle.tlb_model.specs.Buffer.{IsOfTable, after_found, forgotten, found}
+pub use Rattle.tlb_model.specs.declared.tlb.Pair.{Pair}
+pub use Rattle.storage_unit.specs.Bytes.{IsClean, byte_in_frame, byte_over, bytes_over, is_line_marked, is_marked, private_bytes}
+pub use Rattle.storage_unit.specs.Held.{AreOfPages, AreReached, IsUnder, first_keys, held_in, held_private, keys_of, keys_with, keys_without, pages_begun, seat_pages, table_of}
+pub use Rattle.storage_unit.specs.Laws.{BringKeeps, CommitIsUnseen, EmptyKeeps, FailedBringKeeps, Fits, Keeps, SettleKeeps, UndoForgets, filled, is_among, page_in}
+pub use Rattle.storage_unit.specs.Places.{is_private, key_among, key_of_page, offset_of, on, place_at, place_of, private_segment}
+pub use Rattle.storage_unit.specs.Reach.{byte_at, byte_of, is_in_frame, is_kept_from, is_refused, is_resident, is_there, marks_put, put_at, put_byte, put_in_store, refuses, seat_of, spot_put, stored}
+pub use Rattle.storage_unit.specs.Reached.{AreThere, IsSound, Lies, bytes_shown, is_absent}
+pub use Rattle.storage_unit.specs.Rows.{ChangesBytes, GoesOpen, HasWindows, IsOpen, IsOpenLine, IsRow, IsShutOut, LeavesSeats, MarksWritten, StaysClean, plain_over}
+pub use Rattle.storage_unit.specs.View.{buffer_of, reach_of}
+pub use Rattle.storage_unit.specs.declared.model.Reach.{Reach}
+pub use Rattle.storage_unit.specs.declared.unit.Unit.{Unit}

@@ -1,0 +1,66 @@
+-- The names that most proofs cite, passed on from one place. Declares nothing.
+pub use Rattle.std.proofs.Common.{List, None, Option, Some, [], ap, arith, inl, inr, length, length-append, refl, subst, sym, take, ℕ, ⊎_elim, ◌%◌, ◌*◌, ◌++◌, ◌+◌, ◌-◌, ◌<◌, ◌^◌, ◌∙◌, ◌∷◌, ◌≡◌, ◌≤◌, ◌⊎◌}
+pub use Rattle.std.proofs.lemmas.Bool.{and_parts, cases_lt, eq-eqb, eqb-true}
+pub use Rattle.std.proofs.lemmas.List.{get_or_past, map-append}
+pub use Rattle.std.specs.Prelude.{Bool, IsFalse, false, is_some, not, true, unwrap_or, ◌==◌}
+pub use Rattle.activations.specs.Activity.{Activity, desk_over, entries, entry_in, live_in, program_at, program_in, shown, state_in, store_over}
+pub use Rattle.activations.specs.Begins.{Begins, IsBegin, begins, begins_by, idle}
+pub use Rattle.activations.specs.Ends.{IsRestarted, reprinted}
+pub use Rattle.activations.specs.Follows.{Follows}
+pub use Rattle.activations.specs.Instructed.{IfWaits, IsEndOfRows}
+pub use Rattle.activations.specs.Kept.{AreRowsWithin}
+pub use Rattle.activations.specs.Steps.{rolled}
+pub use Rattle.activations.specs.Turning.{HasEnded, counts_of}
+pub use Rattle.activations.specs.Turns.{IsAtCommit, commit_call, turn_in}
+pub use Rattle.activations.specs.View.{activity_of}
+pub use Rattle.activations.specs.declared.activations.Activations.{Activations}
+pub use Rattle.activations.specs.declared.live.Live.{Live}
+pub use Rattle.activations.specs.declared.tally.Tally.{Tally}
+pub use Rattle.desk.specs.Answers.{HasNumbers, begun_told, counts_told, ending_told, order_told, turn_closes, turn_told}
+pub use Rattle.desk.specs.Crash.{Did, IsEitherOf, fine_step, standing_of}
+pub use Rattle.desk.specs.Desk.{Desk, Entry, opened, with_entry}
+pub use Rattle.desk.specs.Holdings.{conflicts_of, numbers, waits_for, wanted}
+pub use Rattle.desk.specs.Instruction.{Attempt, Broken, Contest, Contested, Counts, Doubt, Failed, Fetched, Fetching, Fine, Going, Limit, Lost, Over, ReadFailed, Settled, Turning, Unwritten, Word, asks, attempts, attempts_at, breaks_cycle, breaks_cycles, commits, contest_ends, fetched_first, fetches_touched, gets, goes_on, is_over_limit, limited, no_counts, ordered, refused_pages, takes_effect, turn, turn_of, waits_or_gets, with_grants}
+unfoldable pub use Rattle.desk.specs.Instruction.{instruction, turns}
+pub use Rattle.desk.specs.Kept.{HoldsStore, WritesMore, record_count, records_after, records_in, turn_fails}
+pub use Rattle.desk.specs.Report.{number_after}
+pub use Rattle.desk.specs.Run.{CheckpointFailed, CheckpointMade, CrashFailed, Crashed, Happening, Step, Turned, absent_segment, restarted, run, shut, step, turned}
+pub use Rattle.desk.specs.declared.answers.Begun.{Begun}
+pub use Rattle.desk.specs.declared.answers.Committed.{Committed}
+pub use Rattle.desk.specs.declared.answers.Cycle.{Cycle}
+pub use Rattle.desk.specs.declared.answers.TurnEnd.{TurnEnd}
+pub use Rattle.desk_law.proofs.Seats.{seat-told, told-found}
+pub use Rattle.desk_law.specs.Beside.{IsState, Reads, over_all}
+pub use Rattle.desk_law.specs.Changes.{committed_at}
+pub use Rattle.flat_machine.specs.After.{after}
+pub use Rattle.flat_machine.specs.Row.{Check, Commit, On, Outcome, row}
+pub use Rattle.flat_machine.specs.declared.machine.Plain.{Plain}
+pub use Rattle.line_geometry.specs.Directory.{Layout, byte_count, page_count}
+pub use Rattle.line_geometry.specs.FlatStore.{FlatStore}
+pub use Rattle.lock_rules.specs.Sets.{has}
+pub use Rattle.outside.proofs.Runs.{asks_none, asks_on, leaves_on}
+pub use Rattle.outside.specs.Causes.{Rose}
+pub use Rattle.outside.specs.Durable.{IsSure}
+pub use Rattle.outside.specs.Runs.{FewerLater, Leaves, OnlyAsks, held_of}
+pub use Rattle.outside.specs.declared.world.Outside.{Ghosts}
+pub use Rattle.redo_journal.specs.Held.{IsMoreBy, OnlyWrites}
+pub use Rattle.redo_journal.specs.Kept.{begun_of}
+pub use Rattle.redo_journal.specs.declared.keep.Kept.{Kept}
+pub use Rattle.restart.proofs.ShowLemmas.{reopened_holds, shown_stands, shown_store, shows_begun, sure_on}
+pub use Rattle.restart.specs.Kept.{KeptStore, number_of, with_begun}
+pub use Rattle.restart.specs.Shows.{Shows, Tracks}
+pub use Rattle.run_law.proofs.StepLemmas.{stepped}
+pub use Rattle.seats.proofs.Kept.{few-taken, taken-below}
+pub use Rattle.seats.proofs.Numbers.{seat-found}
+pub use Rattle.seats.specs.Seating.{newcomer, number_in, seat_of, sitter}
+unfoldable pub use Rattle.seats.specs.Seating.{next_seat}
+pub use Rattle.store_format.specs.Bank.{Faulty, Holds, RecordLine, bank_of}
+pub use Rattle.store_format.specs.Header.{HasRanges, Header, header_of, most_lines, total}
+pub use Rattle.store_format.specs.Stands.{Standing, Stands, chosen, laid, one_more}
+unfoldable pub use Rattle.store_format.specs.Stands.{stands}
+pub use Rattle.supervisor.specs.Causes.{ClosesBy, ClosesInCommit, EntersOrder, HasPlace, IsFailedCommit, IsFull, TellsNumber, lacking}
+pub use Rattle.supervisor.specs.Laws.{CyclesWereMet, ShownIsConsistent, ShownIsIsolated, WasMet, WereMet}
+pub use Rattle.supervisor.specs.Session.{IsSound, activity, desk_of, order_of, records_told}
+pub use Rattle.supervisor.specs.Shown.{IsOver, Shown}
+pub use Rattle.supervisor.specs.Went.{HasCommitted, HasRun, IsCommitEnd, IsEitherSide, IsTurned, fine_desk, most_kept}
+pub use Rattle.supervisor.specs.declared.session.Session.{Session}
