@@ -40,7 +40,6 @@ pub fn branches(inst: &Inst) -> bool
 }
 
 /// Whether a row of format R branches.
-#[inline(always)]
 pub fn branches_by_register(op: Op) -> bool
     ensures { result ≡ is_register_branch op }
 {
@@ -133,7 +132,6 @@ fn has_subject(op: Op) -> bool
 }
 
 /// The value of a condition field.
-#[inline(always)]
 fn holds(cs: &Cs, field: u8) -> bool
     ensures { result ≡ condition cs.now field }
 {

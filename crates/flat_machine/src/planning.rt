@@ -10,9 +10,9 @@ ghost use Rattle.flat_machine.specs.declared.machine.Cs.{Cs};
 ghost use Rattle.flat_machine.specs.Row.{plan, plan_of, plan_of_pair, goes_by, fetched};
 
 use super::branches::{branch, branches, branches_by_register, is_subject, jumps, target_of};
-use super::effects::{effect, perform};
+use super::effects::effect;
 use super::machine::{Act, Branch, Cs, Pending};
-use super::row_table::{act_s, base_of, work_d, work_r, work_x};
+use super::row_table::{act_s, base_of, do_d, do_r, do_x};
 use romp_table::{
     Format, Inst, Row, decode, extended_byte, is_within, length_of, nibble_at, row_by,
 };
@@ -51,7 +51,10 @@ pub fn start_row<F: Fetch>(code: &F, regs: &mut [u32; 16], cs: &mut Cs, iar: u32
     match row.format {
         Format::J => start_jump(code, &row, first, regs, cs, iar),
         Format::S => start_short(&row, first, regs, iar),
-        _ => start_work(code, &row, first, regs, cs, iar),
+        Format::X => start_sum(code, &row, first, regs, cs, iar),
+        Format::R => start_two(code, &row, first, regs, cs, iar),
+        Format::D => start_long(code, &row, first, regs, cs, iar),
+        _ => start_far(code, regs, cs, iar),
     }
 }
 
@@ -113,9 +116,9 @@ fn start_short(row: &Row, first: u16, regs: &[u32; 16], iar: u32) -> Pending
     }
 }
 
-/// The same of any row; those of formats X, R and D that don't branch are done here.
+/// The same of a row of format X.
 #[inline(always)]
-fn start_work<F: Fetch>(
+fn start_sum<F: Fetch>(
     code: &F,
     row: &Row,
     first: u16,
@@ -126,41 +129,88 @@ fn start_work<F: Fetch>(
     requires whole { F.is_whole code.now }
     requires row { row_numbered first ≡ Some row.now }
     requires first { F.halfword_at code.now iar ≡ Some first }
+    requires format { row.now.format ≡ Format.X }
     requires within { iar < 16384 }
     ensures value { plan (F.halfword_at code.now) regs.old cs.old iar ≡ planned regs.new cs.new result }
     ensures stays { StaysIfPending result regs.old regs.new cs.old cs.new }
     ensures sound { IsSoundPending result }
 {
-    let mut second = 0;
-    let mut after = iar + 2;
-    if let Format::D = row.format {
-        let Some(halfword) = code.fetch(after) else {
-            return Pending::Fails(2);
-        };
-        second = halfword;
-        after = iar + 4;
-    }
     let b = nibble_at(first, 4) as u8;
     let c = nibble_at(first, 0) as u8;
     if !(is_within(row.b, b) && is_within(row.c, c)) {
         return start_far(code, regs, cs, iar);
     }
-    let y = regs[usize::from(c)];
-    let work = match row.format {
-        Format::D => work_d(row.op, regs, *cs, b, y, base_of(regs, c), second),
-        Format::X => {
-            let a = nibble_at(first, 8) as u8;
-            work_x(row.op, a, regs[usize::from(b)], base_of(regs, c))
-        }
-        Format::R if !branches_by_register(row.op) => {
-            work_r(row.op, b, c, regs[usize::from(b)], y, *cs)
-        }
-        _ => return start_far(code, regs, cs, iar),
-    };
-    let act = perform(work, regs, cs);
+    let act = do_x(row.op, nibble_at(first, 8) as u8, b, c, regs);
     Pending::Does {
         act,
-        next: after,
+        next: iar + 2,
+        link: None,
+    }
+}
+
+/// The same of a row of format R; one that branches is done by a call.
+#[inline(always)]
+fn start_two<F: Fetch>(
+    code: &F,
+    row: &Row,
+    first: u16,
+    regs: &mut [u32; 16],
+    cs: &mut Cs,
+    iar: u32,
+) -> Pending
+    requires whole { F.is_whole code.now }
+    requires row { row_numbered first ≡ Some row.now }
+    requires first { F.halfword_at code.now iar ≡ Some first }
+    requires format { row.now.format ≡ Format.R }
+    requires within { iar < 16384 }
+    ensures value { plan (F.halfword_at code.now) regs.old cs.old iar ≡ planned regs.new cs.new result }
+    ensures stays { StaysIfPending result regs.old regs.new cs.old cs.new }
+    ensures sound { IsSoundPending result }
+{
+    let b = nibble_at(first, 4) as u8;
+    let c = nibble_at(first, 0) as u8;
+    if branches_by_register(row.op) || !(is_within(row.b, b) && is_within(row.c, c)) {
+        return start_far(code, regs, cs, iar);
+    }
+    let act = do_r(row.op, b, c, regs, cs);
+    Pending::Does {
+        act,
+        next: iar + 2,
+        link: None,
+    }
+}
+
+/// The same of a row of format D.
+#[inline(always)]
+fn start_long<F: Fetch>(
+    code: &F,
+    row: &Row,
+    first: u16,
+    regs: &mut [u32; 16],
+    cs: &mut Cs,
+    iar: u32,
+) -> Pending
+    requires whole { F.is_whole code.now }
+    requires row { row_numbered first ≡ Some row.now }
+    requires first { F.halfword_at code.now iar ≡ Some first }
+    requires format { row.now.format ≡ Format.D }
+    requires within { iar < 16384 }
+    ensures value { plan (F.halfword_at code.now) regs.old cs.old iar ≡ planned regs.new cs.new result }
+    ensures stays { StaysIfPending result regs.old regs.new cs.old cs.new }
+    ensures sound { IsSoundPending result }
+{
+    let Some(second) = code.fetch(iar + 2) else {
+        return Pending::Fails(2);
+    };
+    let b = nibble_at(first, 4) as u8;
+    let c = nibble_at(first, 0) as u8;
+    if !(is_within(row.b, b) && is_within(row.c, c)) {
+        return start_far(code, regs, cs, iar);
+    }
+    let act = do_d(row.op, b, c, second, regs, cs);
+    Pending::Does {
+        act,
+        next: iar + 4,
         link: None,
     }
 }

@@ -1,48 +1,20 @@
-//! What each row computes, format by format.
-ghost use Rattle.std.specs.Prelude.{◌≡◌, ◌<◌, ◌≤◌, ◌+◌, ◌*◌};
-ghost use Rattle.romp_table.specs.Legal.{HasWidths};
+//! What each row does to registers and status, and what it wants beside them, format by format.
+ghost use Rattle.std.specs.Prelude.{◌≡◌, ◌<◌, ◌≤◌, ◌+◌, ◌*◌, slice_index, slice_set};
 ghost use Rattle.flat_machine.specs.declared.work.Work.TheVariants.{Want};
 ghost use Rattle.flat_machine.specs.declared.machine.Act.TheVariants.{Load, Store};
-ghost use Rattle.flat_machine.specs.Access.{FitsFrom, IsAccess, IsSound};
-ghost use Rattle.flat_machine.specs.Words.{bit};
-ghost use Rattle.flat_machine.specs.Work.{base, half_address, word_address, loads_byte, loads_half, loads_words, stores_byte, stores_half, stores_words, traps, is_masked, called, work_with_count, work_of_r, work_of_d, work_of_s, work_of_x, work_of};
+ghost use Rattle.flat_machine.specs.declared.machine.Cs.{Cs};
+ghost use Rattle.flat_machine.specs.Access.{FitsFrom, IsAccess};
+ghost use Rattle.flat_machine.specs.Effect.{worked};
+ghost use Rattle.flat_machine.specs.Pending.{StaysIfWanting};
+ghost use Rattle.flat_machine.specs.Words.{bit, sum_of, signed_status, compared_status, sum_status};
+ghost use Rattle.flat_machine.specs.Work.{base, half_address, word_address, traps, is_masked, called, work_with_count, work_of_r, work_of_d, work_of_s, work_of_x};
 
 use super::machine::{Act, Cs};
 use super::words::{
-    add, bias, bit_at, extend, invert, magnitude, shift_left, shift_right, shift_signed, subtract,
+    add, bias, bit_at, compare, extend, flags, invert, magnitude, shift_left, shift_right,
+    shift_signed, sign_flags, subtract,
 };
-use super::work::Work;
-use romp_table::{Inst, Op};
-
-/// What a row that neither branches nor jumps computes.
-#[inline(always)]
-pub fn work(inst: &Inst, regs: &[u32; 16], cs: Cs) -> Work
-    requires { HasWidths inst.now }
-    ensures value { result ≡ work_of inst.now regs.now cs }
-    ensures sound { IsSound result }
-{
-    match *inst {
-        Inst::S { op, k, b, c } => work_s(op, k, b, base_of(regs, c)),
-        Inst::X { op, a, b, c } => work_x(op, a, regs[usize::from(b)], base_of(regs, c)),
-        Inst::R { op, b, c } => work_r(op, b, c, regs[usize::from(b)], regs[usize::from(c)], cs),
-        Inst::D { op, b, c, i } => {
-            let z = base_of(regs, c);
-            work_d(op, regs, cs, b, regs[usize::from(c)], z, i)
-        }
-        _ => Work::Want(Act::Check(1)),
-    }
-}
-
-/// Format S.
-#[inline(always)]
-fn work_s(op: Op, k: u8, b: u8, z: u32) -> Work
-    requires k { k < 16 }
-    requires b { b < 16 }
-    ensures value { result ≡ work_of_s op k b z }
-    ensures sound { IsSound result }
-{
-    Work::Want(act_s(op, k, b, z))
-}
+use romp_table::Op;
 
 /// What a row of format S wants.
 #[inline(always)]
@@ -65,7 +37,6 @@ pub fn act_s(op: Op, k: u8, b: u8, z: u32) -> Act
 }
 
 /// So many bytes are loaded.
-#[inline(always)]
 fn load(address: u32, bytes: u8, to: u8, sign: bool) -> Act
     requires { FitsFrom bytes to }
     ensures value { result ≡ Load address bytes to sign }
@@ -80,7 +51,6 @@ fn load(address: u32, bytes: u8, to: u8, sign: bool) -> Act
 }
 
 /// So many bytes are stored.
-#[inline(always)]
 fn store(address: u32, bytes: u8, from: u8) -> Act
     requires { FitsFrom bytes from }
     ensures value { result ≡ Store address bytes from }
@@ -94,120 +64,172 @@ fn store(address: u32, bytes: u8, from: u8) -> Act
 }
 
 /// Format X.
-#[inline(always)]
-pub fn work_x(op: Op, a: u8, x: u32, z: u32) -> Work
-    requires { a < 16 }
-    ensures value { result ≡ work_of_x op a x z }
-    ensures sound { IsSound result }
+pub fn do_x(op: Op, a: u8, b: u8, c: u8, regs: &mut [u32; 16]) -> Act
+    requires a { a < 16 }
+    requires b { b < 16 }
+    requires c { c < 16 }
+    ensures value { (status : Cs) → worked regs.old status (work_of_x op a (slice_index regs.old b) (base regs.old c)) ≡ record { registers = regs.new; status = status; act = result } }
+    ensures stays { (status : Cs) → StaysIfWanting result regs.old regs.new status status }
+    ensures access { IsAccess result }
 {
+    let z = base_of(regs, c);
     match op {
-        Op::Cas => Work::Put(a, add(x, z, 0)),
-        _ => Work::Want(Act::Check(1)),
+        Op::Cas => put(a, add(regs[usize::from(b)], z, 0), regs),
+        _ => return Act::Check(1),
     }
+    Act::Nothing
 }
 
 /// Format R.
 #[inline(always)]
-pub fn work_r(op: Op, b: u8, c: u8, x: u32, y: u32, cs: Cs) -> Work
+pub fn do_r(op: Op, b: u8, c: u8, regs: &mut [u32; 16], cs: &mut Cs) -> Act
     requires b { b < 16 }
     requires c { c < 16 }
-    ensures value { result ≡ work_of_r op b c x y cs }
-    ensures sound { IsSound result }
+    ensures value { worked regs.old cs.old (work_of_r op b c (slice_index regs.old b) (slice_index regs.old c) cs.old) ≡ record { registers = regs.new; status = cs.new; act = result } }
+    ensures stays { StaysIfWanting result regs.old regs.new cs.old cs.new }
+    ensures access { IsAccess result }
 {
+    let x = regs[usize::from(b)];
+    let y = regs[usize::from(c)];
     match op {
-        Op::Sar => Work::Signed(b, shift_signed(x, y % 64)),
-        Op::Sr => Work::Signed(b, shift_right(x, y % 64)),
-        Op::Sl => Work::Signed(b, shift_left(x, y % 64)),
-        Op::Exts => Work::Signed(b, extend((y % 0x1_0000) as u16)),
-        Op::Sf => Work::Sum(b, y, invert(x), 1),
-        Op::S => Work::Sum(b, x, invert(y), 1),
-        Op::A => Work::Sum(b, x, y, 0),
-        Op::Ae => Work::Sum(b, x, y, carry_of(cs)),
-        Op::Se => Work::Sum(b, x, invert(y), carry_of(cs)),
-        Op::Cl => Work::Compare(x, y),
-        Op::C => Work::Compare(bias(x), bias(y)),
-        Op::Tgte => trap(y <= x),
-        Op::Tlt => trap(x < y),
-        Op::Abs => Work::Signed(b, magnitude(y)),
-        Op::Twoc => Work::Sum(b, 0, invert(y), 1),
-        Op::Onec => Work::Signed(b, invert(y)),
-        Op::O => Work::Signed(b, x | y),
-        Op::N => Work::Signed(b, x & y),
-        Op::X => Work::Signed(b, x ^ y),
-        Op::Lhs => load_half(y, b, false),
-        _ => work_count(op, b, c, x),
+        Op::Sar => signed(b, shift_signed(x, y % 64), regs, cs),
+        Op::Sr => signed(b, shift_right(x, y % 64), regs, cs),
+        Op::Sl => signed(b, shift_left(x, y % 64), regs, cs),
+        Op::Exts => signed(b, extend((y % 0x1_0000) as u16), regs, cs),
+        Op::Sf => sum(b, y, invert(x), 1, regs, cs),
+        Op::S => sum(b, x, invert(y), 1, regs, cs),
+        Op::A => sum(b, x, y, 0, regs, cs),
+        Op::Ae => sum(b, x, y, carry_of(*cs), regs, cs),
+        Op::Se => sum(b, x, invert(y), carry_of(*cs), regs, cs),
+        Op::Cl => compare_with(x, y, cs),
+        Op::C => compare_with(bias(x), bias(y), cs),
+        Op::Tgte => return trap(y <= x),
+        Op::Tlt => return trap(x < y),
+        Op::Abs => signed(b, magnitude(y), regs, cs),
+        Op::Twoc => sum(b, 0, invert(y), 1, regs, cs),
+        Op::Onec => signed(b, invert(y), regs, cs),
+        Op::O => signed(b, x | y, regs, cs),
+        Op::N => signed(b, x & y, regs, cs),
+        Op::X => signed(b, x ^ y, regs, cs),
+        Op::Lhs => return load(half_at(y), 2, b, false),
+        _ => return do_count(op, b, c, regs, cs),
     }
+    Act::Nothing
 }
 
 /// Format R with a number in field C.
 #[inline(always)]
-fn work_count(op: Op, b: u8, k: u8, x: u32) -> Work
+fn do_count(op: Op, b: u8, k: u8, regs: &mut [u32; 16], cs: &mut Cs) -> Act
     requires b { b < 16 }
     requires k { k < 16 }
-    ensures value { result ≡ work_with_count op b k x }
-    ensures sound { IsSound result }
+    ensures value { worked regs.old cs.old (work_with_count op b k (slice_index regs.old b)) ≡ record { registers = regs.new; status = cs.new; act = result } }
+    ensures stays { StaysIfWanting result regs.old regs.new cs.old cs.new }
+    ensures access { IsAccess result }
 {
+    let x = regs[usize::from(b)];
     let count = u32::from(k);
     match op {
-        Op::Ais => Work::Sum(b, x, count, 0),
-        Op::Sis => Work::Sum(b, x, invert(count), 1),
-        Op::Inc => Work::Put(b, add(x, count, 0)),
-        Op::Dec => Work::Put(b, subtract(x, count)),
-        Op::Lis => Work::Put(b, count),
-        Op::Cis => Work::Compare(bias(x), bias(count)),
-        Op::Clrbu => Work::Signed(b, x & invert(bit_at(k))),
-        Op::Clrbl => Work::Signed(b, x & invert(bit_at(16 + k))),
-        Op::Setbu => Work::Signed(b, x | bit_at(k)),
-        Op::Setbl => Work::Signed(b, x | bit_at(16 + k)),
-        Op::Sari => Work::Signed(b, shift_signed(x, count)),
-        Op::Sari16 => Work::Signed(b, shift_signed(x, count + 16)),
-        Op::Sri => Work::Signed(b, shift_right(x, count)),
-        Op::Sri16 => Work::Signed(b, shift_right(x, count + 16)),
-        Op::Sli => Work::Signed(b, shift_left(x, count)),
-        Op::Sli16 => Work::Signed(b, shift_left(x, count + 16)),
-        _ => Work::Want(Act::Check(1)),
+        Op::Ais => sum(b, x, count, 0, regs, cs),
+        Op::Sis => sum(b, x, invert(count), 1, regs, cs),
+        Op::Inc => put(b, add(x, count, 0), regs),
+        Op::Dec => put(b, subtract(x, count), regs),
+        Op::Lis => put(b, count, regs),
+        Op::Cis => compare_with(bias(x), bias(count), cs),
+        Op::Clrbu => signed(b, x & invert(bit_at(k)), regs, cs),
+        Op::Clrbl => signed(b, x & invert(bit_at(16 + k)), regs, cs),
+        Op::Setbu => signed(b, x | bit_at(k), regs, cs),
+        Op::Setbl => signed(b, x | bit_at(16 + k), regs, cs),
+        Op::Sari => signed(b, shift_signed(x, count), regs, cs),
+        Op::Sari16 => signed(b, shift_signed(x, count + 16), regs, cs),
+        Op::Sri => signed(b, shift_right(x, count), regs, cs),
+        Op::Sri16 => signed(b, shift_right(x, count + 16), regs, cs),
+        Op::Sli => signed(b, shift_left(x, count), regs, cs),
+        Op::Sli16 => signed(b, shift_left(x, count + 16), regs, cs),
+        _ => return Act::Check(1),
     }
+    Act::Nothing
 }
 
 /// Format D.
 #[inline(always)]
-pub fn work_d(op: Op, regs: &[u32; 16], cs: Cs, b: u8, y: u32, z: u32, i: u16) -> Work
+pub fn do_d(op: Op, b: u8, c: u8, i: u16, regs: &mut [u32; 16], cs: &mut Cs) -> Act
     requires b { b < 16 }
-    ensures value { result ≡ work_of_d op regs.now cs b y z i }
-    ensures sound { IsSound result }
+    requires c { c < 16 }
+    ensures value { worked regs.old cs.old (work_of_d op regs.old cs.old b (slice_index regs.old c) (base regs.old c) i) ≡ record { registers = regs.new; status = cs.new; act = result } }
+    ensures stays { StaysIfWanting result regs.old regs.new cs.old cs.new }
+    ensures access { IsAccess result }
 {
+    let y = regs[usize::from(c)];
+    let z = base_of(regs, c);
     let low = u32::from(i);
     let high = low * 0x1_0000;
     let address = add(z, extend(i), 0);
     match op {
-        Op::Svc => Work::Want(call(i, regs)),
-        Op::Ai => Work::Sum(b, y, extend(i), 0),
-        Op::Aei => Work::Sum(b, y, extend(i), carry_of(cs)),
-        Op::Sfi => Work::Sum(b, extend(i), invert(y), 1),
-        Op::Cli => Work::Compare(y, extend(i)),
-        Op::Ci => Work::Compare(bias(y), bias(extend(i))),
-        Op::Ti => trap(masks(b, bias(y), bias(extend(i)))),
-        Op::Cal => Work::Put(b, address),
-        Op::Cau => Work::Put(b, add(z, high, 0)),
-        Op::Oiu => Work::Signed(b, y | high),
-        Op::Oil => Work::Signed(b, y | low),
-        Op::Xiu => Work::Signed(b, y ^ high),
-        Op::Xil => Work::Signed(b, y ^ low),
-        Op::Nilz => Work::Signed(b, y & low),
-        Op::Nilo => Work::Signed(b, y & (0xFFFF_0000 + low)),
-        Op::Niuz => Work::Signed(b, y & high),
-        Op::Niuo => Work::Signed(b, y & (high + 0xFFFF)),
-        Op::Lm => load_words(address, 4 * (16 - b), b),
-        Op::Stm => store_words(address, 4 * (16 - b), b),
-        Op::Lc => load_byte(address, b),
-        Op::Lh => load_half(address, b, false),
-        Op::Lha => load_half(address, b, true),
-        Op::L => load_words(address, 4, b),
-        Op::Stc => store_byte(address, b),
-        Op::Sth => store_half(address, b),
-        Op::St => store_words(address, 4, b),
-        _ => Work::Want(Act::Check(1)),
+        Op::Svc => return call(i, regs),
+        Op::Ai => sum(b, y, extend(i), 0, regs, cs),
+        Op::Aei => sum(b, y, extend(i), carry_of(*cs), regs, cs),
+        Op::Sfi => sum(b, extend(i), invert(y), 1, regs, cs),
+        Op::Cli => compare_with(y, extend(i), cs),
+        Op::Ci => compare_with(bias(y), bias(extend(i)), cs),
+        Op::Ti => return trap(masks(b, bias(y), bias(extend(i)))),
+        Op::Cal => put(b, address, regs),
+        Op::Cau => put(b, add(z, high, 0), regs),
+        Op::Oiu => signed(b, y | high, regs, cs),
+        Op::Oil => signed(b, y | low, regs, cs),
+        Op::Xiu => signed(b, y ^ high, regs, cs),
+        Op::Xil => signed(b, y ^ low, regs, cs),
+        Op::Nilz => signed(b, y & low, regs, cs),
+        Op::Nilo => signed(b, y & (0xFFFF_0000 + low), regs, cs),
+        Op::Niuz => signed(b, y & high, regs, cs),
+        Op::Niuo => signed(b, y & (high + 0xFFFF), regs, cs),
+        Op::Lm => return load(word_at(address), 4 * (16 - b), b, false),
+        Op::Stm => return store(word_at(address), 4 * (16 - b), b),
+        Op::Lc => return load(address, 1, b, false),
+        Op::Lh => return load(half_at(address), 2, b, false),
+        Op::Lha => return load(half_at(address), 2, b, true),
+        Op::L => return load(word_at(address), 4, b, false),
+        Op::Stc => return store(address, 1, b),
+        Op::Sth => return store(half_at(address), 2, b),
+        Op::St => return store(word_at(address), 4, b),
+        _ => return Act::Check(1),
     }
+    Act::Nothing
+}
+
+/// A register gets a value, and the status stays.
+fn put(to: u8, value: u32, regs: &mut [u32; 16])
+    requires { to < 16 }
+    ensures { regs.new ≡ slice_set regs.old to value }
+{
+    regs[usize::from(to)] = value;
+}
+
+/// A register gets a value, and less, equal and greater tell its sign.
+fn signed(to: u8, value: u32, regs: &mut [u32; 16], cs: &mut Cs)
+    requires { to < 16 }
+    ensures registers { regs.new ≡ slice_set regs.old to value }
+    ensures status { cs.new ≡ signed_status value cs.old }
+{
+    regs[usize::from(to)] = value;
+    *cs = sign_flags(value, *cs);
+}
+
+/// A register gets the sum of two words and a carry, and the whole status tells of the sum.
+fn sum(to: u8, x: u32, y: u32, carry: u32, regs: &mut [u32; 16], cs: &mut Cs)
+    requires to { to < 16 }
+    requires carry { carry ≤ 1 }
+    ensures registers { regs.new ≡ slice_set regs.old to (sum_of x y carry) }
+    ensures status { cs.new ≡ sum_status x y carry cs.old }
+{
+    regs[usize::from(to)] = add(x, y, carry);
+    *cs = flags(x, y, carry, *cs);
+}
+
+/// Less, equal and greater tell how one number stands to another.
+fn compare_with(x: u32, y: u32, cs: &mut Cs)
+    ensures { cs.new ≡ compared_status x y cs.old }
+{
+    *cs = compare(x, y, *cs);
 }
 
 /// The address of a halfword.
@@ -224,97 +246,12 @@ fn word_at(address: u32) -> u32
     address - address % 4
 }
 
-/// One byte is loaded.
-fn load_byte(address: u32, to: u8) -> Work
-    requires { to < 16 }
-    ensures value { result ≡ loads_byte address to }
-    ensures sound { IsSound result }
-{
-    Work::Want(Act::Load {
-        address,
-        bytes: 1,
-        to,
-        sign: false,
-    })
-}
-
-/// A halfword is loaded.
-fn load_half(address: u32, to: u8, sign: bool) -> Work
-    requires { to < 16 }
-    ensures value { result ≡ loads_half address to sign }
-    ensures sound { IsSound result }
-{
-    Work::Want(Act::Load {
-        address: half_at(address),
-        bytes: 2,
-        to,
-        sign,
-    })
-}
-
-/// Whole words are loaded.
-fn load_words(address: u32, bytes: u8, to: u8) -> Work
-    requires { FitsFrom bytes to }
-    ensures value { result ≡ loads_words address bytes to }
-    ensures sound { IsSound result }
-{
-    Work::Want(Act::Load {
-        address: word_at(address),
-        bytes,
-        to,
-        sign: false,
-    })
-}
-
-/// One byte is stored.
-fn store_byte(address: u32, from: u8) -> Work
-    requires { from < 16 }
-    ensures value { result ≡ stores_byte address from }
-    ensures sound { IsSound result }
-{
-    Work::Want(Act::Store {
-        address,
-        bytes: 1,
-        from,
-    })
-}
-
-/// A halfword is stored.
-fn store_half(address: u32, from: u8) -> Work
-    requires { from < 16 }
-    ensures value { result ≡ stores_half address from }
-    ensures sound { IsSound result }
-{
-    Work::Want(Act::Store {
-        address: half_at(address),
-        bytes: 2,
-        from,
-    })
-}
-
-/// Whole words are stored.
-fn store_words(address: u32, bytes: u8, from: u8) -> Work
-    requires { FitsFrom bytes from }
-    ensures value { result ≡ stores_words address bytes from }
-    ensures sound { IsSound result }
-{
-    Work::Want(Act::Store {
-        address: word_at(address),
-        bytes,
-        from,
-    })
-}
-
 /// A trap: check 3 where it is taken.
-fn trap(taken: bool) -> Work
-    ensures value { result ≡ traps taken }
-    ensures sound { IsSound result }
+fn trap(taken: bool) -> Act
+    ensures value { traps taken ≡ Want result }
+    ensures access { IsAccess result }
 {
-    if taken {
-        Work::Want(Act::Check(3))
-    } else {
-        Work::Want(Act::Nothing)
-    }
+    if taken { Act::Check(3) } else { Act::Nothing }
 }
 
 /// Whether one number stands to another in a way that a mask has.
