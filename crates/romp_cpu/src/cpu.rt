@@ -77,6 +77,11 @@ impl Cpu {
     {
         match self.start(storage) {
             Pending::Fails(code) => Attempt::Check(code),
+            Pending::Does {
+                act: Act::Nothing,
+                next,
+                link,
+            } => self.go_on(next, link),
             Pending::Does { act, next, link } => self.act(storage, act, next, link),
         }
     }
