@@ -21,7 +21,6 @@ pub fn private_frames(page: PageSize) -> u16
 }
 
 /// The private pages of a seat.
-#[inline(always)]
 pub fn seat_pages(page: PageSize) -> u16
     ensures value { result ≡ seat_pages page }
     ensures few { result ≤ 8 }
@@ -33,7 +32,6 @@ pub fn seat_pages(page: PageSize) -> u16
 }
 
 /// The first private frame of a seat.
-#[inline(always)]
 pub fn first_frame(page: PageSize, seat: u8) -> u16
     requires { seat < 16 }
     ensures value { result ≡ seat * seat_pages page }
@@ -46,7 +44,6 @@ pub fn first_frame(page: PageSize, seat: u8) -> u16
 }
 
 /// The offset of a byte in its segment.
-#[inline(always)]
 pub fn offset_of(page: PageSize, at: Virtual) -> u32
     requires { offset_of page at < 2 ^ 32 }
     ensures { result ≡ offset_of page at }
@@ -71,7 +68,6 @@ pub fn byte_past(page: PageSize, first: Virtual, past: u16) -> Virtual
 }
 
 /// How many bytes of its line begin with the one at a place of the store.
-#[inline(always)]
 pub fn rest_of_line(page: PageSize, place: u32) -> u16
     ensures value { result + place % line_bytes page ≡ line_bytes page }
     ensures some { 1 ≤ result }
@@ -84,7 +80,6 @@ pub fn rest_of_line(page: PageSize, place: u32) -> u16
 }
 
 /// The line of a byte in its page.
-#[inline(always)]
 pub fn line_in_page(page: PageSize, byte: u16) -> u8
     requires { byte < page_bytes page }
     ensures value { result ≡ byte / line_bytes page }
@@ -97,7 +92,6 @@ pub fn line_in_page(page: PageSize, byte: u16) -> u8
 }
 
 /// Whether so many bytes from one on lie in one line.
-#[inline(always)]
 pub fn is_in_line(page: PageSize, byte: u16, count: u8) -> bool
     ensures { result ≡ nat_le (byte % line_bytes page + count) (line_bytes page) }
 {

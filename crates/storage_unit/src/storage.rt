@@ -43,7 +43,6 @@ impl Unit {
     }
 
     /// How many bytes of its page begin with this one.
-    #[inline(always)]
     fn rest(&self, first: Virtual) -> u16
         requires { first.byte < page_bytes (reach_of self.now).directory.page }
         ensures { first.byte + result ≡ page_bytes (reach_of self.now).directory.page }
@@ -52,7 +51,6 @@ impl Unit {
     }
 
     /// The place of a byte of the store.
-    #[inline(always)]
     fn place_of(&self, first: Virtual) -> u32
         requires { offset_of (reach_of self.now).directory.page first ≤ 2 ^ 22 }
         ensures { result ≡ start_of (reach_of self.now).directory first.segment + offset_of (reach_of self.now).directory.page first }
@@ -161,7 +159,6 @@ impl Unit {
     }
 
     /// The frame of a private page of the seat that is selected.
-    #[inline(always)]
     fn private_frame(&self, first: Virtual) -> u16
         requires own { is_private first.segment ≡ true }
         requires lies { Lies (reach_of self.now) first 1 }
@@ -171,7 +168,6 @@ impl Unit {
     }
 
     /// Whether some bytes lie in one page, as those of one line do.
-    #[inline(always)]
     fn is_in_page(&self, first: Virtual, bytes: u8) -> bool
         requires { first.byte < page_bytes (reach_of self.now).directory.page }
         ensures { result ≡ true → first.byte + bytes ≤ page_bytes (reach_of self.now).directory.page }
@@ -203,7 +199,6 @@ impl Unit {
     }
 
     /// Whether some bytes lie in one line.
-    #[inline(always)]
     fn is_in_one_line(&self, first: Virtual, bytes: u8) -> bool
         requires { first.byte < page_bytes (reach_of self.now).directory.page }
         ensures line { result ≡ true → first.byte % line_bytes (reach_of self.now).directory.page + bytes ≤ line_bytes (reach_of self.now).directory.page }
@@ -262,7 +257,6 @@ impl Unit {
     }
 
     /// Some bytes of one page, as a frame has them.
-    #[inline(always)]
     fn part_in(&self, frame: u16, first: Virtual, count: usize) -> &[u8]
         requires some { 0 < count }
         requires within { first.byte + count ≤ page_bytes (reach_of self.now).directory.page }
