@@ -1,6 +1,7 @@
 use super::machine::Act;
 
-/// What a row that neither branches nor jumps computes from registers and status (docs/FORMATS.md).
+/// What a row that neither branches nor jumps computes from registers and status (docs/FORMATS.md). Contracts speak of it;
+/// what runs does it at once.
 #[derive(Debug, Clone, Copy, PartialEq, Eq)]
 pub enum Work {
     /// A register gets a value, and the status stays.
