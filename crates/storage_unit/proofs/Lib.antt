@@ -21,6 +21,7 @@ pub mod LineLemmas
 pub mod AfterLemmas
 pub mod AccessLemmas
 pub mod LocatedLemmas
+pub mod FoundLemmas
 pub mod OpenLemmas
 pub mod GatheredLemmas
 pub mod LeftLemmas
