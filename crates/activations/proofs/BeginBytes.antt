@@ -1,14 +1,7 @@
 -- The bytes of a unit in which a seat begins: its private bytes are new, and all others stay.
-use Rattle.activations.proofs.Common.{◌≡◌, refl, ℕ, ◌+◌, ◌-◌, ◌*◌, ◌%◌, ◌<◌, ◌≤◌, ◌==◌, ◌⊎◌, false, List, ◌++◌, length, map, replicate, drop, slice_index, slice_range, if◌then◌else◌, Option, Some, None, range_with_len, option_map_or, arith, ap, sym, ◌∙◌, subst, inl, inr, cases_lt, eq-eqb, both_ways, same_number_lists, length-overlaid, overlaid_before, overlaid_within, overlaid_behind, PageSize, Layout, byte_count, page_of, page_bytes, Pool, frame_at, with_bytes, private_frames, byte_in_frame, byte_over, bytes_over, private_bytes, is_marked, Fits, frame-high, in-range}
-use Rattle.std.proofs.lemmas.List.{length-take, length-drop, length-append, length-replicate}
+use Rattle.activations.proofs.Common.{range-long, ◌≡◌, refl, ℕ, ◌+◌, ◌-◌, ◌*◌, ◌%◌, ◌<◌, ◌≤◌, ◌==◌, ◌⊎◌, false, List, ◌++◌, length, map, replicate, slice_index, if◌then◌else◌, Option, Some, None, range_with_len, option_map_or, arith, ap, sym, ◌∙◌, subst, inl, inr, cases_lt, eq-eqb, both_ways, same_number_lists, length-overlaid, overlaid_before, overlaid_within, overlaid_behind, PageSize, Layout, byte_count, page_of, page_bytes, Pool, frame_at, with_bytes, private_frames, byte_in_frame, byte_over, bytes_over, private_bytes, is_marked, Fits, frame-high, in-range}
+use Rattle.std.proofs.lemmas.List.{length-append, length-replicate}
 use Rattle.activations.proofs.SizeLemmas.{private-all}
-
--- a part of a list is as long as it says
-long-range : (xs : List ℕ) (from count : ℕ) → from + count ≤ length xs → length (slice_range xs from (from + count)) ≡ count
-long-range xs from count within =
-    let same : from + count - from ≡ count = omega arith in
-    let few : from + count - from ≤ length (drop from xs) = rw length-drop (omega (arith, within)) in
-    rw length-take (omega (arith, few, same))
 
 -- an image and zeros after it
 abbrev pub first_bytes : List ℕ → List ℕ
@@ -34,9 +27,9 @@ module _ (directory : Layout) (pool : Pool) (fits : Fits directory pool) (seat :
   pub private-there : private_bytes filled seat ≡ first_bytes image
   private-there =
       same_number_lists (private_bytes filled seat) (first_bytes image)
-      (long-range filled.bytes (seat * 16384) 16384 (omega (arith, long-filled, long-all, below)) ∙ sym long-part)
+      (range-long filled.bytes (seat * 16384) 16384 (omega (arith, long-filled, long-all, below)) ∙ sym long-part)
       (λ k inside.
-      let short : k < 16384 = omega (arith, inside, long-range filled.bytes (seat * 16384) 16384 (omega (arith, long-filled, long-all, below))) in
+      let short : k < 16384 = omega (arith, inside, range-long filled.bytes (seat * 16384) 16384 (omega (arith, long-filled, long-all, below))) in
       let rest : seat * 16384 + k - seat * 16384 ≡ k = omega arith in
       in-range filled.bytes (seat * 16384) 16384 k short
       ∙ overlaid_within pool.bytes (seat * 16384) (first_bytes image) (seat * 16384 + k) 0 (omega (arith, long-all, below)) (omega arith) (omega (arith, long-part, short))
@@ -45,9 +38,9 @@ module _ (directory : Layout) (pool : Pool) (fits : Fits directory pool) (seat :
   pub private-other : (at : ℕ) → at < 16 → (at == seat) ≡ false → private_bytes filled at ≡ private_bytes pool at
   private-other at other differs =
       same_number_lists (private_bytes filled at) (private_bytes pool at)
-      (long-range filled.bytes (at * 16384) 16384 (omega (arith, long-filled, long-all, other)) ∙ sym (long-range pool.bytes (at * 16384) 16384 (omega (arith, long-all, other))))
+      (range-long filled.bytes (at * 16384) 16384 (omega (arith, long-filled, long-all, other)) ∙ sym (range-long pool.bytes (at * 16384) 16384 (omega (arith, long-all, other))))
       (λ k inside.
-      let short : k < 16384 = omega (arith, inside, long-range filled.bytes (at * 16384) 16384 (omega (arith, long-filled, long-all, other))) in
+      let short : k < 16384 = omega (arith, inside, range-long filled.bytes (at * 16384) 16384 (omega (arith, long-filled, long-all, other))) in
       in-range filled.bytes (at * 16384) 16384 k short ∙ stays k short (cases_lt at seat) ∙ sym (in-range pool.bytes (at * 16384) 16384 k short))
     where
       stays : (k : ℕ) → k < 16384 → (at < seat) ⊎ (seat ≤ at) → slice_index filled.bytes (at * 16384 + k) ≡ slice_index pool.bytes (at * 16384 + k)

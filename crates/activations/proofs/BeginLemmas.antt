@@ -1,5 +1,5 @@
 -- A program begins.
-use Rattle.activations.proofs.Common.{◌≡◌, ◌≢◌, refl, ℕ, zero, suc, ◌+◌, ◌*◌, ◌/◌, ◌%◌, ◌<◌, ◌≤◌, ◌==◌, ◌||◌, ◌⊎◌, nat_lt, if◌then◌else◌, Bool, true, false, List, [], ◌∷◌, ◌++◌, All, length, map, slice_index_or, Option, Some, None, list_any, arith, ap, sym, ◌∙◌, subst, inl, inr, get_or-set_same, get_or-set_other, eqb-true, eqb-false, eq-eqb, both_ways, or_left, or_right, or_cases, or_parts, nat_tests, length-map, length-set, map-append, get_or_read, All-from_get_or, list_any-append, FlatStore, has, no_lines, has-append, no_lines_of, Authority, unowned, Program, start, registers_of_program, Begun, Entry, nobody, Fine, AreAlike, AreMarked, IsState, requested, due_to, IsCurrent, IsOrderly, current-begun, first_entry, with_first, begins-consistent, refused-consistent, told-taken, Seat, IsSeating, sitter, number_in, newcomer, next_seat, all-has, none-free, some-free, has-at, few-taken, taken-below, kept-seated, apart-taken, is_line_marked, Fits, private_segment, Live, Activity, no_program, program_at, live_in, entry_for, entry_in, entries, number_under, authority_under, authority_told, store_over, desk_over, lines_held, locks_in, request_for, request_in, state_in, shown, given, started, begun_in, IsBegin, IsSound, IsSetUp, IsIdentified, IsKept, Follows}
+use Rattle.activations.proofs.Common.{ne_eqb, or-false, ◌≡◌, ◌≢◌, refl, ℕ, zero, suc, ◌+◌, ◌*◌, ◌/◌, ◌%◌, ◌<◌, ◌≤◌, ◌==◌, ◌⊎◌, nat_lt, if◌then◌else◌, Bool, true, false, List, [], ◌∷◌, ◌++◌, All, length, map, slice_index_or, Option, Some, None, list_any, arith, ap, sym, ◌∙◌, subst, inl, inr, get_or-set_same, get_or-set_other, eqb-true, eqb-false, eq-eqb, both_ways, or_left, or_right, or_cases, or_parts, nat_tests, length-map, length-set, map-append, get_or_read, All-from_get_or, list_any-append, FlatStore, has, no_lines, has-append, no_lines_of, Authority, unowned, Program, start, registers_of_program, Begun, Entry, nobody, Fine, AreAlike, AreMarked, IsState, requested, due_to, IsCurrent, IsOrderly, current-begun, first_entry, with_first, begins-consistent, refused-consistent, told-taken, Seat, IsSeating, sitter, number_in, newcomer, next_seat, all-has, none-free, some-free, has-at, few-taken, taken-below, kept-seated, apart-taken, is_line_marked, Fits, private_segment, Live, Activity, no_program, program_at, live_in, entry_for, entry_in, entries, number_under, authority_under, authority_told, store_over, desk_over, lines_held, locks_in, request_for, request_in, state_in, shown, given, started, begun_in, IsBegin, IsSound, IsSetUp, IsIdentified, IsKept, Follows}
 use Rattle.std.proofs.lemmas.Option.{slice_get-get_or}
 use Rattle.flat_machine.specs.Serial.{Activation}
 use Rattle.desk.specs.declared.event.Event.TheVariants.{Begin}
@@ -68,11 +68,7 @@ module _ (a : Activity) (program : ℕ) (args : List ℕ) (seat : ℕ) (sound : 
   runs = record { program = program_at a.programs program; args = args }
 
   elsewhere : (at : ℕ) → has a.seating.taken at ≡ true → (at == seat) ≡ false
-  elsewhere at inside = by_test (at == seat) refl
-    where
-      by_test : (same : Bool) → (at == seat) ≡ same → same ≡ false
-      by_test true e = absurd (both_ways (has a.seating.taken seat) free (ap (has a.seating.taken) (sym (eqb-true at seat e)) ∙ inside))
-      by_test false e = refl
+  elsewhere at inside = ne_eqb at seat (λ same. both_ways (has a.seating.taken seat) free (ap (has a.seating.taken) (sym same) ∙ inside))
 
   sits : sitter new.seating seat ≡ who
   sits = sitter-there a.seating seat who sound.seating.sixteen below
@@ -92,12 +88,8 @@ module _ (a : Activity) (program : ℕ) (args : List ℕ) (seat : ℕ) (sound : 
   seated-old : (at : ℕ) → has new.seating.taken at ≡ true → has a.seating.taken at ≡ true ⊎ (seat ≡ at)
   seated-old at inside = elim (or_cases (has a.seating.taken at) (has (seat ∷ []) at) (sym (has-append a.seating.taken (seat ∷ []) at) ∙ inside)) [
     | inl old ↦ inl old
-    | inr last ↦ inr (eqb-true seat at (last_is (seat == at) last))
+    | inr last ↦ inr (eqb-true seat at (sym (or-false (seat == at)) ∙ last))
   ]
-    where
-      last_is : (b : Bool) → (b || false) ≡ true → b ≡ true
-      last_is true e = refl
-      last_is false e = e
 
   -- no page is that seat's
   unused : (page : ℕ) → ((slice_index_or (authority_under a.reach.entries) page nobody).owner == seat + 1) ≡ false
@@ -257,15 +249,11 @@ module _ (a : Activity) (program : ℕ) (args : List ℕ) (seat : ℕ) (sound : 
             (record {
               is = λ line.
                   follows.kept.marked.is line
-                  ∙ sym (list_any-append (λ (one : Entry). has (due_to store one).writes line) (entries a) (last ∷ []) ∙ or_no (list_any (λ (one : Entry). has (due_to store one).writes line) (entries a)));
+                  ∙ sym (list_any-append (λ (one : Entry). has (due_to store one).writes line) (entries a) (last ∷ []) ∙ or-false (list_any (λ (one : Entry). has (due_to store one).writes line) (entries a)));
             });
         clean = λ place frame within there unmarked.
             store-frame a.reach.directory a.reach.pool fits seat below code.image code.image_fits place frame there ∙ follows.kept.clean place frame within there unmarked;
       }
-        where
-          or_no : (b : Bool) → (b || false) ≡ b
-          or_no true = refl
-          or_no false = refl
 
       pub follows-begun : Follows new committed
       follows-begun = record { orderly = subst IsOrderly (sym (desk-begun committed [])) orderly-begun; kept = kept-begun }

@@ -1,6 +1,5 @@
 -- A page that comes in from the store on the disk: what is read, and what frames have then.
-use Rattle.activations.proofs.Common.{option_map_or, arith, ap, sym, ◌∙◌, subst, both_ways, eq-eqb, or_left, ltb-false, PageSize, Layout, byte_count, page_count, page_bytes, byte_count-lines, brought, has, has_left, overlaid, Ghosts, OnlyAsks, FewerLater, held_of, Standing, Stands, NotAStore, Damaged, stands, KeptStore, Pool, pool_of, IsSeen, private_frames, frame_count, line_place, Reach, reach_of, IsClean, private_bytes, Fits, Keeps, filled, page_in, frame-high, unit-sound, sound-fits, emptied-frame, laid-bytes, room-stays, emptied-stays, IsStoreOf, IsIn, IsMoved}
-use Rattle.std.specs.Prelude.{◌≡◌, refl, ℕ, ◌+◌, ◌-◌, ◌*◌, ◌<◌, ◌≤◌, ◌==◌, ◌||◌, ◌++◌, not, nat_lt, if◌then◌else◌, Bool, true, false, List, [], ◌∷◌, length, take, drop, fold, remove, position, unwrap_or, slice_index, Option, Some, None, option_to_list, is_some, Result, Ok, Err, OnOk}
+use Rattle.activations.proofs.Common.{not-true, or_parts, option_map_or, arith, ap, sym, ◌∙◌, subst, both_ways, eq-eqb, or_left, ltb-false, PageSize, Layout, byte_count, page_count, page_bytes, byte_count-lines, brought, has, has_left, overlaid, Ghosts, OnlyAsks, FewerLater, held_of, Standing, Stands, NotAStore, Damaged, stands, KeptStore, Pool, pool_of, IsSeen, private_frames, frame_count, line_place, Reach, reach_of, IsClean, private_bytes, Fits, Keeps, filled, page_in, frame-high, unit-sound, sound-fits, emptied-frame, laid-bytes, room-stays, emptied-stays, IsStoreOf, IsIn, IsMoved, ◌≡◌, refl, ℕ, ◌+◌, ◌-◌, ◌*◌, ◌<◌, ◌≤◌, ◌==◌, ◌++◌, not, nat_lt, if◌then◌else◌, Bool, true, false, List, [], ◌∷◌, length, take, drop, fold, remove, position, unwrap_or, slice_index, Option, Some, None, option_to_list, is_some, Result, Ok, Err, OnOk}
 use Rattle.std.proofs.lemmas.List.{take-append-le, take-take, length-append, length-take, length-drop}
 use Rattle.std.proofs.lemmas.List.Quantifiers.{position-Some}
 use Rattle.store_format.proofs.Fronts.{shorter_front, later_front}
@@ -169,11 +168,7 @@ keeps-other p other page inside = by_room (nat_lt (length p.resident.items) p.fr
             (has-remove_other p.resident.items at other (apart (slice_index p.resident.items at) (position-Some (λ x. not (has (other ∷ []) x)) p.resident.items at 0 is).1) ∙ inside)
           where
             apart : (x : ℕ) → not (has (other ∷ []) x) ≡ true → (x == other) ≡ false
-            apart x is = turned other x (by_test (other == x) is)
-              where
-                by_test : (b : Bool) → not (b || false) ≡ true → b ≡ false
-                by_test true is = absurd (cc)
-                by_test false is = refl
+            apart x is = turned other x (or_parts (other == x) false (not-true _ is)).0
 
 -- a page that wasn't resident has come in and is counted
 pub came-in : (unit now : Unit) (page : ℕ) (keep : Option ℕ) (counted : ℕ) → has unit.pool.places.resident.items page ≡ false

@@ -1,11 +1,11 @@
 -- A commit.
-use Rattle.activations.proofs.Common.{◌≡◌, refl, ℕ, ◌%◌, ◌<◌, ◌==◌, ◌&&◌, ◌||◌, not, Bool, true, false, List, [], ◌∷◌, ◌++◌, length, slice_index, Some, ap, sym, ◌∙◌, subst, both_ways, eqb-true, length-map-range_with_len, Layout, byte_count, page_count, FlatStore, line_of, line-bytes-pos, has, Lines, page_of_line, no_lines, Plain, after, Pool, settled, Commit, row, Entry, Counts, no_counts, AreAlike, AreMarked, IsState, IsTold, requested, by_number, over_all, left_by, committed_at, IsAmong, due_to, IsCurrent, IsOrderly, place-laid, marked-commit, others, seat-told, told-seat, at-number, kept-seats, commit-ends, is_line_marked, bytes_over, byte_over, Fits, SettleKeeps, Keeps, Activity, program_in, entry_in, entries, store_over, desk_over, locks_in, request_in, state_for, state_in, live_in, shown, IsSound, IsKept, Follows, wrote, is_of, AreWritten, WereSettled, rolled, Commits}
+use Rattle.activations.proofs.Common.{◌≡◌, refl, ℕ, ◌%◌, ◌<◌, ◌==◌, ◌&&◌, not, Bool, true, false, List, [], ◌∷◌, ◌++◌, length, slice_index, Some, ap, sym, ◌∙◌, subst, both_ways, eqb-true, length-map-range_with_len, Layout, byte_count, page_count, FlatStore, line_of, line-bytes-pos, has, Lines, page_of_line, no_lines, Plain, after, Pool, settled, Commit, row, Entry, Counts, no_counts, AreAlike, AreMarked, IsState, IsTold, requested, by_number, over_all, left_by, committed_at, IsAmong, due_to, IsCurrent, IsOrderly, place-laid, marked-commit, others, seat-told, told-seat, at-number, kept-seats, commit-ends, is_line_marked, bytes_over, byte_over, Fits, SettleKeeps, Keeps, Activity, program_in, entry_in, entries, store_over, desk_over, locks_in, request_in, state_for, state_in, live_in, shown, IsSound, IsKept, Follows, wrote, is_of, AreWritten, WereSettled, rolled, Commits}
 use Rattle.flat_machine.proofs.Agreement.{after-whole}
 use Rattle.desk_law.proofs.EntriesEnd as law
 use Rattle.activations.proofs.RollbackLemmas.{wrote-due, locks-left, of-written}
 use Rattle.activations.proofs.RowLemmas.{orderly-order}
 use Rattle.activations.proofs.TableLemmas.{stands-for}
-use Rattle.activations.proofs.UndoLemmas.{of-then, settled-marks}
+use Rattle.activations.proofs.UndoLemmas.{neither-of, of-then, settled-marks}
 use Rattle.activations.proofs.VacateLemmas.{left-taken, entries-left, authority-left}
 
 -- what is kept by seat, told by number
@@ -29,15 +29,10 @@ were-settled directory lines pages old pool fits page below were = record {
   marks = λ line.
       settled-marks directory pool fits page below (lines page) line
       ∙ ap (λ (b : Bool). b && not ((page == page_of_line line) && has (lines page) (line % 16))) (were.marks line)
-      ∙ neither (is_line_marked old line) (is_of pages lines line) ((page == page_of_line line) && has (lines page) (line % 16))
+      ∙ neither-of (is_line_marked old line) (is_of pages lines line) ((page == page_of_line line) && has (lines page) (line % 16))
       ∙ sym (ap (λ (b : Bool). is_line_marked old line && not b) (of-then lines pages page line));
   rest = ap (λ (p : Pool). record p { marked = (settled pool page (lines page)).marked }) were.rest;
 }
-  where
-    neither : (m a b : Bool) → ((m && not a) && not b) ≡ (m && not (a || b))
-    neither true true b = refl
-    neither true false b = refl
-    neither false a b = refl
 
 -- and nothing is seen of it where these lines are as committed
 pub settled-unseen : SettleKeeps → (directory : Layout) (lines : ℕ → List ℕ) (old pool : Pool) (committed : List ℕ) → Fits directory pool → (page : ℕ) → page < page_count directory

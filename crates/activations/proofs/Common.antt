@@ -1,16 +1,18 @@
 -- The names that most proofs cite, passed on from one place. Declares nothing.
-pub use Rattle.std.proofs.Common.{ap, append_assoc, arith, get_or-set_other, get_or-set_same, inl, inr, length-append, set-set, subst, sym, take, ◌∙◌}
-pub use Rattle.std.proofs.lemmas.Bool.{and_cases, and_from, and_parts, and_right, both_ways, cases_lt, eq-eqb, eqb-false, eqb-true, leb-true, ltb-false, ne_eqb, not-true, or_cases, or_left, or_parts, or_right}
+pub use Rattle.std.proofs.Common.{ap, append_assoc, arith, get_or, get_or-set_other, get_or-set_same, inl, inr, length-append, set-set, subst, sym, take, ◌∙◌}
+pub use Rattle.std.proofs.lemmas.Bool.{and_cases, and_from, and_parts, and_right, both_ways, cases_lt, eq-eqb, eqb-false, eqb-true, false_from_ne_true, leb-true, ltb-false, ne_eqb, not-false, not-true, or_cases, or_from, or_left, or_parts, or_right}
+pub use Rattle.std.proofs.Math.Bool.{and-false, and-true, or-false}
 pub use Rattle.std.proofs.lemmas.Bool.Decides.{nat_tests}
 pub use Rattle.std.proofs.lemmas.Grind.{same_number_lists}
-pub use Rattle.std.proofs.lemmas.List.{append-nil, get_or-map, get_or-replicate, get_or_default, get_or_past, get_or_read, length-drop, length-map, length-replicate, length-set, length-take-le, map-append, set-get_or, take_all, take_more}
+pub use Rattle.std.proofs.lemmas.List.{append-nil, get_or-map, get_or-replicate, get_or_default, get_or_past, get_or_read, length-drop, length-map, length-replicate, length-set, length-take-le, map-append, nil_from_length, set-get_or, take_all, take_more}
 pub use Rattle.std.proofs.lemmas.List.Elements.{All-append, All-cons, All-filter, All-from_get_or, All-get_or, All-head, All-nil, All-replicate, All-set, All-tail, filter-append}
 pub use Rattle.std.proofs.lemmas.List.Folds.{list_any-append}
 pub use Rattle.std.proofs.lemmas.List.FromFn.{get_or-map-range_with_len, length-map-range_with_len, length-range_with_len}
 pub use Rattle.std.proofs.lemmas.List.Sums.{sum_by-cons, sum_by-le}
+pub use Rattle.std.proofs.lemmas.Result.{err_from_is_err_and}
 pub use Rattle.std.specs.List.{AllPairs, flat_map, list_any, position_or_len, range_with_len, sum_by}
 pub use Rattle.std.specs.Option.{ForSome, option_map, option_map_or}
-pub use Rattle.std.specs.Prelude.{All, Bool, Err, IfErr, IsErrAnd, IsSome, List, None, Ok, OnErr, OnOk, Option, Result, Some, [], cond, drop, false, filter, find, if◌then◌else◌, is_some, length, map, nat_le, nat_lt, not, option_to_list, position, refl, remove, replicate, slice_index, slice_index_or, slice_range, slice_set, suc, true, unwrap_or, zero, ℕ, ◌%◌, ◌&&◌, ◌*◌, ◌++◌, ◌+◌, ◌-◌, ◌/◌, ◌<◌, ◌==◌, ◌||◌, ◌∷◌, ◌≡◌, ◌≢◌, ◌≤◌, ◌⊎◌}
+pub use Rattle.std.specs.Prelude.{All, Bool, Err, IfErr, IsErrAnd, IsSome, List, None, Ok, OnErr, OnOk, Option, Result, Some, [], cond, drop, false, filter, find, fold, if◌then◌else◌, is_some, length, map, nat_le, nat_lt, not, option_to_list, position, refl, remove, replicate, slice_index, slice_index_or, slice_range, slice_set, suc, true, unwrap_or, zero, ℕ, ◌%◌, ◌&&◌, ◌^◌, ◌*◌, ◌++◌, ◌+◌, ◌-◌, ◌/◌, ◌<◌, ◌==◌, ◌||◌, ◌∷◌, ◌≡◌, ◌≢◌, ◌≤◌, ◌⊎◌}
 pub use Rattle.arrayvec.specs.ArrayVec.{ArrayVec, array_vec_len}
 pub use Rattle.desk.specs.Answers.{ending_told}
 pub use Rattle.desk.specs.Desk.{Desk, Entry, nobody, opened, rolled_back, with_entry, written_pages}
@@ -21,12 +23,13 @@ pub use Rattle.desk.specs.Run.{absent_segment, restarted}
 pub use Rattle.desk.specs.declared.answers.Begun.{Begun}
 pub use Rattle.desk.specs.declared.answers.Cycle.{Cycle}
 pub use Rattle.desk.specs.declared.answers.TurnEnd.{TurnEnd}
+pub use Rattle.desk_law.proofs.AlikeSets.{granted-alike, lowered-alike, written-alike}
 pub use Rattle.desk_law.proofs.AttemptsOnCurrent.{HasGone, attempt-goes, wanted-is}
 pub use Rattle.desk_law.proofs.Contest.{rolled-consistent}
 pub use Rattle.desk_law.proofs.ContestRounds.{with_cycle}
 pub use Rattle.desk_law.proofs.CurrentSteps.{current-begun, current-quiet, current-rolled}
 pub use Rattle.desk_law.proofs.Endings.{begins-consistent, first_entry, granted-rolled, quiet-consistent, refused-consistent, with_first}
-pub use Rattle.desk_law.proofs.Entries.{filter-short, new-among, one-entry, replaced, replaced-among}
+pub use Rattle.desk_law.proofs.Entries.{filter-short, found-among, new-among, one-entry, replaced, replaced-among}
 pub use Rattle.desk_law.proofs.EntriesEnd.{check-ends, commit-ends}
 pub use Rattle.desk_law.proofs.GoesOn.{due-more, grants-held, row-goes-on}
 pub use Rattle.desk_law.proofs.Identifiers.{freed-told, granted-told, lowered-told, permitted-told, refused-told, told-taken}
@@ -34,6 +37,7 @@ pub use Rattle.desk_law.proofs.KeptTables.{alike-back, alike-same, alike-then, b
 pub use Rattle.desk_law.proofs.LaidPlaces.{laid-places, place-kept, place-laid}
 pub use Rattle.desk_law.proofs.MarkedLines.{marked-commit, marked-end, marked-mark, marked-row}
 pub use Rattle.desk_law.proofs.Others.{others}
+pub use Rattle.desk_law.proofs.RowsThere.{open-due, within-most}
 pub use Rattle.desk_law.proofs.Seats.{at-number, conflicts-seats, kept-seats, seat-told, told-found, told-others, told-replaced, told-seat, waits-seats}
 pub use Rattle.desk_law.proofs.ServedEffect.{got, served-there}
 pub use Rattle.desk_law.proofs.ServedRows.{WentOn, contest-begins, free-gets, free-none, gets-goes}
@@ -71,13 +75,14 @@ pub use Rattle.line_geometry.specs.declared.directory.PageSize.{PageSize}
 pub use Rattle.line_geometry.specs.declared.directory.PageSize.TheVariants.{Four, Two}
 pub use Rattle.line_geometry.specs.declared.line_set.LinesOf.{LinesOf}
 pub use Rattle.line_locks.proofs.FlatLemmas.{flat-taken, has-other_page, has-page}
+pub use Rattle.line_locks.proofs.MeetsLemmas.{or-parts}
 pub use Rattle.line_locks.specs.Flat.{IsFlat, flat_lines, lines_wanted}
 pub use Rattle.line_locks.specs.Held.{AreWithin, holds_some, nothing, of_page, together, with_want, with_wants, write_count}
 pub use Rattle.line_locks.specs.Holding.{Holding, IsWhole, held_at, no_lines_of, nothing_held, of_seat, released}
 pub use Rattle.line_locks.specs.declared.request.Request.{Request}
 pub use Rattle.line_locks.specs.declared.request.Want.{Want}
 pub use Rattle.lock_rules.proofs.Lines.{any-or, has-pages_of, has-whole_pages, reaches}
-pub use Rattle.lock_rules.proofs.Sets.{any-at, any-some, has-append, has-filter, has_left, has_right}
+pub use Rattle.lock_rules.proofs.Sets.{any-at, any-at, any-some, has-append, has-filter, has_left, has_right}
 pub use Rattle.lock_rules.proofs.Sizes.{size-alike, size-apart, size-append, size-counted}
 pub use Rattle.lock_rules.specs.Access.{permits}
 pub use Rattle.lock_rules.specs.Lines.{Lines, both, conflicts, is_whole_page, no_lines, page_of_line, pages_of, with_whole_pages, within_page}
@@ -108,6 +113,7 @@ pub use Rattle.seats.specs.declared.seat.Seat.{Seat}
 pub use Rattle.segment_regs.specs.Registers.{Registers, located_by, virtual_at}
 pub use Rattle.storage_unit.proofs.ByteLemmas.{byte-of-all, in-range, over-none, over-some}
 pub use Rattle.storage_unit.proofs.LeaveLemmas.{clean-shows, emptied-frame}
+pub use Rattle.storage_unit.proofs.LeftLemmas.{range-long}
 pub use Rattle.storage_unit.proofs.SizeLemmas.{frame-high, page-of-line}
 pub use Rattle.storage_unit.proofs.StateLemmas.{emptied-stays, laid-bytes, room-stays}
 pub use Rattle.storage_unit.proofs.UnitLemmas.{program-reached, sound-fits, unit-sound}
@@ -134,9 +140,9 @@ pub use Rattle.activations.specs.Serves.{AreTouched, IsFetched, IsToServe, attem
 pub use Rattle.activations.specs.Serving.{AreGranted, AreLowered, AreSet, Goes, IsContested, IsFree, IsOver, WereRefused, asking, entry_given, entry_to_read, instruction_in, is_lowered, locked, pages_lowered, with_entries}
 pub use Rattle.activations.specs.Steps.{AreAsCommitted, AreWritten, Commits, GoesOn, HasExecuted, IsMoved, RollsBack, Strides, WereSettled, WereUndone, counted, executed, is_of, rolled, vacated, with_pool, wrote}
 pub use Rattle.activations.specs.Striding.{RunsAt, StrodeTo, with_live}
-pub use Rattle.activations.specs.Touched.{AreWanted, IsApart, each_refused, lines_between, page_if, pages_picked, pages_refused, pages_wanted, refuses_want, stores_into, wants_of, with_whole_page}
+pub use Rattle.activations.specs.Touched.{AreWanted, IsApart, each_refused, is_granted, lines_between, page_if, pages_picked, pages_refused, pages_wanted, refuses_want, stores_into, wants_of, with_whole_page}
 pub use Rattle.activations.specs.Turning.{Contests, HasBroken, HasEnded, IsContestEnd, counts_of}
-pub use Rattle.activations.specs.Turns.{AreTurns, IsAtCommit, IsStep, IsTurning, MayBeShut, commit_call, selected_in, turn_in}
+pub use Rattle.activations.specs.Turns.{AreTurns, ComesBack, IsAtCommit, IsStep, IsTurning, MayBeShut, commit_call, selected_in, turn_in}
 pub use Rattle.activations.specs.View.{activity_of}
 pub use Rattle.activations.specs.declared.live.Live.{Live}
 pub use Rattle.activations.specs.declared.tally.Tally.{Tally}

@@ -1,24 +1,16 @@
 -- A contest as its loop keeps it, whatever is committed.
-use Rattle.activations.proofs.Common.{◌≡◌, refl, ℕ, ◌<◌, ◌≤◌, ◌==◌, ◌&&◌, ◌||◌, not, if◌then◌else◌, Bool, true, false, List, [], ◌∷◌, ◌++◌, filter, length, map, Option, Some, None, IsSome, arith, ap, sym, ◌∙◌, eqb-true, eq-eqb, both_ways, has, victim_of, has-filter, Pool, Desk, Word, Counts, Attempt, Turning, Victim, Waits, AreConsistent, with_cycle, number_in, seat_of, sitter, cycle_of, holders, seat-found, Activity, entries, store_over, IsSound, IsKept, IsContested, IsOver, IsFree, rolled, RollsBack, Contests, Request, Cycle}
+use Rattle.activations.proofs.Common.{nil_from_length, map-append, ne_eqb, ◌≡◌, refl, ℕ, ◌<◌, ◌==◌, ◌&&◌, ◌||◌, not, if◌then◌else◌, Bool, true, false, List, [], ◌∷◌, ◌++◌, filter, length, map, Option, Some, None, IsSome, arith, ap, sym, ◌∙◌, eqb-true, eq-eqb, both_ways, has, victim_of, has-filter, Pool, Desk, Word, Counts, Attempt, Turning, Victim, Waits, AreConsistent, with_cycle, number_in, seat_of, sitter, cycle_of, holders, seat-found, Activity, entries, store_over, IsSound, IsKept, IsContested, IsOver, IsFree, rolled, RollsBack, Contests, Request, Cycle}
 use Rattle.activations.proofs.ContestLemmas.{round-goes, round-loses, cycle-sits, contest-waits, contest-frees}
+use Rattle.activations.proofs.KeptLemmas.{no-more}
 
 -- fewer are taken where one that was is left
 pub fewer : (taken : List ℕ) (seat : ℕ) → has taken seat ≡ true → length (filter (λ other. not (other == seat)) taken) < length taken
 fewer [] seat inside = absurd (cc)
 fewer (one ∷ taken) seat inside = by_test (one == seat) refl inside (fewer taken seat)
   where
-    no_more : (xs : List ℕ) → length (filter (λ other. not (other == seat)) xs) ≤ length xs
-    no_more [] = omega arith
-    no_more (x ∷ xs) = keeps (x == seat) (no_more xs)
-      where
-        keeps : (same : Bool) → length (filter (λ other. not (other == seat)) xs) ≤ length xs
-            → length (if not same then x ∷ filter (λ other. not (other == seat)) xs else filter (λ other. not (other == seat)) xs) ≤ length (x ∷ xs)
-        keeps true few = omega (arith, few)
-        keeps false few = omega (arith, few)
-
     by_test : (same : Bool) → (one == seat) ≡ same → (same || has taken seat) ≡ true → (has taken seat ≡ true → length (filter (λ other. not (other == seat)) taken) < length taken)
         → length (if not same then one ∷ filter (λ other. not (other == seat)) taken else filter (λ other. not (other == seat)) taken) < length (one ∷ taken)
-    by_test true e inside rest = omega (arith, no_more taken)
+    by_test true e inside rest = omega (arith, no-more taken seat)
     by_test false e inside rest = let few = rest inside in omega (arith, few)
 
 module _ (seat : ℕ) (first now : Activity) (before after : Counts) (cycle : List ℕ) (loser : ℕ) (pool : Pool)
@@ -49,23 +41,18 @@ module _ (seat : ℕ) (first now : Activity) (before after : Counts) (cycle : Li
   pub stays-taken : (victim_of cycle == number_in now.seating seat) ≡ false → has (rolled now loser pool).seating.taken seat ≡ true
   stays-taken other =
       has-filter (λ other. not (other == loser)) now.seating.taken seat
-      ∙ (λ i. taken i && not (by_test (seat == loser) refl i))
+      ∙ (λ i. taken i && not (apart i))
     where
-      by_test : (same : Bool) → (seat == loser) ≡ same → same ≡ false
-      by_test true e =
-          absurd (both_ways (victim_of cycle == number_in now.seating seat) other
-          (eq-eqb (victim_of cycle) (number_in now.seating seat)
-          (sym ((seat-found now.seating sound.seating (victim_of cycle) loser sits).1) ∙ ap (number_in now.seating) (sym (eqb-true seat loser e)))))
-      by_test false e = refl
+      apart : (seat == loser) ≡ false
+      apart =
+          ne_eqb seat loser
+          (λ same. both_ways (victim_of cycle == number_in now.seating seat) other
+          (eq-eqb (victim_of cycle) (number_in now.seating seat) (sym ((seat-found now.seating sound.seating (victim_of cycle) loser sits).1) ∙ ap (number_in now.seating) (sym same))))
 
 -- a cycle more is recorded
 pub recorded : (before : List Cycle) (members : List ℕ) (after : List Cycle) (cycle : Cycle) → cycle.members.items ≡ members → after ≡ before ++ cycle ∷ []
     → map (λ (c : Cycle). c.members.items) after ≡ map (λ (c : Cycle). c.members.items) before ++ members ∷ []
-recorded before members after cycle is same = ap (map (λ (c : Cycle). c.members.items)) same ∙ pushed before
-  where
-    pushed : (xs : List Cycle) → map (λ (c : Cycle). c.members.items) (xs ++ cycle ∷ []) ≡ map (λ (c : Cycle). c.members.items) xs ++ members ∷ []
-    pushed [] = ap (λ (m : List ℕ). m ∷ []) is
-    pushed (x ∷ xs) = ap (λ (rest : List (List ℕ)). x.members.items ∷ rest) (pushed xs)
+recorded before members after cycle is same = ap (map (λ (c : Cycle). c.members.items)) same ∙ map-append (λ (c : Cycle). c.members.items) before (cycle ∷ []) ∙ ap (λ (m : List ℕ). map (λ (c : Cycle). c.members.items) before ++ m ∷ []) is
 
 -- at the end: nobody sits in the victim's place only where there is no cycle
 module _ (seat : ℕ) (first now : Activity) (before after : Counts)
@@ -100,14 +87,10 @@ module _ (seat : ℕ) (first now : Activity) (before after : Counts)
         → attempt.entry.number ≡ number_in first.seating seat → IsContested begins attempt refused desk first committed order before → IsFree begins attempt refused now committed order after
     told-settles none = by_waits (sitter now.seating seat).waits refl waiting
       where
-        nothing : (xs : List ℕ) → (length xs == 0) ≡ true → xs ≡ []
-        nothing [] is = refl
-        nothing (x ∷ xs) is = let e : length (x ∷ xs) ≡ 0 = eqb-true (length (x ∷ xs)) 0 is in absurd (omega (arith, e))
-
         by_waits : (waits : Option Request) → (sitter now.seating seat).waits ≡ waits → IsSome waits
             → (begins : Word → Turning) (attempt : Attempt) (refused : List ℕ) (desk : Desk) (committed : List ℕ) (order : List (ℕ × ℕ))
             → attempt.entry.number ≡ number_in first.seating seat → IsContested begins attempt refused desk first committed order before → IsFree begins attempt refused now committed order after
-        by_waits (Some request) is some = contest-settles request is found (sym (told request is) ∙ nothing these none)
+        by_waits (Some request) is some = contest-settles request is found (sym (told request is) ∙ nil_from_length these (eqb-true (length these) 0 none))
         by_waits None is none = let e : false ≡ true = none in absurd (cc (e))
 
     pub told-stays : (length these == 0) ≡ false

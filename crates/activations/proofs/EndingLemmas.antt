@@ -1,5 +1,5 @@
 -- What a seat that is left leaves, once its written lines are forgotten or committed.
-use Rattle.activations.proofs.Common.{◌≡◌, refl, ℕ, ◌+◌, ◌<◌, ◌==◌, ◌&&◌, not, Bool, true, false, List, [], slice_index, is_some, Some, arith, ap, sym, ◌∙◌, subst, both_ways, eqb-true, eqb-false, byte_count, line_of, line-bytes-pos, has, has-filter, Plain, after, Commit, row, Pool, emptied, IsSeen, Stays, Entry, no_counts, over_all, AreConsistent, due_to, place-kept, seat-told, among-any, taken-below, Reach, IsClean, is_line_marked, is_marked, bytes_over, private_bytes, Fits, Keeps, emptied-frame, emptied-stays, Activity, program_in, entry_in, entries, store_over, shown, HasUndone, HasSettled, WereRolled, IsRestarted, IsDeserted, IsSound, IsKept, Follows, rolled, vacated, with_pool, RollsBack, Commits}
+use Rattle.activations.proofs.Common.{false_from_ne_true, and-false, ◌≡◌, refl, ℕ, ◌+◌, ◌<◌, ◌==◌, ◌&&◌, not, Bool, true, false, List, [], slice_index, is_some, Some, arith, ap, sym, ◌∙◌, subst, both_ways, eqb-true, eqb-false, byte_count, line_of, line-bytes-pos, has, has-filter, Plain, after, Commit, row, Pool, emptied, IsSeen, Stays, Entry, no_counts, over_all, AreConsistent, due_to, place-kept, seat-told, among-any, taken-below, Reach, IsClean, is_line_marked, is_marked, bytes_over, private_bytes, Fits, Keeps, emptied-frame, emptied-stays, Activity, program_in, entry_in, entries, store_over, shown, HasUndone, HasSettled, WereRolled, IsRestarted, IsDeserted, IsSound, IsKept, Follows, rolled, vacated, with_pool, RollsBack, Commits}
 use Rattle.storage_unit.proofs.CommitIsUnseen.{commit-is-unseen}
 use Rattle.storage_unit.proofs.EmptyKeeps.{empty-keeps}
 use Rattle.activations.proofs.BringLemmas.{none-has}
@@ -35,14 +35,11 @@ module _ (a : Activity) (seat : ℕ) (mid : Reach) (new : Activity) (is : new �
       (commits-here a seat mid.pool settled.pages committed now sound taken follows at call (record { all = settled.all; only = settled.only }) settled.were keeps unseen.0)
     where
       unwritten : (line : ℕ) → is_line_marked a.reach.pool line ≡ false → has (due_to (store_over a committed) (entry_in a seat)).writes line ≡ false
-      unwritten line clear = by_test (has (due_to (store_over a committed) (entry_in a seat)).writes line) refl
-        where
-          by_test : (wrote_it : Bool) → has (due_to (store_over a committed) (entry_in a seat)).writes line ≡ wrote_it → wrote_it ≡ false
-          by_test false e = refl
-          by_test true e =
-              absurd (both_ways (is_line_marked a.reach.pool line) clear
-              (follows.kept.marked.is line
-              ∙ among-any (λ (entry : Entry). has (due_to (store_over a committed) entry).writes line) (entries a) (entry_in a seat) (seat-told a.seating.taken (entry_in a) seat taken) e))
+      unwritten line clear =
+          false_from_ne_true _
+          (λ wrote_it. both_ways (is_line_marked a.reach.pool line) clear
+          (follows.kept.marked.is line
+          ∙ among-any (λ (entry : Entry). has (due_to (store_over a committed) entry).writes line) (entries a) (entry_in a seat) (seat-told a.seating.taken (entry_in a) seat taken) wrote_it))
 
       same : (place : ℕ) → place < byte_count a.reach.directory → is_marked a.reach.directory a.reach.pool place ≡ false → slice_index now.store place ≡ slice_index committed place
       same place within clear =
@@ -118,11 +115,7 @@ module _ (old now : Activity) (seat : ℕ) (so : RolledSo seat old now) where
       by_test : (at : ℕ) → at < seat + 1 → (same : Bool) → (at == seat) ≡ same → has (rolled now seat new.reach.pool).seating.taken at ≡ false
       by_test at below true e =
           has-filter (λ other. not (other == seat)) now.seating.taken at
-          ∙ ap (λ (b : Bool). has now.seating.taken at && not b) e ∙ and_no (has now.seating.taken at)
-        where
-          and_no : (b : Bool) → (b && false) ≡ false
-          and_no true = refl
-          and_no false = refl
+          ∙ ap (λ (b : Bool). has now.seating.taken at && not b) e ∙ and-false (has now.seating.taken at)
       by_test at below false e =
           has-filter (λ other. not (other == seat)) now.seating.taken at
           ∙ ap (λ (b : Bool). b && not (at == seat)) (so.gone at (let apart = eqb-false at seat e in omega (arith, below, apart)))

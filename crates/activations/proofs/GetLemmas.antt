@@ -1,5 +1,5 @@
 -- What is asked for is got: the pages come in once more, and the row is served; or one can't be read.
-use Rattle.activations.proofs.Common.{◌≡◌, refl, ℕ, ◌+◌, ◌<◌, ◌%◌, ◌==◌, if◌then◌else◌, not, Bool, true, false, List, [], ◌∷◌, ◌++◌, filter, length, map, slice_index_or, Result, Ok, Err, OnOk, IfErr, list_any, arith, ap, sym, ◌∙◌, subst, inl, inr, set-set, both_ways, eqb-true, ne_eqb, or_cases, or_left, nat_tests, All-head, All-tail, is_fine_page, FlatStore, has, Lines, both, page_of_line, pages_of, with_whole_pages, taken_out, has-append, has_right, Want, lines_wanted, AreWithin, with_wants, no_lines_of, of_seat, Authority, Plain, On, Pool, Ghosts, KeptStore, TurnEnd, Desk, Entry, rolled_back, wanted, Word, ReadFailed, Fine, Counts, Attempt, Turning, Over, Disk, Fetched, Broken, fetches, goes_on, locks_with, touched_pages, with_grants, AreAlike, owners_told, gone_on, IsAmong, AreConsistent, due_to, IsOrderly, granted-rolled, new-among, one-entry, replaced, replaced-among, due-more, grants-held, row-goes-on, touched_of, seat-told, resident-consistent, any-among, Seating, sitter, left, IsClean, is_line_marked, Touch, Activity, entry_in, entries, store_over, desk_over, authority_told, number_under, authority_under, locks_in, HasUndone, IsBrokenOff, IsStoreOf, HasBrokenOff, IsSound, IsKept, IsServed, Serves, IsFetched, AreGranted, IsFree, locked, with_entries, KeepsParts, rolled, with_pool, wrote, AreWanted, page_if, pages_picked, pages_wanted, wants_of, with_whole_page, HasBroken, HasEnded}
+use Rattle.activations.proofs.Common.{false_from_ne_true, ◌≡◌, refl, ℕ, ◌+◌, ◌<◌, ◌%◌, ◌==◌, if◌then◌else◌, not, Bool, true, false, List, [], ◌∷◌, ◌++◌, filter, length, map, slice_index_or, Result, Ok, Err, OnOk, IfErr, list_any, arith, ap, sym, ◌∙◌, subst, inl, inr, set-set, both_ways, eqb-true, ne_eqb, or_cases, or_left, nat_tests, All-head, All-tail, is_fine_page, FlatStore, has, Lines, both, page_of_line, pages_of, with_whole_pages, taken_out, has-append, has_right, Want, lines_wanted, AreWithin, with_wants, no_lines_of, of_seat, Authority, Plain, On, Pool, Ghosts, KeptStore, TurnEnd, Desk, Entry, rolled_back, wanted, Word, ReadFailed, Fine, Counts, Attempt, Turning, Over, Disk, Fetched, Broken, fetches, goes_on, locks_with, touched_pages, with_grants, AreAlike, owners_told, gone_on, IsAmong, AreConsistent, due_to, IsOrderly, granted-rolled, new-among, one-entry, replaced, replaced-among, due-more, grants-held, row-goes-on, touched_of, seat-told, resident-consistent, any-among, Seating, sitter, left, IsClean, is_line_marked, Touch, Activity, entry_in, entries, store_over, desk_over, authority_told, number_under, authority_under, locks_in, HasUndone, IsBrokenOff, IsStoreOf, HasBrokenOff, IsSound, IsKept, IsServed, Serves, IsFetched, AreGranted, IsFree, locked, with_entries, KeepsParts, rolled, with_pool, wrote, AreWanted, page_if, pages_picked, pages_wanted, wants_of, with_whole_page, HasBroken, HasEnded}
 use Rattle.flat_machine.specs.Agreement.{all_of}
 use Rattle.desk.specs.declared.answers.TurnEnd.TheVariants as end
 use Rattle.desk.specs.Desk as desk
@@ -143,7 +143,7 @@ module _ (begins : Word → Turning) (attempt : Attempt) (refused : List ℕ) (a
     by-nobody line inside out =
         ap (λ (marked : List (List ℕ)). has (slice_index_or marked (page_of_line line) []) (line % 16)) broken.moved.marked
         ∙ free.follows.kept.marked.is line
-        ∙ by_test (list_any (λ (entry : Entry). has (due_to store entry).writes line) (entries a)) refl
+        ∙ nobody-wrote
       where
         by_number : (entry : Entry) → IsAmong (entries a) entry → has (due_to store entry).writes line ≡ true → (mine : Bool) → (entry.number == attempt.entry.number) ≡ mine → ⊥
         by_number entry among wrote_it true e =
@@ -159,11 +159,10 @@ module _ (begins : Word → Turning) (attempt : Attempt) (refused : List ℕ) (a
             (eqb-turned entry.number attempt.entry.number ∙ e)).first_writes line inside)
             (has_right (due_to store entry).reads (due_to store entry).writes line wrote_it)
 
-        by_test : (some : Bool) → list_any (λ (entry : Entry). has (due_to store entry).writes line) (entries a) ≡ some → some ≡ false
-        by_test true e =
-            let (entry, among, wrote_it) = any-among (λ (entry : Entry). has (due_to store entry).writes line) (entries a) e in
-            absurd (by_number entry among wrote_it (entry.number == attempt.entry.number) refl)
-        by_test false e = refl
+        nobody-wrote : list_any (λ (entry : Entry). has (due_to store entry).writes line) (entries a) ≡ false
+        nobody-wrote =
+            false_from_ne_true _
+            (λ some. let (entry, among, wrote_it) = any-among (λ (entry : Entry). has (due_to store entry).writes line) (entries a) some in by_number entry among wrote_it (entry.number == attempt.entry.number) refl)
 
     -- so the lines that it has written were forgotten
     forgotten : WereForgotten a.reach.directory written off pool committed

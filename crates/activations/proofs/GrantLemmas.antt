@@ -1,5 +1,5 @@
 -- Pages that are granted, and lines that are open.
-use Rattle.activations.proofs.Common.{◌≡◌, refl, ℕ, zero, suc, ◌+◌, ◌*◌, ◌%◌, ◌<◌, ◌≤◌, ◌==◌, not, if◌then◌else◌, Bool, true, false, List, [], ◌∷◌, filter, length, map, slice_index_or, slice_set, range_with_len, arith, ap, sym, ◌∙◌, get_or-set_same, get_or-set_other, eqb-false, nat_tests, length-set, is_fine_page, passing, IsOfPage, has, page_of_line, within_page, is_whole_page, flat_lines, IsFlat, of_seat, held_at, Authority, unowned, authority_by, fine_authority_by, entry_given, entry_to_read, IsThere, Ascend, permitted-told, sitter, IsOpenLine, Activity, authority_of, authority_at, authority_under, number_under, entries, desk_over, locks_in, IsSound}
+use Rattle.activations.proofs.Common.{length-map, ◌≡◌, refl, ℕ, zero, suc, ◌+◌, ◌*◌, ◌%◌, ◌<◌, ◌≤◌, ◌==◌, not, if◌then◌else◌, Bool, true, false, List, [], ◌∷◌, filter, length, map, slice_index_or, slice_set, range_with_len, arith, ap, sym, ◌∙◌, get_or-set_same, get_or-set_other, eqb-false, nat_tests, length-set, is_fine_page, passing, IsOfPage, has, page_of_line, within_page, is_whole_page, flat_lines, IsFlat, of_seat, held_at, Authority, unowned, authority_by, fine_authority_by, entry_given, entry_to_read, IsThere, Ascend, permitted-told, sitter, IsOpenLine, Activity, authority_of, authority_at, authority_under, number_under, entries, desk_over, locks_in, IsSound}
 use Rattle.lockbit_rules.specs.Entries.{Entry, entry_of, lets}
 use Rattle.lockbit_rules.specs.Entries as bits
 use Rattle.desk.specs.Desk as desk
@@ -46,11 +46,7 @@ flat-granted page tid reads (line ∷ lines) = refl
 
 -- as many flat lines as lines
 flat-whole : (page : ℕ) (set : List ℕ) → is_whole_page (flat_lines page set) ≡ is_whole_page set
-flat-whole page set = ap (λ (n : ℕ). n == 16) (length-flat set)
-  where
-    length-flat : (set : List ℕ) → length (flat_lines page set) ≡ length set
-    length-flat [] = refl
-    length-flat (line ∷ set) = ap suc (length-flat set)
+flat-whole page set = ap (λ (n : ℕ). n == 16) (length-map set (λ line. page * 16 + line))
 
 flat-fine : (page tid : ℕ) (storing : Bool) (reads writes : List ℕ) → flat_entry page (bits.granted_fine tid reads writes storing) ≡ fine_authority_by tid storing (flat_lines page reads) (flat_lines page writes)
 flat-fine page tid true reads writes = refl

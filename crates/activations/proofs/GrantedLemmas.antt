@@ -126,10 +126,7 @@ module _ (begins : Word → Turning) (attempt : Attempt) (refused : List ℕ) (a
       state = free.follows.kept.stand seat taken
 
       now-is : attempt.now ≡ over_all (state_in a seat) state.bytes
-      now-is = some-same attempt.now (over_all (state_in a seat) state.bytes) (sym free.ready.now ∙ sym (ap (λ (e : Entry). after e.runs.program e.runs.args store e.rows) same) ∙ state.at)
-        where
-          some-same : (one other : Plain) → Some one ≡ Some other → one ≡ other
-          some-same one other is = cc
+      now-is = (let told : Some attempt.now ≡ Some (over_all (state_in a seat) state.bytes) = (sym free.ready.now ∙ sym (ap (λ (e : Entry). after e.runs.program e.runs.args store e.rows) same) ∙ state.at) in cc)
 
       -- the state in the seat is the attempt's, with the bytes that all see
       shows : over_all attempt.now (shown a committed) ≡ plain_in (with_pool (locked a seat wants owned) pool) seat committed

@@ -1,5 +1,5 @@
 -- What a seat holds page by page, as flat lines.
-use Rattle.activations.proofs.Common.{◌≡◌, ◌≢◌, refl, ℕ, zero, suc, ◌+◌, ◌*◌, ◌<◌, ◌≤◌, ◌==◌, ◌||◌, nat_lt, Bool, true, false, List, [], length, flat_map, range_with_len, arith, ap, sym, ◌∙◌, eqb-true, eqb-false, nat_tests, get_or_past, of_page-below, has, has-append, of_page, nothing, flat_lines, IsFlat, has-page, has-other_page, lines_held, AreOfPages}
+use Rattle.activations.proofs.Common.{or-false, ◌≡◌, ◌≢◌, refl, ℕ, zero, suc, ◌+◌, ◌*◌, ◌<◌, ◌≤◌, ◌==◌, ◌||◌, nat_lt, Bool, true, false, List, [], length, flat_map, range_with_len, arith, ap, sym, ◌∙◌, eqb-true, eqb-false, nat_tests, get_or_past, of_page-below, has, has-append, of_page, nothing, flat_lines, IsFlat, has-page, has-other_page, lines_held, AreOfPages}
 
 -- lines of pages from a first on, none of which is this page
 pub flat-apart : (sets : ℕ → List ℕ) (from n page line : ℕ) → ((p x : ℕ) → has (sets p) x ≡ true → x < 16) → line < 16 → ((p : ℕ) → from ≤ p → p < from + n → page ≢ p)
@@ -21,15 +21,11 @@ flat-among sets from (suc n) page line few below first last =
     rest : Bool
     rest = has (flat_map (λ p. flat_lines p (sets p)) (range_with_len (from + 1) n)) (page * 16 + line)
 
-    or_no : (b : Bool) → (b || false) ≡ b
-    or_no true = refl
-    or_no false = refl
-
     by_test : (same : Bool) → (page == from) ≡ same → ((page == from) ≡ false → rest ≡ has (sets page) line) → (has (flat_lines from (sets from)) (page * 16 + line) || rest) ≡ has (sets page) line
     by_test true e later =
         let here : page ≡ from = eqb-true page from e in
         ap (λ (b : Bool). has (flat_lines from (sets from)) (page * 16 + line) || b) (flat-apart sets (from + 1) n page line few below (λ p low high same. absurd (omega (arith, here, low, same))))
-        ∙ or_no (has (flat_lines from (sets from)) (page * 16 + line))
+        ∙ or-false (has (flat_lines from (sets from)) (page * 16 + line))
         ∙ ap (λ (p : ℕ). has (flat_lines from (sets from)) (p * 16 + line)) here
         ∙ has-page from line (sets from) ∙ ap (λ (p : ℕ). has (sets p) line) (sym here)
     by_test false e later =

@@ -1,8 +1,8 @@
 -- What stays while those that run are served: of a rollback of another, and one after another.
-use Rattle.activations.proofs.Common.{◌≡◌, refl, ℕ, ◌+◌, ◌≤◌, ◌==◌, ◌&&◌, not, if◌then◌else◌, Bool, true, false, List, [], ◌∷◌, filter, length, None, replicate, Result, Ok, Err, OnOk, arith, ap, sym, ◌∙◌, subst, eqb-true, eq-eqb, both_ways, has, has-filter, ArrayVec, Cycle, Pool, Tally, Activity, sitter, IsSelected, TookEffect, KeepsParts, StaysSeated, Want, Authority, locked, rolled, with_pool}
+use Rattle.activations.proofs.Common.{ne_eqb, and-false, ◌≡◌, refl, ℕ, ◌+◌, ◌≤◌, ◌==◌, ◌&&◌, not, if◌then◌else◌, Bool, true, false, List, [], ◌∷◌, filter, length, None, replicate, Result, Ok, Err, OnOk, arith, ap, sym, ◌∙◌, subst, eq-eqb, both_ways, has, has-filter, ArrayVec, Cycle, Pool, Tally, Activity, sitter, IsSelected, TookEffect, KeepsParts, StaysSeated, Want, Authority, locked, rolled, with_pool}
 
 -- none more are left of those but one
-no-more : (taken : List ℕ) (seat : ℕ) → length (filter (λ other. not (other == seat)) taken) ≤ length taken
+pub no-more : (taken : List ℕ) (seat : ℕ) → length (filter (λ other. not (other == seat)) taken) ≤ length taken
 no-more [] seat = omega arith
 no-more (one ∷ taken) seat = keeps (one == seat) (no-more taken seat)
   where
@@ -40,28 +40,21 @@ stays-rolled first a seat loser pool stays inside = record {
   number = stays.number;
   selected = λ is.
       let was : IsSelected a seat = stays.selected is in
-      let other : (a.reach.runner == loser + 1) ≡ false = apart (a.reach.runner == loser + 1) refl was.runner in
+      let other : (a.reach.runner == loser + 1) ≡ false = apart was.runner in
       record {
         runner = ap (λ (b : Bool). if b then 0 else a.reach.runner) other ∙ was.runner;
         registers = ap (λ (b : Bool). if b then record { page = a.reach.directory.page; list = replicate 16 None } else a.reach.registers) other ∙ was.registers;
       };
 }
   where
-    never : (b : Bool) → (b && false) ≡ false
-    never true = refl
-    never false = refl
-
     gone : seat ≡ loser → has (rolled a loser pool).seating.taken seat ≡ false
     gone same =
         has-filter (λ other. not (other == loser)) a.seating.taken seat
         ∙ ap (λ (b : Bool). has a.seating.taken seat && not b) (eq-eqb seat loser same)
-        ∙ never (has a.seating.taken seat)
+        ∙ and-false (has a.seating.taken seat)
 
-    apart : (same : Bool) → (a.reach.runner == loser + 1) ≡ same → a.reach.runner ≡ seat + 1 → same ≡ false
-    apart true e runner =
-        let one : seat + 1 ≡ loser + 1 = sym runner ∙ eqb-true a.reach.runner (loser + 1) e in
-        absurd (both_ways (has (rolled a loser pool).seating.taken seat) (gone (omega (arith, one))) inside)
-    apart false e runner = refl
+    apart : a.reach.runner ≡ seat + 1 → (a.reach.runner == loser + 1) ≡ false
+    apart runner = ne_eqb a.reach.runner (loser + 1) (λ same. both_ways (has (rolled a loser pool).seating.taken seat) (gone (omega (arith, runner, same))) inside)
 
 -- and of a tally only its cycles are others
 pub tally-on : (first before : Tally) (cycles : ArrayVec Cycle) → before ≡ record first { cycles = before.cycles } → record before { cycles = cycles } ≡ record first { cycles = cycles }

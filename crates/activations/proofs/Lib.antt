@@ -1,5 +1,6 @@
 pub mod Common
 pub mod AskLemmas
+pub mod BackLemmas
 pub mod BeginBytes
 pub mod BeginLemmas
 pub mod CommitLemmas

@@ -1,5 +1,6 @@
 -- Pages that come in and go out, of which those that run see nothing.
-use Rattle.activations.proofs.Common.{◌≡◌, refl, ℕ, ◌%◌, ◌==◌, ◌||◌, not, nat_lt, if◌then◌else◌, Bool, true, false, List, [], ◌∷◌, ◌++◌, length, slice_index_or, Option, Some, None, option_to_list, remove, unwrap_or, ap, sym, ◌∙◌, subst, eqb-true, both_ways, has, page_of_line, brought, Pool, IsState, IsCurrent, IsOrderly, taken-below, Keeps, Activity, entry_in, entries, store_over, desk_over, state_in, IsSound, IsKept, Follows, IsMoved, with_pool}
+use Rattle.activations.proofs.Common.{◌≡◌, ℕ, ◌%◌, ◌==◌, ◌||◌, not, nat_lt, if◌then◌else◌, Bool, true, false, List, [], ◌∷◌, ◌++◌, length, slice_index_or, Option, Some, None, option_to_list, remove, unwrap_or, ap, sym, ◌∙◌, subst, has, page_of_line, brought, Pool, IsState, IsCurrent, IsOrderly, taken-below, Keeps, Activity, entry_in, entries, store_over, desk_over, state_in, IsSound, IsKept, Follows, IsMoved, with_pool}
+use Rattle.frame_pool.proofs.ApartLemmas.{differs}
 use Rattle.activations.proofs.PositionLemmas.{position-same}
 
 -- what follows the desk follows it with other pages in its frames
@@ -36,20 +37,13 @@ brought-same most kept other resident page same =
     ap (λ (place : Option ℕ). (if nat_lt (length resident) most then resident else remove resident (unwrap_or place 0)) ++ page ∷ [])
     (position-same (λ x. not (has kept x)) (λ x. not (has other x)) resident (λ x inside. ap not (same x inside)))
 
-absent : (resident : List ℕ) (page x : ℕ) → has resident page ≡ false → has resident x ≡ true → (page == x) ≡ false
-absent resident page x out inside = by_test (page == x) refl
-  where
-    by_test : (same : Bool) → (page == x) ≡ same → same ≡ false
-    by_test true e = absurd (both_ways (has resident page) out (ap (has resident) (eqb-true page x e) ∙ inside))
-    by_test false e = refl
-
 -- One page alone comes in; the first of two, while the second stays; and the second, while the first stays.
 pub brought-one : (most page : ℕ) (resident : List ℕ) → has resident page ≡ false → brought most (option_to_list None) resident page ≡ brought most (page ∷ []) resident page
-brought-one most page resident out = brought-same most [] (page ∷ []) resident page (λ x inside. sym (ap (λ (b : Bool). b || false) (absent resident page x out inside)))
+brought-one most page resident out = brought-same most [] (page ∷ []) resident page (λ x inside. sym (ap (λ (b : Bool). b || false) (differs resident page x out inside)))
 
 pub brought-first : (most page other : ℕ) (resident : List ℕ) → has resident page ≡ false → brought most (option_to_list (Some other)) resident page ≡ brought most (page ∷ other ∷ []) resident page
-brought-first most page other resident out = brought-same most (other ∷ []) (page ∷ other ∷ []) resident page (λ x inside. sym (ap (λ (b : Bool). b || (other == x || false)) (absent resident page x out inside)))
+brought-first most page other resident out = brought-same most (other ∷ []) (page ∷ other ∷ []) resident page (λ x inside. sym (ap (λ (b : Bool). b || (other == x || false)) (differs resident page x out inside)))
 
 pub brought-second : (most page other : ℕ) (resident : List ℕ) → has resident page ≡ false → brought most (option_to_list (Some other)) resident page ≡ brought most (other ∷ page ∷ []) resident page
 brought-second most page other resident out =
-    brought-same most (other ∷ []) (other ∷ page ∷ []) resident page (λ x inside. sym (ap (λ (b : Bool). other == x || (b || false)) (absent resident page x out inside)))
+    brought-same most (other ∷ []) (other ∷ page ∷ []) resident page (λ x inside. sym (ap (λ (b : Bool). other == x || (b || false)) (differs resident page x out inside)))

@@ -1,12 +1,6 @@
 -- The bytes of a line as a pool has them.
-use Rattle.activations.proofs.Common.{◌≡◌, refl, ℕ, ◌+◌, ◌-◌, ◌*◌, ◌/◌, ◌%◌, ◌<◌, ◌≤◌, if◌then◌else◌, Bool, true, List, length, drop, slice_index, slice_range, Option, Some, None, option_map_or, arith, ap, sym, ◌∙◌, length-take-le, length-drop, Layout, page_of, page_bytes, line_bytes, PageSize, Pool, frame_at, line_shown, line_in_frame, line_kept, IsSeen, frame_count, line_place, line_size, byte_over, byte_in_frame, is_marked, in-range, over-none, over-some, page-of-line, line_told}
+use Rattle.activations.proofs.Common.{range-long, ◌≡◌, refl, ℕ, ◌+◌, ◌*◌, ◌/◌, ◌%◌, ◌<◌, if◌then◌else◌, Bool, true, List, length, slice_index, slice_range, Option, Some, None, option_map_or, ap, sym, ◌∙◌, Layout, page_of, page_bytes, line_bytes, PageSize, Pool, frame_at, line_shown, line_in_frame, line_kept, IsSeen, frame_count, line_place, line_size, byte_over, byte_in_frame, is_marked, in-range, over-none, over-some, page-of-line, line_told}
 use Rattle.activations.proofs.SizeLemmas.{line-there, place-in-page, place-in-line, rest-of-place}
-
--- part of a list
-part-long : (xs : List ℕ) (from count : ℕ) → from + count ≤ length xs → length (slice_range xs from (from + count)) ≡ count
-part-long xs from count within =
-    let few : from + count - from ≡ count = omega arith in
-    length-take-le (from + count - from) (drop from xs) (omega (arith, within, length-drop from xs)) ∙ few
 
 -- the bytes of a line of a page, among those of all pages
 abbrev line_from : PageSize → List ℕ → (whole line : ℕ) → List ℕ
@@ -19,10 +13,10 @@ shown-long pool seen page line below few = by_frame (frame_at pool page) refl
     by_frame : (where_it_is : Option ℕ) → frame_at pool page ≡ where_it_is
         → length (option_map_or (λ frame. line_in_frame pool frame line) where_it_is (line_kept pool page line)) ≡ line_bytes pool.page
     by_frame (Some frame) is =
-        part-long pool.bytes (line_place pool.page frame line) (line_bytes pool.page)
+        range-long pool.bytes (line_place pool.page frame line) (line_bytes pool.page)
         (line-there pool.page frame line (frame_count pool.page pool.frames) (length pool.bytes) (seen.below page frame (seen.there page frame is)) few seen.bytes)
     by_frame None is =
-        part-long pool.kept (line_place pool.page page line) (line_bytes pool.page) (line-there pool.page page line (length pool.frame_of) (length pool.kept) below few seen.kept)
+        range-long pool.kept (line_place pool.page page line) (line_bytes pool.page) (line-there pool.page page line (length pool.frame_of) (length pool.kept) below few seen.kept)
 
 -- a byte of a line that is marked, as all see it
 module _ (size : PageSize) (d : Layout) (pool : Pool) (committed : List ℕ) (place : ℕ) (same : pool.page ≡ size) (sized : d.page ≡ size) (marked : is_marked d pool place ≡ true) where

@@ -1,5 +1,5 @@
 -- Lines that come into a record one after another.
-use Rattle.activations.proofs.Common.{◌≡◌, refl, ℕ, zero, suc, ◌+◌, ◌*◌, ◌/◌, ◌%◌, ◌<◌, ◌≤◌, ◌==◌, ◌||◌, if◌then◌else◌, Bool, true, false, List, [], ◌∷◌, ◌++◌, All, filter, length, map, slice_index_or, Option, Some, None, IsSome, unwrap_or, AllPairs, list_any, range_with_len, arith, ap, sym, ◌∙◌, subst, append_assoc, length-append, both_ways, eqb-true, append-nil, All-nil, All-cons, All-append, passing, IsOfPage, PageSize, has, distinct, size, flat_lines, Pool, line_shown, RecordLine, entry_bytes, most_lines, begun_of, record_bytes_of, with_line, KeptStore, with_begun, line_told, recorded, with_lines}
+use Rattle.activations.proofs.Common.{ne_eqb, or_from, ◌≡◌, refl, ℕ, zero, suc, ◌+◌, ◌*◌, ◌/◌, ◌%◌, ◌<◌, ◌≤◌, ◌==◌, if◌then◌else◌, Bool, true, false, List, [], ◌∷◌, ◌++◌, All, filter, length, map, slice_index_or, Option, Some, None, IsSome, unwrap_or, AllPairs, list_any, range_with_len, arith, ap, sym, ◌∙◌, subst, append_assoc, length-append, both_ways, append-nil, All-nil, All-cons, All-append, passing, IsOfPage, PageSize, has, distinct, size, flat_lines, Pool, line_shown, RecordLine, entry_bytes, most_lines, begun_of, record_bytes_of, with_line, KeptStore, with_begun, line_told, recorded, with_lines}
 
 -- numbers ascend from a least one on, below a bound
 abbrev pub Climbs : (least : ℕ) → List ℕ → (bound : ℕ) → Type 0
@@ -47,11 +47,8 @@ climbs-flat page least (x ∷ xs) bound climbs =
 -- each of them is there once
 absent : (least : ℕ) (xs : List ℕ) (bound x : ℕ) → Climbs least xs bound → x < least → has xs x ≡ false
 absent least [] bound x climbs less = refl
-absent least (y ∷ xs) bound x climbs less = by_test (y == x) refl (absent (y + 1) xs bound x climbs.1 (omega (arith, less, climbs.0)))
-  where
-    by_test : (same : Bool) → (y == x) ≡ same → has xs x ≡ false → (same || has xs x) ≡ false
-    by_test true e none = let is = eqb-true y x e in absurd (omega (arith, is, less, climbs.0))
-    by_test false e none = none
+absent least (y ∷ xs) bound x climbs less =
+    or_from (y == x) (has xs x) (ne_eqb y x (λ is. absurd (omega (arith, is, less, climbs.0)))) (absent (y + 1) xs bound x climbs.1 (omega (arith, less, climbs.0)))
 
 pub climbs-once : (least : ℕ) (xs : List ℕ) (bound : ℕ) → Climbs least xs bound → size xs ≡ length xs
 climbs-once least [] bound climbs = refl

@@ -1,12 +1,11 @@
 -- The pages whose lines come into a record.
-use Rattle.activations.proofs.Common.{flat_map, arith, ap, sym, ◌∙◌, subst, append_assoc, length-append, both_ways, eqb-true, or_right, nat_tests, append-nil, length-map, take_more, take_all, get_or_default, page_of_line, has, size, has-append, size-alike, flat_lines, holds_some, Holding, IsWhole, held_at, of_seat, Pool, RecordLine, entry_bytes, most_lines, begun_of, record_bytes_of, KeptStore, with_begun, Activity, locks_in, IsSound, line_told, recorded, with_lines, written_of, wrote}
-use Rattle.std.specs.Prelude.{◌≡◌, refl, ℕ, zero, suc, ◌+◌, ◌*◌, ◌/◌, ◌%◌, ◌<◌, ◌≤◌, ◌==◌, ◌&&◌, ◌||◌, not, Bool, true, false, List, [], ◌∷◌, ◌++◌, All, length, take, slice_index_or}
+use Rattle.activations.proofs.Common.{and-false, flat_map, arith, ap, sym, ◌∙◌, subst, append_assoc, length-append, eqb-true, or_right, append-nil, length-map, take_more, take_all, get_or_default, page_of_line, has, size, has-append, size-alike, flat_lines, holds_some, Holding, IsWhole, held_at, of_seat, Pool, RecordLine, entry_bytes, most_lines, begun_of, record_bytes_of, KeptStore, with_begun, Activity, locks_in, IsSound, line_told, recorded, with_lines, written_of, wrote, ◌≡◌, refl, ℕ, zero, suc, ◌+◌, ◌*◌, ◌/◌, ◌%◌, ◌<◌, ◌≤◌, ◌==◌, ◌&&◌, ◌||◌, not, Bool, true, false, List, [], ◌∷◌, ◌++◌, All, length, take, slice_index_or}
 use Rattle.std.proofs.lemmas.List.Concat.{flat_map-append}
 use Rattle.line_locks.specs.Counted.{Ascend}
 use Rattle.activations.proofs.HoldingLemmas.{held-flat}
 use Rattle.activations.proofs.RecordLemmas.{Climbs, climbs-from, climbs-below, climbs-on, climbs-page, climbs-flat, climbs-once, length-recorded, recorded-append, recorded-below}
 use Rattle.activations.proofs.RequestLemmas.{has-flat}
-use Rattle.activations.proofs.WrittenLemmas.{page-held}
+use Rattle.activations.proofs.WrittenLemmas.{page-held, some-line}
 
 -- pages that ascend, within bounds
 climbs-pages : (least : ℕ) (pages : List ℕ) (bound : ℕ) → Ascend pages → ((k d : ℕ) → k < length pages → (least ≤ slice_index_or pages k d) × (slice_index_or pages k d < bound)) → least ≤ bound → Climbs least pages bound
@@ -109,21 +108,13 @@ module _ (a : Activity) (seat : ℕ) (sound : IsSound a) where
     pub written-all : (line : ℕ) → has (written_of a seat pages) line ≡ has (locks_in a seat).writes line
     written-all line = has-written pages line ∙ by_test (has (wrote a seat (page_of_line line)) (line % 16)) refl ∙ wrote-locks line
       where
-        some : (lines : List ℕ) (x : ℕ) → has lines x ≡ true → not (length lines == 0) ≡ true
-        some [] x inside = absurd (both_ways false refl inside)
-        some (y ∷ lines) x inside = let more : (suc (length lines) == 0) ≡ false = grind (arith, nat_tests) in ap not more
-
-        no : (b : Bool) → (b && false) ≡ false
-        no true = refl
-        no false = refl
-
         by_test : (held : Bool) → has (wrote a seat (page_of_line line)) (line % 16) ≡ held
             → (has pages (page_of_line line) && has (wrote a seat (page_of_line line)) (line % 16)) ≡ has (wrote a seat (page_of_line line)) (line % 16)
         by_test true e =
             ap (λ (b : Bool). b && has (wrote a seat (page_of_line line)) (line % 16))
             (each (page_of_line line)
-            ∙ or_right (not (length (held_at a.seating.holding seat (page_of_line line)).0 == 0)) (not (length (wrote a seat (page_of_line line)) == 0)) (some (wrote a seat (page_of_line line)) (line % 16) e))
-        by_test false e = ap (λ (b : Bool). has pages (page_of_line line) && b) e ∙ no (has pages (page_of_line line)) ∙ sym e
+            ∙ or_right (not (length (held_at a.seating.holding seat (page_of_line line)).0 == 0)) (not (length (wrote a seat (page_of_line line)) == 0)) (some-line (wrote a seat (page_of_line line)) (line % 16) e))
+        by_test false e = ap (λ (b : Bool). has pages (page_of_line line) && b) e ∙ and-false (has pages (page_of_line line)) ∙ sym e
 
     module _ (bound : ℕ) (below : (k d : ℕ) → k < length pages → slice_index_or pages k d < bound) where
       pages-climb : Climbs 0 pages bound

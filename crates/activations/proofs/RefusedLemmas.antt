@@ -1,5 +1,5 @@
 -- The pages whose entries refuse a line that is touched.
-use Rattle.activations.proofs.Common.{◌≡◌, ◌≢◌, refl, ℕ, ◌+◌, ◌*◌, ◌/◌, ◌%◌, ◌<◌, ◌==◌, ◌&&◌, ◌||◌, not, if◌then◌else◌, Bool, true, false, List, [], ◌∷◌, All, filter, slice_index_or, list_any, arith, ap, sym, ◌∙◌, eqb-true, eq-eqb, All-nil, All-cons, All-head, All-tail, IsOfPage, has, page_of_line, within_page, permits, Want, flat_lines, lines_wanted, has-page, Authority, unowned, nobody, Attempt, refuses, refused_pages, touched_pages, lines_within, Ascend, refused-told, sitter, AreOfPage, Activity, authority_at, authority_under, number_under, entries, desk_over, IsSound, refuses_want, pages_refused, pages_wanted, IsApart}
+use Rattle.activations.proofs.Common.{ne_eqb, or-false, ◌≡◌, ◌≢◌, refl, ℕ, ◌+◌, ◌*◌, ◌/◌, ◌%◌, ◌<◌, ◌==◌, ◌&&◌, ◌||◌, not, if◌then◌else◌, Bool, true, false, List, [], ◌∷◌, All, filter, slice_index_or, list_any, arith, ap, sym, ◌∙◌, eq-eqb, All-nil, All-cons, All-head, All-tail, IsOfPage, has, page_of_line, within_page, permits, Want, flat_lines, lines_wanted, has-page, Authority, unowned, nobody, Attempt, refuses, refused_pages, touched_pages, lines_within, Ascend, refused-told, sitter, AreOfPage, Activity, authority_at, authority_under, number_under, entries, desk_over, IsSound, refuses_want, pages_refused, pages_wanted, IsApart}
 use Rattle.lockbit_rules.specs.Entries.{Entry, entry_of, lets}
 use Rattle.desk.specs.Desk as desk
 use Rattle.activations.proofs.GrantLemmas.{flat-within}
@@ -66,24 +66,13 @@ at-page page line set below =
 off-page : (other page line : ℕ) (set : List ℕ) → line < 16 → other ≢ page → ((other == page_of_line (page * 16 + line)) && has set ((page * 16 + line) % 16)) ≡ false
 off-page other page line set below differs =
     let lies : (page * 16 + line) / 16 ≡ page = omega (arith, below) in
-    ap (λ (b : Bool). b && has set ((page * 16 + line) % 16)) (ap (λ (p : ℕ). other == p) lies ∙ false_from_ne other page differs)
-  where
-    false_from_ne : (x y : ℕ) → x ≢ y → (x == y) ≡ false
-    false_from_ne x y differs = by_test (x == y) refl
-      where
-        by_test : (same : Bool) → (x == y) ≡ same → same ≡ false
-        by_test true e = absurd (differs (eqb-true x y e))
-        by_test false e = refl
-
-or_no : (b : Bool) → (b || false) ≡ b
-or_no true = refl
-or_no false = refl
+    ap (λ (b : Bool). b && has set ((page * 16 + line) % 16)) (ap (λ (p : ℕ). other == p) lies ∙ ne_eqb other page differs)
 
 -- one want is apart
 pub apart-one : (want : Want) → AreOfPage (want ∷ []) → All (IsApart (want ∷ [])) (want ∷ [])
 apart-one want sets = All-cons (IsApart (want ∷ [])) want [] (record {
-  reads = λ line below. has-wanted (λ w. w.reads) (want ∷ []) (want.page * 16 + line) sets.reads ∙ or_no _ ∙ at-page want.page line want.reads below;
-  writes = λ line below. has-wanted (λ w. w.writes) (want ∷ []) (want.page * 16 + line) sets.writes ∙ or_no _ ∙ at-page want.page line want.writes below;
+  reads = λ line below. has-wanted (λ w. w.reads) (want ∷ []) (want.page * 16 + line) sets.reads ∙ or-false _ ∙ at-page want.page line want.reads below;
+  writes = λ line below. has-wanted (λ w. w.writes) (want ∷ []) (want.page * 16 + line) sets.writes ∙ or-false _ ∙ at-page want.page line want.writes below;
 }) (All-nil (IsApart (want ∷ [])))
 
 -- and two of different pages are
@@ -93,18 +82,18 @@ apart-two first second sets differs =
     (record {
       reads = λ line below.
           has-wanted (λ w. w.reads) (first ∷ second ∷ []) (first.page * 16 + line) sets.reads
-          ∙ (λ i. at-page first.page line first.reads below i || (off-page second.page first.page line second.reads below (λ same. differs (sym same)) i || false)) ∙ or_no (has first.reads line);
+          ∙ (λ i. at-page first.page line first.reads below i || (off-page second.page first.page line second.reads below (λ same. differs (sym same)) i || false)) ∙ or-false (has first.reads line);
       writes = λ line below.
           has-wanted (λ w. w.writes) (first ∷ second ∷ []) (first.page * 16 + line) sets.writes
-          ∙ (λ i. at-page first.page line first.writes below i || (off-page second.page first.page line second.writes below (λ same. differs (sym same)) i || false)) ∙ or_no (has first.writes line);
+          ∙ (λ i. at-page first.page line first.writes below i || (off-page second.page first.page line second.writes below (λ same. differs (sym same)) i || false)) ∙ or-false (has first.writes line);
     })
     (All-cons (IsApart (first ∷ second ∷ [])) second []
     (record {
       reads = λ line below.
           has-wanted (λ w. w.reads) (first ∷ second ∷ []) (second.page * 16 + line) sets.reads
-          ∙ (λ i. off-page first.page second.page line first.reads below differs i || (at-page second.page line second.reads below i || false)) ∙ or_no (has second.reads line);
+          ∙ (λ i. off-page first.page second.page line first.reads below differs i || (at-page second.page line second.reads below i || false)) ∙ or-false (has second.reads line);
       writes = λ line below.
           has-wanted (λ w. w.writes) (first ∷ second ∷ []) (second.page * 16 + line) sets.writes
-          ∙ (λ i. off-page first.page second.page line first.writes below differs i || (at-page second.page line second.writes below i || false)) ∙ or_no (has second.writes line);
+          ∙ (λ i. off-page first.page second.page line first.writes below differs i || (at-page second.page line second.writes below i || false)) ∙ or-false (has second.writes line);
     })
     (All-nil (IsApart (first ∷ second ∷ []))))

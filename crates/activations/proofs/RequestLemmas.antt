@@ -1,5 +1,5 @@
 -- The lines that an access touches and what it asks for, page by page and as flat lines.
-use Rattle.activations.proofs.Common.{◌≡◌, refl, ℕ, ◌+◌, ◌*◌, ◌/◌, ◌%◌, ◌<◌, ◌==◌, ◌&&◌, ◌||◌, not, nat_le, if◌then◌else◌, Bool, true, false, List, [], ◌∷◌, All, length, map, flat_map, list_any, arith, ap, sym, ◌∙◌, eqb-true, eq-eqb, both_ways, or_left, or_right, nat_tests, All-cons, All-head, All-tail, list_any-append, Layout, is_fine_page, IsOfPage, between, union, of_page-below, of_page-where, is_in_where-below, has, page_of_line, pages_of, with_whole_pages, has-append, has-pages_of, any-or, has-whole_pages, Want, flat_lines, lines_wanted, has-page, has-other_page, AreAlike, AreOfPage, with_whole_page}
+use Rattle.activations.proofs.Common.{or-false, and-false, ◌≡◌, refl, ℕ, ◌+◌, ◌*◌, ◌/◌, ◌%◌, ◌<◌, ◌==◌, ◌&&◌, ◌||◌, not, nat_le, if◌then◌else◌, Bool, true, false, List, [], ◌∷◌, All, length, map, flat_map, list_any, arith, ap, sym, ◌∙◌, eqb-true, eq-eqb, both_ways, or_left, or_right, nat_tests, All-cons, All-head, All-tail, list_any-append, Layout, is_fine_page, IsOfPage, between, union, of_page-below, of_page-where, is_in_where-below, has, page_of_line, pages_of, with_whole_pages, has-append, has-pages_of, any-or, has-whole_pages, Want, flat_lines, lines_wanted, has-page, has-other_page, AreAlike, AreOfPage, with_whole_page}
 
 -- a line is one of these of a page
 pub has-flat : (page : ℕ) (set : List ℕ) (line : ℕ) → IsOfPage set → has (flat_lines page set) line ≡ ((page == page_of_line line) && has set (line % 16))
@@ -20,13 +20,9 @@ has-wanted part (want ∷ wants) line of =
     has-append (flat_lines want.page (part want)) (flat_map (λ w. flat_lines w.page (part w)) wants) line
     ∙ (λ i. has-flat want.page (part want) line (All-head (λ (w : Want). IsOfPage (part w)) want wants of) i || has-wanted part wants line (All-tail (λ (w : Want). IsOfPage (part w)) want wants of) i)
 
-and_no : (b : Bool) → (b && false) ≡ false
-and_no true = refl
-and_no false = refl
-
 -- flat lines of a page lie in it
 in-page : (at page : ℕ) (set : List ℕ) → ((x : ℕ) → has set x ≡ true → x < 16) → list_any (λ line. page_of_line line == page) (flat_lines at set) ≡ ((at == page) && not (length set == 0))
-in-page at page [] few = sym (and_no (at == page))
+in-page at page [] few = sym (and-false (at == page))
 in-page at page (x ∷ set) few =
     let small : x < 16 = few x (or_left (x == x) (has set x) (eq-eqb x x refl)) in
     let lies : (at * 16 + x) / 16 ≡ at = omega (arith, small) in
@@ -79,13 +75,6 @@ whole-of-page directory wants sets = record { reads = reads wants sets.reads; wr
         by_test true old = old
         by_test false old = old
 
-pub or-cross : (a b c d : Bool) → ((a || b) || (c || d)) ≡ ((a || c) || (b || d))
-or-cross true b c d = refl
-or-cross false true true d = refl
-or-cross false true false d = refl
-or-cross false false true d = refl
-or-cross false false false d = refl
-
 -- how a want's lines to read, its lines to write and its page come together
 gathers : (a b c n d e f : Bool) → ((a || (b || (c && n))) || (d || (e || (f && n)))) ≡ ((a || d) || ((b || e) || ((c || f) && n)))
 gathers true b c n d e f = refl
@@ -119,15 +108,6 @@ asked-alike directory wants sets = record {
       ∙ same line wants ∙ sym (has-wanted (λ want. want.writes) wants line sets.writes);
 }
   where
-    or_yes : (b c : Bool) → true ≡ (b || (c || true))
-    or_yes true c = refl
-    or_yes false true = refl
-    or_yes false false = refl
-
-    or_none : (b : Bool) → (b || false) ≡ b
-    or_none true = refl
-    or_none false = refl
-
     no-writes : (set : List ℕ) (x : ℕ) → (length set == 0) ≡ true → has set x ≡ false
     no-writes [] x none = refl
     no-writes (y ∷ set) x none = absurd (both_ways (length (y ∷ set) == 0) (grind (arith, nat_tests)) none)
@@ -141,14 +121,14 @@ asked-alike directory wants sets = record {
             → (here && has (if none then want else record want { reads = if fine then union want.reads want.writes else between 0 15 }).reads (line % 16))
             ≡ ((here && has want.reads (line % 16)) || ((here && has want.writes (line % 16)) || ((here && not none) && not (is_fine_page directory (page_of_line line)))))
         by_tests true at true empty fine is =
-            sym (ap (λ (b : Bool). has want.reads (line % 16) || (b || false)) (no-writes want.writes (line % 16) empty) ∙ or_none (has want.reads (line % 16)))
+            sym (ap (λ (b : Bool). has want.reads (line % 16) || (b || false)) (no-writes want.writes (line % 16) empty) ∙ or-false (has want.reads (line % 16)))
         by_tests true at false some true is =
             is_in_where-below (λ x. list_any (λ y. y == x) want.reads || list_any (λ y. y == x) want.writes) (line % 16) (omega arith)
             ∙ sym
             (ap (λ (b : Bool). has want.reads (line % 16) || (has want.writes (line % 16) || not b)) (ap (is_fine_page directory) (sym (eqb-true want.page (page_of_line line) at)) ∙ is)
-            ∙ ap (λ (b : Bool). has want.reads (line % 16) || b) (or_none (has want.writes (line % 16))))
+            ∙ ap (λ (b : Bool). has want.reads (line % 16) || b) (or-false (has want.writes (line % 16))))
         by_tests true at false some false is =
-            all-has (line % 16) (omega arith) ∙ or_yes (has want.reads (line % 16)) (has want.writes (line % 16))
+            all-has (line % 16) (omega arith) ∙ sym (or_right (has want.reads (line % 16)) _ (or_right (has want.writes (line % 16)) true refl))
             ∙ sym (ap (λ (b : Bool). has want.reads (line % 16) || (has want.writes (line % 16) || not b)) (ap (is_fine_page directory) (sym (eqb-true want.page (page_of_line line) at)) ∙ is))
         by_tests false at none some fine is = refl
 

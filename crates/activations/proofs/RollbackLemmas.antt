@@ -1,5 +1,5 @@
 -- A rollback.
-use Rattle.activations.proofs.Common.{◌≡◌, refl, ℕ, ◌+◌, ◌*◌, ◌/◌, ◌%◌, ◌<◌, ◌==◌, ◌&&◌, not, if◌then◌else◌, Bool, true, false, List, length, slice_index, arith, ap, sym, ◌∙◌, subst, both_ways, eqb-true, eq-eqb, length-map-range_with_len, Layout, byte_count, FlatStore, line_of, line-bytes-pos, of_page-below, has, Lines, page_of_line, any-at, any-some, has-pages_of, of_seat, no_lines_of, Pool, Entry, rolled_back, written_pages, AreAlike, AreMarked, IsState, IsLaid, IsCurrent, IsAmong, AreConsistent, due_to, current-rolled, both-imply, laid-places, marked-end, seat-told, other-with, IsClean, is_line_marked, byte_over, bytes_over, byte-of-all, clean-shows, Activity, entry_in, entries, store_over, desk_over, lines_held, locks_in, state_for, live_in, shown, IsSound, IsKept, wrote, is_of, WereUndone, AreAsCommitted, AreWritten, rolled, RollsBack}
+use Rattle.activations.proofs.Common.{and-false, ◌≡◌, refl, ℕ, ◌+◌, ◌*◌, ◌/◌, ◌%◌, ◌<◌, ◌==◌, ◌&&◌, not, if◌then◌else◌, Bool, true, false, List, length, slice_index, arith, ap, sym, ◌∙◌, subst, both_ways, eqb-true, eq-eqb, length-map-range_with_len, Layout, byte_count, FlatStore, line_of, line-bytes-pos, of_page-below, has, Lines, page_of_line, any-at, any-some, has-pages_of, of_seat, no_lines_of, Pool, Entry, rolled_back, written_pages, AreAlike, AreMarked, IsState, IsLaid, IsCurrent, IsAmong, AreConsistent, due_to, current-rolled, both-imply, laid-places, marked-end, seat-told, other-with, IsClean, is_line_marked, byte_over, bytes_over, byte-of-all, clean-shows, Activity, entry_in, entries, store_over, desk_over, lines_held, locks_in, state_for, live_in, shown, IsSound, IsKept, wrote, is_of, WereUndone, AreAsCommitted, AreWritten, rolled, RollsBack}
 use Rattle.activations.proofs.HoldingLemmas.{held-flat}
 use Rattle.activations.proofs.TableLemmas.{stands-for}
 use Rattle.activations.proofs.UndoLemmas.{filter-alike}
@@ -24,11 +24,7 @@ of-held a seat pages lines sound alike written line = by_test (has (wrote a seat
   where
     by_test : (wrote_it : Bool) → has (wrote a seat (page_of_line line)) (line % 16) ≡ wrote_it → (has pages (page_of_line line) && has (wrote a seat (page_of_line line)) (line % 16)) ≡ has (wrote a seat (page_of_line line)) (line % 16)
     by_test true e = ap (λ (b : Bool). b && has (wrote a seat (page_of_line line)) (line % 16)) (written.all (page_of_line line) (line % 16) e)
-    by_test false e = ap (λ (b : Bool). has pages (page_of_line line) && b) e ∙ and_no (has pages (page_of_line line)) ∙ sym e
-      where
-        and_no : (b : Bool) → (b && false) ≡ false
-        and_no true = refl
-        and_no false = refl
+    by_test false e = ap (λ (b : Bool). has pages (page_of_line line) && b) e ∙ and-false (has pages (page_of_line line)) ∙ sym e
 
 pub of-written : (a : Activity) (seat : ℕ) (pages : List ℕ) (committed : List ℕ) → IsSound a → AreAlike (locks_in a seat) (due_to (store_over a committed) (entry_in a seat))
     → AreWritten a seat pages → (line : ℕ) → is_of pages (wrote a seat) line ≡ has (due_to (store_over a committed) (entry_in a seat)).writes line

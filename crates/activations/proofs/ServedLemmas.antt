@@ -48,10 +48,7 @@ module _ (begins : Word → Turning) (attempt : Attempt) (refused : List ℕ) (a
   state = free.follows.kept.stand seat taken
 
   now-is : attempt.now ≡ over_all (state_in a seat) state.bytes
-  now-is = some-same attempt.now (over_all (state_in a seat) state.bytes) (sym free.ready.now ∙ sym (ap (λ (e : Entry). after e.runs.program e.runs.args store e.rows) same) ∙ state.at)
-    where
-      some-same : (one other : Plain) → Some one ≡ Some other → one ≡ other
-      some-same one other is = cc
+  now-is = (let told : Some attempt.now ≡ Some (over_all (state_in a seat) state.bytes) = (sym free.ready.now ∙ sym (ap (λ (e : Entry). after e.runs.program e.runs.args store e.rows) same) ∙ state.at) in cc)
 
   module _ (moved : IsMoved a.reach.pool pool) (keeps : Keeps a.reach.directory a.reach.pool pool committed)
       (fetched : fetches Fine old.frames (touched_pages attempt) (touched_pages attempt) old.resident counts.pages ≡ Fetched pool.resident counted_pages)

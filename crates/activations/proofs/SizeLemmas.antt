@@ -1,6 +1,5 @@
 -- Frames, pages and lines, by the size of a page.
-use Rattle.activations.proofs.Common.{PageSize, Two, Four, page_bytes, line_bytes, frame_count, line_place, entry_bytes, record_bytes}
-use Rattle.std.proofs.Common.{◌≡◌, ℕ, ◌+◌, ◌-◌, ◌*◌, ◌/◌, ◌%◌, ◌<◌, ◌≤◌, arith}
+use Rattle.activations.proofs.Common.{PageSize, Two, Four, page_bytes, line_bytes, frame_count, line_place, entry_bytes, record_bytes, ◌≡◌, ℕ, ◌+◌, ◌-◌, ◌*◌, ◌/◌, ◌%◌, ◌<◌, ◌≤◌, arith}
 
 -- the private frames have the first bytes
 pub private-all : (size : PageSize) (frames bytes : ℕ) → bytes ≡ frame_count size frames * page_bytes size → 262144 ≤ bytes

@@ -1,6 +1,5 @@
 -- What leaves what is kept sound: other pages in the frames, numbers that are given, and a seat whose sitter goes on.
-use Rattle.activations.proofs.Common.{◌≡◌, ℕ, ◌<◌, ◌==◌, Bool, true, false, All, length, Some, AllPairs, ForSome, eqb-true, length-set, All-set, has, AreWithin, Request, Pool, registers_of_program, Seat, IsSeating, sitter, number_in, with_sitter, taken-below, AreOfPage, private_segment, Activity, program_at, IsSound}
-use Rattle.std.proofs.Common.{ap, refl, sym, ◌∙◌, subst}
+use Rattle.activations.proofs.Common.{◌≡◌, ℕ, ◌<◌, ◌==◌, Bool, true, false, All, length, Some, AllPairs, ForSome, eqb-true, length-set, All-set, has, AreWithin, Request, Pool, registers_of_program, Seat, IsSeating, sitter, number_in, with_sitter, taken-below, AreOfPage, private_segment, Activity, program_at, IsSound, ap, refl, sym, ◌∙◌, subst}
 use Rattle.activations.proofs.SittingLemmas.{sitter-there, sitter-other, number-there}
 
 -- frames may have other pages, and numbers may have been given

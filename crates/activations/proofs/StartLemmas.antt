@@ -1,6 +1,7 @@
 -- An access that isn't permitted: where its serving begins, and what becomes of it first.
-use Rattle.activations.proofs.Common.{◌≡◌, refl, ℕ, zero, suc, ◌+◌, ◌<◌, ◌==◌, nat_lt, if◌then◌else◌, Bool, true, false, List, [], ◌∷◌, ◌++◌, All, filter, length, map, Some, ap, sym, ◌∙◌, subst, eq-eqb, is_fine_page, has, size, Lines, no_lines, with_whole_pages, Request, Want, lines_wanted, Plain, On, row, touched, Pool, Desk, Entry, with_entry, rolled_back, conflicts_of, Word, Counts, Attempt, Over, Fetched, Broken, Fine, Journal, Disk, fetches, touched_pages, refused_pages, gets, contest_ends, lines_written, AreAlike, AreMarked, IsState, requested, owners_told, over_all, by_number, kept_conflict, IsAmong, due_to, IsCurrent, IsOrderly, rolled-consistent, IsReady, contest, IsUnderWay, served_attempt, alike-then, alike-back, replaced, marked-mark, seat-told, told-replaced, IsContesting, free-gets, free-none, contest-begins, Seat, sitter, holders, AreOfPage, taken-below, is_line_marked, Keeps, plain_over, Activity, live_in, program_in, entry_for, entry_in, entries, authority_under, number_under, request_for, store_over, desk_over, locks_in, request_in, state_in, shown, IsSound, IsKept, Follows, IsOver, IsFree, IsContested, WereRefused, instruction_in, asking, with_pool, rolled, IsMoved, RollsBack, IsApart, pages_refused, pages_wanted, with_whole_page}
-use Rattle.desk_law.proofs.ServesToLocks.{asked_for, serve-outcome, serve-journal, serve-within, serve-broken, serve-ready}
+use Rattle.activations.proofs.Common.{instruction, resident-consistent, Reads, ◌≡◌, refl, ℕ, zero, suc, ◌+◌, ◌<◌, ◌==◌, nat_lt, if◌then◌else◌, Bool, true, false, List, [], ◌∷◌, ◌++◌, All, filter, length, map, Some, ap, sym, ◌∙◌, subst, eq-eqb, is_fine_page, has, size, Lines, no_lines, with_whole_pages, Request, Want, lines_wanted, Plain, On, row, touched, Pool, Desk, Entry, with_entry, rolled_back, conflicts_of, Word, Counts, Attempt, Over, Fetched, Broken, Fine, Journal, Disk, fetches, touched_pages, refused_pages, gets, contest_ends, lines_written, AreAlike, AreMarked, IsState, requested, owners_told, over_all, by_number, kept_conflict, IsAmong, due_to, IsCurrent, IsOrderly, rolled-consistent, IsReady, contest, IsUnderWay, served_attempt, alike-then, alike-back, replaced, marked-mark, seat-told, told-replaced, IsContesting, free-gets, free-none, contest-begins, Seat, sitter, holders, AreOfPage, taken-below, is_line_marked, Keeps, plain_over, Activity, live_in, program_in, entry_for, entry_in, entries, authority_under, number_under, request_for, store_over, desk_over, locks_in, request_in, state_in, shown, IsSound, IsKept, Follows, IsOver, IsFree, IsContested, WereRefused, instruction_in, asking, with_pool, rolled, IsMoved, RollsBack, IsApart, pages_refused, pages_wanted, with_whole_page}
+use Rattle.desk_law.proofs.LinesThere.{fetches-none}
+use Rattle.desk_law.proofs.ServesToLocks.{asked_for, serve-asks, serve-outcome, serve-journal, serve-within, serve-broken, serve-ready}
 use Rattle.activations.proofs.CommitLemmas.{told-kept}
 use Rattle.activations.proofs.ContestLemmas.{orderly-other}
 use Rattle.activations.proofs.PoolLemmas.{moved-kept, moved-desk, moved-follows}
@@ -116,6 +117,18 @@ module _ (a : Activity) (seat : ℕ) (committed : List ℕ) (order : List (ℕ �
         ready = subst (IsReady attempt) desk-there (serve-ready desk counts entry now next (shown a committed) orderly here (follows.kept.stand seat taken).at goes within pool.resident);
         follows = moved-follows a pool committed sound moved keeps follows;
       }
+
+      -- with its pages there it is the same instruction
+      pub again : ((page : ℕ) → has (touched_pages attempt) page ≡ true → has pool.resident page ≡ true) → (word : Word) → Reads word counted
+          → instruction_in a seat committed order counts word ≡ instruction_in there seat committed order (record counts { pages = counted }) word
+      again resident word reads =
+          serve-asks desk counts entry now next (shown a committed) orderly here (follows.kept.stand seat taken).at goes within
+          (by_number a.seating.taken (entry_in a) (locks_in a) no_lines) (by_number a.seating.taken (entry_in a) (request_in a) no_lines) pool.resident counted (told-kept a committed sound follows.kept).kept fetched word reads
+          ∙ sym
+          (serve-asks (record desk { resident = pool.resident }) (record counts { pages = counted }) entry now next (shown a committed) (resident-consistent desk pool.resident orderly) here (follows.kept.stand seat taken).at goes within
+          (by_number a.seating.taken (entry_in a) (locks_in a) no_lines) (by_number a.seating.taken (entry_in a) (request_in a) no_lines) pool.resident counted (told-kept a committed sound follows.kept).kept
+          (fetches-none Fine desk.frames (touched_pages attempt) (touched_pages attempt) pool.resident counted resident) word reads)
+          ∙ ap (λ (d : Desk). instruction word (Some entry) d (record counts { pages = counted })) desk-there
 
       -- somebody does: it waits, and its contest begins
       module _ (request : Request) (asks : request.wants.items ≡ map (with_whole_page a.reach.directory) wants) (holder : ℕ) (others : List ℕ)

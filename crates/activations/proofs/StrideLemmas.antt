@@ -36,9 +36,6 @@ module _ (a : Activity) (seat rows : ℕ) (sound : IsSound a) (taken : has a.sea
   abbrev who : Seat
   who = record (sitter a.seating seat) { rows = (sitter a.seating seat).rows + rows; waits = None }
 
-  numbers : (at : ℕ) → number_in (went_on a.seating seat rows) at ≡ number_in a.seating at
-  numbers = number-counted a seat rows sound.seating.sixteen below
-
   -- rows that are counted
   pub sound-counted : IsSound (counted a seat rows)
   sound-counted = sound-reseated a seat who sound taken refl refl (λ request none. absurd (cc (none))) (λ request none. absurd (cc (none)))
@@ -47,7 +44,7 @@ module _ (a : Activity) (seat rows : ℕ) (sound : IsSound a) (taken : has a.sea
   pub found-counted : find (λ (entry : Entry). entry.number == number_in a.seating seat) (entries (counted a seat rows)) ≡ Some (entry_in (counted a seat rows) seat)
   found-counted =
       told-found a.seating.taken (entry_in (counted a seat rows)) (number_in a.seating seat)
-      ∙ ap (λ (n : ℕ). option_map (entry_in (counted a seat rows)) (find (λ at. number_in (went_on a.seating seat rows) at == n) a.seating.taken)) (sym (numbers seat))
+      ∙ ap (λ (n : ℕ). option_map (entry_in (counted a seat rows)) (find (λ at. number_in (went_on a.seating seat rows) at == n) a.seating.taken)) (sym (number-counted a seat rows sound.seating.sixteen below seat))
       ∙ ap (option_map (entry_in (counted a seat rows))) (seat-of-taken (went_on a.seating seat rows) sound-counted.seating seat taken)
 
 -- an instruction of a turn that goes on

@@ -1,5 +1,5 @@
 -- The authority of pages under identifiers of seats, and the state in a seat beside its entry.
-use Rattle.activations.proofs.Common.{◌≡◌, refl, ℕ, suc, ◌+◌, ◌*◌, ◌/◌, ◌%◌, ◌<◌, ◌≤◌, ◌==◌, nat_lt, not, Bool, true, false, List, length, slice_index_or, arith, ap, sym, ◌∙◌, subst, inl, inr, nat_tests, get_or_past, get_or-map-range_with_len, length-map-range_with_len, passing, has, page_of_line, permits, flat_lines, has-page, Authority, entry_of, lets, unowned, nobody, IsThere, StandsFor, Ascend, permitted, permitted-told, seat-told, sitter, IsOpenLine, Activity, authority_of, authority_at, authority_under, number_under, entry_in, entries, desk_over, IsSound, Follows, IsIdentified}
+use Rattle.activations.proofs.Common.{not-false, ◌≡◌, refl, ℕ, suc, ◌+◌, ◌*◌, ◌/◌, ◌%◌, ◌<◌, ◌≤◌, ◌==◌, nat_lt, Bool, true, false, List, length, slice_index_or, arith, ap, sym, ◌∙◌, subst, inl, inr, nat_tests, get_or_past, get_or-map-range_with_len, length-map-range_with_len, passing, has, page_of_line, permits, flat_lines, has-page, Authority, entry_of, lets, unowned, nobody, IsThere, StandsFor, Ascend, permitted, permitted-told, seat-told, sitter, IsOpenLine, Activity, authority_of, authority_at, authority_under, number_under, entry_in, entries, desk_over, IsSound, Follows, IsIdentified}
 use Rattle.desk_law.proofs.Entries.{between}
 use Rattle.desk.specs.Desk as desk
 
@@ -31,10 +31,6 @@ permits-flat owned line tid store =
   where
     whole : line ≡ line / 16 * 16 + line % 16
     whole = omega arith
-
-permitted-not : (b : Bool) → not b ≡ false → b ≡ true
-permitted-not true e = refl
-permitted-not false e = sym e
 
 module _ (a : Activity) (sound : IsSound a) (committed : List ℕ) (ascend : Ascend 0 (entries a) a.next) where
   -- those that sit have numbers from 1 on
@@ -75,5 +71,5 @@ module _ (a : Activity) (sound : IsSound a) (committed : List ℕ) (follows : Fo
         permitted-told (number_under a) refl (seat + 1) (sitter a.seating seat).number (authority_under a.reach.entries) (page_of_line line) line store (stands-for a sound committed follows.orderly.active.ascend seat taken)
         ∙ permits-flat a.reach.entries line (seat + 1) store
         ∙ ap (λ (tid : ℕ). lets (entry_of (slice_index_or a.reach.entries (page_of_line line) unowned)) tid (line % 16) store) (sym runner)
-        ∙ permitted-not (lets (entry_of (slice_index_or a.reach.entries (page_of_line line) unowned)) a.reach.runner (line % 16) store) is.permits;
+        ∙ not-false (lets (entry_of (slice_index_or a.reach.entries (page_of_line line) unowned)) a.reach.runner (line % 16) store) is.permits;
   }

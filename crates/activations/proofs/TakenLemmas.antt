@@ -1,13 +1,12 @@
 -- What a seat holds once it has taken what it asked for, and what it is granted then.
-use Rattle.activations.proofs.Common.{◌≡◌, refl, ℕ, suc, ◌+◌, ◌*◌, ◌/◌, ◌%◌, ◌<◌, ◌==◌, ◌&&◌, ◌||◌, not, if◌then◌else◌, Bool, true, false, List, [], ◌∷◌, length, filter, map, slice_set, arith, ap, sym, ◌∙◌, subst, eqb-true, eq-eqb, and_right, or_left, or_right, length-set, list_any-append, is_fine_page, has, Lines, both, pages_of, with_whole_pages, within_page, is_whole_page, has-append, has-filter, list_any, reaches, has-whole_pages, Want, AreWithin, with_wants, flat_lines, lines_wanted, IsFlat, of_seat, flat-taken, Authority, AreAlike, owners_told, granted-told, lowered-told, alike-then, sitter, same-with, AreOfPage, Activity, authority_under, number_under, locks_in, IsSound, AreOfPages, AreSet, AreGranted, AreLowered, entry_given, entry_to_read, is_lowered, pages_lowered, locked, with_whole_page, stores_into, pages_wanted}
+use Rattle.activations.proofs.Common.{lowered-alike, granted-alike, or-parts, ◌≡◌, refl, ℕ, suc, ◌+◌, ◌*◌, ◌/◌, ◌%◌, ◌<◌, ◌==◌, ◌&&◌, ◌||◌, not, if◌then◌else◌, Bool, true, false, List, [], ◌∷◌, length, filter, map, slice_set, arith, ap, sym, ◌∙◌, subst, eqb-true, eq-eqb, and_right, or_left, or_right, length-set, list_any-append, is_fine_page, has, Lines, both, pages_of, with_whole_pages, within_page, is_whole_page, has-append, has-filter, list_any, reaches, has-whole_pages, Want, AreWithin, with_wants, flat_lines, lines_wanted, IsFlat, of_seat, flat-taken, Authority, AreAlike, owners_told, granted-told, lowered-told, alike-then, sitter, same-with, AreOfPage, Activity, authority_under, number_under, locks_in, IsSound, AreOfPages, AreSet, AreGranted, AreLowered, entry_given, entry_to_read, is_lowered, pages_lowered, locked, with_whole_page, stores_into, pages_wanted}
 use Rattle.desk.specs.Instruction.{Attempt, authority_by, fine_authority_by, given, with_each, granted, to_read, lowered_pages, lowered}
 use Rattle.lockbit_rules.specs.Entries.{Entry}
-use Rattle.desk_law.proofs.AlikeSets.{granted-alike, lowered-alike}
 use Rattle.desk_law.proofs.EachPage.{each-alike}
 use Rattle.desk.specs.Desk as desk
 use Rattle.activations.proofs.GrantLemmas.{granted-page, lowered-page, held-whole, under-set}
 use Rattle.activations.proofs.HoldingLemmas.{held-flat}
-use Rattle.activations.proofs.RequestLemmas.{asked-alike, has-pages_wanted, or-cross, whole-of-page}
+use Rattle.activations.proofs.RequestLemmas.{asked-alike, has-pages_wanted, whole-of-page}
 
 -- two sets of flat lines of the same pages are alike
 flat-alike : (pages : List (List ℕ × List ℕ)) (one other : Lines) → IsFlat pages one → IsFlat pages other → AreAlike one other
@@ -30,7 +29,7 @@ whole-both fine one other = record {
   reads = λ line.
       has-append (with_whole_pages fine one).reads (with_whole_pages fine other).reads line
       ∙ (λ i. has-whole_pages fine one line i || has-whole_pages fine other line i)
-      ∙ or-cross (has one.reads line) (list_any (reaches fine line) one.writes) (has other.reads line) (list_any (reaches fine line) other.writes)
+      ∙ or-parts (has one.reads line) (list_any (reaches fine line) one.writes) (has other.reads line) (list_any (reaches fine line) other.writes)
       ∙ sym (λ i. has-append one.reads other.reads line i || list_any-append (reaches fine line) one.writes other.writes i)
       ∙ sym (has-whole_pages fine (both one other) line);
   writes = λ line. refl;

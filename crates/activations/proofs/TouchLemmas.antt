@@ -1,6 +1,5 @@
 -- One line of a page, or two neighbours, as flat lines.
-use Rattle.activations.proofs.Common.{◌==◌, ◌||◌, if◌then◌else◌, range_with_len, nat_tests, passing, between, append-nil, get_or-map-range_with_len, flat_lines, lines_wanted, lines_between, pages_of}
-use Rattle.std.proofs.Common.{◌≡◌, ℕ, ◌+◌, ◌-◌, ◌*◌, ◌/◌, ◌%◌, ◌<◌, ◌≤◌, Bool, true, false, List, [], ◌∷◌, ◌++◌, refl, sym, ◌∙◌, ap, arith, map, get_or}
+use Rattle.activations.proofs.Common.{◌==◌, ◌||◌, if◌then◌else◌, range_with_len, nat_tests, passing, between, append-nil, get_or-map-range_with_len, flat_lines, lines_wanted, lines_between, pages_of, ◌≡◌, ℕ, ◌+◌, ◌-◌, ◌*◌, ◌/◌, ◌%◌, ◌<◌, ◌≤◌, Bool, true, false, List, [], ◌∷◌, ◌++◌, refl, sym, ◌∙◌, ap, arith, map, get_or}
 
 -- two functions that are the same on the first numbers, as a table of them tells
 tabled : (f g : ℕ → List ℕ) (n i : ℕ) → map f (range_with_len 0 n) ≡ map g (range_with_len 0 n) → i < n → f i ≡ g i

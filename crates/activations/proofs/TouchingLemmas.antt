@@ -1,6 +1,5 @@
 -- The lines that an access touches, page by page, and how many will have been written with them.
-use Rattle.activations.proofs.Common.{range_with_len, arith, ap, sym, ◌∙◌, subst, eqb-true, eq-eqb, ne_eqb, leb-true, both_ways, nat_tests, append-nil, length-range_with_len, sum_by-le, All-nil, All-cons, All-head, All-tail, All-get_or, All-from_get_or, PageSize, Two, Four, Layout, start_of, length_of, byte_count, page_count, IsLegal, line_of, line_count, passing, between, difference, IsOfPage, line_bytes, of_page-where, line-below, segment-within, has, Lines, no_lines, pages_of, Want, lines_wanted, nothing, write_count, AreWithin, of_seat, held_at, Plain, Program, in_segment, in_window, in_register, located, lines_at, Registers, located_by, virtual_at, Access, lines_of_access, registers_of_program, TurnEnd, ending_told, Counts, AreConsistent, AreDistinct, filter-short, AreOfPage, Reach, private_segment, is_private, offset_of, place_at, Activity, live_in, program_in, entries, store_over, AreOfPages, IsSound, IsKept, IsToServe, AreTouched, attempt_in, lines_with, IsOver, instruction_in, rolled, RollsBack, HasEnded, Touch, lines_between, pages_wanted, wants_of, AreWanted}
-use Rattle.std.specs.Prelude.{◌≡◌, refl, ℕ, zero, suc, ◌+◌, ◌-◌, ◌/◌, ◌%◌, ◌^◌, ◌<◌, ◌≤◌, ◌==◌, ◌||◌, ◌&&◌, nat_le, nat_lt, not, if◌then◌else◌, Bool, true, false, List, [], ◌∷◌, ◌++◌, length, slice_index_or, Option, Some, None, Result, Ok, Err}
+use Rattle.activations.proofs.Common.{or_parts, range_with_len, arith, ap, sym, ◌∙◌, subst, eqb-true, eq-eqb, ne_eqb, leb-true, both_ways, nat_tests, append-nil, length-range_with_len, sum_by-le, All-nil, All-cons, All-head, All-tail, All-get_or, All-from_get_or, PageSize, Two, Four, Layout, start_of, length_of, byte_count, page_count, IsLegal, line_of, line_count, passing, between, difference, IsOfPage, line_bytes, of_page-where, line-below, segment-within, has, Lines, no_lines, pages_of, Want, lines_wanted, nothing, write_count, AreWithin, of_seat, held_at, Plain, Program, in_segment, in_window, in_register, located, lines_at, Registers, located_by, virtual_at, Access, lines_of_access, registers_of_program, TurnEnd, ending_told, Counts, AreConsistent, AreDistinct, filter-short, AreOfPage, Reach, private_segment, is_private, offset_of, place_at, Activity, live_in, program_in, entries, store_over, AreOfPages, IsSound, IsKept, IsToServe, AreTouched, attempt_in, lines_with, IsOver, instruction_in, rolled, RollsBack, HasEnded, Touch, lines_between, pages_wanted, wants_of, AreWanted, ◌≡◌, refl, ℕ, zero, suc, ◌+◌, ◌-◌, ◌/◌, ◌%◌, ◌^◌, ◌<◌, ◌≤◌, ◌==◌, ◌||◌, ◌&&◌, nat_le, nat_lt, not, if◌then◌else◌, Bool, true, false, List, [], ◌∷◌, ◌++◌, length, slice_index_or, Option, Some, None, Result, Ok, Err}
 use Rattle.flat_machine.specs.declared.machine.Located.{Located}
 use Rattle.flat_machine.specs.declared.machine.Located.TheVariants.{Private, Shared, Refused}
 use Rattle.flat_machine.specs.declared.machine.Window.{Window}
@@ -286,11 +285,7 @@ module _ (a : Activity) (seat : ℕ) (sound : IsSound a) where
           others : first.page ≡ second.page → ⊥
           others same =
               both_ways (second.page == first.page)
-              (or_none (second.page == first.page) (subst (λ (t : Touch). AreDistinct (pages_wanted (wants_of t))) is wanted.once).0) (eq-eqb second.page first.page (sym same))
-            where
-              or_none : (b : Bool) → (b || false) ≡ false → b ≡ false
-              or_none true e = e
-              or_none false e = e
+              (or_parts (second.page == first.page) false (subst (λ (t : Touch). AreDistinct (pages_wanted (wants_of t))) is wanted.once).0).0 (eq-eqb second.page first.page (sym same))
 
 -- Past the limit who sits in the seat is rolled back, and the turn ends with that.
 pub over-limit : (a now : Activity) (seat : ℕ) (wants : List Want) (end : TurnEnd) → now ≡ rolled a seat now.reach.pool

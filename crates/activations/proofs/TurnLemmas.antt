@@ -3,7 +3,7 @@ use Rattle.activations.proofs.Common.{◌≡◌, refl, ℕ, suc, ◌+◌, ◌-�
 use Rattle.desk_law.proofs.TurnLoop.{turning-goes, turning-ends, turning-commits, turning-limit}
 use Rattle.desk.specs.declared.answers.TurnEnd.TheVariants as end
 use Rattle.desk_law.proofs.TurnLoop as law
-use Rattle.activations.proofs.KeptLemmas.{keeps-less, keeps-on}
+use Rattle.activations.proofs.KeptLemmas.{keeps-less, keeps-on, keeps-two}
 use Rattle.activations.proofs.RowLemmas.{orderly-order}
 use Rattle.activations.proofs.SittingLemmas.{number-counted}
 
@@ -103,15 +103,7 @@ module _ (begins : Word → Turning) (a : Activity) (seat left : ℕ) (committed
   pub turn-ends : {W : Type 0} (G : Ghosts W) (start now : W) (old new : Tally) (end : TurnEnd) (after : Activity) → counts.pages ≡ old.pages → old.pages ≤ new.pages
       → IsEndOfRows G start now old new end → HasEnded end (instruction_in a seat committed order counts) after committed order (counts_of new) → HasEnded end begins after committed order (counts_of new)
   turn-ends G start now old new end.Disk after same grows rows ended = let less = rows.1 in broken after (counts_of new) (omega (arith, same, less)) ended
-  turn-ends G start now old new end.Idle after same grows rows ended = absurd rows
-  turn-ends G start now old new (end.Committed number steps) after same grows rows ended = absurd rows
-  turn-ends G start now old new (end.Closed doubt number) after same grows rows ended = absurd rows
-  turn-ends G start now old new end.Shut after same grows rows ended = absurd rows
-  turn-ends G start now old new end.Limit after same grows rows ended = λ printed. over after (counts_of new) (ending_told end.Limit printed) (omega (arith, same, grows)) (ended printed)
-  turn-ends G start now old new (end.Checked code address) after same grows rows ended = λ printed. over after (counts_of new) (ending_told (end.Checked code address) printed) (omega (arith, same, grows)) (ended printed)
-  turn-ends G start now old new (end.Waits number holders) after same grows rows ended = λ printed. over after (counts_of new) (ending_told (end.Waits number holders) printed) (omega (arith, same, grows)) (ended printed)
-  turn-ends G start now old new end.Victim after same grows rows ended = λ printed. over after (counts_of new) (ending_told end.Victim printed) (omega (arith, same, grows)) (ended printed)
-  turn-ends G start now old new (end.Journal lines most) after same grows rows ended = λ printed. over after (counts_of new) (ending_told (end.Journal lines most) printed) (omega (arith, same, grows)) (ended printed)
+  turn-ends G start now old new end after same grows rows ended = λ printed. over after (counts_of new) (ending_told end printed) (omega (arith, same, grows)) (ended printed)
 
 -- no rows are left
 pub turn-limit : (begins : Word → Turning) (a : Activity) (seat : ℕ) (committed : List ℕ) (order : List (ℕ × ℕ)) (counts : Counts) → IsTurning begins a seat 0 committed order counts → IsOver begins a committed order counts Limit
@@ -137,6 +129,7 @@ pub keeps-far : (first old mid new : Activity) (limit left rows : ℕ) → rows 
 keeps-far first old mid new limit left rows few within so_far step more =
     subst (KeepsParts first new) (omega (arith, few, within)) (keeps-on first mid new (limit - left + 0) rows (keeps-on first old mid (limit - left) 0 so_far step) more)
 
-pub keeps-within : (a old new : Activity) (seat limit left : ℕ) → KeepsParts (selected_in a seat) old (limit - left) → KeepsParts old new 0 → KeepsParts a new limit
-keeps-within a old new seat limit left so_far step =
-    keeps-selected a new seat limit (keeps-less (selected_in a seat) new (limit - left + 0) limit (omega arith) (keeps-on (selected_in a seat) old new (limit - left) 0 so_far step))
+pub keeps-within : (a first old back new : Activity) (seat limit left : ℕ) → first ≡ selected_in a seat → KeepsParts first old (limit - left) → KeepsParts old back 0 → KeepsParts back new 0 → KeepsParts a new limit
+keeps-within a first old back new seat limit left shape so_far step more =
+    keeps-selected a new seat limit
+    (subst (λ (x : Activity). KeepsParts x new limit) shape (keeps-less first new (limit - left + 0) limit (omega arith) (keeps-on first old new (limit - left) 0 so_far (keeps-two old back new step more))))

@@ -1,5 +1,5 @@
 -- Pages that go out one after another, their lines forgotten.
-use Rattle.activations.proofs.Common.{◌≡◌, refl, ℕ, ◌%◌, ◌<◌, ◌==◌, ◌&&◌, ◌||◌, not, if◌then◌else◌, Bool, true, false, List, [], ◌∷◌, ◌++◌, filter, length, slice_index, slice_index_or, slice_set, Option, Some, None, is_some, option_map_or, arith, ap, sym, ◌∙◌, get_or-set_same, get_or-set_other, eqb-true, eq-eqb, both_ways, or_left, or_right, Layout, byte_count, page_count, line_of, difference, is_in_where-below, has, page_of_line, taken_out, has-append, Pool, marks_at, frame_at, undone, settled, gone, is_line_marked, bytes_over, Fits, UndoForgets, is_among, is_of, WereUndone, AreAsCommitted}
+use Rattle.activations.proofs.Common.{or-false, and-true, ◌≡◌, refl, ℕ, ◌%◌, ◌<◌, ◌==◌, ◌&&◌, ◌||◌, not, if◌then◌else◌, Bool, true, false, List, [], ◌∷◌, ◌++◌, filter, length, slice_index, slice_index_or, slice_set, Option, Some, None, is_some, option_map_or, arith, ap, sym, ◌∙◌, get_or-set_same, get_or-set_other, eqb-true, eq-eqb, both_ways, or_left, or_right, Layout, byte_count, page_count, line_of, difference, is_in_where-below, has, page_of_line, taken_out, has-append, Pool, marks_at, frame_at, undone, settled, gone, is_line_marked, bytes_over, Fits, UndoForgets, is_among, is_of, WereUndone, AreAsCommitted}
 
 filter-then : (p q : ℕ → Bool) (xs : List ℕ) → filter p (filter q xs) ≡ filter (λ x. q x && p x) xs
 filter-then p q [] = refl
@@ -19,25 +19,27 @@ filter-alike p q (x ∷ xs) same =
     then x ∷ filter-alike p q xs (λ y inside. same y (or_right (x == y) (has xs y) inside)) i
     else filter-alike p q xs (λ y inside. same y (or_right (x == y) (has xs y) inside)) i
 
+-- what is in neither of two
+pub neither-of : (m a b : Bool) → ((m && not a) && not b) ≡ (m && not (a || b))
+neither-of true true b = refl
+neither-of true false b = refl
+neither-of false a b = refl
+
 -- a page more goes out
 taken-then : (pages : List ℕ) (page : ℕ) (resident : List ℕ) → taken_out (page ∷ []) (taken_out pages resident) ≡ taken_out (pages ++ page ∷ []) resident
 taken-then pages page resident =
     filter-then (λ one. not (has (page ∷ []) one)) (λ one. not (has pages one)) resident
     ∙ filter-alike (λ one. not (has pages one) && not (has (page ∷ []) one)) (λ one. not (has (pages ++ page ∷ []) one)) resident
-    (λ one inside. neither (has pages one) (has (page ∷ []) one) ∙ sym (ap not (has-append pages (page ∷ []) one)))
-  where
-    neither : (a b : Bool) → (not a && not b) ≡ not (a || b)
-    neither true b = refl
-    neither false b = refl
+    (λ one inside. neither-of true (has pages one) (has (page ∷ []) one) ∙ sym (ap not (has-append pages (page ∷ []) one)))
+
+pub filter-all : (xs : List ℕ) → filter (λ one. true) xs ≡ xs
+filter-all [] = refl
+filter-all (x ∷ xs) = ap (λ (these : List ℕ). x ∷ these) (filter-all xs)
 
 -- one that isn't resident takes none out
 taken-none : (page : ℕ) (resident : List ℕ) → has resident page ≡ false → resident ≡ taken_out (page ∷ []) resident
 taken-none page resident out = sym (filter-all resident) ∙ filter-alike (λ one. true) (λ one. not (has (page ∷ []) one)) resident (λ one inside. by_test one inside (page == one) refl)
   where
-    filter-all : (xs : List ℕ) → filter (λ one. true) xs ≡ xs
-    filter-all [] = refl
-    filter-all (x ∷ xs) = ap (λ (these : List ℕ). x ∷ these) (filter-all xs)
-
     by_test : (one : ℕ) → has resident one ≡ true → (same : Bool) → (page == one) ≡ same → true ≡ not (same || false)
     by_test one inside true e = absurd (both_ways (has resident page) out (ap (has resident) (eqb-true page one e) ∙ inside))
     by_test one inside false e = refl
@@ -60,11 +62,7 @@ of-then lines pages page line =
         either true false = refl
         either false true = refl
         either false false = refl
-    by_test true false e = or_nothing (has (lines (page_of_line line)) (line % 16))
-      where
-        or_nothing : (w : Bool) → w ≡ (w || false)
-        or_nothing true = refl
-        or_nothing false = refl
+    by_test true false e = sym (or-false (has (lines (page_of_line line)) (line % 16)))
     by_test false false e = refl
 
 by_frame : {A : Type 0} → (part : Pool → A) (in_frame : ℕ → Pool) (other : Pool) (value : A) (frame : Option ℕ)
@@ -109,11 +107,7 @@ module _ (directory : Layout) (pool : Pool) (fits : Fits directory pool) (page :
           ∙ ap (λ (p : ℕ). has (marks_at pool p) (line % 16) && not (has lines (line % 16))) at
       by_test false e =
           ap (λ (set : List ℕ). has set (line % 16)) (get_or-set_other pool.marked page (page_of_line line) (difference (marks_at pool page) lines) [] (λ same. both_ways (page == page_of_line line) e (eq-eqb page (page_of_line line) (sym same))))
-          ∙ sym (and_yes (has (marks_at pool (page_of_line line)) (line % 16)))
-        where
-          and_yes : (b : Bool) → (b && true) ≡ b
-          and_yes true = refl
-          and_yes false = refl
+          ∙ sym (and-true (has (marks_at pool (page_of_line line)) (line % 16)))
 
 -- One page more: its lines are forgotten too.
 module _ (directory : Layout) (lines : ℕ → List ℕ) (pages : List ℕ) (old pool : Pool) (fits : Fits directory pool) (page : ℕ) (below : page < page_count directory) where
@@ -123,7 +117,7 @@ module _ (directory : Layout) (lines : ℕ → List ℕ) (pages : List ℕ) (old
         ap (λ (marked : List (List ℕ)). has (slice_index_or marked (page_of_line line) []) (line % 16)) (gone-marks (settled pool page (lines page)) page)
         ∙ settled-marks directory pool fits page below (lines page) line
         ∙ ap (λ (b : Bool). b && not ((page == page_of_line line) && has (lines page) (line % 16))) (were.marks line)
-        ∙ neither (is_line_marked old line) (is_of pages lines line) ((page == page_of_line line) && has (lines page) (line % 16))
+        ∙ neither-of (is_line_marked old line) (is_of pages lines line) ((page == page_of_line line) && has (lines page) (line % 16))
         ∙ sym (ap (λ (b : Bool). is_line_marked old line && not b) (of-then lines pages page line));
     resident =
         gone-resident (settled pool page (lines page)) page (fits.seen.resident page)
@@ -132,11 +126,6 @@ module _ (directory : Layout) (lines : ℕ → List ℕ) (pages : List ℕ) (old
     size = gone-size (settled pool page (lines page)) page ∙ were.size;
     frames = gone-frames (settled pool page (lines page)) page ∙ were.frames;
   }
-    where
-      neither : (m a b : Bool) → ((m && not a) && not b) ≡ (m && not (a || b))
-      neither true true b = refl
-      neither true false b = refl
-      neither false a b = refl
 
   pub are-as-committed : UndoForgets → (committed : List ℕ) → length committed ≡ byte_count directory
       → AreAsCommitted directory lines pages old pool committed → AreAsCommitted directory lines (pages ++ page ∷ []) old (undone pool page (lines page)) committed

@@ -1,5 +1,6 @@
 -- A seat that is left: its entry goes, and its pages are nobody's.
-use Rattle.activations.proofs.Common.{◌≡◌, refl, ℕ, zero, suc, ◌+◌, ◌<◌, ◌≤◌, ◌==◌, not, nat_lt, if◌then◌else◌, Bool, true, false, List, [], ◌∷◌, length, map, slice_index_or, slice_set, range_with_len, arith, ap, sym, ◌∙◌, subst, inl, inr, get_or-set_same, get_or-set_other, eqb-true, eqb-false, both_ways, and_parts, and_from, and_cases, not-true, nat_tests, length-map, length-set, get_or-map, get_or_past, All-filter, passing, IsOfPage, has, has-filter, Authority, unowned, cleared_entry, nobody, StandsFor, owners_told, freed-told, others, told-others, sitter, number_in, left, taken-below, kept-left, same-with, other-with, of_page, nothing, of_seat, no_lines_of, released, Activity, authority_of, authority_at, authority_under, authority_told, number_under, entry_in, entries, IsSound, IsIdentified, AreOfPages, vacated}
+use Rattle.activations.proofs.Common.{not-false, ◌≡◌, refl, ℕ, zero, suc, ◌+◌, ◌<◌, ◌≤◌, ◌==◌, not, nat_lt, if◌then◌else◌, Bool, true, false, List, [], ◌∷◌, length, map, slice_index_or, slice_set, range_with_len, arith, ap, sym, ◌∙◌, subst, inl, inr, get_or-set_same, get_or-set_other, eqb-true, eqb-false, both_ways, and_parts, and_from, and_cases, not-true, nat_tests, length-map, length-set, get_or-map, get_or_past, All-filter, passing, IsOfPage, has, has-filter, Authority, unowned, cleared_entry, nobody, StandsFor, owners_told, freed-told, others, told-others, sitter, number_in, left, taken-below, kept-left, same-with, other-with, of_page, nothing, of_seat, no_lines_of, released, Activity, authority_of, authority_at, authority_under, authority_told, number_under, entry_in, entries, IsSound, IsIdentified, AreOfPages, vacated}
+use Rattle.std.proofs.lemmas.Simd.{map-map}
 use Rattle.desk.specs.Desk as desk
 use Rattle.activations.proofs.TableLemmas.{nobody-page}
 
@@ -16,17 +17,13 @@ map-range f g from zero same = refl
 map-range f g from (suc count) same =
     λ i. same from (omega arith) (omega arith) i ∷ map-range f g (from + 1) count (λ page above below. same page (omega (arith, above)) (omega (arith, below))) i
 
-map-then : (f : desk.Authority → desk.Authority) (g : ℕ → desk.Authority) (pages : List ℕ) → map f (map g pages) ≡ map (λ page. f (g page)) pages
-map-then f g [] = refl
-map-then f g (page ∷ pages) = ap (λ (rest : List desk.Authority). f (g page) ∷ rest) (map-then f g pages)
-
 -- the pages of an identifier that is cleared are nobody's
 pub cleared-under : (owned : List Authority) (tid : ℕ) → authority_under (map (cleared_entry tid) owned) ≡ map (λ (one : desk.Authority). if one.owner == tid then nobody else one) (authority_under owned)
 cleared-under owned tid =
     ap (λ (n : ℕ). map (authority_at (map (cleared_entry tid) owned)) (range_with_len 0 n)) (length-map owned (cleared_entry tid))
     ∙ map-range (authority_at (map (cleared_entry tid) owned)) (λ page. if (authority_at owned page).owner == tid then nobody else authority_at owned page) 0 (length owned)
     (λ page above below. ap (authority_of page) (get_or-map (cleared_entry tid) owned page unowned unowned (omega (arith, below))) ∙ cleared-told page tid (slice_index_or owned page unowned))
-    ∙ sym (map-then (λ (one : desk.Authority). if one.owner == tid then nobody else one) (authority_at owned) (range_with_len 0 (length owned)))
+    ∙ sym (map-map (λ (one : desk.Authority). if one.owner == tid then nobody else one) (authority_at owned) (range_with_len 0 (length owned)))
 
 -- nothing is of pages
 pub none-of-page : (pages page : ℕ) → of_page (no_lines_of pages) page ≡ nothing
@@ -43,10 +40,6 @@ none-of-pages pages = record {
   reads = λ page. subst (λ (held : List ℕ × List ℕ). IsOfPage held.0) (sym (none-of-page pages page)) no-line-of-page;
   writes = λ page. subst (λ (held : List ℕ × List ℕ). IsOfPage held.1) (sym (none-of-page pages page)) no-line-of-page;
 }
-
-not_from_not : (b : Bool) → not b ≡ false → b ≡ true
-not_from_not true e = refl
-not_from_not false e = sym e
 
 module _ (a : Activity) (seat : ℕ) (sound : IsSound a) (taken : has a.seating.taken seat ≡ true) where
   below : seat < 16
@@ -118,7 +111,7 @@ module _ (a : Activity) (seat : ℕ) (sound : IsSound a) (taken : has a.seating.
           ∙ sound.free at
           (elim (and_cases (has a.seating.taken at) (not (at == seat)) (sym (has-filter (λ other. not (other == seat)) a.seating.taken at) ∙ gone)) [
             | inl none ↦ none
-            | inr same ↦ absurd (both_ways (at == seat) e (not_from_not (at == seat) same))
+            | inr same ↦ absurd (both_ways (at == seat) e (not-false (at == seat) same))
           ])
 
       out : (page : ℕ) → nat_lt page (length a.reach.entries) ≡ false → length (map (cleared_entry (seat + 1)) a.reach.entries) ≤ page

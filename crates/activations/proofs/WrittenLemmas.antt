@@ -1,10 +1,9 @@
 -- The pages into which a seat wrote, one after another.
-use Rattle.activations.proofs.Common.{arith, ap, sym, ◌∙◌, subst, eq-eqb, both_ways, and_parts, and_from, or_left, or_right, nat_tests, append-nil, take_more, get_or_past, All-get_or, filter-append, Layout, byte_count, page_count, line_of, has, page_of_line, has-filter, holds_some, nothing, Holding, IsWhole, held_at, of_seat, has-at, Pool, undone, settled, Reach, IsClean, is_line_marked, bytes_over, Fits, Keeps, HasUndone, HasSettled, WereUndone, AreAsCommitted, WereSettled}
-use Rattle.std.specs.Prelude.{◌≡◌, refl, ℕ, suc, ◌+◌, ◌%◌, ◌<◌, ◌==◌, ◌&&◌, nat_lt, not, if◌then◌else◌, Bool, true, false, List, [], ◌∷◌, ◌++◌, filter, length, slice_index, take, slice_index_or}
+use Rattle.activations.proofs.Common.{inr, inl, cases_lt, and-true, arith, ap, sym, ◌∙◌, subst, eq-eqb, both_ways, and_parts, and_from, or_left, or_right, nat_tests, append-nil, take_more, get_or_past, All-get_or, filter-append, Layout, byte_count, page_count, line_of, has, page_of_line, has-filter, holds_some, nothing, Holding, IsWhole, held_at, of_seat, has-at, Pool, undone, settled, Reach, IsClean, is_line_marked, bytes_over, Fits, Keeps, HasUndone, HasSettled, WereUndone, AreAsCommitted, WereSettled, ◌≡◌, refl, ℕ, suc, ◌+◌, ◌%◌, ◌<◌, ◌==◌, not, if◌then◌else◌, Bool, true, false, List, [], ◌∷◌, ◌++◌, filter, length, slice_index, take, slice_index_or}
 use Rattle.storage_unit.proofs.UndoForgets.{undo-forgets}
 use Rattle.storage_unit.proofs.SettleKeeps.{settle-keeps}
 use Rattle.activations.proofs.CommitLemmas.{were-settled, settled-unseen}
-use Rattle.activations.proofs.UndoLemmas.{were-undone, are-as-committed}
+use Rattle.activations.proofs.UndoLemmas.{filter-all, were-undone, are-as-committed}
 
 -- the lines of a page that a seat holds to write
 abbrev pub lines_of : Holding → (seat page : ℕ) → List ℕ
@@ -29,27 +28,19 @@ pub record SettledSo (lines : ℕ → List ℕ) (pages : List ℕ) (old new : Re
       → slice_index (bytes_over old.directory old.pool committed) place ≡ slice_index committed place)
       → Keeps old.directory old.pool new.pool committed
 
-and_yes : (b : Bool) → b ≡ (b && true)
-and_yes true = refl
-and_yes false = refl
-
-filter-all : (xs : List ℕ) → xs ≡ filter (λ one. true) xs
-filter-all [] = refl
-filter-all (x ∷ xs) = ap (λ (these : List ℕ). x ∷ these) (filter-all xs)
-
 -- one more
 module _ (lines : ℕ → List ℕ) (old : Reach) where
   pub undone-none : UndoneSo lines [] old old
   undone-none = record {
     rest = refl;
-    were = record { marks = λ line. and_yes (is_line_marked old.pool line); resident = filter-all old.pool.resident; bytes = refl; size = refl; frames = refl };
+    were = record { marks = λ line. sym (and-true (is_line_marked old.pool line)); resident = sym (filter-all old.pool.resident); bytes = refl; size = refl; frames = refl };
     are = λ committed long clean. record { bytes = λ place within. refl; clean = clean };
   }
 
   pub settled-none : SettledSo lines [] old old
   settled-none = record {
     rest = refl;
-    were = record { marks = λ line. and_yes (is_line_marked old.pool line); rest = refl };
+    were = record { marks = λ line. sym (and-true (is_line_marked old.pool line)); rest = refl };
     keeps = λ committed clean as_committed. record { same = refl; clean = clean };
   }
 
@@ -92,15 +83,13 @@ written-more lines pages at before some wrote =
 
 -- a page of which something is held is one of the store's
 pub held-below : (holding : Holding) (seat page : ℕ) → IsWhole holding → seat < 16 → holds_some (held_at holding seat page) ≡ true → page < holding.pages
-held-below holding seat page whole below some = by_test (nat_lt page holding.pages) refl
+held-below holding seat page whole below some = elim (cases_lt page holding.pages) [
+  | inl inside ↦ inside
+  | inr past ↦ absurd (both_ways (holds_some (held_at holding seat page)) (ap holds_some (get_or_past (of_seat holding seat) page nothing (omega (arith, past, long)))) some)
+]
   where
     long : length (of_seat holding seat) ≡ holding.pages
     long = All-get_or (λ one. length one ≡ holding.pages) holding.seats seat [] (omega (arith, below, whole.0)) whole.1
-
-    by_test : (inside : Bool) → nat_lt page holding.pages ≡ inside → page < holding.pages
-    by_test true e = grind (arith, nat_tests, e)
-    by_test false e =
-        absurd (both_ways (holds_some (held_at holding seat page)) (ap holds_some (get_or_past (of_seat holding seat) page nothing (grind (arith, nat_tests, e, long)))) some)
 
 pub page-held : (holding locks : Holding) (seat : ℕ) (pages : List ℕ) (at : ℕ) → locks ≡ holding → IsWhole holding → seat < 16 → at < length pages
     → ((page : ℕ) → has pages page ≡ holds_some (held_at locks seat page)) → slice_index_or pages at 0 < holding.pages
@@ -108,12 +97,13 @@ page-held holding locks seat pages at is whole below before each =
     held-below holding seat (slice_index_or pages at 0) whole below
     (ap (λ (h : Holding). holds_some (held_at h seat (slice_index_or pages at 0))) (sym is) ∙ sym (each (slice_index_or pages at 0)) ∙ has-at pages at 0 before)
 
+-- who holds a line of a page holds some
+pub some-line : (set : List ℕ) (line : ℕ) → has set line ≡ true → not (length set == 0) ≡ true
+some-line [] line inside = absurd (both_ways false refl inside)
+some-line (x ∷ set) line inside = let some : (suc (length set) == 0) ≡ false = grind (arith, nat_tests) in ap not some
+
 -- all that were written into
 module _ (holding : Holding) (seat : ℕ) (pages : List ℕ) (each : (page : ℕ) → has pages page ≡ holds_some (held_at holding seat page)) where
-  some-line : (set : List ℕ) (line : ℕ) → has set line ≡ true → not (length set == 0) ≡ true
-  some-line [] line inside = absurd (both_ways false refl inside)
-  some-line (x ∷ set) line inside = let some : (suc (length set) == 0) ≡ false = grind (arith, nat_tests) in ap not some
-
   first-line : (set : List ℕ) → not (length set == 0) ≡ true → (line : ℕ) × (has set line ≡ true)
   first-line [] some = absurd (both_ways false refl some)
   first-line (x ∷ set) some = (x, or_left (x == x) (has set x) (eq-eqb x x refl))

@@ -55,6 +55,11 @@ each_refused owned tid Touch.Nothing = (false, false)
 each_refused owned tid (Touch.One want) = (refuses_want owned tid want, false)
 each_refused owned tid (Touch.Two first second) = (refuses_want owned tid first, refuses_want owned tid second)
 
+-- whether a touch is of one page, whose entry refuses an identifier none of its lines
+abbrev pub is_granted : List Authority → (tid : ℕ) → Touch → Bool
+is_granted owned tid (Touch.One want) = not (refuses_want owned tid want)
+is_granted owned tid touch = false
+
 -- the pages of which one is refused
 abbrev pub pages_refused : List Authority → (tid : ℕ) → List Want → List ℕ
 pages_refused owned tid wants = pages_wanted (filter (refuses_want owned tid) wants)

@@ -55,6 +55,11 @@ pub record IsTurning (begins : Word → Turning) (a : Activity) (seat left : ℕ
   pub comes : (word : Word) → Reads word counts.pages → begins word ≡ turn_in a seat left committed order counts word
   pub follows : Follows a committed
 
+-- that, or the turn came to its end
+abbrev pub ComesBack : {U : Type 0} → Result U TurnEnd → (begins : Word → Turning) → Activity → (seat left : ℕ) → (committed : List ℕ) → (order : List (ℕ × ℕ)) → Counts → Type 0
+ComesBack (Ok shut) begins a seat left committed order counts = IsTurning begins a seat left committed order counts
+ComesBack (Err end) begins a seat left committed order counts = HasEnded end begins a committed order counts
+
 -- a seat is selected
 abbrev pub selected_in : Activity → (seat : ℕ) → Activity
 selected_in a seat = record a { reach = record a.reach { registers = (live_in a seat).registers; runner = seat + 1 } }

@@ -69,7 +69,7 @@ impl Activations {
         requires store { store.now.header.directory ≡ (activity_of self.old).reach.directory }
         requires room { HoldsAtLeast W.Outside (total store.now.header) outside.old }
         requires cycles { array_vec_len tally.old.cycles + length (activity_of self.old).seating.taken ≤ 16 }
-        requires tally { (tally.old.pages < 4000000) × (tally.old.locks < 2000000) }
+        requires tally { (tally.old.pages < 6000000) × (tally.old.locks < 2000000) }
         ensures sound { IsSound (activity_of self.new) }
         ensures asks { OnlyAsks W.Outside outside.old outside.new }
         ensures parts { KeepsParts (activity_of self.old) (activity_of self.new) 0 }
@@ -120,7 +120,7 @@ impl Activations {
         requires store { store.now.header.directory ≡ (activity_of self.old).reach.directory }
         requires room { HoldsAtLeast W.Outside (total store.now.header) outside.old }
         requires cycles { array_vec_len tally.old.cycles + length (activity_of self.old).seating.taken ≤ 16 }
-        requires tally { (tally.old.pages < 4000000) × (tally.old.locks < 2000000) }
+        requires tally { (tally.old.pages < 6000000) × (tally.old.locks < 2000000) }
         ensures sound { IsSound (activity_of self.new) }
         ensures asks { OnlyAsks W.Outside outside.old outside.new }
         ensures parts { KeepsParts (activity_of self.old) (activity_of self.new) 0 }
@@ -161,7 +161,7 @@ impl Activations {
         requires shut { IsShut (activity_of self.old) seat access }
         requires store { store.now.header.directory ≡ (activity_of self.old).reach.directory }
         requires room { HoldsAtLeast W.Outside (total store.now.header) outside.old }
-        requires tally { (tally.old.pages < 4000000) × (tally.old.locks < 2000000) }
+        requires tally { (tally.old.pages < 6000000) × (tally.old.locks < 2000000) }
         ensures sound { IsSound (activity_of self.new) }
         ensures wanted { IfOk result (λ got. AreWanted (activity_of self.new).reach.directory (wants_of got.0)) }
         ensures asks { OnlyAsks W.Outside outside.old outside.new }
@@ -191,7 +191,7 @@ impl Activations {
     ///
     /// A page can't be read: who sits in the seat is rolled back, and no page is resident.
     #[inline(always)]
-    fn bring<W: Outside>(
+    pub(super) fn bring<W: Outside>(
         &mut self,
         store: &Durable,
         outside: &mut W,

@@ -4,7 +4,7 @@ ghost use Rattle.std.specs.List.{list_any};
 ghost use Rattle.line_locks.specs.Held.{AreWithin};
 ghost use Rattle.line_geometry.specs.Directory.{page_count};
 ghost use Rattle.lockbit_rules.specs.Entries.{entry_of, lets};
-ghost use Rattle.activations.specs.Touched.{wants_of, refuses_want, each_refused};
+ghost use Rattle.activations.specs.Touched.{wants_of, refuses_want, each_refused, is_granted};
 
 use super::activations::Activations;
 use super::touch::Touch;
@@ -27,6 +27,20 @@ impl Activations {
             Touch::Nothing => (false, false),
             Touch::One(only) => (self.refuses(seat, only), false),
             Touch::Two(first, second) => (self.refuses(seat, first), self.refuses(seat, second)),
+        }
+    }
+
+    /// Whether a touch is of one page, whose entry refuses who sits in a seat none of its lines.
+    #[inline(always)]
+    #[tactic(auto, using(crate::proofs::GrantingLemmas::one_within))]
+    pub(super) fn is_granted(&self, seat: u8, touch: &Touch) -> bool
+        requires seat { seat < 16 }
+        requires pages { AreWithin (page_count (activity_of self.now).reach.directory) (wants_of touch.now) }
+        ensures { result ≡ is_granted (activity_of self.now).reach.entries (seat + 1) touch.now }
+    {
+        match touch {
+            Touch::One(only) => !self.refuses(seat, only),
+            Touch::Nothing | Touch::Two(..) => false,
         }
     }
 

@@ -54,7 +54,7 @@ impl Activations {
 
     /// Where an access of who sits in a seat lies.
     #[inline(always)]
-    fn locate(&self, seat: u8, access: Access) -> Result<Virtual, Check>
+    pub(super) fn locate(&self, seat: u8, access: Access) -> Result<Virtual, Check>
         requires sound { IsSound (activity_of self.now) }
         requires taken { has (activity_of self.now).seating.taken seat ≡ true }
         ensures { result ≡ located_by (live_in (activity_of self.now) seat).registers access.address access.bytes access.store }

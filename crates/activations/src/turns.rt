@@ -1,11 +1,13 @@
 // The rows of a turn, one after another.
-ghost use Rattle.std.specs.Prelude.{◌≡◌, ◌+◌, ◌<◌, ◌≤◌, ◌^◌, ℕ, List, true, length, IfErr, OnOk};
+ghost use Rattle.std.specs.Prelude.{◌≡◌, ◌+◌, ◌<◌, ◌≤◌, ◌^◌, ℕ, List, true, length, IfErr, IfOk, OnOk};
 ghost use Rattle.arrayvec.specs.ArrayVec.{array_vec_len};
 ghost use Rattle.lock_rules.specs.Sets.{has};
+ghost use Rattle.outside.specs.Causes.{Rose};
 ghost use Rattle.outside.specs.Runs.{OnlyAsks};
 ghost use Rattle.redo_journal.specs.Held.{HoldsAtLeast};
 ghost use Rattle.store_format.specs.Header.{total};
 ghost use Rattle.desk.specs.Instruction.{Word, Counts, Turning};
+ghost use Rattle.desk.specs.declared.answers.TurnEnd.TheVariants as end;
 
 use super::activations::Activations;
 use super::instructions::Went;
@@ -24,7 +26,7 @@ impl Activations {
     ghost use Rattle.activations.specs.Kept.{KeepsParts, AreRowsWithin, StaysSeated};
     ghost use Rattle.activations.specs.Steps.{counted};
     ghost use Rattle.activations.specs.Turning.{counts_of};
-    ghost use Rattle.activations.specs.Turns.{AreTurns, IsTurning, MayBeShut, turn_in, selected_in};
+    ghost use Rattle.activations.specs.Turns.{AreTurns, ComesBack, IsTurning, MayBeShut, turn_in, selected_in};
     ghost use Rattle.activations.specs.View.{activity_of};
     ghost use Rattle.seats.specs.Seating.{number_in};
 
@@ -66,7 +68,8 @@ impl Activations {
         let mut left = limit;
         let mut shut = None;
         while left > 0 {
-            match self.instruct(store, outside, seat, shut, tally)? {
+            let shut_still = self.come_back(store, outside, seat, shut, tally)?;
+            match self.instruct(store, outside, seat, shut_still, tally)? {
                 Went::AtCommit => return Ok(()),
                 Went::On => {
                     let (ran, access) = self.go_far(seat, left - 1, tally);
@@ -76,6 +79,62 @@ impl Activations {
             }
         }
         Err(TurnEnd::Limit)
+    }
+
+    /// The page of an access that isn't permitted comes in, where its entry refuses no line of it. Else that access is answered.
+    ///
+    /// # Errors
+    ///
+    /// The end of the turn: the page can't be read.
+    #[inline(always)]
+    fn come_back<W: Outside>(
+        &mut self,
+        store: &Durable,
+        outside: &mut W,
+        seat: u8,
+        shut: Option<Access>,
+        tally: &mut Tally,
+    ) -> Result<Option<Access>, TurnEnd>
+        requires sound { IsSound (activity_of self.old) }
+        requires taken { has (activity_of self.old).seating.taken seat ≡ true }
+        requires selected { IsSelected (activity_of self.old) seat }
+        requires shut { MayBeShut (activity_of self.old) seat shut }
+        requires store { store.now.header.directory ≡ (activity_of self.old).reach.directory }
+        requires room { HoldsAtLeast W.Outside (total store.now.header) outside.old }
+        requires few { tally.old.pages + 2 < 2 ^ 32 }
+        ensures sound { IsSound (activity_of self.new) }
+        ensures asks { OnlyAsks W.Outside outside.old outside.new }
+        ensures parts { KeepsParts (activity_of self.old) (activity_of self.new) 0 }
+        ensures tally { tally.new ≡ record tally.old { pages = tally.new.pages } }
+        ensures few { (tally.old.pages ≤ tally.new.pages) × (tally.new.pages ≤ tally.old.pages + 2) }
+        ensures stays { OnOk result (StaysSeated (activity_of self.old) (activity_of self.new) seat) }
+        ensures shut { IfOk result (λ still. MayBeShut (activity_of self.new) seat still) }
+        ensures calm { OnOk result (W.disk_faults outside.new ≡ W.disk_faults outside.old) }
+        ensures ends { IfErr result (λ over. (over ≡ end.Disk) × Rose (W.disk_faults outside.old) (W.disk_faults outside.new) × (tally.old.pages < tally.new.pages)) }
+        ensures turns { (begins : Word → Turning) (left : ℕ) (committed : List ℕ) (order : List (ℕ × ℕ)) → 0 < left → IsStoreOf W.Outside store.now outside.old committed → IsTurning begins (activity_of self.old) seat left committed order (counts_of tally.old) → ComesBack result begins (activity_of self.new) seat left committed order (counts_of tally.new) }
+    {
+        let Some(access) = shut else {
+            return Ok(None);
+        };
+        let touch = self.touch_of(seat, access);
+        if !self.is_granted(seat, &touch) {
+            return Ok(shut);
+        }
+        self.bring(store, outside, seat, &touch, tally)?;
+        self.look_up(seat, access);
+        Ok(None)
+    }
+
+    /// The page of an access of who sits in a seat is looked up, so that the next one finds it in the buffer.
+    #[inline(always)]
+    fn look_up(&mut self, seat: u8, access: Access)
+        requires sound { IsSound (activity_of self.old) }
+        requires taken { has (activity_of self.old).seating.taken seat ≡ true }
+        ensures { activity_of self.new ≡ activity_of self.old }
+    {
+        if let Ok(first) = self.locate(seat, access) {
+            self.unit.translate(first);
+        }
     }
 
     /// After a row that took effect and isn't counted yet, the next ones, at most so many, up to one that doesn't go on by

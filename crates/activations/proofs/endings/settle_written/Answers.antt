@@ -1,5 +1,4 @@
-use Rattle.activations.proofs.Common.{take_all, page_count, holds_some, Holding, held_at, Reach, reach_of, unit-sound, sound-fits}
-use Rattle.std.proofs.Common.{◌≡◌, ◌<◌, ℕ, List, sym, ap, ◌∙◌, arith, subst, slice_index_or}
+use Rattle.activations.proofs.Common.{take_all, page_count, holds_some, Holding, held_at, Reach, reach_of, unit-sound, sound-fits, ◌≡◌, ◌<◌, ℕ, List, sym, ap, ◌∙◌, arith, subst, slice_index_or}
 use Rattle.activations.proofs.WrittenLemmas.{SettledSo, settled-none, settled-same, settled-step, page-held, has-settled, lines_of, written_in}
 use Rattle.activations.proofs.endings.settle_written.Goals as goal
 use Rattle.activations.proofs.endings.settle_written.Goals.{then-not-is_empty, else-not-is_empty}

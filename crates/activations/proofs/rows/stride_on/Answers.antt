@@ -1,5 +1,4 @@
-use Rattle.activations.proofs.Common.{Commit, Check, Access, reach_of, Activity, WasAttempted, IsShut, with_live}
-use Rattle.std.proofs.Common.{◌≡◌, ◌∙◌, arith, refl, sym, subst, inl, inr}
+use Rattle.activations.proofs.Common.{Commit, Check, Access, reach_of, Activity, WasAttempted, IsShut, with_live, ◌≡◌, ◌∙◌, arith, refl, sym, subst, inl, inr}
 use Rattle.romp_cpu.specs.declared.cpu.Attempt.{Attempt}
 use Rattle.activations.proofs.GoOnLemmas.{took-either}
 use Rattle.activations.proofs.StrideLemmas.{came-still}
@@ -32,44 +31,36 @@ loop-ran-preserved c =
 
 pub returns-in-Fault-clause-strode : goal.returns-in-Fault-clause-strode
 returns-in-Fault-clause-strode c a seat here =
-    let reach = reach_of c.loop-ran.unit in
-    let new = reach_of c.attempt_on.new.unit in
     let so = c.loop-ran.invariant.1 a seat here in
-    let now = with_live a seat c.loop-ran.live reach in
-    let went = attempted-again a seat c.loop-ran.ran c.loop-ran.live c.attempt_on.new.live reach new so c.attempt_on.result (c.attempt_on.ensures.went now seat so.runs) in
-    strode-same a seat c.loop-ran.ran c.loop-ran.live c.attempt_on.new.live reach new so
-    (subst (λ (attempt : Attempt). WasAttempted attempt now seat (with_live a seat c.attempt_on.new.live new)) c.in-Fault.is went).0
+    let now = with_live a seat c.loop-ran.live (reach_of c.loop-ran.unit) in
+    let went = attempted-again a seat _ _ c.attempt_on.new.live _ (reach_of c.attempt_on.new.unit) so c.attempt_on.result (c.attempt_on.ensures.went now seat so.runs) in
+    strode-same a seat _ _ _ _ _ so
+    (subst (λ (attempt : Attempt). WasAttempted attempt now seat (with_live a seat c.attempt_on.new.live (reach_of c.attempt_on.new.unit))) c.in-Fault.is went).0
 
 pub returns-in-Fault-clause-shut : goal.returns-in-Fault-clause-shut
 returns-in-Fault-clause-shut c access is a seat here =
-    let reach = reach_of c.loop-ran.unit in
-    let new = reach_of c.attempt_on.new.unit in
     let so = c.loop-ran.invariant.1 a seat here in
-    let now = with_live a seat c.loop-ran.live reach in
-    let went = attempted-again a seat c.loop-ran.ran c.loop-ran.live c.attempt_on.new.live reach new so c.attempt_on.result (c.attempt_on.ensures.went now seat so.runs) in
-    let (still, shut) = subst (λ (attempt : Attempt). WasAttempted attempt now seat (with_live a seat c.attempt_on.new.live new)) c.in-Fault.is went in
+    let now = with_live a seat c.loop-ran.live (reach_of c.loop-ran.unit) in
+    let went = attempted-again a seat _ _ c.attempt_on.new.live _ (reach_of c.attempt_on.new.unit) so c.attempt_on.result (c.attempt_on.ensures.went now seat so.runs) in
+    let (still, shut) = subst (λ (attempt : Attempt). WasAttempted attempt now seat (with_live a seat c.attempt_on.new.live (reach_of c.attempt_on.new.unit))) c.in-Fault.is went in
     let same : c.in-Fault.access ≡ access = cc in
-    subst (λ (wants : Access). IsShut (with_live a seat c.attempt_on.new.live new) seat wants) same
+    subst (λ (wants : Access). IsShut (with_live a seat c.attempt_on.new.live (reach_of c.attempt_on.new.unit)) seat wants) same
     (subst (λ (x : Activity). IsShut x seat c.in-Fault.access) (sym still) shut)
 
 pub returns-in-Commit-clause-strode : goal.returns-in-Commit-clause-strode
 returns-in-Commit-clause-strode c a seat here =
-    let reach = reach_of c.loop-ran.unit in
-    let new = reach_of c.attempt_on.new.unit in
     let so = c.loop-ran.invariant.1 a seat here in
-    let now = with_live a seat c.loop-ran.live reach in
-    let went = attempted-again a seat c.loop-ran.ran c.loop-ran.live c.attempt_on.new.live reach new so c.attempt_on.result (c.attempt_on.ensures.went now seat so.runs) in
-    strode-same a seat c.loop-ran.ran c.loop-ran.live c.attempt_on.new.live reach new so
-    (came-either c.attempt_on.result now (with_live a seat c.attempt_on.new.live new) seat c.in-Commit.is went)
+    let now = with_live a seat c.loop-ran.live (reach_of c.loop-ran.unit) in
+    let went = attempted-again a seat _ _ c.attempt_on.new.live _ (reach_of c.attempt_on.new.unit) so c.attempt_on.result (c.attempt_on.ensures.went now seat so.runs) in
+    strode-same a seat _ _ _ _ _ so
+    (came-either c.attempt_on.result now (with_live a seat c.attempt_on.new.live (reach_of c.attempt_on.new.unit)) seat c.in-Commit.is went)
 
 pub returns-in-Commit-clause-stopped : goal.returns-in-Commit-clause-stopped
 returns-in-Commit-clause-stopped c none short a seat here committed long =
-    let reach = reach_of c.loop-ran.unit in
-    let new = reach_of c.attempt_on.new.unit in
     let so = c.loop-ran.invariant.1 a seat here in
-    let now = with_live a seat c.loop-ran.live reach in
-    let after = with_live a seat c.attempt_on.new.live new in
-    let went = attempted-again a seat c.loop-ran.ran c.loop-ran.live c.attempt_on.new.live reach new so c.attempt_on.result (c.attempt_on.ensures.went now seat so.runs) in
+    let now = with_live a seat c.loop-ran.live (reach_of c.loop-ran.unit) in
+    let after = with_live a seat c.attempt_on.new.live (reach_of c.attempt_on.new.unit) in
+    let went = attempted-again a seat _ _ c.attempt_on.new.live _ (reach_of c.attempt_on.new.unit) so c.attempt_on.result (c.attempt_on.ensures.went now seat so.runs) in
     elim c.in-Commit.is [
       | inl is ↦ inl (came-still Commit now after seat (subst (λ (attempt : Attempt). WasAttempted attempt now seat after) is went) committed long)
       | inr (code, is) ↦ inr (code, came-still (Check code) now after seat (subst (λ (attempt : Attempt). WasAttempted attempt now seat after) is went) committed long)

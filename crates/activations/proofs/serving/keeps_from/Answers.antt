@@ -1,5 +1,4 @@
-use Rattle.activations.proofs.Common.{list_any, or_left, or_right, nat_tests, LinesOf, of_page-below, has, Authority, entry_of, lets}
-use Rattle.std.proofs.Common.{◌≡◌, ◌==◌, ◌||◌, ℕ, Bool, List, not, sym, ◌∙◌, ap, arith}
+use Rattle.activations.proofs.Common.{list_any, or_left, or_right, nat_tests, LinesOf, of_page-below, has, Authority, entry_of, lets, ◌≡◌, ◌==◌, ◌||◌, ℕ, Bool, List, not, sym, ◌∙◌, ap, arith}
 use Rattle.activations.proofs.serving.keeps_from.Goals as goal
 
 -- whether a line is kept from an identifier

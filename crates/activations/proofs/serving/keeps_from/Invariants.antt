@@ -1,5 +1,4 @@
-use Rattle.activations.proofs.Common.{list_any, has, entry_of, lets}
-use Rattle.std.proofs.Common.{◌≡◌, ℕ, ◌<◌, not, true}
+use Rattle.activations.proofs.Common.{list_any, has, entry_of, lets, ◌≡◌, ℕ, ◌<◌, not, true}
 use Rattle.activations.proofs.serving.keeps_from.Given as goal
 
 -- the lines so far are let

@@ -1,5 +1,4 @@
-use Rattle.activations.proofs.Common.{Seating, sitter, number_in, holders, desk_over, IsSound, KeepsParts, StaysSeated, IsContested, IsContestEnd, counts_of, activity_of, wants_of, taken-below}
-use Rattle.std.proofs.Common.{◌≡◌, ℕ, IsSome, ap, arith, sym, ◌∙◌, subst}
+use Rattle.activations.proofs.Common.{Seating, sitter, number_in, holders, desk_over, IsSound, KeepsParts, StaysSeated, IsContested, IsContestEnd, counts_of, activity_of, wants_of, taken-below, ◌≡◌, ℕ, IsSome, ap, arith, sym, ◌∙◌, subst}
 use Rattle.std.specs.Result.{IfErr}
 use Rattle.activations.specs.Causes.{IfVictim}
 use Rattle.activations.proofs.AskLemmas.{asked-within, some-holders, sound-asking, asks-now, keeps-asking, stays-asking, asked-whole}

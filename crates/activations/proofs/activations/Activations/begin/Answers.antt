@@ -1,5 +1,4 @@
-use Rattle.activations.proofs.Common.{Begun, reach_of, absent_segment, unit-sound, sound-fits, Activity, program_at, Program, first_registers, clear, registers_of_program, IsSound, activity_of}
-use Rattle.std.proofs.Common.{◌≡◌, ◌+◌, length, refl, sym, ap, ◌∙◌, arith, subst, slice_set, []}
+use Rattle.activations.proofs.Common.{Begun, reach_of, absent_segment, unit-sound, sound-fits, Activity, program_at, Program, first_registers, clear, registers_of_program, IsSound, activity_of, ◌≡◌, ◌+◌, length, refl, sym, ap, ◌∙◌, arith, subst, slice_set, []}
 use Rattle.storage_unit.specs.Served.{begun}
 use Rattle.activations.specs.Begins.{begins, begun_in, given, started}
 use Rattle.desk.specs.declared.answers.Begun.TheVariants

@@ -1,5 +1,4 @@
-use Rattle.activations.proofs.Common.{eq-eqb, ne_eqb, option_map, victim_of, number_in, seat_of, sitter, Seat, cycle_of, seat-found, Victim, Activity, activity_of, Cycle, has, rolled, IsOver, Contests, counts_of, KeepsParts, StaysSeated}
-use Rattle.std.proofs.Common.{◌≡◌, ◌<◌, ◌==◌, true, false, ℕ, List, length, map, IsSome, refl, Some, None, sym, ◌∙◌, ap, arith, subst}
+use Rattle.activations.proofs.Common.{eq-eqb, ne_eqb, option_map, victim_of, number_in, seat_of, sitter, Seat, cycle_of, seat-found, Victim, Activity, activity_of, Cycle, has, rolled, IsOver, Contests, counts_of, KeepsParts, StaysSeated, ◌≡◌, ◌<◌, ◌==◌, true, false, ℕ, List, length, map, IsSome, refl, Some, sym, ◌∙◌, ap, arith, subst}
 use Rattle.activations.proofs.KeptLemmas.{keeps-itself, keeps-rolled, stays-itself, stays-rolled, tally-on}
 use Rattle.activations.proofs.ContendLemmas.{fewer, contests-on, contests-lost, stays-taken, recorded, victim-sits, told-settles, told-stays}
 use Rattle.activations.proofs.activations.Activations.contend.Goals.{in-Some+in_default-seat_of, in_default}
@@ -7,14 +6,12 @@ use Rattle.activations.proofs.activations.Activations.contend.Goals as goal
 
 pub roll_back-requires-clause-taken : goal.roll_back-requires-clause-taken
 roll_back-requires-clause-taken c =
-    let sits : seat_of (activity_of c.loop-members.self).seating (victim_of c.in-Some.members.items) ≡ Some c.in-Some-seat_of.loser =
-    ap (seat_of (activity_of c.loop-members.self).seating) (sym c.greatest-victim.ensures) ∙ sym c.seat_of.ensures ∙ c.in-Some-seat_of.is in
+    let sits = ap (seat_of (activity_of c.loop-members.self).seating) (sym c.greatest-victim.ensures) ∙ sym c.seat_of.ensures ∙ c.in-Some-seat_of.is in
     (seat-found (activity_of c.loop-members.self).seating c.loop-members.invariant.0.seating (victim_of c.in-Some.members.items) c.in-Some-seat_of.loser sits).0
 
 pub returns-then-victim-number-clause-room : goal.returns-then-victim-number-clause-room
 returns-then-victim-number-clause-room c =
-    let sits : seat_of (activity_of c.loop-members.self).seating (victim_of c.in-Some.members.items) ≡ Some c.in-Some-seat_of.loser =
-    ap (seat_of (activity_of c.loop-members.self).seating) (sym c.greatest-victim.ensures) ∙ sym c.seat_of.ensures ∙ c.in-Some-seat_of.is in
+    let sits = ap (seat_of (activity_of c.loop-members.self).seating) (sym c.greatest-victim.ensures) ∙ sym c.seat_of.ensures ∙ c.in-Some-seat_of.is in
     let few = fewer (activity_of c.loop-members.self).seating.taken c.in-Some-seat_of.loser
     (seat-found (activity_of c.loop-members.self).seating c.loop-members.invariant.0.seating (victim_of c.in-Some.members.items) c.in-Some-seat_of.loser sits).0 in
     let less : length (activity_of c.roll_back.new.self).seating.taken < length (activity_of c.loop-members.self).seating.taken = subst (λ (a : Activity). length a.seating.taken < length (activity_of c.loop-members.self).seating.taken) (sym c.roll_back.ensures.shape) few in
@@ -23,8 +20,7 @@ returns-then-victim-number-clause-room c =
 pub returns-then-victim-number-clause-settled : goal.returns-then-victim-number-clause-settled
 returns-then-victim-number-clause-settled c begins attempt refused first committed order number contested printed =
     let found : cycle_of (activity_of c.loop-members.self).seating c.args.seat ≡ Some c.in-Some.members.items = sym c.cycle_from.ensures ∙ ap (option_map (λ cycle. cycle.items)) c.in-Some.is in
-    let sits : seat_of (activity_of c.loop-members.self).seating (victim_of c.in-Some.members.items) ≡ Some c.in-Some-seat_of.loser =
-    ap (seat_of (activity_of c.loop-members.self).seating) (sym c.greatest-victim.ensures) ∙ sym c.seat_of.ensures ∙ c.in-Some-seat_of.is in
+    let sits = ap (seat_of (activity_of c.loop-members.self).seating) (sym c.greatest-victim.ensures) ∙ sym c.seat_of.ensures ∙ c.in-Some-seat_of.is in
     let its : (victim_of c.in-Some.members.items == number_in (activity_of c.loop-members.self).seating c.args.seat) ≡ true =
     eq-eqb (victim_of c.in-Some.members.items) (number_in (activity_of c.loop-members.self).seating c.args.seat) (sym c.greatest-victim.ensures ∙ c.if-victim-number.true ∙ sym c.loop-members.invariant.2) in
     let lost = contests-lost c.args.seat (activity_of c.args.self.now) (activity_of c.loop-members.self) (counts_of c.args.tally.now) (counts_of c.loop-members.tally) c.in-Some.members.items c.in-Some-seat_of.loser (activity_of c.roll_back.new.self).reach.pool
@@ -40,8 +36,7 @@ returns-then-victim-number-clause-parts c =
 
 pub loop-members-smaller : goal.loop-members-smaller
 loop-members-smaller c =
-    let sits : seat_of (activity_of c.loop-members.self).seating (victim_of c.in-Some.members.items) ≡ Some c.in-Some-seat_of.loser =
-    ap (seat_of (activity_of c.loop-members.self).seating) (sym c.greatest-victim.ensures) ∙ sym c.seat_of.ensures ∙ c.in-Some-seat_of.is in
+    let sits = ap (seat_of (activity_of c.loop-members.self).seating) (sym c.greatest-victim.ensures) ∙ sym c.seat_of.ensures ∙ c.in-Some-seat_of.is in
     subst (λ (a : Activity). length a.seating.taken < length (activity_of c.loop-members.self).seating.taken) (sym c.roll_back.ensures.shape)
     (fewer (activity_of c.loop-members.self).seating.taken c.in-Some-seat_of.loser
     (seat-found (activity_of c.loop-members.self).seating c.loop-members.invariant.0.seating (victim_of c.in-Some.members.items) c.in-Some-seat_of.loser sits).0)
@@ -49,8 +44,7 @@ loop-members-smaller c =
 pub loop-members-preserved : goal.loop-members-preserved
 loop-members-preserved c =
     let found : cycle_of (activity_of c.loop-members.self).seating c.args.seat ≡ Some c.in-Some.members.items = sym c.cycle_from.ensures ∙ ap (option_map (λ cycle. cycle.items)) c.in-Some.is in
-    let sits : seat_of (activity_of c.loop-members.self).seating (victim_of c.in-Some.members.items) ≡ Some c.in-Some-seat_of.loser =
-    ap (seat_of (activity_of c.loop-members.self).seating) (sym c.greatest-victim.ensures) ∙ sym c.seat_of.ensures ∙ c.in-Some-seat_of.is in
+    let sits = ap (seat_of (activity_of c.loop-members.self).seating) (sym c.greatest-victim.ensures) ∙ sym c.seat_of.ensures ∙ c.in-Some-seat_of.is in
     let other : (victim_of c.in-Some.members.items == number_in (activity_of c.loop-members.self).seating c.args.seat) ≡ false =
     ne_eqb (victim_of c.in-Some.members.items) (number_in (activity_of c.loop-members.self).seating c.args.seat) (λ same. c.if-victim-number.false (c.greatest-victim.ensures ∙ same ∙ c.loop-members.invariant.2)) in
     let loser = (seat-found (activity_of c.loop-members.self).seating c.loop-members.invariant.0.seating (victim_of c.in-Some.members.items) c.in-Some-seat_of.loser sits).0 in
@@ -93,8 +87,7 @@ pub returns-then-is_empty-clause-settled : goal.returns-then-is_empty-clause-set
 returns-then-is_empty-clause-settled c begins attempt refused first committed order number contested = elim c.match-cycle_from.branch [
   | in-Some+in_default-seat_of w ↦
       let found : cycle_of (activity_of c.loop-members.self).seating c.args.seat ≡ Some w.in-Some.members.items = sym c.cycle_from.ensures ∙ ap (option_map (λ cycle. cycle.items)) w.in-Some.is in
-      let none : seat_of (activity_of c.loop-members.self).seating (victim_of w.in-Some.members.items) ≡ None =
-      ap (seat_of (activity_of c.loop-members.self).seating) (sym w.greatest-victim.ensures) ∙ sym w.seat_of.ensures ∙ w.in_default-seat_of.is in
+      let none = ap (seat_of (activity_of c.loop-members.self).seating) (sym w.greatest-victim.ensures) ∙ sym w.seat_of.ensures ∙ w.in_default-seat_of.is in
       absurd (victim-sits c.args.seat (activity_of c.args.self.now) (activity_of c.loop-members.self) (counts_of c.args.tally.now) (counts_of c.loop-members.tally)
       c.loop-members.invariant.0 c.loop-members.invariant.1 (c.loop-members.invariant.2 ∙ ap (λ (who : _). who.number) c.sitter.ensures) c.loop-members.invariant.5
       w.in-Some.members.items found none begins attempt refused first committed order number contested)
@@ -109,8 +102,7 @@ pub returns-else-is_empty-clause-settled : goal.returns-else-is_empty-clause-set
 returns-else-is_empty-clause-settled c begins attempt refused first committed order number contested printed = elim c.match-cycle_from.branch [
   | in-Some+in_default-seat_of w ↦
       let found : cycle_of (activity_of c.loop-members.self).seating c.args.seat ≡ Some w.in-Some.members.items = sym c.cycle_from.ensures ∙ ap (option_map (λ cycle. cycle.items)) w.in-Some.is in
-      let none : seat_of (activity_of c.loop-members.self).seating (victim_of w.in-Some.members.items) ≡ None =
-      ap (seat_of (activity_of c.loop-members.self).seating) (sym w.greatest-victim.ensures) ∙ sym w.seat_of.ensures ∙ w.in_default-seat_of.is in
+      let none = ap (seat_of (activity_of c.loop-members.self).seating) (sym w.greatest-victim.ensures) ∙ sym w.seat_of.ensures ∙ w.in_default-seat_of.is in
       absurd (victim-sits c.args.seat (activity_of c.args.self.now) (activity_of c.loop-members.self) (counts_of c.args.tally.now) (counts_of c.loop-members.tally)
       c.loop-members.invariant.0 c.loop-members.invariant.1 (c.loop-members.invariant.2 ∙ ap (λ (who : _). who.number) c.sitter.ensures) c.loop-members.invariant.5
       w.in-Some.members.items found none begins attempt refused first committed order number contested)

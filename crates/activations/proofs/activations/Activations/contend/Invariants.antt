@@ -1,5 +1,4 @@
-use Rattle.activations.proofs.Common.{array_vec_len, has, number_in, sitter, IsSound, counts_of, Contests, KeepsParts, StaysSeated, activity_of}
-use Rattle.std.proofs.Common.{◌≡◌, ◌≤◌, ◌+◌, true, length, IsSome}
+use Rattle.activations.proofs.Common.{array_vec_len, has, number_in, sitter, IsSound, counts_of, Contests, KeepsParts, StaysSeated, activity_of, ◌≡◌, ◌≤◌, ◌+◌, true, length, IsSome}
 use Rattle.activations.proofs.activations.Activations.contend.Given as goal
 
 abbrev pub invariant-loop-members : goal.invariant-loop-members

@@ -1,5 +1,4 @@
-use Rattle.activations.proofs.Common.{Layout, page_count, AreWithin, has, asks_on, pool_of, IsClean, Keeps, Fine, ReadFailed, Fetched, Broken, fetches, Touch, Activity, IsSound, IsStoreOf, pages_wanted, wants_of, activity_of}
-use Rattle.std.proofs.Common.{◌≡◌, ◌∙◌, ◌<◌, ℕ, List, [], ◌∷◌, sym, ap, subst, arith, Some, None}
+use Rattle.activations.proofs.Common.{Layout, page_count, AreWithin, has, asks_on, pool_of, IsClean, Keeps, Fine, ReadFailed, Fetched, Broken, fetches, Touch, Activity, IsSound, IsStoreOf, pages_wanted, wants_of, activity_of, ◌≡◌, ◌∙◌, ◌<◌, ℕ, List, [], ◌∷◌, sym, ap, subst, arith, Some, None}
 use Rattle.activations.proofs.BringLemmas.{on-ok, moved-then}
 use Rattle.activations.proofs.EndLemmas.{sound-pool}
 use Rattle.activations.proofs.FetchLemmas.{none-fetched, keeps-both, one-in, one-there, one-unread, two-in, two-unread, both-there, both-later, unread-broken, unread-later, is-fetched, is-broken, on-err, if-err}

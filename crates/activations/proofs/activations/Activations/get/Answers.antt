@@ -1,5 +1,4 @@
-use Rattle.activations.proofs.Common.{has, page_count, Counts, Activity, IsSound, Serves, locked, pages_picked, pages_wanted, wants_of, counts_of, activity_of}
-use Rattle.std.proofs.Common.{◌≡◌, ◌<◌, ℕ, true, length, sym, ap, subst}
+use Rattle.activations.proofs.Common.{has, page_count, Counts, Activity, IsSound, Serves, locked, pages_picked, pages_wanted, wants_of, counts_of, activity_of, ◌≡◌, ◌<◌, ℕ, true, length, sym, ap, subst}
 use Rattle.activations.proofs.GetLemmas.{picked-below, served-so, broken-so, serves-by, parts-by}
 use Rattle.activations.proofs.GrantingLemmas.{granted-same}
 use Rattle.activations.proofs.activations.Activations.get.Goals as goal

@@ -1,5 +1,4 @@
-use Rattle.activations.proofs.Common.{has, Seating, IsSound, KeepsParts, IsTurning, activity_of}
-use Rattle.std.proofs.Common.{◌+◌, ◌∙◌, arith, ap, sym, subst}
+use Rattle.activations.proofs.Common.{has, Seating, IsSound, KeepsParts, IsTurning, activity_of, ◌+◌, ◌∙◌, arith, ap, sym, subst}
 use Rattle.activations.proofs.GoOnLemmas.{keeps-counted}
 use Rattle.activations.proofs.KeptLemmas.{keeps-on}
 use Rattle.activations.proofs.StrideLemmas.{sound-counted}

@@ -1,5 +1,4 @@
-use Rattle.activations.proofs.Common.{WasAttempted, Activity, IsSound, GoesUncounted, pages_lowered, has, KeepsParts, wants_of, activity_of}
-use Rattle.std.proofs.Common.{◌≡◌, true, sym, subst, inl, inr}
+use Rattle.activations.proofs.Common.{WasAttempted, Activity, IsSound, GoesUncounted, pages_lowered, has, KeepsParts, wants_of, activity_of, ◌≡◌, true, sym, subst, inl, inr}
 use Rattle.romp_cpu.specs.declared.cpu.Attempt.{Attempt}
 use Rattle.activations.proofs.GrantingLemmas.{lowered-sound}
 use Rattle.activations.proofs.GoOnLemmas.{took-served, not-check, not-commit, took-either}

@@ -1,5 +1,4 @@
-use Rattle.activations.proofs.Common.{page_count, Activity, activity_of}
-use Rattle.std.proofs.Common.{◌<◌, sym, subst}
+use Rattle.activations.proofs.Common.{page_count, Activity, activity_of, ◌<◌, sym, subst}
 use Rattle.activations.proofs.GrantingLemmas.{second_within}
 use Rattle.activations.proofs.activations.Activations.grant_picked.Goals as goal
 

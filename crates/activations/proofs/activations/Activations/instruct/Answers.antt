@@ -1,5 +1,4 @@
-use Rattle.activations.proofs.Common.{TurnEnd, Check, row, Activity, program_in, IsSelected, WasAttempted, plain_in, Follows, GoesUncounted, instruction_in, HasEnded, counts_of, IsStep, activity_of}
-use Rattle.std.proofs.Common.{◌≡◌, Result, arith, sym, subst}
+use Rattle.activations.proofs.Common.{TurnEnd, Check, row, Activity, program_in, IsSelected, WasAttempted, plain_in, Follows, GoesUncounted, instruction_in, HasEnded, counts_of, IsStep, activity_of, ◌≡◌, Result, arith, sym, subst}
 use Rattle.romp_cpu.specs.declared.cpu.Attempt.{Attempt}
 use Rattle.activations.proofs.GoOnLemmas.{took-either}
 use Rattle.activations.proofs.InstructLemmas.{row-goes, at-commit}

@@ -1,5 +1,4 @@
-use Rattle.activations.proofs.Common.{nat_lt, nat_tests, TurnEnd, Activity, lines_with, wants_of, activity_of}
-use Rattle.std.proofs.Common.{◌≡◌, true, ap, arith}
+use Rattle.activations.proofs.Common.{nat_lt, nat_tests, TurnEnd, Activity, lines_with, wants_of, activity_of, ◌≡◌, true, ap, arith}
 use Rattle.activations.proofs.TouchingLemmas.{over-limit}
 use Rattle.activations.proofs.activations.Activations.keep_limit.Goals as goal
 

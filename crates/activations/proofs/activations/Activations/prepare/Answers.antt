@@ -1,5 +1,4 @@
-use Rattle.activations.proofs.Common.{TurnEnd, IsClean, Tally, Activity, HasBrokenOff, IsPrepared, Prepares, IsFetched, instruction_in, with_pool, wants_of, pages_wanted, HasEnded, HasBroken, counts_of, activity_of}
-use Rattle.std.proofs.Common.{◌+◌, Result, sym, ◌∙◌, ap, subst}
+use Rattle.activations.proofs.Common.{TurnEnd, IsClean, Tally, Activity, HasBrokenOff, IsPrepared, Prepares, IsFetched, instruction_in, with_pool, wants_of, pages_wanted, HasEnded, HasBroken, counts_of, activity_of, ◌+◌, Result, sym, ◌∙◌, ap, subst}
 use Rattle.activations.proofs.KeptLemmas.{keeps-left, keeps-broke}
 use Rattle.activations.proofs.PrepareLemmas.{is-to-serve, prepare-broke, prepared-so}
 use Rattle.activations.proofs.ServeLemmas.{handed}

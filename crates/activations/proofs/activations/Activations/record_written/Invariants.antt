@@ -1,5 +1,4 @@
-use Rattle.activations.proofs.Common.{with_lines, written_of, activity_of}
-use Rattle.std.proofs.Common.{◌≡◌, take}
+use Rattle.activations.proofs.Common.{with_lines, written_of, activity_of, ◌≡◌, take}
 use Rattle.activations.proofs.activations.Activations.record_written.Given as goal
 
 -- the record has what is held to write of the pages so far

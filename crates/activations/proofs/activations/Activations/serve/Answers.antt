@@ -1,6 +1,4 @@
-use Rattle.activations.proofs.Common.{asks_on, TurnEnd, Rose, Tally, IsInstruction, instruction_in, counts_of, activity_of}
-use Rattle.std.proofs.Common.{◌<◌, ℕ, Result, Err, ap, arith, sym, ◌∙◌, subst}
-use Rattle.std.proofs.lemmas.Result.{err_from_is_err_and}
+use Rattle.activations.proofs.Common.{err_from_is_err_and, asks_on, TurnEnd, Rose, Tally, IsInstruction, instruction_in, counts_of, activity_of, ◌<◌, ℕ, Result, Err, ap, arith, sym, ◌∙◌, subst}
 use Rattle.activations.proofs.BringLemmas.{store-on}
 use Rattle.activations.proofs.KeptLemmas.{keeps-two}
 use Rattle.activations.proofs.ServeLemmas.{handed, ended-by-disk}
@@ -65,8 +63,7 @@ returns-clause-parts g c =
 
 pub returns-clause-served : goal.returns-clause-served
 returns-clause-served g c committed order store follows =
-    let begins = instruction_in (activity_of c.args.self.now) c.args.seat committed order (counts_of c.args.tally.now) in
     let prepared = c.in_ok-touch.ensures.prepared committed order store follows in
-    c.go_on.ensures.went begins committed order (counts_of c.get.new.tally)
-    (c.in_ok-get.ensures.served begins prepared.attempt prepared.next committed order (store-on g.W.Outside g.met.W.Outside.fewer_later c.args.store.now c.args.outside.now c.prepare.new.outside committed c.prepare.ensures.asks store)
-    (prepared.asked.number ∙ sym c.in_ok-ask.ensures.stays.number) prepared.goes prepared.lines (c.in_ok-ask.ensures.settled begins prepared.attempt _ committed order prepared.asked))
+    c.go_on.ensures.went _ committed order (counts_of c.get.new.tally)
+    (c.in_ok-get.ensures.served _ prepared.attempt prepared.next committed order (store-on g.W.Outside g.met.W.Outside.fewer_later c.args.store.now c.args.outside.now c.prepare.new.outside committed c.prepare.ensures.asks store)
+    (prepared.asked.number ∙ sym c.in_ok-ask.ensures.stays.number) prepared.goes prepared.lines (c.in_ok-ask.ensures.settled _ prepared.attempt _ committed order prepared.asked))

@@ -1,5 +1,4 @@
-use Rattle.activations.proofs.Common.{get_or_read, Activity, live_in, nothing_runs, IsSound, Follows, activity_of}
-use Rattle.std.proofs.Common.{◌≡◌, ℕ, sym, ap, ◌∙◌, arith, subst, slice_index_or, slice_set}
+use Rattle.activations.proofs.Common.{get_or_read, Activity, live_in, nothing_runs, IsSound, Follows, activity_of, ◌≡◌, ℕ, sym, ap, ◌∙◌, arith, subst, slice_index_or, slice_set}
 use Rattle.activations.proofs.PrintedLemmas.{sound-reprinted, follows-reprinted}
 use Rattle.activations.proofs.activations.Activations.swap_printed.Goals as goal
 

@@ -1,5 +1,4 @@
-use Rattle.activations.proofs.Common.{page_count, AreWithin, took, pages_picked, wants_of, with_whole_page, activity_of}
-use Rattle.std.proofs.Common.{ℕ, map, sym, ap, ◌∙◌, subst}
+use Rattle.activations.proofs.Common.{page_count, AreWithin, took, pages_picked, wants_of, with_whole_page, activity_of, ℕ, map, sym, ap, ◌∙◌, subst}
 use Rattle.activations.proofs.GrantingLemmas.{within-whole, sound-then}
 use Rattle.activations.proofs.activations.Activations.take.Goals as goal
 
