@@ -58,7 +58,7 @@ module _ (d : Layout) (legal : IsLegal d.segments) (pool : Pool) (seen : IsSeen 
   pub below : (page frame : ℕ) → page_at pool frame ≡ Some page → frame < private_frames d.page + pool.frames
   below page frame is = subst (λ s. frame < private_frames s + pool.frames) size (seen.below page frame is)
 
-  page-there : (page frame : ℕ) → page_at pool frame ≡ Some page → page < page_count d
+  pub page-there : (page frame : ℕ) → page_at pool frame ≡ Some page → page < page_count d
   page-there page frame is = omega (arith, some-within pool.frame_of page frame (seen.back page frame is), pages)
 
   -- the table finds a page of the store where the pool has it

@@ -1,7 +1,7 @@
 // Pages that come in and go out, and entries that are set.
-ghost use Rattle.std.specs.Prelude.{◌≡◌, ◌*◌, ◌<◌, ◌≤◌, false, length, fold, slice_set, option_and_then, IfSome};
+ghost use Rattle.std.specs.Prelude.{◌≡◌, ℕ, ◌*◌, ◌<◌, ◌≤◌, false, length, fold, slice_set, option_and_then};
 ghost use Rattle.std.specs.Option.{option_map_or};
-ghost use Rattle.inverted_table.specs.Placed.{without_frame};
+ghost use Rattle.inverted_table.specs.Placed.{look_up, without_frame};
 ghost use Rattle.tlb_model.specs.Buffer.{IsOfTable};
 ghost use Rattle.frame_pool.specs.View.{pool_of};
 ghost use Rattle.storage_unit.specs.Held.{keys_without};
@@ -35,10 +35,11 @@ impl Unit {
         ensures brought { Brought (reach_of self.old).pool (reach_of self.new).pool page keep result.frame }
         ensures rest { reach_of self.new ≡ record (reach_of self.old) { pool = (reach_of self.new).pool } }
     {
-        let left = frame_out(&self.pool, keep);
+        let segments = self.directory.segments();
+        let out = self.pool.page_out(keep);
+        leave_frame(&self.pool, segments, &mut self.table, &mut self.buffer, out);
         let slot = self.pool.bring(page, keep);
-        leave_frame(&mut self.table, &mut self.buffer, left);
-        let key = key_among(self.directory.segments(), page);
+        let key = key_among(segments, page);
         self.table.enter(slot.frame, key.segment, key.page);
         slot
     }
@@ -75,7 +76,8 @@ impl Unit {
         requires { page < page_count (reach_of self.old).directory }
         ensures { reach_of self.new ≡ record (reach_of self.old) { pool = undone (reach_of self.old).pool page lines } }
     {
-        leave_frame(&mut self.table, &mut self.buffer, self.pool.frame_of(page));
+        let (segments, out) = (self.directory.segments(), Some(page));
+        leave_frame(&self.pool, segments, &mut self.table, &mut self.buffer, out);
         self.pool.undo(page, lines);
     }
 
@@ -105,24 +107,26 @@ impl Unit {
     }
 }
 
-/// The frame of the page that goes out for another, if one does.
+/// The frame of a page holds nothing, and the buffer forgets it, if a page is named that is in one.
 #[inline(always)]
-fn frame_out(pool: &FramePool, keep: Option<u16>) -> Option<u16>
-    ensures { result ≡ option_and_then (frame_at (pool_of pool.now)) (page_out (pool_of pool.now) keep) }
+fn leave_frame(
+    pool: &FramePool,
+    segments: &[(u16, u16)],
+    table: &mut Table,
+    buffer: &mut Tlb,
+    page: Option<u16>,
+)
+    requires held { (out frame : ℕ) → page ≡ Some out → frame_at (pool_of pool.now) out ≡ Some frame → look_up table.old.keys (key_among segments.now out) ≡ Some frame }
+    requires of_table { IsOfTable buffer.old table.old.keys }
+    ensures table { table.new ≡ option_map_or (without_frame table.old) (option_and_then (frame_at (pool_of pool.now)) page) table.old }
+    ensures of_table { IsOfTable buffer.new table.new.keys }
 {
-    pool.frame_of(pool.page_out(keep)?)
-}
-
-/// A frame holds nothing, and the buffer forgets it, if one is named.
-#[inline]
-fn leave_frame(table: &mut Table, buffer: &mut Tlb, frame: Option<u16>)
-    requires { IfSome frame (λ frame. frame < length table.old.keys) }
-    ensures table { table.new ≡ option_map_or (without_frame table.old) frame table.old }
-    ensures of_table { IsOfTable buffer.old table.old.keys → IsOfTable buffer.new table.new.keys }
-{
-    if let Some(frame) = frame {
+    let Some(out) = page else {
+        return;
+    };
+    if let Some(frame) = pool.frame_of(out) {
         table.leave(frame);
-        buffer.forget(frame);
+        buffer.forget_page(frame, key_among(segments, out).page);
     }
 }
 

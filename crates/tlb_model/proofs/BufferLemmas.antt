@@ -1,5 +1,5 @@
 -- The buffer after a pair came in, and after the pairs of a frame went.
-use Rattle.tlb_model.proofs.Common.{◌≡◌, ◌≢◌, ◌⊎◌, inl, inr, subst, ℕ, suc, ◌+◌, ◌<◌, ◌≤◌, Bool, true, false, List, [], ◌∷◌, ◌++◌, length, drop, map, refl, sym, ◌∙◌, ap, arith, Some, None, All, ◌==◌, ◌&&◌, not, cond, filter, find, slice_index_or, slice_set, Option, option_map, option_to_list, get_or-map, map-set, length-map, All-push, All-drop, All-set, All-same, All-get_or, All-nil, All-cons, All-head, All-tail, and_parts, eqb-true, cases_lt, all_pairs_push, Key, look_up, Pair, Ways, class_of, page_of, pair_to, is_pair_of, pairs_in, remembered, after_table, after_found, with_newest, forgotten, AreApart, IsOfTable, pairs_of, unless_of, ways_without, AreClasses}
+use Rattle.tlb_model.proofs.Common.{same_lists, get_or_default, All-filter, eq-eqb, ◌≡◌, ◌≢◌, ◌%◌, inl, inr, subst, ℕ, suc, ◌<◌, Bool, true, false, List, [], ◌∷◌, ◌++◌, length, drop, map, refl, sym, ◌∙◌, ap, arith, Some, None, All, ◌==◌, ◌&&◌, not, cond, filter, find, slice_index_or, slice_set, Option, option_map, option_to_list, get_or-map, map-set, length-map, All-push, All-drop, All-set, All-same, All-get_or, All-nil, All-cons, All-head, All-tail, and_parts, eqb-true, cases_lt, all_pairs_push, Key, holds, key_in, look_up, position-Some, cases_eq, get_or-set_same, get_or-set_other, length-set, Pair, Ways, class_of, page_of, pair_to, is_pair_of, pairs_in, remembered, after_table, after_found, with_newest, forgotten, AreApart, ArePlaced, IsOfTable, pairs_of, unless_of, ways_without, AreClasses}
 use Rattle.std.specs.Option.{option_map_or}
 use Rattle.std.proofs.Math.ListN.{get_or-eq_default}
 use Rattle.std.proofs.lemmas.List.Kept.{AllPairs-filter}
@@ -35,7 +35,7 @@ classes-without frame (ways ∷ classes) =
     ∙ ap (λ (rest : List (List Pair)). filter (λ pair. not (pair.frame == frame)) (pairs_of ways) ∷ rest) (classes-without frame classes)
 
 -- classes whose pairs are apart stay so without the pairs of a frame
-pub forgotten-apart : (classes : List (List Pair)) (frame : ℕ) → All AreApart classes → All AreApart (forgotten classes frame)
+forgotten-apart : (classes : List (List Pair)) (frame : ℕ) → All AreApart classes → All AreApart (forgotten classes frame)
 forgotten-apart [] frame apart = All-nil AreApart
 forgotten-apart (pairs ∷ classes) frame apart =
     All-cons AreApart (filter (λ pair. not (pair.frame == frame)) pairs) (forgotten classes frame)
@@ -43,13 +43,10 @@ forgotten-apart (pairs ∷ classes) frame apart =
     (forgotten-apart classes frame (All-tail AreApart pairs classes apart))
 
 -- a pair is of its page, and of no other
-equal : (n : ℕ) → (n == n) ≡ true
-equal n = grind arith
-
 pair-is : (wanted : Key) (pair : Pair) → page_of pair ≡ wanted → is_pair_of wanted pair ≡ true
 pair-is wanted pair is =
     ap (λ (key : Key). key.segment == wanted.segment && key.page == wanted.page) is
-    ∙ ap (λ b. b && wanted.page == wanted.page) (equal wanted.segment) ∙ equal wanted.page
+    ∙ ap (λ b. b && wanted.page == wanted.page) (eq-eqb wanted.segment wanted.segment refl) ∙ eq-eqb wanted.page wanted.page refl
 
 page-is : (wanted : Key) (pair : Pair) → is_pair_of wanted pair ≡ true → page_of pair ≡ wanted
 page-is wanted pair is =
@@ -87,12 +84,29 @@ found-pair P wanted (first ∷ pairs) pair all is =
     by_test false test is later = later is
 
 -- what holds of each pair of the classes holds of each pair of one
+inside-all : (P : Pair → Type 0) (classes : List (List Pair)) (class : ℕ) → (class < length classes → All P (pairs_in classes class)) → All P (pairs_in classes class)
+inside-all P classes class all = elim (cases_lt class (length classes)) [
+  | inl below ↦ all below
+  | inr past ↦ All-same P (pairs_in classes class) [] (get_or-eq_default classes [] past) (All-nil P)
+]
+
 pub class-all : (P : Pair → Type 0) (classes : List (List Pair)) (class : ℕ) → All (All P) classes → All P (pairs_in classes class)
-class-all P classes class all = by_case (cases_lt class (length classes))
-  where
-    by_case : (class < length classes) ⊎ (length classes ≤ class) → All P (pairs_in classes class)
-    by_case (inl below) = All-get_or (All P) classes class [] below all
-    by_case (inr past) = All-same P (pairs_in classes class) [] (get_or-eq_default classes [] past) (All-nil P)
+class-all P classes class all = inside-all P classes class (λ below. All-get_or (All P) classes class [] below all)
+
+-- pairs that stand in the classes of their pages stay there without those of a frame
+forgotten-placed : (classes : List (List Pair)) (frame : ℕ) → ArePlaced classes → ArePlaced (forgotten classes frame)
+forgotten-placed classes frame placed class =
+    inside-all (λ pair. class_of (page_of pair) ≡ class) (forgotten classes frame) class
+    (λ below.
+    All-same (λ pair. class_of (page_of pair) ≡ class) _ _ (get_or-map (filter (λ pair. not (pair.frame == frame))) classes class [] [] (omega (arith, below, length-map classes (filter (λ pair. not (pair.frame == frame))))))
+    (All-filter (λ pair. not (pair.frame == frame)) (λ pair. class_of (page_of pair) ≡ class) (pairs_in classes class) (placed class)))
+
+-- so classes stay as they are to be where the pairs of a frame went
+pub still-classes : (classes after : List Ways) (frame : ℕ) → map pairs_of after ≡ forgotten (map pairs_of classes) frame → AreClasses classes → AreClasses after
+still-classes classes after frame now are = record {
+  apart = subst (λ (list : List (List Pair)). All AreApart list) (sym now) (forgotten-apart (map pairs_of classes) frame are.apart);
+  placed = subst ArePlaced (sym now) (forgotten-placed (map pairs_of classes) frame are.placed);
+}
 
 -- the frame of a pair that the buffer finds is the table's
 pub remembered-of :
@@ -137,25 +151,39 @@ class-pairs classes class other below = get_or-map pairs_of classes class other 
 
 -- the pairs of a class are of different pages
 pub class-apart : (classes : List Ways) (class : ℕ) (other : Ways) → class < length classes → AreClasses classes → AreApart (pairs_of (slice_index_or classes class other))
-class-apart classes class other below apart =
+class-apart classes class other below are =
     subst AreApart (class-pairs classes class other below)
-    (All-get_or AreApart (map pairs_of classes) class [] (omega (arith, length-map classes pairs_of)) apart)
+    (All-get_or AreApart (map pairs_of classes) class [] (omega (arith, length-map classes pairs_of)) are.apart)
 
 -- a pair came in for a page that the buffer didn't remember
+added-pairs : (classes : List Ways) (wanted : Key) (frame : ℕ) (other new : Ways) → class_of wanted < length classes
+    → pairs_of new ≡ with_newest (pairs_of (slice_index_or classes (class_of wanted) other)) (pair_to wanted frame)
+    → map pairs_of (slice_set classes (class_of wanted) new) ≡ after_table (map pairs_of classes) wanted (Some frame)
+added-pairs classes wanted frame other new below added =
+    map-set pairs_of classes (class_of wanted) new
+    ∙ ap (slice_set (map pairs_of classes) (class_of wanted)) (added ∙ ap (λ (pairs : List Pair). with_newest pairs (pair_to wanted frame)) (sym (class-pairs classes (class_of wanted) other below)))
+
 pub after-added :
     (classes : List Ways) (wanted : Key) (frame : ℕ) (other new : Ways) → class_of wanted < length classes
     → find (is_pair_of wanted) (pairs_of (slice_index_or classes (class_of wanted) other)) ≡ None
     → pairs_of new ≡ with_newest (pairs_of (slice_index_or classes (class_of wanted) other)) (pair_to wanted frame)
     → map pairs_of (slice_set classes (class_of wanted) new) ≡ after_found (map pairs_of classes) (Some frame) wanted
 after-added classes wanted frame other new below none added =
-    let there : pairs_in (map pairs_of classes) (class_of wanted) ≡ pairs_of (slice_index_or classes (class_of wanted) other) =
-    class-pairs classes (class_of wanted) other below in
-    let forgot : remembered (map pairs_of classes) wanted ≡ None =
-    ap (λ (pairs : List Pair). option_map (λ pair. pair.frame) (find (is_pair_of wanted) pairs)) there
-    ∙ ap (λ (o : Option Pair). option_map (λ pair. pair.frame) o) none in
-    map-set pairs_of classes (class_of wanted) new
-    ∙ ap (slice_set (map pairs_of classes) (class_of wanted)) (added ∙ ap (λ (pairs : List Pair). with_newest pairs (pair_to wanted frame)) (sym there))
-    ∙ sym (ap (λ (o : Option ℕ). option_map_or (λ _. map pairs_of classes) o (after_table (map pairs_of classes) wanted (Some frame))) forgot)
+    added-pairs classes wanted frame other new below added
+    ∙ sym
+    (ap (λ (o : Option Pair). option_map_or (λ _. map pairs_of classes) (option_map (λ pair. pair.frame) o) (after_table (map pairs_of classes) wanted (Some frame)))
+    (ap (find (is_pair_of wanted)) (class-pairs classes (class_of wanted) other below) ∙ none))
+
+-- the pairs of the classes stand where they are to
+added-placed : (classes : List (List Pair)) (wanted : Key) (frame : ℕ) → class_of wanted < length classes → ArePlaced classes
+    → ArePlaced (slice_set classes (class_of wanted) (with_newest (pairs_in classes (class_of wanted)) (pair_to wanted frame)))
+added-placed classes wanted frame below placed class = elim (cases_eq class (class_of wanted)) [
+  | inl same ↦
+      All-same (λ pair. class_of (page_of pair) ≡ class) _ _ (ap (pairs_in (slice_set classes (class_of wanted) _)) same ∙ get_or-set_same classes (class_of wanted) _ [] below)
+      (newest-all (λ pair. class_of (page_of pair) ≡ class) (pairs_in classes (class_of wanted)) (pair_to wanted frame)
+      (subst (λ n. All (λ pair. class_of (page_of pair) ≡ class) (pairs_in classes n)) same (placed class)) (sym same))
+  | inr differs ↦ All-same (λ pair. class_of (page_of pair) ≡ class) _ _ (get_or-set_other classes (class_of wanted) class _ [] differs) (placed class)
+]
 
 -- the classes stay apart
 pub added-apart :
@@ -163,11 +191,15 @@ pub added-apart :
     → find (is_pair_of wanted) (pairs_of (slice_index_or classes (class_of wanted) other)) ≡ None
     → pairs_of new ≡ with_newest (pairs_of (slice_index_or classes (class_of wanted) other)) (pair_to wanted frame)
     → AreClasses (slice_set classes (class_of wanted) new)
-added-apart classes wanted frame other new below apart none added =
-    let old : AreApart (pairs_of (slice_index_or classes (class_of wanted) other)) = class-apart classes (class_of wanted) other below apart in
-    subst (λ (list : List (List Pair)). All AreApart list) (sym (map-set pairs_of classes (class_of wanted) new))
-    (All-set AreApart (map pairs_of classes) (class_of wanted) (pairs_of new)
-    (subst AreApart (sym added) (newest-apart (pairs_of (slice_index_or classes (class_of wanted) other)) wanted frame old none)) apart)
+added-apart classes wanted frame other new below are none added =
+    let now = added-pairs classes wanted frame other new below added in
+    let long : class_of wanted < length (map pairs_of classes) = omega (arith, below, length-map classes pairs_of) in
+    record {
+      apart = subst (λ (list : List (List Pair)). All AreApart list) (sym now)
+          (All-set AreApart (map pairs_of classes) (class_of wanted) (with_newest (pairs_in (map pairs_of classes) (class_of wanted)) (pair_to wanted frame))
+          (newest-apart (pairs_in (map pairs_of classes) (class_of wanted)) wanted frame (All-get_or AreApart (map pairs_of classes) (class_of wanted) [] long are.apart) (ap (find (is_pair_of wanted)) (class-pairs classes (class_of wanted) other below) ∙ none)) are.apart);
+      placed = subst ArePlaced (sym now) (added-placed (map pairs_of classes) wanted frame long are.placed);
+    }
 
 -- a buffer whose pairs are in the table stays so where the table answered
 pub after-of :
@@ -184,3 +216,54 @@ after-of classes keys wanted all = by_memory (remembered classes wanted)
     by_memory : (o : Option ℕ) → IsOfTable (option_map_or (λ _. classes) o (after_table classes wanted (look_up keys wanted))) keys
     by_memory None = by_table (look_up keys wanted) refl
     by_memory (Some frame) = all
+
+-- pages that a table finds in one frame have one number
+one-page : (keys : List (Option Key)) (one other : Key) (frame : ℕ) → look_up keys one ≡ Some frame → look_up keys other ≡ Some frame → one.page ≡ other.page
+one-page keys one other frame here there = by_key (key_in keys frame) (position-Some (holds one) keys frame None here).1 (position-Some (holds other) keys frame None there).1
+  where
+    by_key : (held : Option Key) → holds one held ≡ true → holds other held ≡ true → one.page ≡ other.page
+    by_key None first second = absurd (cc)
+    by_key (Some key) first second =
+        sym (eqb-true key.page one.page (and_parts (key.segment == one.segment) (key.page == one.page) first).1)
+        ∙ eqb-true key.page other.page (and_parts (key.segment == other.segment) (key.page == other.page) second).1
+
+-- a class that isn't that of a page has no pair of the frame in which the table has the page
+no-pair : (keys : List (Option Key)) (key : Key) (frame class : ℕ) (pairs : List Pair) → look_up keys key ≡ Some frame → class ≢ class_of key
+    → All (λ pair. class_of (page_of pair) ≡ class) pairs → All (λ pair. look_up keys (page_of pair) ≡ Some pair.frame) pairs → filter (λ pair. not (pair.frame == frame)) pairs ≡ pairs
+no-pair keys key frame class [] there other placed all = refl
+no-pair keys key frame class (pair ∷ pairs) there other placed all =
+    by_test (pair.frame == frame) refl
+    (no-pair keys key frame class pairs there other (All-tail (λ p. class_of (page_of p) ≡ class) pair pairs placed) (All-tail (λ p. look_up keys (page_of p) ≡ Some p.frame) pair pairs all))
+  where
+    by_test :
+        (b : Bool) → (pair.frame == frame) ≡ b → filter (λ p. not (p.frame == frame)) pairs ≡ pairs
+        → cond (not b) (pair ∷ filter (λ p. not (p.frame == frame)) pairs) (filter (λ p. not (p.frame == frame)) pairs) ≡ pair ∷ pairs
+    by_test true is rest =
+        absurd (other
+        (sym (All-head (λ p. class_of (page_of p) ≡ class) pair pairs placed)
+        ∙ ap (λ (n : ℕ). n % 16) (one-page keys (page_of pair) key frame (All-head (λ p. look_up keys (page_of p) ≡ Some p.frame) pair pairs all ∙ ap Some (eqb-true pair.frame frame is)) there)))
+    by_test false is rest = ap (λ (list : List Pair). pair ∷ list) rest
+
+-- so the pairs of that frame go where they go from the class of the page
+pub forgotten-there :
+    (classes : List Ways) (keys : List (Option Key)) (key : Key) (frame : ℕ) (other : Ways) → class_of key < length classes → AreClasses classes → IsOfTable (map pairs_of classes) keys → look_up keys key ≡ Some frame
+    → map pairs_of (slice_set classes (class_of key) (ways_without frame (slice_index_or classes (class_of key) other))) ≡ forgotten (map pairs_of classes) frame
+forgotten-there classes keys key frame other below are all there =
+    map-set pairs_of classes (class_of key) (ways_without frame (slice_index_or classes (class_of key) other))
+    ∙ same_lists (slice_set (map pairs_of classes) (class_of key) (pairs_of (ways_without frame (slice_index_or classes (class_of key) other)))) (forgotten (map pairs_of classes) frame)
+    (length-set (map pairs_of classes) (class_of key) _ ∙ sym (length-map (map pairs_of classes) (filter (λ pair. not (pair.frame == frame)))))
+    (λ k d inside.
+    let within : k < length (map pairs_of classes) = omega (arith, inside, length-set (map pairs_of classes) (class_of key) (pairs_of (ways_without frame (slice_index_or classes (class_of key) other)))) in
+    let then = get_or-map (filter (λ pair. not (pair.frame == frame))) (map pairs_of classes) k [] d within in
+    elim (cases_eq k (class_of key)) [
+      | inl same ↦
+          ap (λ n. slice_index_or (slice_set (map pairs_of classes) (class_of key) (pairs_of (ways_without frame (slice_index_or classes (class_of key) other)))) n d) same
+          ∙ get_or-set_same (map pairs_of classes) (class_of key) _ d (omega (arith, within, same))
+          ∙ pairs-without frame (slice_index_or classes (class_of key) other)
+          ∙ ap (filter (λ pair. not (pair.frame == frame))) (sym (class-pairs classes (class_of key) other below) ∙ ap (pairs_in (map pairs_of classes)) (sym same))
+          ∙ sym then
+      | inr differs ↦
+          get_or-set_other (map pairs_of classes) (class_of key) k _ d differs
+          ∙ sym (then ∙ no-pair keys key frame k (pairs_in (map pairs_of classes) k) there differs (are.placed k) (class-all (λ p. look_up keys (page_of p) ≡ Some p.frame) (map pairs_of classes) k all)
+          ∙ get_or_default (map pairs_of classes) k [] d within)
+    ])

@@ -30,6 +30,10 @@ AreApart pairs = AllPairs (λ pair other. page_of pair ≢ page_of other) pairs
 abbrev pub pairs_in : List (List Pair) → ℕ → List Pair
 pairs_in classes class = slice_index_or classes class []
 
+-- each pair is in the class of its page
+abbrev pub ArePlaced : List (List Pair) → Type 0
+ArePlaced classes = (class : ℕ) → All (λ pair. class_of (page_of pair) ≡ class) (pairs_in classes class)
+
 -- the frame of a page by the buffer alone
 abbrev pub remembered : List (List Pair) → Key → Option ℕ
 remembered classes wanted = option_map (λ pair. pair.frame) (find (is_pair_of wanted) (pairs_in classes (class_of wanted)))

@@ -2,15 +2,16 @@
 use Rattle.std.specs.Prelude.{◌==◌, if◌then◌else◌, ℕ, List, ◌++◌, All, map, option_to_list, Option, Some, None}
 use Rattle.tlb_model.specs.declared.tlb.Pair.{Pair}
 use Rattle.tlb_model.specs.declared.tlb.Ways.{Ways}
-use Rattle.tlb_model.specs.Buffer.{AreApart}
+use Rattle.tlb_model.specs.Buffer.{AreApart, ArePlaced}
 
 -- the pairs of a class, the older first
 abbrev pub pairs_of : Ways → List Pair
 pairs_of ways = option_to_list ways.older ++ option_to_list ways.newer
 
--- in no class two pairs are of the same page
-abbrev pub AreClasses : List Ways → Type 0
-AreClasses classes = All AreApart (map pairs_of classes)
+-- each pair is in the class of its page, and no two are of the same page
+pub record AreClasses (classes : List Ways) : Type 0 where
+  pub apart : All AreApart (map pairs_of classes)
+  pub placed : ArePlaced (map pairs_of classes)
 
 -- a pair, if it isn't of a frame
 abbrev pub unless_of : ℕ → Option Pair → Option Pair

@@ -1,4 +1,4 @@
-ghost use Rattle.std.specs.Prelude.{◌≡◌, ◌<◌, [], None, filter, find, not, ◌==◌, replicate, map, List, Option, Some, IfSome};
+ghost use Rattle.std.specs.Prelude.{◌≡◌, ℕ, ◌<◌, [], None, filter, find, not, ◌==◌, replicate, map, List, Option, Some, IfSome};
 ghost use Rattle.inverted_table.specs.declared.key.Key.{Key};
 ghost use Rattle.inverted_table.specs.Placed.{look_up};
 ghost use Rattle.inverted_table.specs.Keys.{key_of, key_to};
@@ -185,6 +185,18 @@ impl Tlb {
         ensures { self.new ≡ forgotten self.old frame }
     {
         forget_all(&mut self.classes, frame);
+    }
+
+    /// The same of a frame in which a table has a page, where each pair is in the table: they are in the class of the page.
+    #[inline]
+    pub fn forget_page(&mut self, frame: u16, page: u32)
+        requires { (keys : List (Option Key)) × (segment : ℕ) × IsOfTable self.old keys × (look_up keys (key_to segment page) ≡ Some frame) }
+        ensures { self.new ≡ forgotten self.old frame }
+    {
+        let place = (page % 16) as usize;
+        let mut left = self.classes[place];
+        left.forget(frame);
+        self.classes[place] = left;
     }
 }
 

@@ -1,11 +1,18 @@
-use Rattle.storage_unit.proofs.Common.{◌≡◌, ℕ, ◌<◌, length, sym, subst, List, Option, Some, IfSome, Key, Placed, Pair, IsOfTable, forgotten, of_table-left}
+use Rattle.storage_unit.proofs.Common.{sym, ◌∙◌, ap, subst, List, None, look_up, Placed, Pair, IsOfTable, forgotten, of_table-left}
+use Rattle.std.proofs.lemmas.List.Quantifiers.{position-Some}
+use Rattle.inverted_table.specs.Placed.{holds}
 use Rattle.storage_unit.proofs.serving.leave_frame.Goals as goal
 
-inside : (o : Option ℕ) (frame : ℕ) (keys : List (Option Key)) → o ≡ Some frame → IfSome o (λ f. f < length keys) → frame < length keys
-inside o frame keys is within = subst (λ (p : Option ℕ). IfSome p (λ f. f < length keys)) is within
+pub forget_page-requires : goal.forget_page-requires
+forget_page-requires c =
+    let keys = c.args.table.now.keys in
+    (keys, c.key_among.result.segment, c.requires.of_table, ap (look_up keys) c.key_among.ensures ∙ c.requires.held c.in-Some.out c.in-Some-frame_of.frame c.in-Some.is (sym c.frame_of.ensures.value ∙ c.in-Some-frame_of.is))
 
-pub returns-in-Some-clause-of_table : goal.returns-in-Some-clause-of_table
-returns-in-Some-clause-of_table c = λ all.
-    subst (λ (classes : List (List Pair)). IsOfTable classes c.leave.new.self.keys) (sym c.forget.ensures)
-    (subst (λ (table : Placed). IsOfTable (forgotten c.args.buffer.now c.in-Some.frame) table.keys) (sym c.leave.ensures)
-    (of_table-left c.args.buffer.now c.args.table.now.keys c.in-Some.frame (inside c.args.frame c.in-Some.frame c.args.table.now.keys c.in-Some.is c.requires) all))
+pub returns-in-Some-frame_of-clause-of_table : goal.returns-in-Some-frame_of-clause-of_table
+returns-in-Some-frame_of-clause-of_table c =
+    let keys = c.args.table.now.keys in
+    let frame = c.in-Some-frame_of.frame in
+    let there = c.requires.held c.in-Some.out frame c.in-Some.is (sym c.frame_of.ensures.value ∙ c.in-Some-frame_of.is) in
+    subst (λ (classes : List (List Pair)). IsOfTable classes c.leave.new.self.keys) (sym c.forget_page.ensures)
+    (subst (λ (table : Placed). IsOfTable (forgotten c.args.buffer.now frame) table.keys) (sym c.leave.ensures)
+    (of_table-left c.args.buffer.now keys frame (position-Some (holds _) keys frame None there).0 c.requires.of_table))

@@ -1,25 +1,18 @@
-use Rattle.storage_unit.proofs.Common.{◌≡◌, ℕ, ◌<◌, ◌≤◌, false, List, length, sym, ◌∙◌, ap, subst, arith, Option, Some, None, slice_set, option_and_then, option_map, IfSome, option_map_or, Key, Placed, key_in, look_up, without_frame, IsOfTable, of_table-entered, Pool, private_frames, frame_count, frame_at, page_out, with_room, Brought, IsSeen, has, page_count, length-set, pool_of, pool-seen, Stays, Unit, key_among, key_of_page, keys_of, pages_begun, AreOfPages}
+use Rattle.storage_unit.proofs.Common.{◌≡◌, ℕ, ◌<◌, ◌≤◌, false, List, length, sym, ◌∙◌, ap, subst, arith, Option, Some, None, slice_set, option_and_then, option_map, option_map_or, Key, Placed, key_in, look_up, without_frame, IsOfTable, of_table-entered, Pool, private_frames, frame_count, frame_at, page_out, with_room, Brought, IsSeen, has, page_count, length-set, pool_of, pool-seen, Stays, Unit, key_among, key_of_page, keys_of, pages_begun, AreOfPages}
 use Rattle.storage_unit.proofs.HeldLemmas.{key-at, keys-long, held-store, finds-page, keys-store}
-use Rattle.storage_unit.proofs.StateLemmas.{room-stays, room-none, absent-frame, out-inside, keys-room, without-keys, without-entries}
+use Rattle.storage_unit.proofs.StateLemmas.{room-stays, room-none, absent-frame, out-there, keys-room, without-keys, without-entries}
 use Rattle.storage_unit.proofs.unit.Unit.bring.Goals as goal
 
 module _ (unit : Unit) (page : ℕ) (keep : Option ℕ) where
-  frame-inside : (left : Option ℕ) → left ≡ option_and_then (frame_at (pool_of unit.pool)) (page_out (pool_of unit.pool) keep) → IfSome left (λ frame. frame < length unit.table.keys)
-  frame-inside left is =
-      subst (λ (o : Option ℕ). IfSome o (λ frame. frame < length unit.table.keys)) (sym is)
-      (subst (λ (keys : List (Option Key)). IfSome (option_and_then (frame_at (pool_of unit.pool)) (page_out (pool_of unit.pool) keep)) (λ frame. frame < length keys)) (sym unit.held)
-      (out-inside unit.directory unit.legal (pool_of unit.pool) (pool-seen unit.pool) unit.pool_size unit.pages (pages_begun unit.directory.page unit.begun) keep))
-
   abbrev room : Pool
   room = with_room (pool_of unit.pool) keep
 
   -- the table when it has left
-  keys-between : (table : Placed) (left : Option ℕ) → left ≡ option_and_then (frame_at (pool_of unit.pool)) (page_out (pool_of unit.pool) keep)
-      → table ≡ option_map_or (without_frame unit.table) left unit.table → table.keys ≡ keys_of unit.directory unit.begun room.frames room.page_in
-  keys-between table left is now =
+  keys-between : (table : Placed) → table ≡ option_map_or (without_frame unit.table) (option_and_then (frame_at (pool_of unit.pool)) (page_out (pool_of unit.pool) keep)) unit.table
+      → table.keys ≡ keys_of unit.directory unit.begun room.frames room.page_in
+  keys-between table now =
       ap (λ (t : Placed). t.keys) now
-      ∙ without-keys unit.table left
-      ∙ ap (λ (o : Option ℕ). option_map_or (λ frame. slice_set unit.table.keys frame None) o unit.table.keys) is
+      ∙ without-keys unit.table (option_and_then (frame_at (pool_of unit.pool)) (page_out (pool_of unit.pool) keep))
       ∙ ap (λ (keys : List (Option Key)). option_map_or (λ frame. slice_set keys frame None) (option_and_then (frame_at (pool_of unit.pool)) (page_out (pool_of unit.pool) keep)) keys) unit.held
       ∙ keys-room unit.directory unit.legal (pool_of unit.pool) (pool-seen unit.pool) unit.pool_size unit.pages (pages_begun unit.directory.page unit.begun) keep
 
@@ -59,14 +52,18 @@ module _ (unit : Unit) (page : ℕ) (keep : Option ℕ) where
         (omega (arith, below, subst (λ s. length room.page_in ≡ frame_count s room.frames) size seen.page_in))
         ∙ ap (λ (p : Pool). keys_of unit.directory unit.begun p.frames p.page_in) (sym came.rest)
 
-pub leave_frame-requires : goal.leave_frame-requires
-leave_frame-requires c = frame-inside c.args.self.now c.args.page c.args.keep c.frame_out-left.result c.frame_out-left.ensures
+pub leave_frame-requires-clause-held : goal.leave_frame-requires-clause-held
+leave_frame-requires-clause-held c out frame named is =
+    let unit = c.args.self.now in
+    ap (λ (list : List (ℕ × ℕ)). look_up unit.table.keys (key_among list out)) c.segments-segments.ensures.value
+    ∙ ap (λ (keys : List (Option Key)). look_up keys (key_of_page unit.directory out)) unit.held
+    ∙ out-there unit.directory unit.legal (pool_of unit.pool) (pool-seen unit.pool) unit.pool_size unit.pages (pages_begun unit.directory.page unit.begun) out frame is
 
 pub enter-requires-clause-frame : goal.enter-requires-clause-frame
 enter-requires-clause-frame c =
     let unit = c.args.self.now in
     let room = with_room (pool_of unit.pool) c.args.keep in
-    let keys = keys-between unit c.args.page c.args.keep c.leave_frame.new.table c.frame_out-left.result c.frame_out-left.ensures c.leave_frame.ensures.table in
+    let keys = keys-between unit c.args.page c.args.keep c.leave_frame.new.table (c.leave_frame.ensures.table ∙ ap (λ (o : Option ℕ). option_map_or (without_frame unit.table) (option_and_then (frame_at (pool_of unit.pool)) o) unit.table) c.page_out-out.ensures) in
     omega (
       arith,
       ap length keys,
@@ -77,7 +74,7 @@ enter-requires-clause-frame c =
 pub enter-requires-clause-free : goal.enter-requires-clause-free
 enter-requires-clause-free c =
     let unit = c.args.self.now in
-    let keys = keys-between unit c.args.page c.args.keep c.leave_frame.new.table c.frame_out-left.result c.frame_out-left.ensures c.leave_frame.ensures.table in
+    let keys = keys-between unit c.args.page c.args.keep c.leave_frame.new.table (c.leave_frame.ensures.table ∙ ap (λ (o : Option ℕ). option_map_or (without_frame unit.table) (option_and_then (frame_at (pool_of unit.pool)) o) unit.table) c.page_out-out.ensures) in
     ap (λ (list : List (Option Key)). key_in list c.bring-slot.result.frame) keys
     ∙ free unit c.args.page c.args.keep (pool_of c.bring-slot.new.self) c.bring-slot.result.frame c.bring-slot.ensures.brought c.requires.page c.requires.absent
 
@@ -87,10 +84,10 @@ key-is unit page key segments is of = is ∙ ap (λ (list : List (ℕ × ℕ)). 
 pub enter-requires-clause-absent : goal.enter-requires-clause-absent
 enter-requires-clause-absent c =
     let unit = c.args.self.now in
-    let keys = keys-between unit c.args.page c.args.keep c.leave_frame.new.table c.frame_out-left.result c.frame_out-left.ensures c.leave_frame.ensures.table in
+    let keys = keys-between unit c.args.page c.args.keep c.leave_frame.new.table (c.leave_frame.ensures.table ∙ ap (λ (o : Option ℕ). option_map_or (without_frame unit.table) (option_and_then (frame_at (pool_of unit.pool)) o) unit.table) c.page_out-out.ensures) in
     ap (λ (list : List (Option Key)). look_up list c.key_among-key.result) keys
     ∙ ap (λ (key : Key). look_up (keys_of unit.directory unit.begun (with_room (pool_of unit.pool) c.args.keep).frames (with_room (pool_of unit.pool) c.args.keep).page_in) key)
-    (key-is unit c.args.page c.key_among-key.result c.segments.result.now c.key_among-key.ensures c.segments.ensures.value)
+    (key-is unit c.args.page c.key_among-key.result c.segments-segments.result.now c.key_among-key.ensures c.segments-segments.ensures.value)
     ∙ unfound unit c.args.page c.args.keep (pool_of c.bring-slot.new.self) c.bring-slot.result.frame c.bring-slot.ensures.brought c.requires.page c.requires.absent
 
 pub invariant_of-self : goal.invariant_of-self
@@ -99,8 +96,8 @@ invariant_of-self c =
     let new = pool_of c.bring-slot.new.self in
     let frame = c.bring-slot.result.frame in
     let came = c.bring-slot.ensures.brought in
-    let keys = keys-between unit c.args.page c.args.keep c.leave_frame.new.table c.frame_out-left.result c.frame_out-left.ensures c.leave_frame.ensures.table in
-    let key = key-is unit c.args.page c.key_among-key.result c.segments.result.now c.key_among-key.ensures c.segments.ensures.value in
+    let keys = keys-between unit c.args.page c.args.keep c.leave_frame.new.table (c.leave_frame.ensures.table ∙ ap (λ (o : Option ℕ). option_map_or (without_frame unit.table) (option_and_then (frame_at (pool_of unit.pool)) o) unit.table) c.page_out-out.ensures) in
+    let key = key-is unit c.args.page c.key_among-key.result c.segments-segments.result.now c.key_among-key.ensures c.segments-segments.ensures.value in
     let room = with_room (pool_of unit.pool) c.args.keep in
     let left_keys : List (Option Key) = keys_of unit.directory unit.begun room.frames room.page_in in
     let now : c.enter.new.self.keys ≡ slice_set left_keys frame (Some (key_of_page unit.directory c.args.page)) =
@@ -116,7 +113,7 @@ invariant_of-self c =
       entries =
           ap (λ (t : Placed). length t.entries) c.enter.ensures
           ∙ ap (λ (t : Placed). length t.entries) c.leave_frame.ensures.table
-          ∙ ap length (without-entries unit.table c.frame_out-left.result) ∙ unit.entries;
+          ∙ ap length (without-entries unit.table (option_and_then (frame_at (pool_of unit.pool)) c.page_out-out.result)) ∙ unit.entries;
       marks = subst (λ (list : List (List ℕ)). AreOfPages list) (sym (ap (λ (p : Pool). p.marked) came.rest ∙ old.marked)) unit.marks;
       held = now ∙ entered-keys unit c.args.page c.args.keep new frame came c.requires.page c.requires.absent;
       remembered =
@@ -129,6 +126,6 @@ invariant_of-self c =
           ))
           (free unit c.args.page c.args.keep new frame came c.requires.page c.requires.absent)
           (unfound unit c.args.page c.args.keep new frame came c.requires.page c.requires.absent)
-          (subst (λ (list : List (Option Key)). IsOfTable c.leave_frame.new.buffer list) keys (c.leave_frame.ensures.of_table unit.remembered)));
+          (subst (λ (list : List (Option Key)). IsOfTable c.leave_frame.new.buffer list) keys c.leave_frame.ensures.of_table));
       selected = unit.selected;
     }

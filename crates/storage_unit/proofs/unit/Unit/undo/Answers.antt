@@ -1,15 +1,15 @@
-use Rattle.storage_unit.proofs.Common.{sym, ◌∙◌, ap, subst, List, ℕ, ◌<◌, length, Option, None, arith, slice_set, IfSome, option_map_or, Key, Placed, Pool, IsSeen, frame_at, marks_at, settled, pool_of, pool-seen, gone-stays, AreOfPages, keys_of, pages_begun}
+use Rattle.storage_unit.proofs.Common.{look_up, key_among, key_of_page, sym, ◌∙◌, ap, subst, List, ℕ, length, Option, None, arith, slice_set, option_map_or, Key, Placed, Pool, IsSeen, frame_at, marks_at, settled, pool_of, pool-seen, gone-stays, AreOfPages, keys_of, pages_begun}
 use Rattle.storage_unit.proofs.LeaveLemmas.{seen-settled}
-use Rattle.storage_unit.proofs.StateLemmas.{marks-settled, keys-gone, frame-inside, without-keys, without-entries}
+use Rattle.storage_unit.proofs.StateLemmas.{marks-settled, keys-gone, out-there, without-keys, without-entries}
 use Rattle.storage_unit.proofs.unit.Unit.undo.Goals as goal
 
-pub leave_frame-requires : goal.leave_frame-requires
-leave_frame-requires c =
+pub leave_frame-requires-clause-held : goal.leave_frame-requires-clause-held
+leave_frame-requires-clause-held c out frame named is =
     let unit = c.args.self.now in
     let pool = pool_of unit.pool in
-    subst (λ (o : Option ℕ). IfSome o (λ frame. frame < length unit.table.keys)) (sym c.frame_of.ensures.value)
-    (subst (λ (keys : List (Option Key)). IfSome (frame_at pool c.args.page) (λ frame. frame < length keys)) (sym unit.held)
-    (frame-inside unit.directory unit.legal pool (pool-seen unit.pool) unit.pool_size unit.pages (pages_begun unit.directory.page unit.begun) c.args.page))
+    ap (λ (list : List (ℕ × ℕ)). look_up unit.table.keys (key_among list out)) c.segments-segments.ensures.value
+    ∙ ap (λ (keys : List (Option Key)). look_up keys (key_of_page unit.directory out)) unit.held
+    ∙ out-there unit.directory unit.legal pool (pool-seen unit.pool) unit.pool_size unit.pages (pages_begun unit.directory.page unit.begun) out frame is
 
 pub undo-requires : goal.undo-requires
 undo-requires c = omega (arith, c.requires, c.args.self.now.pages)
@@ -22,7 +22,7 @@ invariant_of-self c =
     let new = c.undo.ensures in
     let stays = gone-stays between c.args.page in
     let seen : IsSeen between = seen-settled unit.directory pool pool.kept c.args.page c.args.lines (pool-seen unit.pool) (omega (arith, c.requires, unit.pages)) in
-    let table = c.leave_frame.ensures.table ∙ ap (λ (o : Option ℕ). option_map_or (λ frame. (let t : Placed = record unit.table { keys = slice_set unit.table.keys frame None } in t)) o unit.table) c.frame_of.ensures.value in
+    let table = c.leave_frame.ensures.table in
     record {
       sixteen = unit.sixteen;
       legal = unit.legal;
@@ -38,6 +38,6 @@ invariant_of-self c =
           ∙ ap (λ (keys : List (Option Key)). option_map_or (λ frame. slice_set keys frame None) (frame_at pool c.args.page) keys) unit.held
           ∙ keys-gone unit.directory unit.legal between seen unit.pool_size unit.pages (pages_begun unit.directory.page unit.begun) c.args.page
           ∙ ap (λ (p : Pool). keys_of unit.directory unit.begun p.frames p.page_in) (sym new);
-      remembered = c.leave_frame.ensures.of_table unit.remembered;
+      remembered = c.leave_frame.ensures.of_table;
       selected = unit.selected;
     }
