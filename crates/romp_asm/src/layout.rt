@@ -149,13 +149,13 @@ fn is_repeated(labels: &Labels<'_>, index: usize, part: &Part<'_>) -> bool
     ensures { result ≡ repeated_in labels.now index (stated part.now) }
 {
     match part.label {
-        Some(label) => stands_before(labels, index, label.as_str()),
+        Some(label) => stands_before(labels, index, label.as_bytes()),
         None => false,
     }
 }
 
 /// Whether an earlier statement than the one with this number has a label.
-fn stands_before(labels: &Labels<'_>, index: usize, word: &str) -> bool
+fn stands_before(labels: &Labels<'_>, index: usize, word: &[u8]) -> bool
     ensures { result ≡ stands_before index (found_in labels.now word.now) }
 {
     match labels.get(word) {

@@ -20,10 +20,10 @@ pub(crate) struct Place {
 }
 
 /// The labels of statements, each where it stands first.
-pub(crate) type Labels<'a> = BTreeMap<&'a str, Place>;
+pub(crate) type Labels<'a> = BTreeMap<&'a [u8], Place>;
 
 /// The source that gives a word to the others, by its number.
-pub type Givers<'a> = BTreeMap<&'a str, usize>;
+pub type Givers<'a> = BTreeMap<&'a [u8], usize>;
 
 /// The labels of statements, whether one of them stands twice, and where the statements end.
 #[derive(Drop)]
@@ -135,10 +135,10 @@ fn note<'a>(labels: &mut Labels<'a>, part: &Part<'a>, place: Place) -> Result<bo
     let Some(label) = part.label else {
         return Ok(false);
     };
-    match labels.insert(label.as_str(), place)? {
+    match labels.insert(label.as_bytes(), place)? {
         None => Ok(false),
         Some(first) => {
-            labels.insert(label.as_str(), first)?;
+            labels.insert(label.as_bytes(), first)?;
             Ok(true)
         }
     }
@@ -150,7 +150,7 @@ pub(crate) fn value_of(scope: &Scope<'_, '_, '_, '_>, value: &Expr) -> Result<i6
 {
     match value {
         Expr::Number(number) => Ok(*number),
-        Expr::Label(word, more) => match address_in(scope, word.as_str()) {
+        Expr::Label(word, more) => match address_in(scope, word.as_bytes()) {
             Some(address) => sum_of(address, *more),
             None => Err(UNKNOWN_LABEL),
         },
@@ -158,7 +158,7 @@ pub(crate) fn value_of(scope: &Scope<'_, '_, '_, '_>, value: &Expr) -> Result<i6
 }
 
 /// The address of a label: the source's own, or that of the source that gives it.
-fn address_in(scope: &Scope<'_, '_, '_, '_>, word: &str) -> Option<i64>
+fn address_in(scope: &Scope<'_, '_, '_, '_>, word: &[u8]) -> Option<i64>
     ensures { result ≡ addresses_in scope.now word.now }
 {
     match scope.own.labels.get(word) {
@@ -168,7 +168,7 @@ fn address_in(scope: &Scope<'_, '_, '_, '_>, word: &str) -> Option<i64>
 }
 
 /// The address of a label that a source gives to the others.
-fn given_in(scope: &Scope<'_, '_, '_, '_>, word: &str) -> Option<i64>
+fn given_in(scope: &Scope<'_, '_, '_, '_>, word: &[u8]) -> Option<i64>
     ensures { result ≡ option_map (λ place. place.address) (given_in scope.now word.now) }
 {
     let source = scope.givers.get(word)?;

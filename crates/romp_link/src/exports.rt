@@ -19,7 +19,7 @@ const NO_EXPORT: u8 = 15;
 const DOUBLE_EXPORT: u8 = 16;
 
 /// The labels of a source.
-type Labels<'a> = BTreeMap<&'a str, ()>;
+type Labels<'a> = BTreeMap<&'a [u8], ()>;
 
 /// Why a line can't export a label.
 #[derive(Clone, Copy)]
@@ -53,11 +53,11 @@ pub(crate) fn exports_of(alloc: Global, sources: &[Statements]) -> Result<Export
 }
 
 /// The label that a statement exports, if it does.
-fn exported_by<'a>(part: &Part<'a>) -> Option<&'a str>
+fn exported_by<'a>(part: &Part<'a>) -> Option<&'a [u8]>
     ensures { option_map (λ label. label.now) result ≡ exported (stated part.now).body }
 {
     match part.body {
-        Body::Export(label) => Some(label.as_str()),
+        Body::Export(label) => Some(label.as_bytes()),
         _ => None,
     }
 }
@@ -82,7 +82,7 @@ fn labels_of(alloc: Global, statements: &Statements) -> Result<Labels<'_>, Alloc
     for index in 0..statements.len() {
         match statements.at(index).label {
             Some(label) => {
-                labels.insert(label.as_str(), ())?;
+                labels.insert(label.as_bytes(), ())?;
             }
             None => {}
         }
@@ -117,7 +117,7 @@ impl<'a> Exports<'a> {
         labels: &Labels<'_>,
         source: usize,
         line: u32,
-        label: &'a str,
+        label: &'a [u8],
     ) -> Result<(), AllocError>
         ensures givers { OnOk result ((word : List ℕ) → found_in self.new.givers word ≡ option_or (found_in self.old.givers word) (if bytes_eq label.now word then Some source else None)) }
         ensures fault { OnOk result (told_of self.new.fault ≡ option_or (told_of self.old.fault)

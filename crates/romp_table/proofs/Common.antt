@@ -11,11 +11,12 @@ unfoldable pub use Rattle.romp_table.specs.Decode.{row_numbered}
 pub use Rattle.romp_table.specs.Encode.{BeginWith, bits_of, bytes_in, bytes_of, encoded, first_of, first_with, number_of, second_of}
 pub use Rattle.romp_table.specs.Legal.{HasWidths, IsLegal, IsRowOf, IsSigned, format_of, op_of}
 unfoldable pub use Rattle.romp_table.specs.Names.{mnemonic, op_named}
+pub use Rattle.romp_table.specs.Names.{slot_of}
 pub use Rattle.romp_table.specs.Rows.{is_row_at, place_of}
 unfoldable pub use Rattle.romp_table.specs.Rows.{row_of}
 pub use Rattle.romp_table.specs.declared.inst.Inst.{Inst}
 pub use Rattle.romp_table.specs.declared.inst.Op.{Op}
-pub use Rattle.romp_table.specs.declared.names.TheConstants.{NAMES}
+pub use Rattle.romp_table.specs.declared.names.TheConstants.{NAMES, SLOTS}
 pub use Rattle.romp_table.specs.declared.table.Format.{Format}
 pub use Rattle.romp_table.specs.declared.table.Row.{Row}
 pub use Rattle.romp_table.specs.declared.table.TheConstants.{PLACES, TABLE}

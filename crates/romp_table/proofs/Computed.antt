@@ -1,5 +1,5 @@
 -- What the checker computes over the whole table, once.
-use Rattle.romp_table.proofs.Common.{range_with_len, position_or_len, list_all, number_unit, is_row_at, place_of, op_named, mnemonic, Format, Row, TABLE, PLACES, NAMES}
+use Rattle.romp_table.proofs.Common.{range_with_len, position_or_len, list_all, number_unit, is_row_at, place_of, op_named, mnemonic, slot_of, Format, Row, TABLE, PLACES, NAMES, SLOTS}
 use Rattle.std.specs.Prelude.{◌≡◌, ℕ, ◌+◌, ◌*◌, ◌/◌, ◌^◌, ◌==◌, Bool, true, List, map, refl, Some, nat_lt, slice_index}
 
 -- how many high bytes a row of this format has
@@ -40,6 +40,11 @@ names_ordered = refl
 pub names_computed : map (λ row. op_named (mnemonic row.op)) TABLE ≡ map (λ row. Some row.op) TABLE
 unfolding mnemonic op_named
 names_computed = refl
+
+-- the slot of each mnemonic leads to its own row
+pub slots_computed : map (λ row. slice_index SLOTS (slot_of (mnemonic row.op))) TABLE ≡ map (λ row. place_of row.op) TABLE
+unfolding mnemonic
+slots_computed = refl
 
 -- each number has the width of its format
 pub widths_computed : list_all (λ row. nat_lt row.number (2 ^ 16 / number_unit row.format)) TABLE ≡ true

@@ -1,5 +1,5 @@
 -- The mnemonics.
-use Rattle.std.specs.Prelude.{ℕ, Option, find, map, List, codes}
+use Rattle.std.specs.Prelude.{ℕ, ◌+◌, ◌*◌, ◌%◌, Option, find, fold, map, List, codes}
 use Rattle.std.specs.Str.{bytes_eq}
 use Rattle.romp_table.specs.declared.inst.Op.{Op}
 use Rattle.romp_table.specs.declared.table.TheConstants.{TABLE}
@@ -95,3 +95,11 @@ mnemonic Op.Ti = codes "ti"
 -- the operation whose mnemonic a word is
 unfoldable pub op_named : List ℕ → Option Op
 op_named word = find (λ op. bytes_eq (mnemonic op) word) (map (λ row. row.op) TABLE)
+
+-- the bytes of a word as digits of base 387 behind a 1, modulo 2^16
+abbrev pub folded : List ℕ → ℕ
+folded word = fold (λ digits byte. (digits * 387 % 65536 + byte) % 65536) 1 word
+
+-- the slot of a word, where its operation is looked for
+abbrev pub slot_of : List ℕ → ℕ
+slot_of word = folded word % 512

@@ -14,9 +14,9 @@ loop-index-preserved c = λ word.
     elim c.match-at.branch [
       | in-Some+in_ok-insert-in-Some w ↦
           ap (λ labels. is_some (found_in labels word)) w.labels-is
-          ∙ ap is_some (btree_map_updates_str w.as_str.result.now c.loop-index.labels w.insert.new.self _ w.in_ok-insert-in-Some.ensures.updates word)
-          ∙ label_more (found_in c.loop-index.labels word) _ (bytes_eq w.as_str.result.now word) before (c.loop-index.invariant word)
-          ∙ ap (λ (test : Bool). before || test) (ap (λ (text : List ℕ). bytes_eq text word) w.as_str.ensures ∙ sym (ap labelled w.in-Some.is))
+          ∙ ap is_some (btree_map_updates_str w.as_bytes.result.now c.loop-index.labels w.insert.new.self _ w.in_ok-insert-in-Some.ensures.updates word)
+          ∙ label_more (found_in c.loop-index.labels word) _ (bytes_eq w.as_bytes.result.now word) before (c.loop-index.invariant word)
+          ∙ ap (λ (test : Bool). before || test) (ap (λ (text : List ℕ). bytes_eq text word) w.as_bytes.ensures.value ∙ sym (ap labelled w.in-Some.is))
           ∙ sym more
       | in-None w ↦
           ap (λ labels. is_some (found_in labels word)) w.labels-is
