@@ -1,9 +1,6 @@
-ghost use Rattle.std.specs.Prelude.{◌≡◌, ◌≢◌, ◌↔◌, ◌+◌, ◌≤◌, ◌<◌, ◌^◌, Bool, true, false, List, ℕ, length, map};
-ghost use Rattle.outside.specs.Causes.{Rose};
+ghost use Rattle.std.specs.Prelude.{◌≡◌, ◌+◌, ◌≤◌, ◌<◌, ◌^◌, Bool, false, List, ℕ, length, map};
 ghost use Rattle.outside.specs.Durable.{IsSure};
-ghost use Rattle.outside.specs.Runs.{CallsDisk, OnlyAsks, held_of};
-ghost use Rattle.flat_machine.specs.declared.machine.Program.{Program};
-ghost use Rattle.store_format.specs.Header.{Header, total};
+ghost use Rattle.outside.specs.Runs.{OnlyAsks, held_of};
 ghost use Rattle.store_format.specs.Stands.{stands};
 ghost use Rattle.desk.specs.declared.event.Event.TheVariants as event;
 ghost use Rattle.desk.specs.Desk.{Desk};
@@ -13,7 +10,8 @@ ghost use Rattle.desk.specs.Run.{step};
 ghost use Rattle.desk.specs.Report.{number_after};
 ghost use Rattle.desk.specs.Answers.{begun_told, turn_told, stored_told, reopened_told, turn_closes, stored_closes, reopened_closes, HasNumbers, StoredNumber, IsReopened};
 ghost use Rattle.desk.specs.Crash.{Did, standing_of};
-ghost use Rattle.desk.specs.Kept.{HoldsStore, StillTold, IsDamage, WritesMore, writes_due, turn_fails};
+ghost use Rattle.desk.specs.Calls.{CallsStore, FailsCounted, Fixed, StaysShut, reopened_fails, stored_fails};
+ghost use Rattle.desk.specs.Kept.{HoldsStore, IsDamage, WritesMore, writes_due, turn_fails};
 
 use super::answers::{Begun, Committed, Reopened, Stored, Turn, TurnEnd};
 use arrayvec::ArrayVec;
@@ -31,17 +29,8 @@ pub trait Supervisor {
     /// Whether it is closed.
     ghost closed: { Self → Bool };
 
-    /// The programs that may begin, by their places.
-    ghost programs: { Self → List Program };
-
-    /// The number of the store when it was opened.
-    ghost opened: { Self → ℕ };
-
-    /// The header of the store.
-    ghost header: { Self → Header };
-
-    /// How many begins it has room for, in all.
-    ghost begins: { Self → ℕ };
+    /// What only an opening sets.
+    ghost fixed: { Self → Fixed };
 
     /// How many activation numbers were given.
     ghost given: { Self → ℕ };
@@ -58,18 +47,14 @@ pub trait Supervisor {
     /// The program with this place begins with four values.
     fn begin(&mut self, program: u16, args: [u32; 4]) -> Begun
         requires sound { sound self.old }
-        requires program { program < length (programs self.old) }
-        requires room { given self.old < begins self.old }
-        ensures did { (held : List ℕ) (desk : Desk) → shows self.old held desk → (next : Desk) × (step (programs self.old) (event.Begin program args) Fine desk ≡ record { desk = next; happening = begun_told program result }) × shows self.new held next }
-        ensures shut { (result ≡ Begun.Shut) ↔ (closed self.old ≡ true) }
-        ensures unchanged { closed self.old ≡ true → self.new ≡ self.old }
+        requires program { program < length (fixed self.old).programs }
+        requires room { given self.old < (fixed self.old).begins }
+        ensures did { (held : List ℕ) (desk : Desk) → shows self.old held desk → (next : Desk) × (step (fixed self.old).programs (event.Begin program args) Fine desk ≡ record { desk = next; happening = begun_told program result }) × shows self.new held next }
+        ensures shut { StaysShut (closed self.old) (result ≡ Begun.Shut) (self.new ≡ self.old) }
         ensures closed { closed self.new ≡ closed self.old }
         ensures order { order self.new ≡ order self.old }
         ensures sound { sound self.new }
-        ensures programs { programs self.new ≡ programs self.old }
-        ensures opened { opened self.new ≡ opened self.old }
-        ensures header { header self.new ≡ header self.old }
-        ensures begins { begins self.new ≡ begins self.old }
+        ensures fixed { fixed self.new ≡ fixed self.old }
         ensures given { given self.new ≤ given self.old + 1 }
         ensures turns { turns self.new ≡ turns self.old };
 
@@ -78,72 +63,52 @@ pub trait Supervisor {
         requires sound { sound self.old }
         requires limit { limit ≤ 1000000 }
         requires turns { turns self.old < 2 ^ 32 }
-        requires bytes { HoldsStore W.Outside (header self.old) outside.old }
-        ensures did { (desk : Desk) → IsSure W.Outside outside.old → shows self.old (held_of W.Outside outside.old) desk → (did : Did W.Outside (programs self.old) (opened self.old) (event.Turn activation limit) (turn_told activation result (printed self.new)) (closed self.new) (order self.new) (shows self.new) desk outside.old outside.new) × HasNumbers result.end activation (number_after (opened self.old) did.next) }
+        requires bytes { HoldsStore W.Outside (fixed self.old).header outside.old }
+        ensures did { (desk : Desk) → IsSure W.Outside outside.old → shows self.old (held_of W.Outside outside.old) desk → (did : Did W.Outside (fixed self.old).programs (fixed self.old).opened (event.Turn activation limit) (turn_told activation result (printed self.new)) (closed self.new) (order self.new) (shows self.new) desk outside.old outside.new) × HasNumbers result.end activation (number_after (fixed self.old).opened did.next) }
         ensures writes { WritesMore (W.writes outside.old) (W.writes outside.new) (writes_due result.end) }
-        ensures shut { (result.end ≡ TurnEnd.Shut) ↔ (closed self.old ≡ true) }
-        ensures unchanged { closed self.old ≡ true → (self.new ≡ self.old) × (outside.new ≡ outside.old) }
+        ensures shut { StaysShut (closed self.old) (result.end ≡ TurnEnd.Shut) ((self.new ≡ self.old) × (outside.new ≡ outside.old)) }
         ensures closed { closed self.new ≡ turn_closes result.end }
-        ensures cause { closed self.old ≡ false → closed self.new ≡ true → Rose (W.disk_faults outside.old) (W.disk_faults outside.new) }
-        ensures disk { result.end ≡ TurnEnd.Disk → Rose (W.disk_faults outside.old) (W.disk_faults outside.new) }
-        ensures calm { turn_fails result.end ≡ false → W.disk_faults outside.new ≡ W.disk_faults outside.old }
-        ensures calls { CallsDisk W.Outside outside.old outside.new }
-        ensures told { StillTold W.Outside outside.old outside.new }
-        ensures bytes { HoldsStore W.Outside (header self.new) outside.new }
+        ensures failed { FailsCounted (turn_fails result.end) (W.disk_faults outside.old) (W.disk_faults outside.new) }
+        ensures calls { CallsStore W.Outside (fixed self.new).header outside.old outside.new }
         ensures sound { sound self.new }
-        ensures programs { programs self.new ≡ programs self.old }
-        ensures opened { opened self.new ≡ opened self.old }
-        ensures header { header self.new ≡ header self.old }
-        ensures begins { begins self.new ≡ begins self.old }
+        ensures fixed { fixed self.new ≡ fixed self.old }
         ensures given { given self.new ≡ given self.old }
         ensures turns { turns self.new ≤ turns self.old + 1 };
 
     /// Brings the store home, so that its journal begins again.
     fn checkpoint<W: Outside>(&mut self, outside: &mut W) -> Stored
         requires sound { sound self.old }
-        requires bytes { HoldsStore W.Outside (header self.old) outside.old }
-        ensures did { (desk : Desk) → IsSure W.Outside outside.old → shows self.old (held_of W.Outside outside.old) desk → (did : Did W.Outside (programs self.old) (opened self.old) event.Checkpoint (stored_told result) (closed self.new) (order self.new) (shows self.new) desk outside.old outside.new) × StoredNumber result (number_after (opened self.old) did.next) }
+        requires bytes { HoldsStore W.Outside (fixed self.old).header outside.old }
+        ensures did { (desk : Desk) → IsSure W.Outside outside.old → shows self.old (held_of W.Outside outside.old) desk → (did : Did W.Outside (fixed self.old).programs (fixed self.old).opened event.Checkpoint (stored_told result) (closed self.new) (order self.new) (shows self.new) desk outside.old outside.new) × StoredNumber result (number_after (fixed self.old).opened did.next) }
         ensures writes { WritesMore (W.writes outside.old) (W.writes outside.new) 0 }
-        ensures shut { (result ≡ Stored.Shut) ↔ (closed self.old ≡ true) }
-        ensures unchanged { closed self.old ≡ true → (self.new ≡ self.old) × (outside.new ≡ outside.old) }
+        ensures shut { StaysShut (closed self.old) (result ≡ Stored.Shut) ((self.new ≡ self.old) × (outside.new ≡ outside.old)) }
         ensures closed { closed self.new ≡ stored_closes result }
-        ensures cause { closed self.old ≡ false → closed self.new ≡ true → Rose (W.disk_faults outside.old) (W.disk_faults outside.new) }
-        ensures calm { result ≢ Stored.Closed → W.disk_faults outside.new ≡ W.disk_faults outside.old }
-        ensures calls { CallsDisk W.Outside outside.old outside.new }
-        ensures told { StillTold W.Outside outside.old outside.new }
-        ensures bytes { HoldsStore W.Outside (header self.new) outside.new }
+        ensures failed { FailsCounted (stored_fails result) (W.disk_faults outside.old) (W.disk_faults outside.new) }
+        ensures calls { CallsStore W.Outside (fixed self.new).header outside.old outside.new }
         ensures sound { sound self.new }
-        ensures programs { programs self.new ≡ programs self.old }
-        ensures opened { opened self.new ≡ opened self.old }
-        ensures header { header self.new ≡ header self.old }
-        ensures begins { begins self.new ≡ begins self.old }
+        ensures fixed { fixed self.new ≡ fixed self.old }
         ensures given { given self.new ≡ given self.old }
         ensures turns { turns self.new ≡ turns self.old };
 
     /// A crash: it forgets all that isn't on the disk, and reads the store again. It only asks the disk.
     fn forget<W: Outside>(&mut self, outside: &mut W) -> Reopened
         requires sound { sound self.old }
-        requires bytes { HoldsStore W.Outside (header self.old) outside.old }
-        ensures did { (desk : Desk) → IsSure W.Outside outside.old → shows self.old (held_of W.Outside outside.old) desk → (did : Did W.Outside (programs self.old) (opened self.old) event.Crash (reopened_told (numbers desk) result) (closed self.new) (order self.new) (shows self.new) desk outside.old outside.new) × IsReopened result (number_after (opened self.old) did.next) }
-        ensures shut { (result ≡ Reopened.Shut) ↔ (closed self.old ≡ true) }
-        ensures unchanged { closed self.old ≡ true → (self.new ≡ self.old) × (outside.new ≡ outside.old) }
+        requires bytes { HoldsStore W.Outside (fixed self.old).header outside.old }
+        ensures did { (desk : Desk) → IsSure W.Outside outside.old → shows self.old (held_of W.Outside outside.old) desk → (did : Did W.Outside (fixed self.old).programs (fixed self.old).opened event.Crash (reopened_told (numbers desk) result) (closed self.new) (order self.new) (shows self.new) desk outside.old outside.new) × IsReopened result (number_after (fixed self.old).opened did.next) }
+        ensures shut { StaysShut (closed self.old) (result ≡ Reopened.Shut) ((self.new ≡ self.old) × (outside.new ≡ outside.old)) }
         ensures closed { closed self.new ≡ reopened_closes result }
-        ensures cause { result ≡ Reopened.DiskFault → Rose (W.disk_faults outside.old) (W.disk_faults outside.new) }
-        ensures calm { result ≢ Reopened.DiskFault → W.disk_faults outside.new ≡ W.disk_faults outside.old }
-        ensures damage { IsDamage W.Outside (header self.old) outside.old result }
+        ensures failed { FailsCounted (reopened_fails result) (W.disk_faults outside.old) (W.disk_faults outside.new) }
+        ensures damage { IsDamage W.Outside (fixed self.old).header outside.old result }
         ensures asks { OnlyAsks W.Outside outside.old outside.new }
         ensures sound { sound self.new }
-        ensures programs { programs self.new ≡ programs self.old }
-        ensures opened { opened self.new ≡ opened self.old }
-        ensures header { header self.new ≡ header self.old }
-        ensures begins { begins self.new ≡ begins self.old }
+        ensures fixed { fixed self.new ≡ fixed self.old }
         ensures given { given self.new ≡ given self.old }
         ensures turns { turns self.new ≡ turns self.old };
 
     /// The store's number.
     fn number(&self) -> u64
         requires { sound self.now }
-        ensures { (held : List ℕ) (desk : Desk) → shows self.now held desk → result ≡ number_after (opened self.now) desk };
+        ensures { (held : List ℕ) (desk : Desk) → shows self.now held desk → result ≡ number_after (fixed self.now).opened desk };
 
     /// The numbers of those that are active, ascending.
     fn active(&self) -> ArrayVec<u32, 16>
@@ -170,5 +135,5 @@ pub trait Supervisor {
     ghost open_shown: { (self_now : Self) (held : List ℕ) (desk : Desk) → shows self_now held desk → closed self_now ≡ false };
 
     /// The bytes stand for the desk's number and its committed bytes.
-    ghost shown_stands: { (self_now : Self) (held : List ℕ) (desk : Desk) → shows self_now held desk → stands held ≡ standing_of (opened self_now) desk };
+    ghost shown_stands: { (self_now : Self) (held : List ℕ) (desk : Desk) → shows self_now held desk → stands held ≡ standing_of (fixed self_now).opened desk };
 }

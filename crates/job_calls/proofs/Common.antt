@@ -7,6 +7,7 @@ pub use Rattle.call_status.specs.Call.{Call, Given, call, given}
 pub use Rattle.call_status.specs.Opening.{IsStanding, StandsAt}
 pub use Rattle.call_status.specs.declared.status.Status.{Status}
 pub use Rattle.desk.specs.Answers.{order_told}
+pub use Rattle.desk.specs.Calls.{Fixed}
 pub use Rattle.desk.specs.Commits.{IsSerial, begun, commit_lines, is_commit, serial_lines}
 pub use Rattle.desk.specs.Desk.{Desk, opened}
 pub use Rattle.desk.specs.Instruction.{Doubt, Word}

@@ -1,5 +1,5 @@
 -- Events, one after another.
-use Rattle.schedule_replay.proofs.Common.{◌≡◌, ℕ, zero, suc, ◌+◌, ◌<◌, ◌≤◌, List, [], ◌∷◌, ◌++◌, length, get_or, take, drop, cond, refl, sym, ◌∙◌, ap, subst, arith, rules, IsSome, false, Option, Result, Ok, Err, IsErr, All, unwrap_or, ForSome, take_all, take_more, take-append-drop, sum_by-append, Failed, Ghosts, HasCause, cause_since, FewerLater, elapses-trans, Program, Header, total, bank_of, chosen, Event, HoldsStore, Line, Going, IsAsked, is_begin, is_turn, begins_in, turns_in, IsReady, Answered, GoesBy, GoesShut, Puts}
+use Rattle.schedule_replay.proofs.Common.{◌≡◌, ℕ, zero, suc, ◌+◌, ◌<◌, ◌≤◌, List, [], ◌∷◌, ◌++◌, length, get_or, take, drop, cond, refl, sym, ◌∙◌, ap, subst, arith, rules, IsSome, false, Option, Result, Ok, Err, IsErr, All, unwrap_or, ForSome, take_all, take_more, take-append-drop, sum_by-append, Failed, Ghosts, HasCause, cause_since, FewerLater, elapses-trans, Program, Fixed, Header, total, bank_of, chosen, Event, HoldsStore, Line, Going, IsAsked, is_begin, is_turn, begins_in, turns_in, IsReady, Answered, GoesBy, GoesShut, Puts}
 use Rattle.desk.specs.declared.supervisor.Supervisor as desk
 use Rattle.schedule_replay.specs.declared.events.Going.TheVariants as going
 use Rattle.schedule_replay.proofs.PutsLemmas.{done, no_time}
@@ -24,10 +24,7 @@ module _ {D W : Type 0} (S : desk.Ghosts D) (G : Ghosts W) (fewer_later : FewerL
   pub answered_on : {T U : Type 0} (xs ys : List Event) (old mid new : D) (before between after : W) (value : T) (result : Result U Failed) → Answered S G xs old mid before between (Ok value) → Answered S G ys mid new between after result → Answered S G (xs ++ ys) old new before after result
   answered_on xs ys old mid new before between after value result one two = record {
     sound = two.sound;
-    programs = two.programs ∙ one.programs;
-    opened = two.opened ∙ one.opened;
-    header = two.header ∙ one.header;
-    begins = two.begins ∙ one.begins;
+    fixed = two.fixed ∙ one.fixed;
     given = omega (arith, one.given, two.given, begins_split xs ys);
     turns = omega (arith, one.turns, two.turns, turns_split xs ys);
     bytes = two.bytes;
@@ -39,13 +36,10 @@ module _ {D W : Type 0} (S : desk.Ghosts D) (G : Ghosts W) (fewer_later : FewerL
   }
 
   -- nothing was answered yet
-  pub answered_none : (desk : D) (w : W) → S.sound desk → HoldsStore G (S.header desk) w → Answered S G [] desk desk w w done
+  pub answered_none : (desk : D) (w : W) → S.sound desk → HoldsStore G (S.fixed desk).header w → Answered S G [] desk desk w w done
   answered_none desk w sound bytes = record {
     sound = sound;
-    programs = refl;
-    opened = refl;
-    header = refl;
-    begins = refl;
+    fixed = refl;
     given = omega arith;
     turns = omega arith;
     bytes = bytes;
@@ -57,16 +51,13 @@ module _ {D W : Type 0} (S : desk.Ghosts D) (G : Ghosts W) (fewer_later : FewerL
   }
 
   -- lines were put
-  pub answered_puts : {T : Type 0} (lines : List Line) (desk : D) (before after : W) (result : Result T Failed) → S.sound desk → HoldsStore G (S.header desk) before → Puts G lines before after result → Answered S G [] desk desk before after result
+  pub answered_puts : {T : Type 0} (lines : List Line) (desk : D) (before after : W) (result : Result T Failed) → S.sound desk → HoldsStore G (S.fixed desk).header before → Puts G lines before after result → Answered S G [] desk desk before after result
   answered_puts lines desk before after result sound bytes puts = record {
     sound = sound;
-    programs = refl;
-    opened = refl;
-    header = refl;
-    begins = refl;
+    fixed = refl;
     given = omega arith;
     turns = omega arith;
-    bytes = subst (λ (held : Option (List ℕ)). ForSome held (λ bytes. total (S.header desk) ≤ length bytes)) (sym puts.only.held) bytes;
+    bytes = subst (λ (held : Option (List ℕ)). ForSome held (λ bytes. total (S.fixed desk).header ≤ length bytes)) (sym puts.only.held) bytes;
     honest = puts.only.honest;
     told = λ some. subst (λ (held : Option (List ℕ)). IsSome held) (sym puts.only.held) some;
     time = puts.only.time;
@@ -82,8 +73,8 @@ module _ {D W : Type 0} (S : desk.Ghosts D) (G : Ghosts W) (fewer_later : FewerL
         let turns : turns_in events ≡ turns_in (take i events) + turns_in (get_or events i event ∷ []) + turns_in (drop (i + 1) events) = ap turns_in (sym (parted events i event lt)) ∙ turns_split (take i events ++ get_or events i event ∷ []) (drop (i + 1) events) ∙ ap (λ n. n + turns_in (drop (i + 1) events)) (turns_split (take i events) (get_or events i event ∷ [])) in
         record {
           sound = so_far.sound;
-          asked = all_one (λ each. IsAsked (length (S.programs mid)) each) (get_or events i event) (subst (λ (programs : List Program). IsAsked (length programs) (get_or events i event)) (sym so_far.programs) (ready.asked i event lt));
-          begins = omega (arith, so_far.given, so_far.begins, ready.begins, begins);
+          asked = all_one (λ each. IsAsked (length (S.fixed mid).programs) each) (get_or events i event) (subst (λ (programs : List Program). IsAsked (length programs) (get_or events i event)) (ap (λ (fixed : Fixed). fixed.programs) (sym so_far.fixed)) (ready.asked i event lt));
+          begins = let room = ap (λ (fixed : Fixed). fixed.begins) so_far.fixed in omega (arith, so_far.given, room, ready.begins, begins);
           turns = omega (arith, so_far.turns, ready.turns, turns);
           bytes = so_far.bytes;
         }
@@ -97,10 +88,7 @@ module _ {D W : Type 0} (S : desk.Ghosts D) (G : Ghosts W) (fewer_later : FewerL
   pub answered_well : {T U : Type 0} (events : List Event) (old new : D) (before after : W) (value : T) (other : U) → Answered S G events old new before after (Ok value) → Answered S G events old new before after (Ok other)
   answered_well events old new before after value other is = record {
     sound = is.sound;
-    programs = is.programs;
-    opened = is.opened;
-    header = is.header;
-    begins = is.begins;
+    fixed = is.fixed;
     given = is.given;
     turns = is.turns;
     bytes = is.bytes;
@@ -119,10 +107,7 @@ module _ {D W : Type 0} (S : desk.Ghosts D) (G : Ghosts W) (fewer_later : FewerL
   pub answered_broken : {T U : Type 0} (events : List Event) (old new : D) (before after : W) (result : Result T Failed) (other : Result U Failed) → IsErr result → IsErr other → Answered S G events old new before after result → Answered S G events old new before after other
   answered_broken events old new before after result other one two is = record {
     sound = is.sound;
-    programs = is.programs;
-    opened = is.opened;
-    header = is.header;
-    begins = is.begins;
+    fixed = is.fixed;
     given = is.given;
     turns = is.turns;
     bytes = is.bytes;
@@ -134,7 +119,7 @@ module _ {D W : Type 0} (S : desk.Ghosts D) (G : Ghosts W) (fewer_later : FewerL
   }
 
 -- it goes on so from an earlier moment, and a supervisor that was open before
-pub goes_since : {D W : Type 0} (S : desk.Ghosts D) (G : Ghosts W) (going : Going) (old mid new : D) (before between after : W) → S.header mid ≡ S.header old → (S.closed old ≡ false → S.closed mid ≡ false) → G.disk_faults before ≤ G.disk_faults between → GoesBy S G mid new between after going → GoesBy S G old new before after going
+pub goes_since : {D W : Type 0} (S : desk.Ghosts D) (G : Ghosts W) (going : Going) (old mid new : D) (before between after : W) → (S.fixed mid).header ≡ (S.fixed old).header → (S.closed old ≡ false → S.closed mid ≡ false) → G.disk_faults before ≤ G.disk_faults between → GoesBy S G mid new between after going → GoesBy S G old new before after going
 goes_since S G going.On old mid new before between after header still disk goes = λ was_open. goes (still was_open)
 goes_since S G going.Closed old mid new before between after header still disk goes = (goes.0, λ was_open. let rose = goes.1 (still was_open) in omega (arith, rose, disk))
 goes_since S G (going.Damaged offset) old mid new before between after header still disk goes = (goes.0, λ told. ap (λ (these : Header). bank_of (unwrap_or (G.held after) []) these (chosen (unwrap_or (G.held after) []))) (sym header) ∙ goes.1 told)

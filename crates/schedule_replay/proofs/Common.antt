@@ -7,6 +7,7 @@ pub use Rattle.std.specs.List.{flat_map, fold}
 pub use Rattle.std.specs.Option.{ForSome}
 pub use Rattle.std.specs.Prelude.{All, Bool, Err, IfOk, IfSome, IsErr, None, Ok, OnOk, Option, Result, Some, count_by, false, if◌then◌else◌, not, true, unwrap_or, ◌↔◌}
 pub use Rattle.desk.specs.Answers.{HasNumbers, IsReopened, StoredNumber, begun_told, counts_told, ending_told, reopened_closes, reopened_told, stored_closes, stored_told, turn_closes, turn_told}
+pub use Rattle.desk.specs.Calls.{CallsStore, FailsCounted, Fixed, StaysShut, reopened_fails, stored_fails}
 pub use Rattle.desk.specs.Commits.{is_commit}
 pub use Rattle.desk.specs.Crash.{Did, IsEitherOf, standing_of}
 pub use Rattle.desk.specs.Desk.{Desk}
@@ -29,12 +30,12 @@ pub use Rattle.flat_machine.specs.declared.machine.Program.{Program}
 pub use Rattle.outside.proofs.Counts.{cause_since}
 pub use Rattle.outside.proofs.Durable.{leaves_held, told_is}
 pub use Rattle.outside.proofs.Prints.{only_on, prints_broken, prints_on, prints_same, prints_stop, prints_well}
-pub use Rattle.outside.proofs.Runs.{calls_on, elapses-trans, leaves_on}
+pub use Rattle.outside.proofs.Runs.{asks_none, calls_none, calls_on, elapses-trans, leaves_on}
 pub use Rattle.outside.specs.Bytes.{AreTold, Prints}
 pub use Rattle.outside.specs.Causes.{HasCause, Rose, RoseBy}
 pub use Rattle.outside.specs.Durable.{IsSure}
 pub use Rattle.outside.specs.Moments.{Elapses, Shows}
-pub use Rattle.outside.specs.Runs.{CallsDisk, FewerLater, Leaves, OnlyPuts, held_of}
+pub use Rattle.outside.specs.Runs.{CallsDisk, FewerLater, Leaves, OnlyAsks, OnlyPuts, held_of}
 pub use Rattle.outside.specs.declared.failed.Failed.{Failed}
 pub use Rattle.outside.specs.declared.world.Outside.{Ghosts}
 pub use Rattle.report_text.specs.Line.{line_told}

@@ -1,5 +1,5 @@
 -- What lines tell of records and of faults of the disk, and how many puts they are.
-use Rattle.schedule_replay.proofs.Common.{◌≡◌, ◌≢◌, ℕ, ◌+◌, ◌≤◌, List, [], ◌∷◌, ◌++◌, map, cond, refl, ap, ◌∙◌, arith, rules, Bool, true, false, if◌then◌else◌, count_by, Some, None, Result, Ok, Err, IsErr, OnOk, flat_map, sum_by-append, Failed, Begun, Turn, TurnEnd, Stored, Reopened, begun_told, turn_told, counts_told, stored_told, reopened_told, is_commit, Counts, Ending, most_records, records_after, is_stored, tells_fault, turn_fails, Line, cycle_lines, turn_lines, happening_lines}
+use Rattle.schedule_replay.proofs.Common.{◌≡◌, ℕ, ◌+◌, ◌≤◌, List, [], ◌∷◌, ◌++◌, map, cond, refl, ap, ◌∙◌, arith, rules, Bool, true, false, if◌then◌else◌, count_by, Some, None, Result, Ok, Err, IsErr, OnOk, flat_map, sum_by-append, Failed, Begun, Turn, TurnEnd, Stored, Reopened, begun_told, turn_told, counts_told, stored_told, reopened_told, is_commit, Counts, Ending, most_records, records_after, is_stored, tells_fault, turn_fails, stored_fails, reopened_fails, Line, cycle_lines, turn_lines, happening_lines}
 use Rattle.desk.specs.Run.{Happening, Nothing, Begun as begins, Busy, NoSegment, Turned, CheckpointMade, CheckpointFailed, Crashed, CrashFailed}
 use Rattle.desk.specs.declared.answers.Begun.TheVariants as begun
 use Rattle.desk.specs.declared.answers.TurnEnd.TheVariants as end
@@ -108,24 +108,21 @@ module _ (names : List (List ℕ)) (number : ℕ) where
   turn_calm activation answer end.Shut printed none = refl
 
   -- nor a checkpoint
-  pub stored_calm : (answer : Stored) → faults_in (happening_lines names number (stored_told answer)) ≡ 0 → answer ≢ stored.Closed
-  stored_calm (stored.Number told) none is = cc
-  stored_calm stored.Closed none is = omega (arith, none)
-  stored_calm stored.Shut none is = cc
+  pub stored_calm : (answer : Stored) → faults_in (happening_lines names number (stored_told answer)) ≡ 0 → stored_fails answer ≡ false
+  stored_calm (stored.Number told) none = refl
+  stored_calm stored.Closed none = absurd (omega (arith, none))
+  stored_calm stored.Shut none = refl
 
   -- nor a crash
-  pub reopened_calm : (lost : List ℕ) (answer : Reopened) → faults_in (happening_lines names number (reopened_told lost answer)) ≡ 0 → answer ≢ reopened.DiskFault
-  reopened_calm lost (reopened.Number told) none is = cc
-  reopened_calm lost (reopened.Damaged offset) none is = cc
-  reopened_calm lost reopened.DiskFault none is = let split = faults_on (map line.Lost lost) (line.Closed ∷ []) in omega (arith, split, none)
-  reopened_calm lost reopened.Shut none is = cc
+  pub reopened_calm : (lost : List ℕ) (answer : Reopened) → faults_in (happening_lines names number (reopened_told lost answer)) ≡ 0 → reopened_fails answer ≡ false
+  reopened_calm lost (reopened.Number told) none = refl
+  reopened_calm lost (reopened.Damaged offset) none = refl
+  reopened_calm lost reopened.DiskFault none = absurd (let split = faults_on (map line.Lost lost) (line.Closed ∷ []) in omega (arith, split, none))
+  reopened_calm lost reopened.Shut none = refl
 
 -- a begin leaves as many records
 pub begun_keep : (program : ℕ) (answer : Begun) (records : ℕ) → records ≤ records_after (begun_told program answer) records
-begun_keep program (begun.Started activation) records = omega arith
-begun_keep program (begun.Busy activation) records = omega arith
-begun_keep program (begun.NoSegment activation segment) records = omega arith
-begun_keep program begun.Shut records = omega arith
+begun_keep program answer records = grind arith
 
 -- what is said of success is said of another result, which fails where this one does
 pub on_ok_as : {T U : Type 0} (P : Type 0) (result : Result T Failed) (other : Result U Failed) → (IsErr result → IsErr other) → OnOk result P → OnOk other P

@@ -108,8 +108,8 @@ if_some P Q (Some one) turns is = turns one is
 
 module _ {D W : Type 0} (S : desk.Ghosts D) (G : Ghosts W) (fewer_later : FewerLater G) (programs : List Program) (number : ℕ) where
   -- nothing was run yet
-  pub ran_nothing : (stands_law : (s : D) (held : List ℕ) (desk : Desk) → S.shows s held desk → stands held ≡ standing_of (S.opened s) desk) (open_law : (s : D) (held : List ℕ) (desk : Desk) → S.shows s held desk → desk.closed ≡ false) (closed_law : (s : D) (held : List ℕ) (desk : Desk) → S.shows s held desk → S.closed s ≡ false) (order_law : (s : D) (held : List ℕ) (desk : Desk) → S.shows s held desk → S.order s ≡ desk.order)
-      (start : Desk) (new : D) (w : W) → S.opened new ≡ number → IsSure G w → S.shows new (held_of G w) start → (ran : RanQuietly S G programs number [] start new w w) × (event_lines [] programs number ran.taken start ≡ [])
+  pub ran_nothing : (stands_law : (s : D) (held : List ℕ) (desk : Desk) → S.shows s held desk → stands held ≡ standing_of (S.fixed s).opened desk) (open_law : (s : D) (held : List ℕ) (desk : Desk) → S.shows s held desk → desk.closed ≡ false) (closed_law : (s : D) (held : List ℕ) (desk : Desk) → S.shows s held desk → S.closed s ≡ false) (order_law : (s : D) (held : List ℕ) (desk : Desk) → S.shows s held desk → S.order s ≡ desk.order)
+      (start : Desk) (new : D) (w : W) → (S.fixed new).opened ≡ number → IsSure G w → S.shows new (held_of G w) start → (ran : RanQuietly S G programs number [] start new w w) × (event_lines [] programs number ran.taken start ≡ [])
   ran_nothing stands_law open_law closed_law order_law start new w opened sure shows =
       let ran : RanQuietly S G programs number [] start new w w = record {
         taken = [];
@@ -161,16 +161,16 @@ module _ {D W : Type 0} (S : desk.Ghosts D) (G : Ghosts W) (fewer_later : FewerL
       (ran, lines)
 
   -- the next event is run from where the run is, and tallied
-  pub ran_next_quietly : (events : List Event) (i : ℕ) (event : Event) → i < length events → (start : Desk) (mid new : D) (before between after : W) (old_last new_last : List ℕ) (so_far : Tally) (tally : Option Tally) → S.closed mid ≡ false → S.programs mid ≡ programs → S.opened mid ≡ number → CallsDisk G before between → CallsDisk G between after
+  pub ran_next_quietly : (events : List Event) (i : ℕ) (event : Event) → i < length events → (start : Desk) (mid new : D) (before between after : W) (old_last new_last : List ℕ) (so_far : Tally) (tally : Option Tally) → S.closed mid ≡ false → (S.fixed mid).programs ≡ programs → (S.fixed mid).opened ≡ number → CallsDisk G before between → CallsDisk G between after
       → (one : RanQuietly S G programs number (take i events) start mid before between) → Tells so_far [] old_last (event_lines [] programs number one.taken start)
-      → ((desk : Desk) → IsSure G between → S.shows mid (held_of G between) desk → WentQuietly S G (S.programs mid) (S.opened mid) (get_or events i event) desk new between after old_last new_last tally)
+      → ((desk : Desk) → IsSure G between → S.shows mid (held_of G between) desk → WentQuietly S G (S.fixed mid).programs (S.fixed mid).opened (get_or events i event) desk new between after old_last new_last tally)
       → (ran : RanQuietly S G programs number (take (i + 1) events) start new before after) × IfSome tally (λ more. Tells (record { commits = so_far.commits + more.commits; rollbacks = so_far.rollbacks + more.rollbacks }) [] new_last (event_lines [] programs number ran.taken start))
   ran_next_quietly events i event lt start mid new before between after old_last new_last so_far tally was_open same_programs same_number calls_one calls_two one tells next =
       let kept = one.to.still (sym one.to.closes ∙ was_open) in
       let told = next (run programs one.taken start) kept.0 kept.1 in
       let two : WentQuietly S G programs number (get_or events i event) (run programs one.taken start) new between after old_last new_last tally =
       subst (λ (n : ℕ). WentQuietly S G programs n (get_or events i event) (run programs one.taken start) new between after old_last new_last tally) same_number
-      (subst (λ (these : List Program). WentQuietly S G these (S.opened mid) (get_or events i event) (run programs one.taken start) new between after old_last new_last tally) same_programs told) in
+      (subst (λ (these : List Program). WentQuietly S G these (S.fixed mid).opened (get_or events i event) (run programs one.taken start) new between after old_last new_last tally) same_programs told) in
       let more = ran_one_more (take i events) (get_or events i event) start mid new before between after old_last new_last tally was_open calls_one calls_two one two in
       subst (λ (these : List Event). (ran : RanQuietly S G programs number these start new before after) × IfSome tally (λ more. Tells (record { commits = so_far.commits + more.commits; rollbacks = so_far.rollbacks + more.rollbacks }) [] new_last (event_lines [] programs number ran.taken start))) (sym (take_more events i event lt)) (
         more.0,

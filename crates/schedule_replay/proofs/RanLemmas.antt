@@ -130,14 +130,14 @@ module _ {D W : Type 0} (S : desk.Ghosts D) (G : Ghosts W) (fewer_later : FewerL
       (ran_on (take i events) (get_or events i event) start mid new before between after 0 result was_open one two)
 
   -- the next event is run from where the run is
-  pub ran_next : {U : Type 0} (events : List Event) (i : ℕ) (event : Event) → i < length events → (start : Desk) (mid new : D) (before between after : W) (result : Result U Failed) → S.closed mid ≡ false → S.programs mid ≡ programs → S.opened mid ≡ number → Ran S G names programs number (take i events) start mid before between done
-      → ((desk : Desk) → IsSure G between → S.shows mid (held_of G between) desk → Ran S G names (S.programs mid) (S.opened mid) (get_or events i event ∷ []) desk new between after result) → Ran S G names programs number (take (i + 1) events) start new before after result
+  pub ran_next : {U : Type 0} (events : List Event) (i : ℕ) (event : Event) → i < length events → (start : Desk) (mid new : D) (before between after : W) (result : Result U Failed) → S.closed mid ≡ false → (S.fixed mid).programs ≡ programs → (S.fixed mid).opened ≡ number → Ran S G names programs number (take i events) start mid before between done
+      → ((desk : Desk) → IsSure G between → S.shows mid (held_of G between) desk → Ran S G names (S.fixed mid).programs (S.fixed mid).opened (get_or events i event ∷ []) desk new between after result) → Ran S G names programs number (take (i + 1) events) start new before after result
   ran_next events i event lt start mid new before between after result was_open same_programs same_number one next =
       let kept = one.to.still (sym one.to.closes ∙ was_open) in
       let two = next (run programs one.taken start) kept.0 kept.1 in
       ran_more events i event lt start mid new before between after result was_open one
       (subst (λ (n : ℕ). Ran S G names programs n (get_or events i event ∷ []) (run programs one.taken start) new between after result) same_number
-      (subst (λ (these : List Program). Ran S G names these (S.opened mid) (get_or events i event ∷ []) (run programs one.taken start) new between after result) same_programs two))
+      (subst (λ (these : List Program). Ran S G names these (S.fixed mid).opened (get_or events i event ∷ []) (run programs one.taken start) new between after result) same_programs two))
 
 -- no event was run
 pub none_last : (front : List (Event × Word)) (last : Event × Word) → [] ≡ front ++ last ∷ [] → ⊥
@@ -148,8 +148,8 @@ printed_same : (told : Option (List ℕ)) → Prints told told [] done
 printed_same None = refl
 printed_same (Some bytes) = ap (λ (these : List ℕ). Some these) (sym (append-nil bytes))
 
-pub ran_none : {D W : Type 0} (S : desk.Ghosts D) (G : Ghosts W) (printed_now : PrintedNow G) (stands_law : (s : D) (held : List ℕ) (desk : Desk) → S.shows s held desk → stands held ≡ standing_of (S.opened s) desk) (open_law : (s : D) (held : List ℕ) (desk : Desk) → S.shows s held desk → desk.closed ≡ false) (closed_law : (s : D) (held : List ℕ) (desk : Desk) → S.shows s held desk → S.closed s ≡ false) (order_law : (s : D) (held : List ℕ) (desk : Desk) → S.shows s held desk → S.order s ≡ desk.order)
-    (names : List (List ℕ)) (programs : List Program) (start : Desk) (new : D) (w : W) → IsSure G w → S.shows new (held_of G w) start → Ran S G names programs (S.opened new) [] start new w w done
+pub ran_none : {D W : Type 0} (S : desk.Ghosts D) (G : Ghosts W) (printed_now : PrintedNow G) (stands_law : (s : D) (held : List ℕ) (desk : Desk) → S.shows s held desk → stands held ≡ standing_of (S.fixed s).opened desk) (open_law : (s : D) (held : List ℕ) (desk : Desk) → S.shows s held desk → desk.closed ≡ false) (closed_law : (s : D) (held : List ℕ) (desk : Desk) → S.shows s held desk → S.closed s ≡ false) (order_law : (s : D) (held : List ℕ) (desk : Desk) → S.shows s held desk → S.order s ≡ desk.order)
+    (names : List (List ℕ)) (programs : List Program) (start : Desk) (new : D) (w : W) → IsSure G w → S.shows new (held_of G w) start → Ran S G names programs (S.fixed new).opened [] start new w w done
 ran_none S G printed_now stands_law open_law closed_law order_law names programs start new w sure shows = record {
   taken = [];
   events_taken = refl;
@@ -160,9 +160,9 @@ ran_none S G printed_now stands_law open_law closed_law order_law names programs
   earlier = inl refl;
   time = no_time G w;
   images = λ image seen left.
-      left_none programs (S.opened new) start [] [] image [] 0 (open_law new (held_of G w) start shows) (ap stands (leaves_held G w sure image seen left) ∙ stands_law new (held_of G w) start shows) refl refl;
+      left_none programs (S.fixed new).opened start [] [] image [] 0 (open_law new (held_of G w) start shows) (ap stands (leaves_held G w sure image seen left) ∙ stands_law new (held_of G w) start shows) refl refl;
   left = λ told image seen left.
-      left_none programs (S.opened new) start [] (shown_of G w) image seen 0 (open_law new (held_of G w) start shows) (ap stands (leaves_held G w sure image seen left) ∙ stands_law new (held_of G w) start shows)
+      left_none programs (S.fixed new).opened start [] (shown_of G w) image seen 0 (open_law new (held_of G w) start shows) (ap stands (leaves_held G w sure image seen left) ∙ stands_law new (held_of G w) start shows)
       (told_is (G.printed w) seen told (printed_now w image seen left) ∙ sym (append-nil (shown_of G w))) refl;
   doubt = λ shut front last is. absurd (none_last front (last, Doubt) is);
 }

@@ -70,9 +70,9 @@ earlier_behind old between middle new first text taken value one (inr (front, la
 open_text : (number : ℕ) → flat_map line_text (Open number ∷ []) ≡ line_text (Open number)
 open_text number = append-nil (line_text (Open number))
 
-module _ {D W : Type 0} (S : desk.Ghosts D) (G : Ghosts W) (fewer_later : FewerLater G) (printed_now : PrintedNow G) (stands_law : (s : D) (held : List ℕ) (desk : Desk) → S.shows s held desk → stands held ≡ standing_of (S.opened s) desk) (open_law : (s : D) (held : List ℕ) (desk : Desk) → S.shows s held desk → desk.closed ≡ false) (order_law : (s : D) (held : List ℕ) (desk : Desk) → S.shows s held desk → S.order s ≡ desk.order) (names : List (List ℕ)) (are : AreNames names) where
+module _ {D W : Type 0} (S : desk.Ghosts D) (G : Ghosts W) (fewer_later : FewerLater G) (printed_now : PrintedNow G) (stands_law : (s : D) (held : List ℕ) (desk : Desk) → S.shows s held desk → stands held ≡ standing_of (S.fixed s).opened desk) (open_law : (s : D) (held : List ℕ) (desk : Desk) → S.shows s held desk → desk.closed ≡ false) (order_law : (s : D) (held : List ℕ) (desk : Desk) → S.shows s held desk → S.order s ≡ desk.order) (names : List (List ℕ)) (are : AreNames names) where
   -- the first line tells the number with which the desk was opened
-  pub opens : {T : Type 0} (old : D) (before after : W) (start : Desk) (number : ℕ) (result : Result T Failed) → number ≡ number_after (S.opened old) start → HasOpened S G old before start → Puts G (Open number ∷ []) before after result → Puts G (Open (S.opened old) ∷ []) before after result
+  pub opens : {T : Type 0} (old : D) (before after : W) (start : Desk) (number : ℕ) (result : Result T Failed) → number ≡ number_after (S.fixed old).opened start → HasOpened S G old before start → Puts G (Open number ∷ []) before after result → Puts G (Open (S.fixed old).opened ∷ []) before after result
   opens old before after start number result is opened puts = subst (λ n. Puts G (Open n ∷ []) before after result) (is ∙ opened.number) puts
 
   module _ (programs : List Program) (number : ℕ) where
@@ -83,7 +83,7 @@ module _ {D W : Type 0} (S : desk.Ghosts D) (G : Ghosts W) (fewer_later : FewerL
         (left_more programs number start taken [] first second printed image seen [] (sym (append-nil (run programs taken start).order)) left)
 
     -- what a crash left while lines without a commit were put, from bytes that were sure and shown
-    left_puts : {T : Type 0} (lines : List Line) (desk : Desk) (new : D) (before after : W) (result : Result T Failed) → S.opened new ≡ number → commits_seen (flat_map line_text lines) ≡ 0 → IsSure G before → S.shows new (held_of G before) desk → Puts G lines before after result → IsSome (G.printed before)
+    left_puts : {T : Type 0} (lines : List Line) (desk : Desk) (new : D) (before after : W) (result : Result T Failed) → (S.fixed new).opened ≡ number → commits_seen (flat_map line_text lines) ≡ 0 → IsSure G before → S.shows new (held_of G before) desk → Puts G lines before after result → IsSome (G.printed before)
         → Leaves G (IsLeft programs number desk [] (flat_map line_text lines) (shown_of G before)) before after
     left_puts lines desk new before after result opened none sure shows puts told image seen left =
         let from = image_is S G fewer_later printed_now lines before after result puts sure told image seen left in
@@ -91,7 +91,7 @@ module _ {D W : Type 0} (S : desk.Ghosts D) (G : Ghosts W) (fewer_later : FewerL
         (ap stands from.0 ∙ stands_law new (held_of G before) desk shows ∙ ap (λ n. standing_of n desk) opened) from.1.1 none
 
     -- and the images of it, without a word on the screen
-    images_puts : {T : Type 0} (lines : List Line) (desk : Desk) (new : D) (before after : W) (result : Result T Failed) → S.opened new ≡ number → IsSure G before → S.shows new (held_of G before) desk → Puts G lines before after result → Leaves G (λ image seen. IsLeft programs number desk [] [] [] image []) before after
+    images_puts : {T : Type 0} (lines : List Line) (desk : Desk) (new : D) (before after : W) (result : Result T Failed) → (S.fixed new).opened ≡ number → IsSure G before → S.shows new (held_of G before) desk → Puts G lines before after result → Leaves G (λ image seen. IsLeft programs number desk [] [] [] image []) before after
     images_puts lines desk new before after result opened sure shows puts image seen left =
         let from = puts.images image seen left in
         left_none programs number desk [] [] image [] 0 (open_law new (held_of G before) desk shows)
@@ -133,7 +133,7 @@ module _ {D W : Type 0} (S : desk.Ghosts D) (G : Ghosts W) (fewer_later : FewerL
         }
 
     -- the lines of the end are put
-    pub tail_put : {T U : Type 0} (front rest : List Event) (start : Desk) (new : D) (between middle after : W) (value : T) (later : Result U Failed) → S.opened new ≡ number → S.closed new ≡ false → rest ≡ [] → (ran : Ran S G names programs number front start new between middle (Ok value))
+    pub tail_put : {T U : Type 0} (front rest : List Event) (start : Desk) (new : D) (between middle after : W) (value : T) (later : Result U Failed) → (S.fixed new).opened ≡ number → S.closed new ≡ false → rest ≡ [] → (ran : Ran S G names programs number front start new between middle (Ok value))
         → ((held : List ℕ) (desk : Desk) → S.shows new held desk → Puts G (closing_lines number [] desk) middle after later) → Tail start ran.taken rest between after later
     tail_put front rest start new between middle after value later opened still none ran closing =
         let last = run programs ran.taken start in
@@ -161,7 +161,7 @@ module _ {D W : Type 0} (S : desk.Ghosts D) (G : Ghosts W) (fewer_later : FewerL
         } in
         subst (λ (these : List Event). Tail start ran.taken these between after later) (sym none) all
 
-    module _ (old : D) (opened_at : S.opened old ≡ number) (start : Desk) (before between : W) where
+    module _ (old : D) (opened_at : (S.fixed old).opened ≡ number) (start : Desk) (before between : W) where
       -- the first line failed
       pub reports_none : {T : Type 0} (events : List Event) (result : Result T Failed) (later : Result Going Failed) → IsErr result → IsErr later → S.closed old ≡ false → HasOpened S G old before start → Puts G (Open number ∷ []) before between result → Reports S G names programs number events start old before between is_closed later
       reports_none events result later one two was_open opened puts =
@@ -232,7 +232,7 @@ module _ {D W : Type 0} (S : desk.Ghosts D) (G : Ghosts W) (fewer_later : FewerL
 
       -- and the lines of the end are put
       pub reports_ended : {T U : Type 0} (events front rest : List Event) (new : D) (middle after : W) (value : T) (result : U) (later : Result Going Failed) → HasOpened S G old before start → Puts G (Open number ∷ []) before between (Ok value) → front ++ rest ≡ events → Ran S G names programs number front start new between middle (Ok result)
-          → S.opened new ≡ number → S.closed new ≡ false → rest ≡ [] → ((held : List ℕ) (desk : Desk) → S.shows new held desk → Puts G (closing_lines number [] desk) middle after later)
+          → (S.fixed new).opened ≡ number → S.closed new ≡ false → rest ≡ [] → ((held : List ℕ) (desk : Desk) → S.shows new held desk → Puts G (closing_lines number [] desk) middle after later)
           → IfOk later (λ going. S.closed new ≡ is_closed going) → IfOk later (λ going. is_closed going ≡ false → rest ≡ []) → Reports S G names programs number events start new before after is_closed later
       reports_ended events front rest new middle after value result later opened puts whole ran opened_new was_open none closing closed all =
           let last = run programs ran.taken start in

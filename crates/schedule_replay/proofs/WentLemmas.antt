@@ -57,8 +57,8 @@ module _ {D W : Type 0} (S : desk.Ghosts D) (G : Ghosts W) (fewer_later : FewerL
   quiet_is before between calls told image seen left =
       told_is (G.printed before) seen told (⊎_elim (λ was. printed_now before image seen was) (λ is. is) (calls.quiet.crash image seen left))
 
-  module _ (stands_law : (s : D) (held : List ℕ) (desk : Desk) → S.shows s held desk → stands held ≡ standing_of (S.opened s) desk) (names : List (List ℕ)) (are : AreNames names) (programs : List Program) (number : ℕ) where
-    module _ {T : Type 0} (event : Event) (told : Happening) (start : Desk) (new : D) (before between after : W) (result : Result T Failed) (was_open : start.closed ≡ false) (opened : S.opened new ≡ number) (calls : CallsDisk G before between) (did : Did G programs number event told (S.closed new) (S.order new) (S.shows new) start before between) (puts : Puts G (happening_lines names (number_after number did.next) told) between after result) (writes : WritesMore (G.writes before) (G.writes between) (2 * commits_in (happening_lines names (number_after number did.next) told))) (calm : faults_in (happening_lines names (number_after number did.next) told) ≡ 0 → G.disk_faults between ≡ G.disk_faults before) where
+  module _ (stands_law : (s : D) (held : List ℕ) (desk : Desk) → S.shows s held desk → stands held ≡ standing_of (S.fixed s).opened desk) (names : List (List ℕ)) (are : AreNames names) (programs : List Program) (number : ℕ) where
+    module _ {T : Type 0} (event : Event) (told : Happening) (start : Desk) (new : D) (before between after : W) (result : Result T Failed) (was_open : start.closed ≡ false) (opened : (S.fixed new).opened ≡ number) (calls : CallsDisk G before between) (did : Did G programs number event told (S.closed new) (S.order new) (S.shows new) start before between) (puts : Puts G (happening_lines names (number_after number did.next) told) between after result) (writes : WritesMore (G.writes before) (G.writes between) (2 * commits_in (happening_lines names (number_after number did.next) told))) (calm : faults_in (happening_lines names (number_after number did.next) told) ≡ 0 → G.disk_faults between ≡ G.disk_faults before) where
       abbrev word : Word
       word = did.word
 

@@ -17,21 +17,18 @@ use Rattle.schedule_replay.specs.Asked.{IsAsked, begins_in, turns_in}
 -- a supervisor that these events may be asked of, one after another
 pub record IsReady {D W : Type 0} (S : desk.Ghosts D) (G : Ghosts W) (events : List Event) (desk : D) (outside : W) : Type 0 where
   pub sound : S.sound desk
-  pub asked : All (IsAsked (length (S.programs desk))) events
-  pub begins : S.given desk + begins_in events ≤ S.begins desk
+  pub asked : All (IsAsked (length (S.fixed desk).programs)) events
+  pub begins : S.given desk + begins_in events ≤ (S.fixed desk).begins
   pub turns : S.turns desk + turns_in events ≤ 2 ^ 32
-  pub bytes : HoldsStore G (S.header desk) outside
+  pub bytes : HoldsStore G (S.fixed desk).header outside
 
 -- events were asked, and lines put: what the supervisor keeps, how its counts rose, and what the outside keeps
 pub record Answered {D W : Type 0} (S : desk.Ghosts D) (G : Ghosts W) (events : List Event) (old new : D) (before after : W) {T : Type 0} (result : Result T Failed) : Type 0 where
   pub sound : S.sound new
-  pub programs : S.programs new ≡ S.programs old
-  pub opened : S.opened new ≡ S.opened old
-  pub header : S.header new ≡ S.header old
-  pub begins : S.begins new ≡ S.begins old
+  pub fixed : S.fixed new ≡ S.fixed old
   pub given : S.given new ≤ S.given old + begins_in events
   pub turns : S.turns new ≤ S.turns old + turns_in events
-  pub bytes : HoldsStore G (S.header new) after
+  pub bytes : HoldsStore G (S.fixed new).header after
   pub honest : G.is_honest after ≡ G.is_honest before
   pub told : StillTold G before after
   pub time : Elapses G.moment G.left_since before after
@@ -43,7 +40,7 @@ pub record Answered {D W : Type 0} (S : desk.Ghosts D) (G : Ghosts W) (events : 
 abbrev pub GoesBy : {D W : Type 0} → desk.Ghosts D → Ghosts W → D → D → W → W → Going → Type 0
 GoesBy S G old new before after going.On = S.closed old ≡ false → S.closed new ≡ false
 GoesBy S G old new before after going.Closed = (S.closed new ≡ true) × (S.closed old ≡ false → Rose (G.disk_faults before) (G.disk_faults after))
-GoesBy S G old new before after (going.Damaged offset) = (S.closed new ≡ true) × (IsSome (G.held after) → bank_of (held_of G after) (S.header old) (chosen (held_of G after)) ≡ Faulty offset)
+GoesBy S G old new before after (going.Damaged offset) = (S.closed new ≡ true) × (IsSome (G.held after) → bank_of (held_of G after) (S.fixed old).header (chosen (held_of G after)) ≡ Faulty offset)
 
 -- how a supervisor goes on that was closed before: it is closed where there is an event, and nothing was asked of it where there is none
 abbrev pub GoesShut : List Event → Going → Type 0

@@ -1,10 +1,9 @@
 -- Runs of the desk that a supervisor shows, with what they put.
-use Rattle.std.specs.Prelude.{◌≡◌, ℕ, ◌*◌, ◌≤◌, count_by, ◌⊎◌, true, false, List, [], ◌∷◌, ◌++◌, length, map, Option, Result, IsSome, slice_set}
+use Rattle.std.specs.Prelude.{◌≡◌, ℕ, ◌⊎◌, true, List, [], ◌∷◌, ◌++◌, length, map, Option, Result, IsSome, slice_set}
 use Rattle.std.specs.List.{flat_map}
 use Rattle.outside.specs.declared.world.Outside.{Ghosts}
 use Rattle.outside.specs.declared.failed.Failed.{Failed}
 use Rattle.outside.specs.Bytes.{Prints}
-use Rattle.outside.specs.Causes.{RoseBy}
 use Rattle.outside.specs.Durable.{IsSure}
 use Rattle.outside.specs.Moments.{Elapses}
 use Rattle.outside.specs.Runs.{Leaves, held_of}
@@ -13,9 +12,7 @@ use Rattle.store_format.specs.Stands.{stands}
 use Rattle.desk.specs.declared.event.Event.{Event}
 use Rattle.desk.specs.declared.supervisor.Supervisor as desk
 use Rattle.desk.specs.Crash.{standing_of, fine_step}
-use Rattle.desk.specs.Commits.{is_commit}
 use Rattle.desk.specs.Desk.{Desk}
-use Rattle.desk.specs.Kept.{WritesMore, records_in, most_records, tells_fault}
 use Rattle.desk.specs.Instruction.{Word, Doubt}
 use Rattle.desk.specs.Run.{run, faulted, OpenBeforeEach}
 use Rattle.desk.specs.Lines.{line_text}
@@ -28,7 +25,7 @@ use Rattle.schedule_replay.specs.RanTo.{RanTo}
 pub record HasOpened {D W : Type 0} (S : desk.Ghosts D) (G : Ghosts W) (desk : D) (outside : W) (start : Desk) : Type 0 where
   pub sure : IsSure G outside
   pub shows : S.shows desk (held_of G outside) start
-  pub number : number_after (S.opened desk) start ≡ S.opened desk
+  pub number : number_after (S.fixed desk).opened start ≡ (S.fixed desk).opened
 
 -- the lines of all events but the last, if there is one, are printed whole
 abbrev pub PrintsEarlier : (before now : Option (List ℕ)) → (List (Event × Word) → List ℕ) → List (Event × Word) → Type 0

@@ -1,10 +1,9 @@
 -- What replaying a schedule did.
-use Rattle.std.specs.Prelude.{◌≡◌, ℕ, ◌*◌, ◌<◌, ◌≤◌, count_by, length, Bool, true, false, List, [], ◌∷◌, ◌++◌, Result, Ok, Err, IfOk, IsSome}
+use Rattle.std.specs.Prelude.{◌≡◌, ℕ, ◌<◌, length, Bool, true, false, List, [], ◌∷◌, ◌++◌, Result, Ok, Err, IfOk, IsSome}
 use Rattle.outside.specs.declared.world.Outside.{Ghosts}
 use Rattle.outside.specs.declared.failed.Failed.{Failed}
 use Rattle.outside.specs.Bytes.{Prints}
-use Rattle.outside.specs.Causes.{Rose, RoseBy}
-use Rattle.outside.specs.Durable.{IsSure}
+use Rattle.outside.specs.Causes.{Rose}
 use Rattle.outside.specs.Runs.{Leaves, held_of}
 use Rattle.flat_machine.specs.declared.machine.Program.{Program}
 use Rattle.store_format.specs.Bank.{Faulty, bank_of}
@@ -15,9 +14,7 @@ use Rattle.desk.specs.declared.answers.Reopened.{Reopened}
 use Rattle.desk.specs.declared.answers.Reopened.TheVariants as reopened
 use Rattle.desk.specs.declared.event.Event.{Event}
 use Rattle.desk.specs.declared.supervisor.Supervisor as desk
-use Rattle.desk.specs.Commits.{is_commit}
 use Rattle.desk.specs.Desk.{Desk}
-use Rattle.desk.specs.Kept.{WritesMore, records_in, most_records, tells_fault}
 use Rattle.desk.specs.Instruction.{Word, Doubt}
 use Rattle.desk.specs.Run.{run, faulted, IsRunOf}
 use Rattle.desk.specs.Lines.{line_text, Open}
@@ -100,7 +97,7 @@ Replays S G names programs number events start new before after replayed.PutFaul
 abbrev pub EndsBy : {D W : Type 0} → desk.Ghosts D → Ghosts W → D → D → W → W → Replayed → Type 0
 EndsBy S G old new before after replayed.Ended = (S.closed old ≡ false → S.closed new ≡ false) × (G.put_faults after ≡ G.put_faults before)
 EndsBy S G old new before after replayed.Closed = (S.closed new ≡ true) × (S.closed old ≡ false → Rose (G.disk_faults before) (G.disk_faults after)) × (G.put_faults after ≡ G.put_faults before)
-EndsBy S G old new before after (replayed.Damaged offset) = (S.closed new ≡ true) × (IsSome (G.held after) → bank_of (held_of G after) (S.header old) (chosen (held_of G after)) ≡ Faulty offset) × (G.put_faults after ≡ G.put_faults before)
+EndsBy S G old new before after (replayed.Damaged offset) = (S.closed new ≡ true) × (IsSome (G.held after) → bank_of (held_of G after) (S.fixed old).header (chosen (held_of G after)) ≡ Faulty offset) × (G.put_faults after ≡ G.put_faults before)
 EndsBy S G old new before after replayed.PutFault = Rose (G.put_faults before) (G.put_faults after)
 
 -- What becomes of a supervisor that was closed before, unless a put fails: it ends where there is no event, and is closed where there is one.

@@ -1,6 +1,5 @@
 // The events of a schedule, one after another, and their report.
 ghost use Rattle.std.specs.Prelude.{◌≡◌, ◌+◌, ◌≤◌, ℕ, List, [], ◌∷◌, All, true, false, length, map, take, IfOk};
-ghost use Rattle.outside.specs.Causes.{Rose, HasCause};
 ghost use Rattle.outside.specs.Durable.{IsSure};
 ghost use Rattle.outside.specs.Moments.{Elapses};
 ghost use Rattle.outside.specs.Runs.{held_of};
@@ -51,12 +50,12 @@ pub fn replay<S: Supervisor, W: Outside>(
     outside: &mut W,
 ) -> Replayed
     requires ready { IsReady S.Supervisor W.Outside events.now desk.old outside.old }
-    requires names { length (S.programs desk.old) ≤ length names.now }
+    requires names { length (S.fixed desk.old).programs ≤ length names.now }
     requires unbroken { All (λ name. IsUnbroken name.items) names.now }
 
     // From bytes that are sure, over which a desk is shown: what was run, that what was printed is its report, or a prefix of
     // it after a failed put, and what a crash left at any moment.
-    ensures replays { (start : Desk) → HasOpened S.Supervisor W.Outside desk.old outside.old start → Replays S.Supervisor W.Outside (map (λ name. name.items) names.now) (S.programs desk.old) (S.opened desk.old) events.now start desk.new outside.old outside.new result }
+    ensures replays { (start : Desk) → HasOpened S.Supervisor W.Outside desk.old outside.old start → Replays S.Supervisor W.Outside (map (λ name. name.items) names.now) (S.fixed desk.old).programs (S.fixed desk.old).opened events.now start desk.new outside.old outside.new result }
     ensures ends { EndsBy S.Supervisor W.Outside desk.old desk.new outside.old outside.new result }
     ensures shut { S.closed desk.old ≡ true → EndsShut events.now result }
     ensures sound { S.sound desk.new }
@@ -65,11 +64,8 @@ pub fn replay<S: Supervisor, W: Outside>(
     ensures time { Elapses W.moment W.left_since outside.old outside.new }
     ensures disk { W.disk_faults outside.old ≤ W.disk_faults outside.new }
     ensures put { W.put_faults outside.old ≤ W.put_faults outside.new }
-    ensures bytes { HoldsStore W.Outside (S.header desk.new) outside.new }
-    ensures opened { S.opened desk.new ≡ S.opened desk.old }
-    ensures header { S.header desk.new ≡ S.header desk.old }
-    ensures begins { S.begins desk.new ≡ S.begins desk.old }
-    ensures programs { S.programs desk.new ≡ S.programs desk.old }
+    ensures bytes { HoldsStore W.Outside (S.fixed desk.new).header outside.new }
+    ensures fixed { S.fixed desk.new ≡ S.fixed desk.old }
     ensures turns { S.turns desk.new ≤ S.turns desk.old + length events.now }
 {
     match put_report(desk, names, events, &mut Reporter::new(), outside) {
@@ -89,9 +85,9 @@ fn put_report<S: Supervisor, W: Outside>(
     outside: &mut W,
 ) -> Result<Going, Failed>
     requires ready { IsReady S.Supervisor W.Outside events.now desk.old outside.old }
-    requires names { length (S.programs desk.old) ≤ length names.now }
+    requires names { length (S.fixed desk.old).programs ≤ length names.now }
     requires unbroken { All (λ name. IsUnbroken name.items) names.now }
-    ensures reports { (start : Desk) → HasOpened S.Supervisor W.Outside desk.old outside.old start → Reports S.Supervisor W.Outside (map (λ name. name.items) names.now) (S.programs desk.old) (S.opened desk.old) events.now start desk.new outside.old outside.new is_closed result }
+    ensures reports { (start : Desk) → HasOpened S.Supervisor W.Outside desk.old outside.old start → Reports S.Supervisor W.Outside (map (λ name. name.items) names.now) (S.fixed desk.old).programs (S.fixed desk.old).opened events.now start desk.new outside.old outside.new is_closed result }
     ensures undamaged { (start : Desk) → HasOpened S.Supervisor W.Outside desk.old outside.old start → IfOk result (λ going. is_damaged going ≡ false) }
     ensures goes { IfOk result (λ going. GoesBy S.Supervisor W.Outside desk.old desk.new outside.old outside.new going) }
     ensures shut { S.closed desk.old ≡ true → IfOk result (GoesShut events.now) }
@@ -115,7 +111,7 @@ fn put_closing<S: Supervisor, W: Outside>(
 ) -> Result<(), Failed>
     requires sound { S.sound desk.now }
     ensures only { OnlyPuts W.Outside outside.old outside.new result }
-    ensures puts { (held : List ℕ) (start : Desk) → S.shows desk.now held start → Puts W.Outside (closing_lines (S.opened desk.now) [] start) outside.old outside.new result }
+    ensures puts { (held : List ℕ) (start : Desk) → S.shows desk.now held start → Puts W.Outside (closing_lines (S.fixed desk.now).opened [] start) outside.old outside.new result }
 {
     put_left(desk.active().as_slice(), reporter, outside)?;
     put_one(&Line::End(desk.number()), reporter, outside)
@@ -130,12 +126,12 @@ fn put_events<S: Supervisor, W: Outside>(
     outside: &mut W,
 ) -> Result<Going, Failed>
     requires ready { IsReady S.Supervisor W.Outside events.now desk.old outside.old }
-    requires names { length (S.programs desk.old) ≤ length names.now }
+    requires names { length (S.fixed desk.old).programs ≤ length names.now }
     requires unbroken { All (λ name. IsUnbroken name.items) names.now }
     ensures answered { (count : ℕ) × Answered S.Supervisor W.Outside (take count events.now) desk.old desk.new outside.old outside.new result }
     ensures goes { IfOk result (λ going. GoesBy S.Supervisor W.Outside desk.old desk.new outside.old outside.new going) }
     ensures shut { S.closed desk.old ≡ true → IfOk result (GoesShut events.now) }
-    ensures ran { (start : Desk) → IsSure W.Outside outside.old → S.shows desk.old (held_of W.Outside outside.old) start → RanSome S.Supervisor W.Outside (map (λ name. name.items) names.now) (S.programs desk.old) (S.opened desk.old) events.now start desk.new outside.old outside.new result }
+    ensures ran { (start : Desk) → IsSure W.Outside outside.old → S.shows desk.old (held_of W.Outside outside.old) start → RanSome S.Supervisor W.Outside (map (λ name. name.items) names.now) (S.fixed desk.old).programs (S.fixed desk.old).opened events.now start desk.new outside.old outside.new result }
 {
     for event in events {
         match answer(desk, names, *event, reporter, outside)? {
@@ -155,12 +151,12 @@ fn answer<S: Supervisor, W: Outside>(
     outside: &mut W,
 ) -> Result<Going, Failed>
     requires ready { IsReady S.Supervisor W.Outside (event ∷ []) desk.old outside.old }
-    requires names { length (S.programs desk.old) ≤ length names.now }
+    requires names { length (S.fixed desk.old).programs ≤ length names.now }
     requires unbroken { All (λ name. IsUnbroken name.items) names.now }
     ensures answered { Answered S.Supervisor W.Outside (event ∷ []) desk.old desk.new outside.old outside.new result }
     ensures goes { IfOk result (λ going. GoesBy S.Supervisor W.Outside desk.old desk.new outside.old outside.new going) }
     ensures shut { S.closed desk.old ≡ true → IfOk result (λ going. going ≡ Going.Closed) }
-    ensures ran { (start : Desk) → IsSure W.Outside outside.old → S.shows desk.old (held_of W.Outside outside.old) start → Ran S.Supervisor W.Outside (map (λ name. name.items) names.now) (S.programs desk.old) (S.opened desk.old) (event ∷ []) start desk.new outside.old outside.new result }
+    ensures ran { (start : Desk) → IsSure W.Outside outside.old → S.shows desk.old (held_of W.Outside outside.old) start → Ran S.Supervisor W.Outside (map (λ name. name.items) names.now) (S.fixed desk.old).programs (S.fixed desk.old).opened (event ∷ []) start desk.new outside.old outside.new result }
     ensures closed { IfOk result (λ going. S.closed desk.new ≡ is_closed going) }
     ensures undamaged { (start : Desk) → IsSure W.Outside outside.old → S.shows desk.old (held_of W.Outside outside.old) start → IfOk result (λ going. is_damaged going ≡ false) }
 {
@@ -184,12 +180,12 @@ fn begin<S: Supervisor, W: Outside>(
     outside: &mut W,
 ) -> Result<Going, Failed>
     requires ready { IsReady S.Supervisor W.Outside (event.Begin program args ∷ []) desk.old outside.old }
-    requires names { length (S.programs desk.old) ≤ length names.now }
+    requires names { length (S.fixed desk.old).programs ≤ length names.now }
     requires unbroken { All (λ name. IsUnbroken name.items) names.now }
     ensures answered { Answered S.Supervisor W.Outside (event.Begin program args ∷ []) desk.old desk.new outside.old outside.new result }
     ensures goes { IfOk result (λ going. GoesBy S.Supervisor W.Outside desk.old desk.new outside.old outside.new going) }
     ensures shut { S.closed desk.old ≡ true → IfOk result (λ going. going ≡ Going.Closed) }
-    ensures ran { (start : Desk) → IsSure W.Outside outside.old → S.shows desk.old (held_of W.Outside outside.old) start → Ran S.Supervisor W.Outside (map (λ name. name.items) names.now) (S.programs desk.old) (S.opened desk.old) (event.Begin program args ∷ []) start desk.new outside.old outside.new result }
+    ensures ran { (start : Desk) → IsSure W.Outside outside.old → S.shows desk.old (held_of W.Outside outside.old) start → Ran S.Supervisor W.Outside (map (λ name. name.items) names.now) (S.fixed desk.old).programs (S.fixed desk.old).opened (event.Begin program args ∷ []) start desk.new outside.old outside.new result }
     ensures closed { IfOk result (λ going. S.closed desk.new ≡ is_closed going) }
     ensures undamaged { IfOk result (λ going. is_damaged going ≡ false) }
 {
@@ -212,7 +208,7 @@ fn turn<S: Supervisor, W: Outside>(
     ensures answered { Answered S.Supervisor W.Outside (event.Turn activation limit ∷ []) desk.old desk.new outside.old outside.new result }
     ensures goes { IfOk result (λ going. GoesBy S.Supervisor W.Outside desk.old desk.new outside.old outside.new going) }
     ensures shut { S.closed desk.old ≡ true → IfOk result (λ going. going ≡ Going.Closed) }
-    ensures ran { (start : Desk) → IsSure W.Outside outside.old → S.shows desk.old (held_of W.Outside outside.old) start → Ran S.Supervisor W.Outside (map (λ name. name.items) names.now) (S.programs desk.old) (S.opened desk.old) (event.Turn activation limit ∷ []) start desk.new outside.old outside.new result }
+    ensures ran { (start : Desk) → IsSure W.Outside outside.old → S.shows desk.old (held_of W.Outside outside.old) start → Ran S.Supervisor W.Outside (map (λ name. name.items) names.now) (S.fixed desk.old).programs (S.fixed desk.old).opened (event.Turn activation limit ∷ []) start desk.new outside.old outside.new result }
     ensures closed { IfOk result (λ going. S.closed desk.new ≡ is_closed going) }
     ensures undamaged { IfOk result (λ going. is_damaged going ≡ false) }
 {
@@ -233,7 +229,7 @@ fn checkpoint<S: Supervisor, W: Outside>(
     ensures answered { Answered S.Supervisor W.Outside (event.Checkpoint ∷ []) desk.old desk.new outside.old outside.new result }
     ensures goes { IfOk result (λ going. GoesBy S.Supervisor W.Outside desk.old desk.new outside.old outside.new going) }
     ensures shut { S.closed desk.old ≡ true → IfOk result (λ going. going ≡ Going.Closed) }
-    ensures ran { (start : Desk) → IsSure W.Outside outside.old → S.shows desk.old (held_of W.Outside outside.old) start → Ran S.Supervisor W.Outside (map (λ name. name.items) names.now) (S.programs desk.old) (S.opened desk.old) (event.Checkpoint ∷ []) start desk.new outside.old outside.new result }
+    ensures ran { (start : Desk) → IsSure W.Outside outside.old → S.shows desk.old (held_of W.Outside outside.old) start → Ran S.Supervisor W.Outside (map (λ name. name.items) names.now) (S.fixed desk.old).programs (S.fixed desk.old).opened (event.Checkpoint ∷ []) start desk.new outside.old outside.new result }
     ensures closed { IfOk result (λ going. S.closed desk.new ≡ is_closed going) }
     ensures undamaged { IfOk result (λ going. is_damaged going ≡ false) }
 {
@@ -254,7 +250,7 @@ fn crash<S: Supervisor, W: Outside>(
     ensures answered { Answered S.Supervisor W.Outside (event.Crash ∷ []) desk.old desk.new outside.old outside.new result }
     ensures goes { IfOk result (λ going. GoesBy S.Supervisor W.Outside desk.old desk.new outside.old outside.new going) }
     ensures shut { S.closed desk.old ≡ true → IfOk result (λ going. going ≡ Going.Closed) }
-    ensures ran { (start : Desk) → IsSure W.Outside outside.old → S.shows desk.old (held_of W.Outside outside.old) start → Ran S.Supervisor W.Outside (map (λ name. name.items) names.now) (S.programs desk.old) (S.opened desk.old) (event.Crash ∷ []) start desk.new outside.old outside.new result }
+    ensures ran { (start : Desk) → IsSure W.Outside outside.old → S.shows desk.old (held_of W.Outside outside.old) start → Ran S.Supervisor W.Outside (map (λ name. name.items) names.now) (S.fixed desk.old).programs (S.fixed desk.old).opened (event.Crash ∷ []) start desk.new outside.old outside.new result }
     ensures closed { IfOk result (λ going. S.closed desk.new ≡ is_closed going) }
     ensures undamaged { (start : Desk) → IsSure W.Outside outside.old → S.shows desk.old (held_of W.Outside outside.old) start → IfOk result (λ going. is_damaged going ≡ false) }
 {

@@ -1,5 +1,5 @@
 // The events of a schedule, one after another, without a report.
-ghost use Rattle.std.specs.Prelude.{◌≡◌, ◌+◌, ◌≤◌, ℕ, List, [], ◌∷◌, All, true, false, length, None, IfSome};
+ghost use Rattle.std.specs.Prelude.{◌≡◌, ◌+◌, ◌≤◌, [], ◌∷◌, All, true, length, None, IfSome};
 ghost use Rattle.outside.specs.Durable.{IsSure};
 ghost use Rattle.outside.specs.Runs.{CallsDisk, held_of};
 ghost use Rattle.desk.specs.declared.event.Event.TheVariants as event;
@@ -53,17 +53,14 @@ pub fn run_quiet<S: Supervisor, W: Outside>(
     requires lasting { All IsLasting events.now }
 
     // From bytes that are sure, over which a desk is shown: what was run, its counts, and what a crash left at any moment.
-    ensures runs { (start : Desk) → IsSure W.Outside outside.old → S.shows desk.old (held_of W.Outside outside.old) start → RunsQuietly S.Supervisor W.Outside (S.programs desk.old) (S.opened desk.old) events.now start desk.new outside.old outside.new last.new.items result }
+    ensures runs { (start : Desk) → IsSure W.Outside outside.old → S.shows desk.old (held_of W.Outside outside.old) start → RunsQuietly S.Supervisor W.Outside (S.fixed desk.old).programs (S.fixed desk.old).opened events.now start desk.new outside.old outside.new last.new.items result }
     ensures goes { GoesBy S.Supervisor W.Outside desk.old desk.new outside.old outside.new (going_of result) }
     ensures shut { S.closed desk.old ≡ true → GoesShut events.now (going_of result) }
     ensures calls { CallsDisk W.Outside outside.old outside.new }
     ensures sound { S.sound desk.new }
     ensures told { StillTold W.Outside outside.old outside.new }
-    ensures bytes { HoldsStore W.Outside (S.header desk.new) outside.new }
-    ensures opened { S.opened desk.new ≡ S.opened desk.old }
-    ensures header { S.header desk.new ≡ S.header desk.old }
-    ensures begins { S.begins desk.new ≡ S.begins desk.old }
-    ensures programs { S.programs desk.new ≡ S.programs desk.old }
+    ensures bytes { HoldsStore W.Outside (S.fixed desk.new).header outside.new }
+    ensures fixed { S.fixed desk.new ≡ S.fixed desk.old }
     ensures turns { S.turns desk.new ≤ S.turns desk.old + length events.now }
 {
     let mut commits = 0;
@@ -96,7 +93,7 @@ fn answer<S: Supervisor, W: Outside>(
     ensures calls { CallsDisk W.Outside outside.old outside.new }
     ensures closed { S.closed desk.new ≡ is_closed (going_told result) }
     ensures small { IfSome result IsSmall }
-    ensures went { (start : Desk) → IsSure W.Outside outside.old → S.shows desk.old (held_of W.Outside outside.old) start → WentQuietly S.Supervisor W.Outside (S.programs desk.old) (S.opened desk.old) event start desk.new outside.old outside.new last.old.items last.new.items result }
+    ensures went { (start : Desk) → IsSure W.Outside outside.old → S.shows desk.old (held_of W.Outside outside.old) start → WentQuietly S.Supervisor W.Outside (S.fixed desk.old).programs (S.fixed desk.old).opened event start desk.new outside.old outside.new last.old.items last.new.items result }
 {
     match event {
         Event::Begin { program, args } => tally_of_begin(desk.begin(program, args)),

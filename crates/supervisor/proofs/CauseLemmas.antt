@@ -1,5 +1,5 @@
 -- Why a begin is answered so, and where a turn closes.
-use Rattle.supervisor.proofs.Common.{◌≡◌, ◌≤◌, ℕ, length, arith, sym, ap, ◌∙◌, subst, List, Option, Some, None, refl, true, has, Ghosts, FewerLater, OnlyAsks, asks_none, asks_on, Kept, begun_of, KeptStore, with_begun, next_seat, number_in, few-taken, Begun, TurnEnd, Activity, begins, begins_by, Session, activity, IsFull, HasPlace, lacking, IsFailedCommit, ClosesInCommit, ClosesBy}
+use Rattle.supervisor.proofs.Common.{◌≡◌, ◌≤◌, ℕ, length, arith, sym, ap, ◌∙◌, subst, List, Option, Some, None, refl, true, has, Ghosts, FewerLater, OnlyAsks, asks_none, asks_on, Kept, begun_of, KeptStore, with_begun, next_seat, number_in, few-taken, Header, total, OnlyWrites, HoldsStore, Begun, TurnEnd, CallsStore, FailsCounted, turn_fails, Activity, begins, begins_by, Tally, IsEndOfRows, IfJournal, Session, activity, IsFull, HasPlace, lacking, TellsNumber, IsTurnEnd, answer_of, IsFailedCommit, ClosesInCommit, ClosesBy, IsCommitEnd}
 use Rattle.seats.proofs.Ascending.{none-free}
 use Rattle.activations.specs.Recorded.{IsRecordOf}
 use Rattle.activations.proofs.BeginLemmas.{some-next}
@@ -67,6 +67,22 @@ module _ (a : Activity) (program : ℕ) (args : List ℕ) (sound : running.IsSou
 
   pub answered : (answer : Begun) → answer ≡ (begins a program args).0 → IsAnswered a program answer
   answered answer is = subst (IsAnswered a program) (sym is) (answered-by (next_seat a.seating) (lacking a program) refl refl)
+
+-- a call that wrote the banks of a store alone keeps it
+pub calls-store : {W : Type 0} (G : Ghosts W) (was now : Header) (before after : W) → now ≡ was → OnlyWrites G before after → HoldsStore G was before → CallsStore G now before after
+calls-store G was now before after same only bytes = record { calls = only.calls; told = only.told; bytes = subst (λ (header : Header). HoldsStore G header after) (sym same) (only.longer (total was) bytes) }
+
+-- an end of rows tells of a failed disk just where the count rose, and tells no number
+module _ {W : Type 0} (G : Ghosts W) (before after : W) (old new : Tally) (ends : TurnEnd) (rows : IsEndOfRows G before after old new ends) where
+  pub rows-counted : FailsCounted (turn_fails ends) (G.disk_faults before) (G.disk_faults after)
+  rows-counted = grind arith
+
+  pub rows-number : (activation number : ℕ) → TellsNumber activation number ends
+  rows-number activation number = grind arith
+
+-- the end of a commit has its cause
+pub commit-told : (activation limit most number : ℕ) (tally : Tally) (ends : TurnEnd) → IsCommitEnd ends → IfJournal most ends → TellsNumber activation number ends → IsTurnEnd activation limit most number (answer_of tally ends)
+commit-told activation limit most number tally ends is journal numbered = grind arith
 
 -- the commit of who sits in a seat failed, from this very moment on
 pub closes-now : {W : Type 0} (G : Ghosts W) (s n : Session) (seat : ℕ) (answer : Kept) (store : KeptStore) (before after : W) → has (activity s).seating.taken seat ≡ true → activity n ≡ activity s

@@ -5,6 +5,7 @@ pub use Rattle.std.proofs.lemmas.List.{get_or_past, map-append}
 pub use Rattle.std.specs.Prelude.{Bool, IsFalse, false, is_some, not, true, unwrap_or, ◌==◌}
 pub use Rattle.activations.specs.Activity.{Activity, desk_over, entries, entry_in, live_in, program_at, program_in, shown, state_in, store_over}
 pub use Rattle.activations.specs.Begins.{Begins, IsBegin, begins, begins_by, idle}
+pub use Rattle.activations.specs.Causes.{IfJournal, IfVictim}
 pub use Rattle.activations.specs.Ends.{IsRestarted, reprinted}
 pub use Rattle.activations.specs.Follows.{Follows}
 pub use Rattle.activations.specs.Instructed.{IfWaits, IsEndOfRows}
@@ -17,6 +18,7 @@ pub use Rattle.activations.specs.declared.activations.Activations.{Activations}
 pub use Rattle.activations.specs.declared.live.Live.{Live}
 pub use Rattle.activations.specs.declared.tally.Tally.{Tally}
 pub use Rattle.desk.specs.Answers.{HasNumbers, begun_told, counts_told, ending_told, order_told, turn_closes, turn_told}
+pub use Rattle.desk.specs.Calls.{CallsStore, FailsCounted, Fixed, StaysShut}
 pub use Rattle.desk.specs.Crash.{Did, IsEitherOf, fine_step, standing_of}
 pub use Rattle.desk.specs.Desk.{Desk, Entry, opened, with_entry}
 pub use Rattle.desk.specs.Holdings.{conflicts_of, numbers, waits_for, wanted}
@@ -58,7 +60,7 @@ pub use Rattle.store_format.specs.Bank.{Faulty, Holds, RecordLine, bank_of}
 pub use Rattle.store_format.specs.Header.{HasRanges, Header, header_of, most_lines, total}
 pub use Rattle.store_format.specs.Stands.{Standing, Stands, chosen, laid, one_more}
 unfoldable pub use Rattle.store_format.specs.Stands.{stands}
-pub use Rattle.supervisor.specs.Causes.{ClosesBy, ClosesInCommit, EntersOrder, HasPlace, IsFailedCommit, IsFull, TellsNumber, lacking}
+pub use Rattle.supervisor.specs.Causes.{ClosesBy, ClosesInCommit, EntersOrder, HasPlace, IsFailedCommit, IsFull, IsTurnEnd, TellsNumber, answer_of, lacking}
 pub use Rattle.supervisor.specs.Laws.{CyclesWereMet, ShownIsConsistent, ShownIsIsolated, WasMet, WereMet}
 pub use Rattle.supervisor.specs.Session.{IsSound, activity, desk_of, order_of, records_told}
 pub use Rattle.supervisor.specs.Shown.{IsOver, Shown}

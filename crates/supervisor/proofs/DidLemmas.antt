@@ -1,5 +1,5 @@
 -- What the turns and the checkpoints of a session did.
-use Rattle.supervisor.proofs.Common.{◌≡◌, inl, inr, ℕ, ◌≤◌, List, refl, sym, ◌∙◌, ap, subst, arith, Some, None, true, false, Ghosts, Rose, IsSure, Leaves, held_of, Header, bank_of, Stands, stands, chosen, KeptStore, number_of, Shows, shown_store, TurnEnd, counts_told, ending_told, turn_told, turn_closes, record_count, records_in, records_after, turn_fails, Did, IsEitherOf, standing_of, Desk, Fine, Failed, Doubt, Counts, Happening, Step, Turned, CheckpointMade, CheckpointFailed, turned, shut, stepped, Tally, counts_of, Session, IsSound, activity, desk_of, order_of, records_told, IsOver, Shown, HasRun, IsTurned, most_kept}
+use Rattle.supervisor.proofs.Common.{◌≡◌, inl, inr, ℕ, ◌≤◌, List, refl, sym, ◌∙◌, ap, subst, arith, true, false, Ghosts, Rose, IsSure, Leaves, held_of, Header, bank_of, Stands, stands, chosen, KeptStore, number_of, Shows, shown_store, TurnEnd, counts_told, ending_told, turn_told, turn_closes, record_count, records_in, records_after, turn_fails, Did, IsEitherOf, standing_of, Desk, Fine, Failed, Doubt, Counts, Happening, Step, Turned, CheckpointMade, CheckpointFailed, turned, shut, stepped, Tally, counts_of, Session, IsSound, activity, desk_of, order_of, records_told, IsOver, Shown, HasRun, IsTurned, most_kept}
 use Rattle.store_format.specs.declared.header.Which.{Which}
 use Rattle.desk.specs.declared.answers.Turn.{Turn}
 use Rattle.desk.specs.declared.answers.TurnEnd.TheVariants as end
@@ -31,43 +31,15 @@ records-shown held store shows =
 -- what an answer to a turn of an open session tells
 pub told-by : (end : TurnEnd) (activation : ℕ) (answer : Turn) (printed : List ℕ) → IsTurned end
     → Turned activation (counts_told answer) (ending_told end printed) ≡ turn_told activation (record answer { end = end }) printed
-told-by end.Idle activation answer printed is = refl
-told-by end.Limit activation answer printed is = refl
-told-by (end.Committed number steps) activation answer printed is = refl
-told-by (end.Checked code address) activation answer printed is = refl
-told-by (end.Waits waiting holders) activation answer printed is = refl
-told-by end.Victim activation answer printed is = refl
-told-by (end.Journal lines limit) activation answer printed is = refl
-told-by end.Disk activation answer printed is = refl
-told-by (end.Closed doubt number) activation answer printed is = refl
-told-by end.Shut activation answer printed is = absurd is
+told-by ends activation answer printed is = grind arith
 
 -- the most records by the end of a turn are those by what is told of it
 pub most-told : (end : TurnEnd) (activation : ℕ) (counts : Counts) (printed : List ℕ) (records : ℕ) → most_kept end records ≡ records_after (Turned activation counts (ending_told end printed)) records
-most-told end.Idle activation counts printed records = refl
-most-told end.Limit activation counts printed records = refl
-most-told (end.Committed number steps) activation counts printed records = refl
-most-told (end.Checked code address) activation counts printed records = refl
-most-told (end.Waits waiting holders) activation counts printed records = refl
-most-told end.Victim activation counts printed records = refl
-most-told (end.Journal lines limit) activation counts printed records = refl
-most-told end.Disk activation counts printed records = refl
-most-told (end.Closed None number) activation counts printed records = refl
-most-told (end.Closed (Some doubt) number) activation counts printed records = refl
-most-told end.Shut activation counts printed records = refl
+most-told ends activation counts printed records = grind arith
 
 -- a turn that left an open session has no more records than its end says: it didn't fail, or broke off where a page couldn't be read
 pub few-records : (ending : TurnEnd) (before after : ℕ) → IsTurned ending → turn_closes ending ≡ false → (ending ≡ end.Disk → after ≡ before) → (turn_fails ending ≡ false → after ≤ most_kept ending before) → after ≤ most_kept ending before
-few-records end.Idle before after is still broken calm = calm refl
-few-records end.Limit before after is still broken calm = calm refl
-few-records (end.Committed number steps) before after is still broken calm = calm refl
-few-records (end.Checked code address) before after is still broken calm = calm refl
-few-records (end.Waits waiting holders) before after is still broken calm = calm refl
-few-records end.Victim before after is still broken calm = calm refl
-few-records (end.Journal lines limit) before after is still broken calm = calm refl
-few-records end.Disk before after is still broken calm = let same = broken refl in omega (arith, same)
-few-records (end.Closed doubt number) before after is still broken calm = absurd (let no : ⊥ = cc in no)
-few-records end.Shut before after is still broken calm = absurd is
+few-records ending before after is still broken calm = grind arith
 
 -- a turn of an open session
 module _ {W : Type 0} (G : Ghosts W) (s new : Session) (activation limit : ℕ) (result : TurnEnd) (tally : Tally) (answer : Turn) (before after : W) (over : IsOver s (held_of G before)) where

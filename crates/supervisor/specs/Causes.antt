@@ -16,11 +16,15 @@ use Rattle.restart.specs.Kept.{KeptStore, with_begun}
 use Rattle.restart.specs.Shows.{Tracks}
 use Rattle.desk.specs.declared.answers.Reopened.{Reopened}
 use Rattle.desk.specs.declared.answers.Reopened.TheVariants as reopened
+use Rattle.desk.specs.declared.answers.Turn.{Turn}
 use Rattle.desk.specs.declared.answers.TurnEnd.{TurnEnd}
 use Rattle.desk.specs.declared.answers.TurnEnd.TheVariants as end
 use Rattle.desk.specs.Run.{absent_segment}
 use Rattle.seats.specs.Seating.{number_in}
+use Rattle.activations.specs.declared.tally.Tally.{Tally}
 use Rattle.activations.specs.Activity.{Activity, program_at}
+use Rattle.activations.specs.Causes.{IfJournal, IfLimit, IfVictim}
+use Rattle.activations.specs.Instructed.{IfWaits}
 use Rattle.activations.specs.Recorded.{IsRecordOf}
 use Rattle.supervisor.specs.declared.session.Session.{Session}
 use Rattle.supervisor.specs.Session.{activity, store_told}
@@ -43,6 +47,20 @@ TellsNumber activation number (end.Committed told steps) = told ≡ (number + 1)
 TellsNumber activation number (end.Closed None told) = told ≡ (number + 1) % 2 ^ 64
 TellsNumber activation number (end.Closed (Some doubted) told) = (doubted ≡ activation) × (told ≡ (number + 1) % 2 ^ 64)
 TellsNumber activation number _ = Unit {0}
+
+-- what is told of a turn that was counted so and ended so
+abbrev pub answer_of : Tally → TurnEnd → Turn
+answer_of tally end = record { ran = tally.ran; pages = tally.pages; locks = tally.locks; cycles = tally.cycles; end = end }
+
+-- The answer to a turn of an activation gives the true cause of its end, where a record has at most so many lines and the store had this number: it
+-- waits for some, its record has too many lines, it ran to its limit, it was the victim of a cycle, or a page that was counted couldn't be read.
+pub record IsTurnEnd (activation limit most number : ℕ) (answer : Turn) : Type 0 where
+  pub waits : IfWaits activation answer.end
+  pub journal : IfJournal most answer.end
+  pub limited : IfLimit limit answer.ran answer.end
+  pub victim : IfVictim activation answer.cycles.items answer.end
+  pub pages : answer.end ≡ end.Disk → 0 < answer.pages
+  pub numbered : TellsNumber activation number answer.end
 
 -- a commit, and one in doubt, enters the order with the activation, and no other end changes it
 abbrev pub EntersOrder : (activation : ℕ) → TurnEnd → (old new : List (ℕ × ℕ)) → Type 0

@@ -3,6 +3,7 @@ use Rattle.std.specs.Prelude.{◌≡◌, ℕ, Bool, ◌+◌, ◌*◌, ◌<◌, �
 use Rattle.store_format.specs.Header.{Header, HasRanges, most_lines}
 use Rattle.restart.specs.Kept.{KeptStore, number_of}
 use Rattle.desk.specs.Answers.{order_told}
+use Rattle.desk.specs.Calls.{Fixed}
 use Rattle.desk.specs.Desk.{Desk}
 use Rattle.activations.specs.Activity.{Activity, desk_over}
 use Rattle.activations.specs.Follows as running
@@ -26,9 +27,9 @@ header_of_session s = s.store.header
 abbrev pub is_closed : Session → Bool
 is_closed s = s.closed
 
--- the number of its store at the opening
-abbrev pub opened_at : Session → ℕ
-opened_at s = s.opened
+-- what only its opening sets
+abbrev pub fixed_of : Session → Fixed
+fixed_of s = record { programs = (activity s).programs; opened = s.opened; header = s.store.header; begins = s.begins }
 
 -- the number of its store
 abbrev pub number_told : Session → ℕ
@@ -37,10 +38,6 @@ number_told s = number_of s.store
 -- its store, as it is kept
 abbrev pub store_told : Session → KeptStore
 store_told s = s.store
-
--- how many begins it has room for
-abbrev pub begins_of : Session → ℕ
-begins_of s = s.begins
 
 -- how many turns were asked of it
 abbrev pub turns_of : Session → ℕ
@@ -74,10 +71,7 @@ pub record IsSound (s : Session) : Type 0 where
 
 -- the parts that only an opening or a begin sets are as before
 pub record KeepsParts (old new : Session) : Type 0 where
-  pub header : new.store.header ≡ old.store.header
-  pub programs : (activity new).programs ≡ (activity old).programs
-  pub opened : new.opened ≡ old.opened
-  pub begins : new.begins ≡ old.begins
+  pub fixed : fixed_of new ≡ fixed_of old
   pub turns : new.turns ≡ old.turns
   pub next : (activity new).next ≡ (activity old).next
 

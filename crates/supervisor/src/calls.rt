@@ -1,8 +1,7 @@
 // The calls of a session: what each does, and why each answer comes.
 ghost use Rattle.std.specs.Prelude.{◌≡◌, ◌≢◌, ◌↔◌, ◌+◌, ◌-◌, ◌≤◌, ◌<◌, ◌^◌, true, false, List, ℕ, length, map, Some, None, IsSome};
-ghost use Rattle.outside.specs.Causes.{Rose};
 ghost use Rattle.outside.specs.Durable.{IsSure};
-ghost use Rattle.outside.specs.Runs.{CallsDisk, OnlyAsks, held_of};
+ghost use Rattle.outside.specs.Runs.{OnlyAsks, held_of};
 ghost use Rattle.desk.specs.declared.event.Event.TheVariants as event;
 ghost use Rattle.desk.specs.Desk.{Desk};
 ghost use Rattle.desk.specs.Holdings.{numbers};
@@ -11,8 +10,9 @@ ghost use Rattle.desk.specs.Run.{step};
 ghost use Rattle.desk.specs.Report.{number_after};
 ghost use Rattle.desk.specs.Answers.{begun_told, turn_told, stored_told, reopened_told, counts_told, turn_closes, stored_closes, reopened_closes, HasNumbers, StoredNumber, IsReopened};
 ghost use Rattle.desk.specs.Crash.{Did};
-ghost use Rattle.desk.specs.Kept.{HoldsStore, StillTold, IsDamage, WritesMore, writes_due, turn_fails};
-ghost use Rattle.activations.specs.Turning.{counts_of};
+ghost use Rattle.desk.specs.Calls.{CallsStore, FailsCounted, StaysShut, reopened_fails, stored_fails};
+ghost use Rattle.desk.specs.Kept.{HoldsStore, IsDamage, WritesMore, writes_due, turn_fails};
+ghost use Rattle.supervisor.specs.Causes.{answer_of};
 
 use super::session::Session;
 use activations::Tally;
@@ -23,10 +23,7 @@ use redo_journal::ReopenFault;
 
 /// What is told of a turn that was counted so and ended so.
 fn told(tally: Tally, end: TurnEnd) -> Turn
-    ensures counts { counts_told result ≡ counts_of tally }
-    ensures end { result.end ≡ end }
-    ensures ran { result.ran ≡ tally.ran }
-    ensures cycles { result.cycles ≡ tally.cycles }
+    ensures { result ≡ answer_of tally end }
 {
     Turn {
         ran: tally.ran,
@@ -38,33 +35,27 @@ fn told(tally: Tally, end: TurnEnd) -> Turn
 }
 
 impl Session {
-    ghost use Rattle.supervisor.specs.Session.{IsSound, activity, order_of, records_told, is_closed, opened_at, begins_of, turns_of, printed_of, header_of_session, number_told, store_told};
+    ghost use Rattle.supervisor.specs.Session.{IsSound, activity, order_of, records_told, is_closed, fixed_of, turns_of, printed_of, number_told, store_told};
     ghost use Rattle.supervisor.specs.Shown.{Shown};
-    ghost use Rattle.supervisor.specs.Causes.{IsFull, HasPlace, lacking, TellsNumber, EntersOrder, KeepsPrinted, ReopenedNumber, ClosesBy};
-    ghost use Rattle.activations.specs.Instructed.{IfWaits};
-    ghost use Rattle.activations.specs.Causes.{IfJournal, IfLimit, IfVictim};
+    ghost use Rattle.supervisor.specs.Causes.{IsFull, HasPlace, lacking, IsTurnEnd, EntersOrder, KeepsPrinted, ReopenedNumber, ClosesBy};
     ghost use Rattle.store_format.specs.Header.{most_lines};
     ghost use Rattle.seats.specs.Seating.{seat_of, numbers as numbers_seated};
 
     /// The program with this place begins with four values.
     pub fn begin(&mut self, program: u16, args: [u32; 4]) -> Begun
         requires sound { IsSound self.old }
-        requires program { program < length (activity self.old).programs }
-        requires room { (activity self.old).next - 1 < begins_of self.old }
-        ensures did { (held : List ℕ) (desk : Desk) → Shown self.old held desk → (next : Desk) × (step (activity self.old).programs (event.Begin program args) Fine desk ≡ record { desk = next; happening = begun_told program result }) × Shown self.new held next }
-        ensures shut { (result ≡ Begun.Shut) ↔ (is_closed self.old ≡ true) }
+        requires program { program < length (fixed_of self.old).programs }
+        requires room { (activity self.old).next - 1 < (fixed_of self.old).begins }
+        ensures did { (held : List ℕ) (desk : Desk) → Shown self.old held desk → (next : Desk) × (step (fixed_of self.old).programs (event.Begin program args) Fine desk ≡ record { desk = next; happening = begun_told program result }) × Shown self.new held next }
+        ensures shut { StaysShut (is_closed self.old) (result ≡ Begun.Shut) (self.new ≡ self.old) }
         ensures busy { (number : ℕ) → (result ≡ Begun.Busy number) ↔ ((is_closed self.old ≡ false) × IsFull (activity self.old) × (number ≡ (activity self.old).next)) }
         ensures no_segment { (number segment : ℕ) → (result ≡ Begun.NoSegment number segment) ↔ ((is_closed self.old ≡ false) × HasPlace (activity self.old) × (lacking (activity self.old) program ≡ Some segment) × (number ≡ (activity self.old).next)) }
         ensures started { (number : ℕ) → (result ≡ Begun.Started number) ↔ ((is_closed self.old ≡ false) × HasPlace (activity self.old) × (lacking (activity self.old) program ≡ None) × (number ≡ (activity self.old).next)) }
-        ensures unchanged { is_closed self.old ≡ true → self.new ≡ self.old }
         ensures closed { is_closed self.new ≡ is_closed self.old }
         ensures order { order_of self.new ≡ order_of self.old }
         ensures printed { printed_of self.new ≡ printed_of self.old }
         ensures sound { IsSound self.new }
-        ensures programs { (activity self.new).programs ≡ (activity self.old).programs }
-        ensures opened { opened_at self.new ≡ opened_at self.old }
-        ensures header { header_of_session self.new ≡ header_of_session self.old }
-        ensures begins { begins_of self.new ≡ begins_of self.old }
+        ensures fixed { fixed_of self.new ≡ fixed_of self.old }
         ensures given { (activity self.new).next - 1 ≤ (activity self.old).next - 1 + 1 }
         ensures turns { turns_of self.new ≡ turns_of self.old }
     {
@@ -79,34 +70,21 @@ impl Session {
         requires sound { IsSound self.old }
         requires limit { limit ≤ 1000000 }
         requires turns { turns_of self.old < 2 ^ 32 }
-        requires bytes { HoldsStore W.Outside (header_of_session self.old) outside.old }
-        ensures did { (desk : Desk) → IsSure W.Outside outside.old → Shown self.old (held_of W.Outside outside.old) desk → (did : Did W.Outside (activity self.old).programs (opened_at self.old) (event.Turn activation limit) (turn_told activation result (printed_of self.new)) (is_closed self.new) (order_of self.new) (Shown self.new) desk outside.old outside.new) × HasNumbers result.end activation (number_after (opened_at self.old) did.next) }
+        requires bytes { HoldsStore W.Outside (fixed_of self.old).header outside.old }
+        ensures did { (desk : Desk) → IsSure W.Outside outside.old → Shown self.old (held_of W.Outside outside.old) desk → (did : Did W.Outside (fixed_of self.old).programs (fixed_of self.old).opened (event.Turn activation limit) (turn_told activation result (printed_of self.new)) (is_closed self.new) (order_of self.new) (Shown self.new) desk outside.old outside.new) × HasNumbers result.end activation (number_after (fixed_of self.old).opened did.next) }
         ensures writes { WritesMore (W.writes outside.old) (W.writes outside.new) (writes_due result.end) }
-        ensures shut { (result.end ≡ TurnEnd.Shut) ↔ (is_closed self.old ≡ true) }
+        ensures shut { StaysShut (is_closed self.old) (result.end ≡ TurnEnd.Shut) ((self.new ≡ self.old) × (outside.new ≡ outside.old)) }
         ensures uncounted { is_closed self.old ≡ true → counts_told result ≡ no_counts }
         ensures idle { is_closed self.old ≡ false → (result.end ≡ TurnEnd.Idle) ↔ (seat_of (activity self.old).seating activation ≡ None) }
-        ensures waits { IfWaits activation result.end }
-        ensures journal { IfJournal (most_lines (header_of_session self.old)) result.end }
-        ensures limit { IfLimit limit result.ran result.end }
-        ensures victim { IfVictim activation result.cycles.items result.end }
-        ensures pages { result.end ≡ TurnEnd.Disk → 0 < result.pages }
-        ensures numbered { TellsNumber activation (number_told self.old) result.end }
+        ensures end { IsTurnEnd activation limit (most_lines (fixed_of self.old).header) (number_told self.old) result }
         ensures ordered { EntersOrder activation result.end (order_of self.old) (order_of self.new) }
         ensures printed { KeepsPrinted result.end (printed_of self.old) (printed_of self.new) }
-        ensures unchanged { is_closed self.old ≡ true → (self.new ≡ self.old) × (outside.new ≡ outside.old) }
         ensures closed { is_closed self.new ≡ turn_closes result.end }
         ensures committing { ClosesBy W.Outside activation result.end (store_told self.old) self.new outside.old outside.new }
-        ensures cause { is_closed self.old ≡ false → is_closed self.new ≡ true → Rose (W.disk_faults outside.old) (W.disk_faults outside.new) }
-        ensures disk { result.end ≡ TurnEnd.Disk → Rose (W.disk_faults outside.old) (W.disk_faults outside.new) }
-        ensures calm { turn_fails result.end ≡ false → W.disk_faults outside.new ≡ W.disk_faults outside.old }
-        ensures calls { CallsDisk W.Outside outside.old outside.new }
-        ensures told { StillTold W.Outside outside.old outside.new }
-        ensures bytes { HoldsStore W.Outside (header_of_session self.new) outside.new }
+        ensures failed { FailsCounted (turn_fails result.end) (W.disk_faults outside.old) (W.disk_faults outside.new) }
+        ensures calls { CallsStore W.Outside (fixed_of self.new).header outside.old outside.new }
         ensures sound { IsSound self.new }
-        ensures programs { (activity self.new).programs ≡ (activity self.old).programs }
-        ensures opened { opened_at self.new ≡ opened_at self.old }
-        ensures header { header_of_session self.new ≡ header_of_session self.old }
-        ensures begins { begins_of self.new ≡ begins_of self.old }
+        ensures fixed { fixed_of self.new ≡ fixed_of self.old }
         ensures given { (activity self.new).next - 1 ≡ (activity self.old).next - 1 }
         ensures turns { turns_of self.new ≤ turns_of self.old + 1 }
     {
@@ -122,27 +100,19 @@ impl Session {
     /// Brings the store home, so that its journal begins again.
     pub fn checkpoint<W: Outside>(&mut self, outside: &mut W) -> Stored
         requires sound { IsSound self.old }
-        requires bytes { HoldsStore W.Outside (header_of_session self.old) outside.old }
-        ensures did { (desk : Desk) → IsSure W.Outside outside.old → Shown self.old (held_of W.Outside outside.old) desk → (did : Did W.Outside (activity self.old).programs (opened_at self.old) event.Checkpoint (stored_told result) (is_closed self.new) (order_of self.new) (Shown self.new) desk outside.old outside.new) × StoredNumber result (number_after (opened_at self.old) did.next) }
+        requires bytes { HoldsStore W.Outside (fixed_of self.old).header outside.old }
+        ensures did { (desk : Desk) → IsSure W.Outside outside.old → Shown self.old (held_of W.Outside outside.old) desk → (did : Did W.Outside (fixed_of self.old).programs (fixed_of self.old).opened event.Checkpoint (stored_told result) (is_closed self.new) (order_of self.new) (Shown self.new) desk outside.old outside.new) × StoredNumber result (number_after (fixed_of self.old).opened did.next) }
         ensures writes { WritesMore (W.writes outside.old) (W.writes outside.new) 0 }
-        ensures shut { (result ≡ Stored.Shut) ↔ (is_closed self.old ≡ true) }
-        ensures fault { result ≡ Stored.Closed → Rose (W.disk_faults outside.old) (W.disk_faults outside.new) }
+        ensures shut { StaysShut (is_closed self.old) (result ≡ Stored.Shut) ((self.new ≡ self.old) × (outside.new ≡ outside.old)) }
         ensures number { StoredNumber result (number_told self.old) }
         ensures emptied { (number : ℕ) → result ≡ Stored.Number number → records_told self.new ≡ 0 }
-        ensures unchanged { is_closed self.old ≡ true → (self.new ≡ self.old) × (outside.new ≡ outside.old) }
         ensures closed { is_closed self.new ≡ stored_closes result }
-        ensures cause { is_closed self.old ≡ false → is_closed self.new ≡ true → Rose (W.disk_faults outside.old) (W.disk_faults outside.new) }
-        ensures calm { result ≢ Stored.Closed → W.disk_faults outside.new ≡ W.disk_faults outside.old }
-        ensures calls { CallsDisk W.Outside outside.old outside.new }
-        ensures told { StillTold W.Outside outside.old outside.new }
-        ensures bytes { HoldsStore W.Outside (header_of_session self.new) outside.new }
+        ensures failed { FailsCounted (stored_fails result) (W.disk_faults outside.old) (W.disk_faults outside.new) }
+        ensures calls { CallsStore W.Outside (fixed_of self.new).header outside.old outside.new }
         ensures order { order_of self.new ≡ order_of self.old }
         ensures printed { printed_of self.new ≡ printed_of self.old }
         ensures sound { IsSound self.new }
-        ensures programs { (activity self.new).programs ≡ (activity self.old).programs }
-        ensures opened { opened_at self.new ≡ opened_at self.old }
-        ensures header { header_of_session self.new ≡ header_of_session self.old }
-        ensures begins { begins_of self.new ≡ begins_of self.old }
+        ensures fixed { fixed_of self.new ≡ fixed_of self.old }
         ensures given { (activity self.new).next - 1 ≡ (activity self.old).next - 1 }
         ensures turns { turns_of self.new ≡ turns_of self.old }
     {
@@ -161,24 +131,19 @@ impl Session {
     /// A crash: it forgets all that isn't on the disk, and reads the store again. It only asks the disk.
     pub fn forget<W: Outside>(&mut self, outside: &mut W) -> Reopened
         requires sound { IsSound self.old }
-        requires bytes { HoldsStore W.Outside (header_of_session self.old) outside.old }
-        ensures did { (desk : Desk) → IsSure W.Outside outside.old → Shown self.old (held_of W.Outside outside.old) desk → (did : Did W.Outside (activity self.old).programs (opened_at self.old) event.Crash (reopened_told (numbers desk) result) (is_closed self.new) (order_of self.new) (Shown self.new) desk outside.old outside.new) × IsReopened result (number_after (opened_at self.old) did.next) }
-        ensures shut { (result ≡ Reopened.Shut) ↔ (is_closed self.old ≡ true) }
+        requires bytes { HoldsStore W.Outside (fixed_of self.old).header outside.old }
+        ensures did { (desk : Desk) → IsSure W.Outside outside.old → Shown self.old (held_of W.Outside outside.old) desk → (did : Did W.Outside (fixed_of self.old).programs (fixed_of self.old).opened event.Crash (reopened_told (numbers desk) result) (is_closed self.new) (order_of self.new) (Shown self.new) desk outside.old outside.new) × IsReopened result (number_after (fixed_of self.old).opened did.next) }
+        ensures shut { StaysShut (is_closed self.old) (result ≡ Reopened.Shut) ((self.new ≡ self.old) × (outside.new ≡ outside.old)) }
         ensures number { ReopenedNumber result (number_told self.new) }
-        ensures unchanged { is_closed self.old ≡ true → (self.new ≡ self.old) × (outside.new ≡ outside.old) }
         ensures closed { is_closed self.new ≡ reopened_closes result }
-        ensures cause { result ≡ Reopened.DiskFault → Rose (W.disk_faults outside.old) (W.disk_faults outside.new) }
-        ensures calm { result ≢ Reopened.DiskFault → W.disk_faults outside.new ≡ W.disk_faults outside.old }
-        ensures damage { IsDamage W.Outside (header_of_session self.old) outside.old result }
+        ensures failed { FailsCounted (reopened_fails result) (W.disk_faults outside.old) (W.disk_faults outside.new) }
+        ensures damage { IsDamage W.Outside (fixed_of self.old).header outside.old result }
         ensures undamaged { (desk : Desk) (offset : ℕ) → IsSome (W.held outside.old) → Shown self.old (held_of W.Outside outside.old) desk → result ≢ Reopened.Damaged offset }
         ensures asks { OnlyAsks W.Outside outside.old outside.new }
         ensures order { order_of self.new ≡ order_of self.old }
         ensures printed { printed_of self.new ≡ printed_of self.old }
         ensures sound { IsSound self.new }
-        ensures programs { (activity self.new).programs ≡ (activity self.old).programs }
-        ensures opened { opened_at self.new ≡ opened_at self.old }
-        ensures header { header_of_session self.new ≡ header_of_session self.old }
-        ensures begins { begins_of self.new ≡ begins_of self.old }
+        ensures fixed { fixed_of self.new ≡ fixed_of self.old }
         ensures given { (activity self.new).next - 1 ≡ (activity self.old).next - 1 }
         ensures turns { turns_of self.new ≡ turns_of self.old }
     {
@@ -203,7 +168,7 @@ impl Session {
     pub fn number(&self) -> u64
         requires { IsSound self.now }
         ensures number { result ≡ number_told self.now }
-        ensures shown { (held : List ℕ) (desk : Desk) → Shown self.now held desk → result ≡ number_after (opened_at self.now) desk }
+        ensures shown { (held : List ℕ) (desk : Desk) → Shown self.now held desk → result ≡ number_after (fixed_of self.now).opened desk }
     {
         self.store.number()
     }

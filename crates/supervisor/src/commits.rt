@@ -2,10 +2,10 @@
 ghost use Rattle.std.specs.Prelude.{◌≡◌, ◌+◌, ◌<◌, ◌≤◌, ◌++◌, ◌∷◌, [], true, false, vec_len, vec_capacity};
 ghost use Rattle.seats.specs.Seating.{number_in, sitter};
 ghost use Rattle.lock_rules.specs.Sets.{has};
-ghost use Rattle.outside.specs.Causes.{Rose};
 ghost use Rattle.outside.specs.Durable.{IsSure};
 ghost use Rattle.outside.specs.Runs.{held_of};
 ghost use Rattle.redo_journal.specs.Held.{OnlyWrites};
+ghost use Rattle.desk.specs.Calls.{FailsCounted};
 ghost use Rattle.desk.specs.Kept.{HoldsStore, WritesMore, writes_due, turn_fails};
 ghost use Rattle.desk.specs.Answers.{turn_closes};
 ghost use Rattle.desk.specs.Instruction.{Word, Turning};
@@ -50,8 +50,7 @@ impl Session {
         ensures printed { KeepsPrinted result self.old.printed self.new.printed }
         ensures closed { self.new.closed ≡ turn_closes result }
         ensures committing { ClosesBy W.Outside (number_in (activity self.old).seating seat) result self.old.store self.new outside.old outside.new }
-        ensures cause { turn_closes result ≡ true → Rose (W.disk_faults outside.old) (W.disk_faults outside.new) }
-        ensures calm { turn_fails result ≡ false → W.disk_faults outside.new ≡ W.disk_faults outside.old }
+        ensures failed { FailsCounted (turn_fails result) (W.disk_faults outside.old) (W.disk_faults outside.new) }
         ensures records { turn_fails result ≡ false → records_told self.new ≤ most_kept result (records_told self.old) }
         ensures went { (begins : Word → Turning) → IsSure W.Outside outside.old → (over : IsOver self.old (held_of W.Outside outside.old)) → (at : IsAtCommit begins (activity self.old) seat over.committed (order_of self.old) (counts_of tally.old)) → HasCommitted W.Outside seat at.now result self.old self.new tally.old tally.new outside.old outside.new over.committed }
     {

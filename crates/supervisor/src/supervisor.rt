@@ -7,7 +7,7 @@ use desk::{Begun, Committed, Reopened, Stored, Supervisor, Turn};
 use outside::Outside;
 
 impl Supervisor for Session {
-    ghost use Rattle.supervisor.specs.Session.{IsSound, activity, order_of, is_closed, opened_at, begins_of, turns_of, printed_of, header_of_session};
+    ghost use Rattle.supervisor.specs.Session.{IsSound, activity, order_of, is_closed, fixed_of, turns_of, printed_of};
     ghost use Rattle.supervisor.specs.Shown.{Shown};
     ghost use Rattle.supervisor.specs.ShownLaws.{shown-open, shown-order, shown-closed, shown-stands};
 
@@ -17,13 +17,7 @@ impl Supervisor for Session {
 
     ghost closed = { is_closed };
 
-    ghost programs = { λ s. (activity s).programs };
-
-    ghost opened = { opened_at };
-
-    ghost header = { header_of_session };
-
-    ghost begins = { begins_of };
+    ghost fixed = { fixed_of };
 
     ghost given = { λ s. (activity s).next - 1 };
 

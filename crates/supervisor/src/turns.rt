@@ -1,10 +1,10 @@
 // A turn of an activation.
-ghost use Rattle.std.specs.Prelude.{◌≡◌, ◌+◌, ◌*◌, ◌-◌, ◌<◌, ◌≤◌, [], true, false, ◌↔◌, None};
-ghost use Rattle.outside.specs.Causes.{Rose};
+ghost use Rattle.std.specs.Prelude.{◌≡◌, ◌+◌, ◌*◌, ◌-◌, ◌<◌, ◌≤◌, [], false, ◌↔◌, None};
 ghost use Rattle.outside.specs.Durable.{IsSure};
 ghost use Rattle.outside.specs.Runs.{held_of};
 ghost use Rattle.redo_journal.specs.Held.{OnlyWrites};
 ghost use Rattle.desk.specs.declared.answers.TurnEnd.TheVariants as end;
+ghost use Rattle.desk.specs.Calls.{FailsCounted};
 ghost use Rattle.desk.specs.Kept.{HoldsStore, WritesMore, writes_due, turn_fails};
 ghost use Rattle.desk.specs.Answers.{turn_closes};
 
@@ -17,9 +17,7 @@ impl Session {
     ghost use Rattle.activations.specs.Kept.{AreRowsWithin};
     ghost use Rattle.supervisor.specs.Session.{IsSound, KeepsParts, activity, order_of, records_told};
     ghost use Rattle.supervisor.specs.Shown.{IsOver};
-    ghost use Rattle.supervisor.specs.Causes.{TellsNumber, EntersOrder, KeepsPrinted, ClosesBy};
-    ghost use Rattle.activations.specs.Instructed.{IfWaits};
-    ghost use Rattle.activations.specs.Causes.{IfJournal, IfLimit, IfVictim};
+    ghost use Rattle.supervisor.specs.Causes.{IsTurnEnd, answer_of, EntersOrder, KeepsPrinted, ClosesBy};
     ghost use Rattle.store_format.specs.Header.{most_lines};
     ghost use Rattle.restart.specs.Kept.{number_of};
     ghost use Rattle.seats.specs.Seating.{seat_of};
@@ -47,19 +45,12 @@ impl Session {
         ensures writes { WritesMore (W.writes outside.old) (W.writes outside.new) (writes_due result) }
         ensures turned { IsTurned result }
         ensures idle { (result ≡ end.Idle) ↔ (seat_of (activity self.old).seating activation ≡ None) }
-        ensures waits { IfWaits activation result }
-        ensures journal { IfJournal (most_lines self.old.store.header) result }
-        ensures limit { IfLimit limit tally.new.ran result }
-        ensures victim { IfVictim activation tally.new.cycles.items result }
-        ensures pages { result ≡ end.Disk → 0 < tally.new.pages }
-        ensures numbered { TellsNumber activation (number_of self.old.store) result }
+        ensures end { IsTurnEnd activation limit (most_lines self.old.store.header) (number_of self.old.store) (answer_of tally.new result) }
         ensures ordered { EntersOrder activation result (order_of self.old) (order_of self.new) }
         ensures printed { KeepsPrinted result self.old.printed self.new.printed }
         ensures closed { self.new.closed ≡ turn_closes result }
         ensures committing { ClosesBy W.Outside activation result self.old.store self.new outside.old outside.new }
-        ensures cause { turn_closes result ≡ true → Rose (W.disk_faults outside.old) (W.disk_faults outside.new) }
-        ensures disk { result ≡ end.Disk → Rose (W.disk_faults outside.old) (W.disk_faults outside.new) }
-        ensures calm { turn_fails result ≡ false → W.disk_faults outside.new ≡ W.disk_faults outside.old }
+        ensures failed { FailsCounted (turn_fails result) (W.disk_faults outside.old) (W.disk_faults outside.new) }
         ensures records { turn_fails result ≡ false → records_told self.new ≤ most_kept result (records_told self.old) }
         ensures went { IsSure W.Outside outside.old → (over : IsOver self.old (held_of W.Outside outside.old)) → HasRun W.Outside activation limit result self.old self.new tally.new outside.old outside.new over.committed }
     {

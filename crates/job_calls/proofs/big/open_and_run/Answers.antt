@@ -1,4 +1,4 @@
-use Rattle.job_calls.proofs.Common.{◌≡◌, ◌≤◌, ◌∙◌, ap, sym, subst, arith, length, vec_len, get_or, All, List, ℕ, Some, length-map, count_by-le-length, Program, order_told, Desk, Event, IsSure, held_of, IsEventAmong, activity, ghosts, is_turn, begins_in, turns_in, IsLasting, RunsQuietly, call, Loaded}
+use Rattle.job_calls.proofs.Common.{◌≡◌, ◌≤◌, ◌∙◌, ap, sym, subst, arith, length, vec_len, get_or, All, List, ℕ, Some, length-map, count_by-le-length, Program, Fixed, order_told, Desk, Event, IsSure, held_of, IsEventAmong, activity, ghosts, is_turn, begins_in, turns_in, IsLasting, RunsQuietly, call, Loaded}
 use Rattle.job_calls.proofs.NameLemmas.{asked-among}
 use Rattle.job_calls.proofs.BigLemmas.{lasting, loaded, still-holds}
 use Rattle.job_calls.proofs.big.open_and_run.Goals as goal
@@ -32,7 +32,7 @@ filled-requires-clause-room g c =
     let new = c.run_quiet-quiet.new.desk in
     let told : length (order_told c.order.result.now) ≡ length (order_told new.order.items) = ap length c.order.ensures in
     let few : vec_len new.order ≤ new.begins = c.run_quiet-quiet.ensures.sound.room.commits in
-    let begins : new.begins ≡ c.in-Ok.session.begins = c.run_quiet-quiet.ensures.begins in
+    let begins : new.begins ≡ c.in-Ok.session.begins = ap (λ (fixed : Fixed). fixed.begins) c.run_quiet-quiet.ensures.fixed in
     omega (arith, told, length-map {B = ℕ × ℕ} c.order.result.now (λ commit. (commit.activation, commit.steps)), length-map {B = ℕ × ℕ} new.order.items (λ commit. (commit.activation, commit.steps)), new.order.ok.0, few, begins, c.in-Ok.ensures.new.begins_are, c.requires.room)
 
 pub returns-clause-loaded : goal.returns-clause-loaded
@@ -50,7 +50,7 @@ returns-clause-loaded g c =
     subst (λ (bytes : List ℕ). RunsQuietly ghosts G (activity desk).programs desk.opened job.events.items first new start between bytes quiet) (sym c.as_slice.ensures.value)
     (subst (λ (events : List Event). RunsQuietly ghosts G (activity desk).programs desk.opened events first new start between c.run_quiet-quiet.new.last.items quiet) c.deref.ensures.value (c.run_quiet-quiet.ensures.runs first sure shows)) in
     subst (λ (order : List (ℕ × ℕ)). Loaded G c.args.transfers (call before c.tell.new.outside order c.tell.result) (Some new)) (sym (ap order_told c.filled.ensures ∙ c.order.ensures))
-    (loaded G g.met.W.Outside.fewer_later g.met.W.Outside.printed_now c.args.transfers job c.requires.load before start between desk new c.in-Ok.ensures.opened c.in-Ok.ensures.asks c.in-Ok.ensures.new.programs_are c.run_quiet-quiet.ensures.programs c.run_quiet-quiet.ensures.opened c.in-Ok.ensures.unfailed
+    (loaded G g.met.W.Outside.fewer_later g.met.W.Outside.printed_now c.args.transfers job c.requires.load before start between desk new c.in-Ok.ensures.opened c.in-Ok.ensures.asks c.in-Ok.ensures.new.programs_are (ap (λ (fixed : Fixed). fixed.programs) c.run_quiet-quiet.ensures.fixed) (ap (λ (fixed : Fixed). fixed.opened) c.run_quiet-quiet.ensures.fixed) c.in-Ok.ensures.unfailed
     (λ told. (c.in-Ok.ensures.told told).1) last c.run_quiet-quiet.ensures.calls quiet runs c.tell.new.outside c.tell.result c.tell.ensures)
 
 pub returns-clause-fits : goal.returns-clause-fits

@@ -1,4 +1,4 @@
-use Rattle.job_calls.proofs.Common.{◌≡◌, ◌∙◌, ap, sym, ◌≤◌, subst, arith, length, vec_len, get_or, All, List, ℕ, refl, Some, map, length-map, count_by-le-length, Ghosts, Program, order_told, Desk, IsUnbroken, Event, IsEventAmong, Job, activity, Session, ghosts, is_turn, begins_in, turns_in, HasOpened, Replays, Replayed, call, Status, status_of_replay, OpensBy, HappenedTo, names_of}
+use Rattle.job_calls.proofs.Common.{◌≡◌, ◌∙◌, ap, sym, ◌≤◌, subst, arith, length, vec_len, get_or, All, List, ℕ, refl, Some, map, length-map, count_by-le-length, Ghosts, Fixed, Program, order_told, Desk, IsUnbroken, Event, IsEventAmong, Job, activity, Session, ghosts, is_turn, begins_in, turns_in, HasOpened, Replays, Replayed, call, Status, status_of_replay, OpensBy, HappenedTo, names_of}
 use Rattle.arrayvec.specs.ArrayVec.{ArrayVec}
 use Rattle.job_calls.proofs.CauseLemmas.{opens-by, put-rose, put-same, disk-rose}
 use Rattle.job_calls.proofs.NameLemmas.{name-unbroken, asked-among}
@@ -35,7 +35,7 @@ filled-requires-clause-room g c =
     let new = c.replay-replayed.new.desk in
     let told : length (order_told c.order.result.now) ≡ length (order_told new.order.items) = ap length c.order.ensures in
     let few : vec_len new.order ≤ new.begins = c.replay-replayed.ensures.sound.room.commits in
-    let begins : new.begins ≡ c.in-Ok.session.begins = c.replay-replayed.ensures.begins in
+    let begins : new.begins ≡ c.in-Ok.session.begins = ap (λ (fixed : Fixed). fixed.begins) c.replay-replayed.ensures.fixed in
     omega (arith, told, length-map {B = ℕ × ℕ} c.order.result.now (λ commit. (commit.activation, commit.steps)), length-map {B = ℕ × ℕ} new.order.items (λ commit. (commit.activation, commit.steps)), new.order.ok.0, few, begins, c.in-Ok.ensures.new.begins_are, c.requires.room)
 
 -- what was replayed, in the job's words
@@ -83,7 +83,7 @@ returns-clause-happened g c =
     let did = replays G _ c.deref-2.result.now job desk new start after result (ap (map (λ name. name.items)) c.deref.ensures.value) c.deref-2.ensures.value c.replay-replayed.ensures.replays in
     subst (λ (now : Status). HappenedTo G job (call before after (order_told c.filled.result.items) now) (Some new)) (sym c.status_of_replay.ensures)
     (subst (λ (order : List (ℕ × ℕ)). HappenedTo G job (call before after order (status_of_replay result)) (Some new)) (sym (ap order_told c.filled.ensures ∙ c.order.ensures))
-    (happened-by G g.met.W.Outside.fewer_later g.met.W.Outside.printed_now job before start after desk new c.in-Ok.ensures.opened c.in-Ok.ensures.asks c.in-Ok.ensures.new.programs_are c.replay-replayed.ensures.opened
+    (happened-by G g.met.W.Outside.fewer_later g.met.W.Outside.printed_now job before start after desk new c.in-Ok.ensures.opened c.in-Ok.ensures.asks c.in-Ok.ensures.new.programs_are (ap (λ (fixed : Fixed). fixed.opened) c.replay-replayed.ensures.fixed)
     c.replay-replayed.ensures.honest c.replay-replayed.ensures.time c.in-Ok.ensures.unfailed result did result refl))
 
 pub returns-clause-disk : goal.returns-clause-disk

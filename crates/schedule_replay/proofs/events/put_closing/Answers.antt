@@ -12,7 +12,7 @@ pub returns-in_err-put_left-clause-puts : goal.returns-in_err-put_left-clause-pu
 returns-in_err-put_left-clause-puts g c =
     λ held start shows.
     let G = g.W.Outside in
-    let number = g.S.Supervisor.opened c.args.desk.now in
+    let number = (g.S.Supervisor.fixed c.args.desk.now).opened in
     let ends : List Line = End (number_after number start) ∷ [] in
     puts_same G c.args.outside.now c.put_left.new.outside (map Left (numbers start) ++ ends) (closing_lines number [] start) c.from_residual.result (closing_open number start (g.met.S.Supervisor.shown_open c.args.desk.now held start shows))
     (puts_stop G c.args.outside.now c.put_left.new.outside (map Left (numbers start)) ends c.put_left.result c.from_residual.result (search rules) c.from_residual.ensures.0
@@ -22,7 +22,7 @@ pub returns-clause-puts : goal.returns-clause-puts
 returns-clause-puts g c =
     λ held start shows.
     let G = g.W.Outside in
-    let number = g.S.Supervisor.opened c.args.desk.now in
+    let number = (g.S.Supervisor.fixed c.args.desk.now).opened in
     let ends : List Line = End (number_after number start) ∷ [] in
     puts_same G c.args.outside.now c.put_one.new.outside (map Left (numbers start) ++ ends) (closing_lines number [] start) c.put_one.result (closing_open number start (g.met.S.Supervisor.shown_open c.args.desk.now held start shows))
     (puts_on G g.met.W.Outside.printed_now g.met.W.Outside.fewer_later c.args.outside.now c.put_left.new.outside c.put_one.new.outside (map Left (numbers start)) ends c.in_ok-put_left.field-0 c.put_one.result

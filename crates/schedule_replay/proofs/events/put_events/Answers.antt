@@ -1,4 +1,4 @@
-use Rattle.schedule_replay.proofs.Common.{◌≡◌, [], ◌+◌, List, length, map, take, drop, refl, sym, ap, ◌∙◌, arith, rules, append-nil, Ok, false, take-append-drop, take_all, Program, Begin, is_closed, is_damaged, prints_broken, prints_well}
+use Rattle.schedule_replay.proofs.Common.{◌≡◌, [], ◌+◌, length, map, take, drop, refl, sym, ap, ◌∙◌, arith, rules, append-nil, Ok, false, take-append-drop, take_all, Fixed, Begin, is_closed, is_damaged, prints_broken, prints_well}
 use Rattle.schedule_replay.specs.declared.events.Going.TheVariants as going
 use Rattle.schedule_replay.proofs.AnsweredLemmas.{answered_none, ready_next, answered_more, answered_well, answered_broken, goes_since, shut_asked, shut_unasked}
 use Rattle.schedule_replay.proofs.WentLemmas.{names_are}
@@ -14,7 +14,7 @@ loop-event-init g c =
       answered = answered_none S g.W.Outside g.met.W.Outside.fewer_later c.args.desk.now c.args.outside.now c.requires.ready.sound c.requires.ready.bytes;
       still = λ was_open. was_open;
       shut = λ was. (refl, was);
-      ran = λ start sure shows. ran_none S g.W.Outside g.met.W.Outside.printed_now L.shown_stands L.shown_open L.open_shown L.order_shown (map (λ name. name.items) c.args.names.now) (S.programs c.args.desk.now) start c.args.desk.now c.args.outside.now sure shows;
+      ran = λ start sure shows. ran_none S g.W.Outside g.met.W.Outside.printed_now L.shown_stands L.shown_open L.open_shown L.order_shown (map (λ name. name.items) c.args.names.now) (S.fixed c.args.desk.now).programs start c.args.desk.now c.args.outside.now sure shows;
     }
 
 pub answer-requires-clause-ready : goal.answer-requires-clause-ready
@@ -23,7 +23,7 @@ answer-requires-clause-ready g c =
 
 pub answer-requires-clause-names : goal.answer-requires-clause-names
 answer-requires-clause-names g c =
-    let same = ap (λ (programs : List Program). length programs) c.loop-event.invariant.answered.programs in
+    let same = ap (λ (fixed : Fixed). length fixed.programs) c.loop-event.invariant.answered.fixed in
     omega (arith, same, c.requires.names)
 
 pub returns-in_err-going-clause-answered : goal.returns-in_err-going-clause-answered
@@ -46,8 +46,8 @@ returns-in_err-going-clause-ran g c =
       front = take (c.loop-event.event-index + 1) c.args.events.now;
       rest = drop (c.loop-event.event-index + 1) c.args.events.now;
       whole = take-append-drop (c.loop-event.event-index + 1) c.args.events.now;
-      ran = ran_as S G g.met.W.Outside.fewer_later names are (S.programs c.args.desk.now) (S.opened c.args.desk.now) _ start c.answer.new.desk c.args.outside.now c.answer.new.outside c.answer.result c.from_residual.result (prints_broken c.answer.result c.from_residual.result (search rules) c.from_residual.ensures.0) (λ is. c.from_residual.ensures.0)
-          (ran_next S G g.met.W.Outside.fewer_later names are (S.programs c.args.desk.now) (S.opened c.args.desk.now) c.args.events.now c.loop-event.event-index (Begin 0 []) c.loop-event-test.true start c.loop-event.desk c.answer.new.desk c.args.outside.now c.loop-event.outside c.answer.new.outside c.answer.result still now.answered.programs now.answered.opened (now.ran start sure shows) c.answer.ensures.ran);
+      ran = ran_as S G g.met.W.Outside.fewer_later names are (S.fixed c.args.desk.now).programs (S.fixed c.args.desk.now).opened _ start c.answer.new.desk c.args.outside.now c.answer.new.outside c.answer.result c.from_residual.result (prints_broken c.answer.result c.from_residual.result (search rules) c.from_residual.ensures.0) (λ is. c.from_residual.ensures.0)
+          (ran_next S G g.met.W.Outside.fewer_later names are (S.fixed c.args.desk.now).programs (S.fixed c.args.desk.now).opened c.args.events.now c.loop-event.event-index (Begin 0 []) c.loop-event-test.true start c.loop-event.desk c.answer.new.desk c.args.outside.now c.loop-event.outside c.answer.new.outside c.answer.result still (ap (λ (fixed : Fixed). fixed.programs) now.answered.fixed) (ap (λ (fixed : Fixed). fixed.opened) now.answered.fixed) (now.ran start sure shows) c.answer.ensures.ran);
       closed = if_ok_broken c.from_residual.result (λ going. S.closed c.answer.new.desk ≡ is_closed going) c.from_residual.ensures.0;
       sound = if_ok_broken c.from_residual.result (λ going. is_damaged going ≡ false) c.from_residual.ensures.0;
       all = if_ok_broken c.from_residual.result (λ going. is_closed going ≡ false → drop (c.loop-event.event-index + 1) c.args.events.now ≡ []) c.from_residual.ensures.0;
@@ -66,7 +66,7 @@ returns-in_default g c =
         answered_well S G g.met.W.Outside.fewer_later _ c.args.desk.now c.answer.new.desk c.args.outside.now c.answer.new.outside c.in_ok-going.going _
             (answered_more S G g.met.W.Outside.fewer_later c.args.events.now c.loop-event.event-index (Begin 0 []) c.loop-event-test.true c.args.desk.now c.loop-event.desk c.args.outside.now c.loop-event.outside c.answer.new.desk c.answer.new.outside (Ok c.in_ok-going.going) now.answered c.in_ok-going.ensures.answered),
       );
-      goes = goes_since S G c.in_ok-going.going c.args.desk.now c.loop-event.desk c.answer.new.desk c.args.outside.now c.loop-event.outside c.answer.new.outside now.answered.header now.still now.answered.disk c.in_ok-going.ensures.goes;
+      goes = goes_since S G c.in_ok-going.going c.args.desk.now c.loop-event.desk c.answer.new.desk c.args.outside.now c.loop-event.outside c.answer.new.outside (ap (λ (fixed : Fixed). fixed.header) now.answered.fixed) now.still now.answered.disk c.in_ok-going.ensures.goes;
       shut = λ was. shut_asked c.args.events.now c.loop-event.event-index c.in_ok-going.going c.loop-event-test.true (c.in_ok-going.ensures.shut (now.shut was).1);
       ran = λ start sure shows.
           let still = now.still (g.met.S.Supervisor.open_shown c.args.desk.now _ start shows) in
@@ -75,8 +75,8 @@ returns-in_default g c =
             front = take (c.loop-event.event-index + 1) c.args.events.now;
             rest = drop (c.loop-event.event-index + 1) c.args.events.now;
             whole = take-append-drop (c.loop-event.event-index + 1) c.args.events.now;
-            ran = ran_as S G g.met.W.Outside.fewer_later names are (S.programs c.args.desk.now) (S.opened c.args.desk.now) _ start c.answer.new.desk c.args.outside.now c.answer.new.outside (Ok c.in_ok-going.going) (Ok c.in_ok-going.going) (λ one two bytes prints. prints) (λ is. is)
-                (ran_next S G g.met.W.Outside.fewer_later names are (S.programs c.args.desk.now) (S.opened c.args.desk.now) c.args.events.now c.loop-event.event-index (Begin 0 []) c.loop-event-test.true start c.loop-event.desk c.answer.new.desk c.args.outside.now c.loop-event.outside c.answer.new.outside (Ok c.in_ok-going.going) still now.answered.programs now.answered.opened (now.ran start sure shows) c.in_ok-going.ensures.ran);
+            ran = ran_as S G g.met.W.Outside.fewer_later names are (S.fixed c.args.desk.now).programs (S.fixed c.args.desk.now).opened _ start c.answer.new.desk c.args.outside.now c.answer.new.outside (Ok c.in_ok-going.going) (Ok c.in_ok-going.going) (λ one two bytes prints. prints) (λ is. is)
+                (ran_next S G g.met.W.Outside.fewer_later names are (S.fixed c.args.desk.now).programs (S.fixed c.args.desk.now).opened c.args.events.now c.loop-event.event-index (Begin 0 []) c.loop-event-test.true start c.loop-event.desk c.answer.new.desk c.args.outside.now c.loop-event.outside c.answer.new.outside (Ok c.in_ok-going.going) still (ap (λ (fixed : Fixed). fixed.programs) now.answered.fixed) (ap (λ (fixed : Fixed). fixed.opened) now.answered.fixed) (now.ran start sure shows) c.in_ok-going.ensures.ran);
             closed = c.in_ok-going.ensures.closed;
             sound = c.in_ok-going.ensures.undamaged _ before.0 before.1;
             all = λ goes_on. absurd (not_on c.in_ok-going.going c.in_default.not-On goes_on);
@@ -97,8 +97,8 @@ loop-event-preserved g c =
       shut = λ was. absurd (let no : going.On ≡ going.Closed = sym c.in-On.is ∙ c.in_ok-going.ensures.shut (now.shut was).1 in cc (no));
       ran = λ start sure shows.
           let still = now.still (g.met.S.Supervisor.open_shown c.args.desk.now _ start shows) in
-          ran_as S G g.met.W.Outside.fewer_later names are (S.programs c.args.desk.now) (S.opened c.args.desk.now) _ start c.answer.new.desk c.args.outside.now c.answer.new.outside (Ok c.in_ok-going.going) (Ok 0) (λ one two bytes prints. prints_well one two bytes c.in_ok-going.going 0 prints) (λ is. is)
-          (ran_next S G g.met.W.Outside.fewer_later names are (S.programs c.args.desk.now) (S.opened c.args.desk.now) c.args.events.now c.loop-event.event-index (Begin 0 []) c.loop-event-test.true start c.loop-event.desk c.answer.new.desk c.args.outside.now c.loop-event.outside c.answer.new.outside (Ok c.in_ok-going.going) still now.answered.programs now.answered.opened (now.ran start sure shows) c.in_ok-going.ensures.ran);
+          ran_as S G g.met.W.Outside.fewer_later names are (S.fixed c.args.desk.now).programs (S.fixed c.args.desk.now).opened _ start c.answer.new.desk c.args.outside.now c.answer.new.outside (Ok c.in_ok-going.going) (Ok 0) (λ one two bytes prints. prints_well one two bytes c.in_ok-going.going 0 prints) (λ is. is)
+          (ran_next S G g.met.W.Outside.fewer_later names are (S.fixed c.args.desk.now).programs (S.fixed c.args.desk.now).opened c.args.events.now c.loop-event.event-index (Begin 0 []) c.loop-event-test.true start c.loop-event.desk c.answer.new.desk c.args.outside.now c.loop-event.outside c.answer.new.outside (Ok c.in_ok-going.going) still (ap (λ (fixed : Fixed). fixed.programs) now.answered.fixed) (ap (λ (fixed : Fixed). fixed.opened) now.answered.fixed) (now.ran start sure shows) c.in_ok-going.ensures.ran);
     }
 
 pub returns-clause-ran : goal.returns-clause-ran
@@ -113,7 +113,7 @@ returns-clause-ran g c =
       front = take c.loop-event.event-index c.args.events.now;
       rest = [];
       whole = append-nil (take c.loop-event.event-index c.args.events.now) ∙ take_all c.loop-event.event-index c.args.events.now c.loop-event-test.false;
-      ran = ran_as S G g.met.W.Outside.fewer_later names are (S.programs c.args.desk.now) (S.opened c.args.desk.now) _ start c.loop-event.desk c.args.outside.now c.loop-event.outside (Ok 0) (Ok going.On) (λ one two bytes prints. prints_well one two bytes 0 going.On prints) (λ is. is) (now.ran start sure shows);
+      ran = ran_as S G g.met.W.Outside.fewer_later names are (S.fixed c.args.desk.now).programs (S.fixed c.args.desk.now).opened _ start c.loop-event.desk c.args.outside.now c.loop-event.outside (Ok 0) (Ok going.On) (λ one two bytes prints. prints_well one two bytes 0 going.On prints) (λ is. is) (now.ran start sure shows);
       closed = now.still (g.met.S.Supervisor.open_shown c.args.desk.now _ start shows);
       sound = refl;
       all = λ still. refl;

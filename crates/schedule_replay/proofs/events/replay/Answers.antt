@@ -4,10 +4,10 @@ use Rattle.schedule_replay.proofs.events.replay.Goals as goal
 
 pub returns-in-Ok-On-clause-replays : goal.returns-in-Ok-On-clause-replays
 returns-in-Ok-On-clause-replays g c = λ start opened.
-    reports_told g.S.Supervisor g.W.Outside (map (λ name. name.items) c.args.names.now) (g.S.Supervisor.programs c.args.desk.now) (g.S.Supervisor.opened c.args.desk.now) c.args.events.now start c.put_report.new.desk c.args.outside.now c.put_report.new.outside c.in-Ok-On.field-0 false (ap is_closed c.in-Ok-On.field-0-is) (c.in-Ok-On.ensures.reports start opened)
+    reports_told g.S.Supervisor g.W.Outside (map (λ name. name.items) c.args.names.now) (g.S.Supervisor.fixed c.args.desk.now).programs (g.S.Supervisor.fixed c.args.desk.now).opened c.args.events.now start c.put_report.new.desk c.args.outside.now c.put_report.new.outside c.in-Ok-On.field-0 false (ap is_closed c.in-Ok-On.field-0-is) (c.in-Ok-On.ensures.reports start opened)
 
 pub returns-in-Err-clause-replays : goal.returns-in-Err-clause-replays
 returns-in-Err-clause-replays g c = λ start opened. (
   c.in-Err.field-0,
-  reports_broken g.S.Supervisor g.W.Outside (map (λ name. name.items) c.args.names.now) (g.S.Supervisor.programs c.args.desk.now) (g.S.Supervisor.opened c.args.desk.now) c.args.events.now start c.put_report.new.desk c.args.outside.now c.put_report.new.outside c.in-Err.field-0 (c.in-Err.ensures.reports start opened),
+  reports_broken g.S.Supervisor g.W.Outside (map (λ name. name.items) c.args.names.now) (g.S.Supervisor.fixed c.args.desk.now).programs (g.S.Supervisor.fixed c.args.desk.now).opened c.args.events.now start c.put_report.new.desk c.args.outside.now c.put_report.new.outside c.in-Err.field-0 (c.in-Err.ensures.reports start opened),
 )

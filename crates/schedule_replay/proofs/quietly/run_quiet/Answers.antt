@@ -1,7 +1,6 @@
-use Rattle.schedule_replay.proofs.Common.{◌≡◌, [], ◌+◌, take, drop, refl, arith, append-nil, ◌∙◌, Ok, Some, None, take-append-drop, take_all, calls_on, Begin, event_lines}
+use Rattle.schedule_replay.proofs.Common.{◌≡◌, [], ◌+◌, take, drop, refl, arith, append-nil, ◌∙◌, Ok, Some, None, take-append-drop, take_all, ap, Fixed, calls_none, calls_on, Begin, event_lines}
 use Rattle.schedule_replay.specs.declared.events.Going.TheVariants as going
 use Rattle.schedule_replay.proofs.AnsweredLemmas.{answered_none, answered_more, shut_asked, shut_unasked}
-use Rattle.schedule_replay.proofs.EventLemmas.{calls_none}
 use Rattle.schedule_replay.proofs.QuietLemmas.{ran_nothing, ran_next_quietly, tells_nothing}
 use Rattle.schedule_replay.proofs.quietly.run_quiet.Goals as goal
 
@@ -21,8 +20,8 @@ loop-event-init g c =
       few = omega arith;
       few_back = omega arith;
       ran = λ start sure shows.
-          let it = ran_nothing S G M.fewer_later (S.programs old) (S.opened old) L.shown_stands L.shown_open L.open_shown L.order_shown start old w refl sure shows in
-          (it.0, tells_nothing c.clear.new.self.items (event_lines [] (S.programs old) (S.opened old) it.0.taken start) c.clear.ensures it.1);
+          let it = ran_nothing S G M.fewer_later (S.fixed old).programs (S.fixed old).opened L.shown_stands L.shown_open L.open_shown L.order_shown start old w refl sure shows in
+          (it.0, tells_nothing c.clear.new.self.items (event_lines [] (S.fixed old).programs (S.fixed old).opened it.0.taken start) c.clear.ensures it.1);
     }
 
 pub loop-event-preserved : goal.loop-event-preserved
@@ -47,8 +46,8 @@ loop-event-preserved g c =
       few_back = omega (arith, now.few_back, c.in-Some.ensures.small.1);
       ran = λ start sure shows.
           let so_far = now.ran start sure shows in
-          ran_next_quietly S G M.fewer_later (S.programs old) (S.opened old) c.args.events.now c.loop-event.event-index (Begin 0 []) c.loop-event-test.true start mid new before between after c.loop-event.last.items c.answer.new.last.items (record { commits = c.loop-event.commits; rollbacks = c.loop-event.rollbacks }) (Some c.in-Some.tally)
-          (now.still (L.open_shown old _ start shows)) now.answered.programs now.answered.opened now.calls c.answer.ensures.calls so_far.0 so_far.1 c.in-Some.ensures.went;
+          ran_next_quietly S G M.fewer_later (S.fixed old).programs (S.fixed old).opened c.args.events.now c.loop-event.event-index (Begin 0 []) c.loop-event-test.true start mid new before between after c.loop-event.last.items c.answer.new.last.items (record { commits = c.loop-event.commits; rollbacks = c.loop-event.rollbacks }) (Some c.in-Some.tally)
+          (now.still (L.open_shown old _ start shows)) (ap (λ (fixed : Fixed). fixed.programs) now.answered.fixed) (ap (λ (fixed : Fixed). fixed.opened) now.answered.fixed) now.calls c.answer.ensures.calls so_far.0 so_far.1 c.in-Some.ensures.went;
     }
 
 pub returns-in-None-clause-runs : goal.returns-in-None-clause-runs
@@ -61,8 +60,8 @@ returns-in-None-clause-runs g c =
     let now = c.loop-event.invariant in
     let old = c.args.desk.now in
     let so_far = now.ran start sure shows in
-    let it = ran_next_quietly S G M.fewer_later (S.programs old) (S.opened old) c.args.events.now c.loop-event.event-index (Begin 0 []) c.loop-event-test.true start c.loop-event.desk c.answer.new.desk c.args.outside.now c.loop-event.outside c.answer.new.outside c.loop-event.last.items c.answer.new.last.items (record { commits = c.loop-event.commits; rollbacks = c.loop-event.rollbacks }) None
-    (now.still (L.open_shown old _ start shows)) now.answered.programs now.answered.opened now.calls c.answer.ensures.calls so_far.0 so_far.1 c.in-None.ensures.went in
+    let it = ran_next_quietly S G M.fewer_later (S.fixed old).programs (S.fixed old).opened c.args.events.now c.loop-event.event-index (Begin 0 []) c.loop-event-test.true start c.loop-event.desk c.answer.new.desk c.args.outside.now c.loop-event.outside c.answer.new.outside c.loop-event.last.items c.answer.new.last.items (record { commits = c.loop-event.commits; rollbacks = c.loop-event.rollbacks }) None
+    (now.still (L.open_shown old _ start shows)) (ap (λ (fixed : Fixed). fixed.programs) now.answered.fixed) (ap (λ (fixed : Fixed). fixed.opened) now.answered.fixed) now.calls c.answer.ensures.calls so_far.0 so_far.1 c.in-None.ensures.went in
     record {
       front = take (c.loop-event.event-index + 1) c.args.events.now;
       rest = drop (c.loop-event.event-index + 1) c.args.events.now;

@@ -11,5 +11,5 @@ invariant-loop-event g l = record {
   few : l.commits ≤ l.event-index;
   few_back : l.rollbacks ≤ 17 * l.event-index;
   ran : (start : Desk) → IsSure g.W.Outside l.fn.outside → g.S.Supervisor.shows l.fn.desk (held_of g.W.Outside l.fn.outside) start
-      → (run : RanQuietly g.S.Supervisor g.W.Outside (g.S.Supervisor.programs l.fn.desk) (g.S.Supervisor.opened l.fn.desk) (take l.event-index l.events) start l.desk l.fn.outside l.outside) × Tells (record { commits = l.commits; rollbacks = l.rollbacks }) [] l.last.items (event_lines [] (g.S.Supervisor.programs l.fn.desk) (g.S.Supervisor.opened l.fn.desk) run.taken start);
+      → (run : RanQuietly g.S.Supervisor g.W.Outside (g.S.Supervisor.fixed l.fn.desk).programs (g.S.Supervisor.fixed l.fn.desk).opened (take l.event-index l.events) start l.desk l.fn.outside l.outside) × Tells (record { commits = l.commits; rollbacks = l.rollbacks }) [] l.last.items (event_lines [] (g.S.Supervisor.fixed l.fn.desk).programs (g.S.Supervisor.fixed l.fn.desk).opened run.taken start);
 }

@@ -1,5 +1,6 @@
-use Rattle.supervisor.proofs.Common.{◌≡◌, sym, ◌∙◌, subst, true, Leaves, held_of, Tracks, Header, total, stands, Did, Desk, HoldsStore, number_after, CheckpointMade, CheckpointFailed, activity, desk_of, order_of, Shown}
+use Rattle.supervisor.proofs.Common.{◌≡◌, sym, ◌∙◌, subst, true, Leaves, held_of, Tracks, stands, Did, Desk, number_after, CheckpointMade, CheckpointFailed, activity, desk_of, order_of, Shown}
 use Rattle.desk.specs.declared.event.Event.TheVariants as event
+use Rattle.supervisor.proofs.CauseLemmas.{calls-store}
 use Rattle.supervisor.proofs.DidLemmas.{did-checkpoint, did-fail-checkpoint}
 use Rattle.supervisor.proofs.session.Session.checkpoint.Goals as goal
 
@@ -21,8 +22,8 @@ returns-in-Ok-clause-did g c = λ desk sure shown.
     (sym shown.is)
     (did, number)
 
-pub returns-in-Ok-clause-bytes : goal.returns-in-Ok-clause-bytes
-returns-in-Ok-clause-bytes g c = subst (λ (header : Header). HoldsStore g.W.Outside header c.checkpoint.new.outside) (sym c.in-Ok.ensures.header) (c.in-Ok.ensures.only.longer (total c.args.self.now.store.header) c.requires.bytes)
+pub returns-in-Ok-clause-calls : goal.returns-in-Ok-clause-calls
+returns-in-Ok-clause-calls g c = calls-store g.W.Outside c.args.self.now.store.header _ c.args.outside.now c.checkpoint.new.outside c.in-Ok.ensures.header c.in-Ok.ensures.only c.requires.bytes
 
 pub returns-in-Err-clause-did : goal.returns-in-Err-clause-did
 returns-in-Err-clause-did g c = λ desk sure shown.
@@ -40,5 +41,5 @@ returns-in-Err-clause-did g c = λ desk sure shown.
     (sym shown.is)
     (did, tt)
 
-pub returns-in-Err-clause-bytes : goal.returns-in-Err-clause-bytes
-returns-in-Err-clause-bytes g c = subst (λ (header : Header). HoldsStore g.W.Outside header c.checkpoint.new.outside) (sym c.in-Err.ensures.header) (c.in-Err.ensures.only.longer (total c.args.self.now.store.header) c.requires.bytes)
+pub returns-in-Err-clause-calls : goal.returns-in-Err-clause-calls
+returns-in-Err-clause-calls g c = calls-store g.W.Outside c.args.self.now.store.header _ c.args.outside.now c.checkpoint.new.outside c.in-Err.ensures.header c.in-Err.ensures.only c.requires.bytes

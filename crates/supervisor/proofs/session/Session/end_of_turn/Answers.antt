@@ -1,8 +1,7 @@
-use Rattle.supervisor.proofs.Common.{ℕ, List, length, ap, arith, sym, ◌∙◌, subst, sure_on, Cycle, few-taken, seat-found, activity, order_of, IfWaits, number_of, TellsNumber, EntersOrder, ClosesBy, asks_none}
+use Rattle.supervisor.proofs.Common.{ℕ, List, length, ap, arith, sym, ◌∙◌, subst, sure_on, Cycle, few-taken, seat-found, TurnEnd, FailsCounted, turn_fails, activity, order_of, IfWaits, IfJournal, IfVictim, IsEndOfRows, number_of, TellsNumber, EntersOrder, ClosesBy, asks_none}
 use Rattle.redo_journal.proofs.WriteLemmas.{asks_only, writes_on}
-use Rattle.activations.specs.Causes.{IfVictim}
 use Rattle.supervisor.proofs.TurnLemmas.{idle, ended, committed, nothing-counted, sound-ran, over-ran, store-over}
-use Rattle.supervisor.proofs.CauseLemmas.{closes-since}
+use Rattle.supervisor.proofs.CauseLemmas.{closes-since, commit-told, rows-counted, rows-number}
 use Rattle.supervisor.proofs.session.Session.end_of_turn.Goals as goal
 
 pub returns-in_default-clause-went : goal.returns-in_default-clause-went
@@ -47,25 +46,10 @@ returns-in-Ok-clause-went g c sure over =
     (c.commit.ensures.went _ (sure_on G g.met.W.Outside.fewer_later before c.run.new.outside sure asks)
     (over-ran G g.met.W.Outside.fewer_later s c.requires.sound c.args.activation c.args.limit before c.run.new.outside sure over asks c.run.new.self at.follows) at)
 
-pub returns-in-Err-clause-waits : goal.returns-in-Err-clause-waits
-returns-in-Err-clause-waits g c =
-    let found = (seat-found (activity c.args.self.now).seating c.requires.sound.running.seating c.args.activation c.in-Some.seat (sym c.seat_of.ensures ∙ c.in-Some.is)).1 in
-    subst (λ (n : ℕ). IfWaits n c.in-Err.end) found c.in-Err.ensures.waits
-
-pub returns-in-Ok-clause-numbered : goal.returns-in-Ok-clause-numbered
-returns-in-Ok-clause-numbered g c =
-    let found = (seat-found (activity c.args.self.now).seating c.requires.sound.running.seating c.args.activation c.in-Some.seat (sym c.seat_of.ensures ∙ c.in-Some.is)).1 in
-    subst (λ (n : ℕ). TellsNumber n (number_of c.args.self.now.store) c.commit.result) (c.in-Ok.ensures.stays.number ∙ found) c.commit.ensures.numbered
-
 pub returns-in-Ok-clause-ordered : goal.returns-in-Ok-clause-ordered
 returns-in-Ok-clause-ordered g c =
     let found = (seat-found (activity c.args.self.now).seating c.requires.sound.running.seating c.args.activation c.in-Some.seat (sym c.seat_of.ensures ∙ c.in-Some.is)).1 in
     subst (λ (n : ℕ). EntersOrder n c.commit.result (order_of c.args.self.now) (order_of c.commit.new.self)) (c.in-Ok.ensures.stays.number ∙ found) c.commit.ensures.ordered
-
-pub returns-in-Err-clause-victim : goal.returns-in-Err-clause-victim
-returns-in-Err-clause-victim g c =
-    let found = (seat-found (activity c.args.self.now).seating c.requires.sound.running.seating c.args.activation c.in-Some.seat (sym c.seat_of.ensures ∙ c.in-Some.is)).1 in
-    subst (λ (n : ℕ). IfVictim n c.run.new.tally.cycles.items c.in-Err.end) found c.in-Err.ensures.victim
 
 pub returns-in-Ok-clause-committing : goal.returns-in-Ok-clause-committing
 returns-in-Ok-clause-committing g c =
@@ -74,3 +58,30 @@ returns-in-Ok-clause-committing g c =
     let found = (seat-found (activity s).seating c.requires.sound.running.seating c.args.activation c.in-Some.seat (sym c.seat_of.ensures ∙ c.in-Some.is)).1 in
     closes-since G g.met.W.Outside.fewer_later c.args.activation s.store c.commit.new.self c.args.outside.now c.run.new.outside c.commit.new.outside c.run.ensures.asks c.in-Ok.ensures.calm c.commit.result
     (subst (λ (n : ℕ). ClosesBy G n c.commit.result s.store c.commit.new.self c.run.new.outside c.commit.new.outside) (c.in-Ok.ensures.stays.number ∙ found) c.commit.ensures.committing)
+
+pub returns-in-Err-clause-end : goal.returns-in-Err-clause-end
+returns-in-Err-clause-end g c =
+    let s = c.args.self.now in
+    let found = (seat-found (activity s).seating c.requires.sound.running.seating c.args.activation c.in-Some.seat (sym c.seat_of.ensures ∙ c.in-Some.is)).1 in
+    let ends = c.in-Err.ensures.ends in
+    record {
+      waits = subst (λ (n : ℕ). IfWaits n c.in-Err.end) found c.in-Err.ensures.waits;
+      journal = subst (λ (n : ℕ). IfJournal n c.in-Err.end) (c.run.ensures.parts.most_lines ∙ sym c.requires.sound.most) c.in-Err.ensures.journal;
+      limited = c.in-Err.ensures.limit;
+      victim = subst (λ (n : ℕ). IfVictim n c.run.new.tally.cycles.items c.in-Err.end) found c.in-Err.ensures.victim;
+      pages = λ is. let unread = subst (λ (how : TurnEnd). IsEndOfRows g.W.Outside c.args.outside.now c.run.new.outside c.args.tally.now c.run.new.tally how) is ends in omega (arith, unread.1);
+      numbered = rows-number g.W.Outside c.args.outside.now c.run.new.outside c.args.tally.now c.run.new.tally c.in-Err.end ends _ _;
+    }
+
+pub returns-in-Err-clause-failed : goal.returns-in-Err-clause-failed
+returns-in-Err-clause-failed g c = rows-counted g.W.Outside c.args.outside.now c.run.new.outside c.args.tally.now c.run.new.tally c.in-Err.end c.in-Err.ensures.ends
+
+pub returns-in-Ok-clause-end : goal.returns-in-Ok-clause-end
+returns-in-Ok-clause-end g c =
+    let s = c.args.self.now in
+    let found = (seat-found (activity s).seating c.requires.sound.running.seating c.args.activation c.in-Some.seat (sym c.seat_of.ensures ∙ c.in-Some.is)).1 in
+    commit-told c.args.activation c.args.limit _ (number_of s.store) c.commit.new.tally c.commit.result c.commit.ensures.end c.commit.ensures.journal
+    (subst (λ (n : ℕ). TellsNumber n (number_of s.store) c.commit.result) (c.in-Ok.ensures.stays.number ∙ found) c.commit.ensures.numbered)
+
+pub returns-in-Ok-clause-failed : goal.returns-in-Ok-clause-failed
+returns-in-Ok-clause-failed g c = subst (λ (n : ℕ). FailsCounted (turn_fails c.commit.result) n (g.W.Outside.disk_faults c.commit.new.outside)) c.in-Ok.ensures.calm c.commit.ensures.failed

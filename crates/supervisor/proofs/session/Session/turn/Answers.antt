@@ -1,5 +1,7 @@
-use Rattle.supervisor.proofs.Common.{◌+◌, sym, ◌∙◌, subst, held_of, TurnEnd, turn_told, HasNumbers, Did, Desk, number_after, activity, order_of, records_told, IsOver, Shown}
+use Rattle.supervisor.proofs.Common.{◌≡◌, ◌+◌, ap, sym, ◌∙◌, subst, held_of, most_lines, number_of, IsTurnEnd, FailsCounted, Fixed, turn_fails, TurnEnd, counts_told, turn_told, HasNumbers, Did, Desk, number_after, activity, order_of, records_told, IsOver, Shown}
+use Rattle.desk.specs.declared.answers.Turn.{Turn}
 use Rattle.desk.specs.declared.event.Event.TheVariants as event
+use Rattle.supervisor.proofs.CauseLemmas.{calls-store}
 use Rattle.supervisor.proofs.DidLemmas.{did-turn, few-records}
 use Rattle.supervisor.proofs.session.Session.turn.Goals as goal
 
@@ -12,6 +14,7 @@ returns-clause-did g c = λ desk sure shown.
     let kept = c.end_of_turn-end.ensures in
     let answer = c.told-2.result in
     let over = shown.over in
+    let ends : answer.end ≡ end = ap (λ (told : Turn). told.end) c.told-2.ensures in
     let begun : IsOver (record s { turns = s.turns + 1 }) (held_of G c.args.outside.now) = record {
       still_open = over.still_open;
       committed = over.committed;
@@ -21,10 +24,19 @@ returns-clause-did g c = λ desk sure shown.
       number = over.number;
     } in
     let ran = kept.went sure begun in
-    let did = did-turn G (record s { turns = s.turns + 1 }) new c.args.activation c.args.limit end c.end_of_turn-end.new.tally answer c.args.outside.now c.end_of_turn-end.new.outside begun kept.sound kept.turned c.told-2.ensures.counts c.told-2.ensures.end (λ still. few-records end (records_told s) (records_told new) kept.turned (sym kept.closed ∙ still) ran.unread kept.records) ran in
+    let did = did-turn G (record s { turns = s.turns + 1 }) new c.args.activation c.args.limit end c.end_of_turn-end.new.tally answer c.args.outside.now c.end_of_turn-end.new.outside begun kept.sound kept.turned (ap counts_told c.told-2.ensures) ends (λ still. few-records end (records_told s) (records_told new) kept.turned (sym kept.closed ∙ still) ran.unread kept.records) ran in
     let numbers : HasNumbers answer.end c.args.activation (number_after s.opened ran.next) =
-    subst (λ (e : TurnEnd). HasNumbers e c.args.activation (number_after s.opened ran.next)) (sym c.told-2.ensures.end) ran.numbers in
+    subst (λ (e : TurnEnd). HasNumbers e c.args.activation (number_after s.opened ran.next)) (sym ends) ran.numbers in
     subst
     (λ (that : Desk). (x : Did G (activity s).programs s.opened (event.Turn c.args.activation c.args.limit) (turn_told c.args.activation answer new.printed) new.closed (order_of new) (λ held shown. Shown new held shown) that c.args.outside.now c.end_of_turn-end.new.outside) × HasNumbers answer.end c.args.activation (number_after s.opened x.next))
     (sym shown.is)
     (did, numbers)
+
+pub returns-clause-end : goal.returns-clause-end
+returns-clause-end g c = subst (λ (answer : Turn). IsTurnEnd c.args.activation c.args.limit (most_lines c.args.self.now.store.header) (number_of c.args.self.now.store) answer) (sym c.told-2.ensures) c.end_of_turn-end.ensures.end
+
+pub returns-clause-failed : goal.returns-clause-failed
+returns-clause-failed g c = subst (λ (answer : Turn). FailsCounted (turn_fails answer.end) (g.W.Outside.disk_faults c.args.outside.now) (g.W.Outside.disk_faults c.end_of_turn-end.new.outside)) (sym c.told-2.ensures) c.end_of_turn-end.ensures.failed
+
+pub returns-clause-calls : goal.returns-clause-calls
+returns-clause-calls g c = calls-store g.W.Outside c.args.self.now.store.header _ c.args.outside.now c.end_of_turn-end.new.outside (ap (λ (fixed : Fixed). fixed.header) c.end_of_turn-end.ensures.parts.fixed) c.end_of_turn-end.ensures.only c.requires.bytes
